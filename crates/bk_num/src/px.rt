@@ -1,0 +1,61 @@
+//! Lengths in whole units of 1/64 px.
+
+ghost use Rattle.std.specs.Prelude.{◌≡◌, ◌^◌, ◌<◌, ◌≤◌, pos, unsigned_abs, ◌≤ℤ◌, ◌*ℤ◌};
+ghost use Rattle.bk_num.specs.Units.{clamped, floor_div};
+
+use std::marker::Model;
+
+/// A length in units of 1/64 px, within plus or minus 2^27 units.
+#[derive(Clone, Copy, Debug, PartialEq, Eq, PartialOrd, Ord)]
+pub struct Px(i32);
+
+impl Model for Px {
+    ghost use Rattle.std.specs.Prelude.{ℤ, ◌^◌, ◌≤◌, unsigned_abs};
+
+    ghost Value = { ℤ };
+
+    ghost view = { λ p. p.0 };
+
+    ghost invariant = { λ p. unsigned_abs p.0 ≤ 2 ^ 27 };
+
+    ghost inverse = { λ z. record { 0 = z } };
+}
+
+/// The greatest length, in units.
+const MOST: i64 = 134217728;
+
+impl Px {
+    /// The length nearest to this number of units.
+    #[tactic(auto, unfolding(crate::specs::Units::clamped))]
+    pub fn from_units(n: i64) -> Px
+        ensures { result ≡ clamped n }
+    {
+        Px(n.clamp(-MOST, MOST) as i32)
+    }
+
+    /// How many units it has, at most 2^27 either way.
+    pub fn units(self) -> i32
+        ensures value { result ≡ self }
+        ensures bound { unsigned_abs result ≤ 2 ^ 27 }
+    {
+        self.0
+    }
+}
+
+/// floor(a times size over per_em), clamped.
+pub fn scale_floor(a: u32, size: Px, per_em: u32) -> Px
+    requires some { 0 < per_em }
+    requires most { a ≤ 16384 }
+    requires size { pos 0 ≤ℤ size }
+    ensures { result ≡ clamped (floor_div (pos a *ℤ size) per_em) }
+{
+    Px::from_units((a as i64 * size.units() as i64).div_euclid(per_em as i64))
+}
+
+/// The length nearest to a wide number of units.
+#[tactic(auto, unfolding(crate::specs::Units::clamped))]
+pub(crate) fn clamp_wide(n: i128) -> Px
+    ensures { result ≡ clamped n }
+{
+    Px(n.clamp(-(MOST as i128), MOST as i128) as i32)
+}
