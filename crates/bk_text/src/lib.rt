@@ -1,7 +1,8 @@
 //! Texts of files: which bytes are one, and what is dropped before they are read.
 #![tactic(auto)]
 
-ghost use Rattle.std.specs.Prelude.{◌≡◌, MatchResult, string_bytes};
+ghost use Rattle.std.specs.Prelude.{◌≡◌, MatchResult, string_bytes, is_ok};
+ghost use Rattle.std.specs.Str.{is_utf8};
 ghost use Rattle.std.specs.Str.Lossy.{utf8_valid_len};
 ghost use Rattle.bk_text.specs.Texts.{unmarked, LongestPrefixIs};
 
@@ -19,9 +20,10 @@ pub fn without_mark(text: &str) -> &str
     }
 }
 
-/// Owns these bytes as a text, or tells the length of their longest prefix that is UTF-8. It takes no memory.
+/// Owns these bytes as a text exactly where they are UTF-8, or else tells the length of their longest prefix that is UTF-8. It takes no memory.
 pub fn text_from(bytes: Vec<u8>) -> Result<String, usize>
-    ensures { MatchResult result (λ t. string_bytes t ≡ bytes.items) (λ at. at ≡ utf8_valid_len bytes.items) }
+    ensures text { MatchResult result (λ t. string_bytes t ≡ bytes.items) (λ at. at ≡ utf8_valid_len bytes.items) }
+    ensures utf8 { is_ok result ≡ is_utf8 bytes.items }
 {
     match String::from_utf8(bytes) {
         Ok(text) => Ok(text),

@@ -1,0 +1,5 @@
+//! The records of a listing, as bytes.
+#![tactic(auto)]
+
+mod fields;
+pub mod records;
