@@ -1,0 +1,3 @@
+pub mod ChoiceLemmas
+pub mod RangeLemmas
+pub mod ScaleLemmas
