@@ -1,7 +1,7 @@
 //! Texts of files: which bytes are one, and what is dropped before they are read.
 #![tactic(auto)]
 
-ghost use Rattle.std.specs.Prelude.{◌≡◌, MatchResult, string_bytes, is_ok};
+ghost use Rattle.std.specs.Prelude.{◌≡◌, ◌≤◌, length, MatchResult, string_bytes, is_ok};
 ghost use Rattle.std.specs.Str.{is_utf8};
 ghost use Rattle.std.specs.Str.Lossy.{utf8_valid_len};
 ghost use Rattle.bk_text.specs.Texts.{unmarked, LongestPrefixIs};
@@ -12,7 +12,8 @@ const MARK: &str = "\u{feff}";
 /// The text without one U+FEFF at its start (Unicode, 23.8). It takes no memory.
 #[tactic(auto, unfolding(crate::specs::Texts::unmarked))]
 pub fn without_mark(text: &str) -> &str
-    ensures { result.now ≡ unmarked text.now }
+    ensures value { result.now ≡ unmarked text.now }
+    ensures shorter { length result.now ≤ length text.now }
 {
     match text.strip_prefix(MARK) {
         Some(rest) => rest,

@@ -13,7 +13,7 @@ use Rattle.listing.specs.declared.records.Kind.TheVariants as kind
 use Rattle.plain_book.specs.Flow.{AreLines}
 use Rattle.plain_book.specs.Pages.{IsPageList}
 use Rattle.plain_book.specs.declared.lines.FlowLine.{FlowLine}
-use Rattle.plain_book.specs.declared.pages.PlacedLine.{PlacedLine}
+use Rattle.plain_book.specs.declared.lines.PlacedLine.{PlacedLine}
 use Rattle.book.specs.Document.{Document}
 
 -- the size of a paragraph's text: 16 px
@@ -43,18 +43,20 @@ is_line_in texts line = nat_lt line.paragraph (length texts) && nat_le line.from
 unfoldable pub line_text : List (List ℕ) → FlowLine → List ℕ
 line_text texts line = if is_line_in texts line then take (line.to - line.from) (drop line.from (slice_index_or texts line.paragraph [])) else []
 
--- how the lines of a book are printed
+-- how the lines of a book are printed: the name, style and weight of the face, how far a baseline is below its line's top, and the texts
 pub record Print : Type 0 where
-  pub faces : List FontFace
-  pub face : FaceId
+  pub name : List ℕ
+  pub italic : Bool
+  pub weight : ℕ
+  pub baseline : ℤ
   pub texts : List (List ℕ)
 
-unfoldable pub face_of : Print → List ℕ
-face_of p = face_field (face_at p.faces p.face).name (face_at p.faces p.face).italic (face_at p.faces p.face).weight
+abbrev pub print_of : List FontFace → FaceId → List (List ℕ) → Print
+print_of faces face texts = record { name = (face_at faces face).name; italic = (face_at faces face).italic; weight = (face_at faces face).weight; baseline = baseline_of faces face; texts = texts }
 
 -- a line and its text, on a page whose margins are 72 px: the frame is 26584 units wide
 unfoldable pub placed_bytes : Print → PlacedLine → List ℕ
-placed_bytes p placed = line_record (pos 4608) (pos 4608 +ℤ pos placed.top) (pos 26584) (pos 1280) ++ text_record (pos 4608) ((pos 4608 +ℤ pos placed.top) +ℤ baseline_of p.faces p.face) (face_of p) text_size black (line_text p.texts placed.line)
+placed_bytes p placed = line_record (pos 4608) (pos 4608 +ℤ pos placed.top) (pos 26584) (pos 1280) ++ text_record (pos 4608) ((pos 4608 +ℤ pos placed.top) +ℤ p.baseline) (face_field p.name p.italic p.weight) text_size black (line_text p.texts placed.line)
 
 -- a page of size A5, its index and number, and its lines
 unfoldable pub page_bytes : Print → ℕ → List PlacedLine → List ℕ
@@ -77,13 +79,17 @@ pub record Book : Type 0 where
 abbrev pub paragraph_families : List (List ℕ)
 paragraph_families = codes "serif" ∷ []
 
--- the book of a document: its face is the one that `serif`, upright, 400 chooses; its lines are those of the paragraphs in a frame 26584 units wide; and its pages are the page list of these lines in frames 41581 units high
-pub record IsBookOf (d : Document) (b : Book) : Type 0 where
-  pub face : FaceId
+-- the pages of a document in a face: its lines are those of the paragraphs in a frame 26584 units wide, and its pages are the page list of these lines in frames 41581 units high
+pub record IsPagesOf (d : Document) (face : FaceId) (pages : List (List PlacedLine)) : Type 0 where
   pub lines : List FlowLine
-  pub pages : List (List PlacedLine)
-  pub chosen : Chooses d.faces paragraph_families false 400 face
   pub filled : AreLines (paragraph_advance d.faces face) 26584 0 d.texts lines
   pub cut : IsPageList 41581 lines pages
+
+-- the book of a document: its face is the one that `serif`, upright, 400 chooses, and its bytes are the listing of its pages
+pub record IsBookOf (d : Document) (b : Book) : Type 0 where
+  pub face : FaceId
+  pub pages : List (List PlacedLine)
+  pub chosen : Chooses d.faces paragraph_families false 400 face
+  pub paged : IsPagesOf d face pages
   pub count : b.pages ≡ length pages
-  pub listed : b.bytes ≡ listing_of (record { faces = d.faces; face = face; texts = d.texts }) pages
+  pub listed : b.bytes ≡ listing_of (print_of d.faces face d.texts) pages

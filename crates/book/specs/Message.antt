@@ -1,6 +1,7 @@
 -- The line that a run puts on its second sink, and the status that the program ends with.
-use Rattle.std.specs.Prelude.{ℕ, List, [], ◌++◌, codes, ℤ, pos}
+use Rattle.std.specs.Prelude.{ℕ, List, [], ◌∷◌, codes, ℤ, pos}
 use Rattle.std.specs.Fmt.{signed_decimal}
+use Rattle.std.specs.List.{flat_map}
 use Rattle.metrics.specs.declared.fault.MetricsWhy.{MetricsWhy}
 use Rattle.metrics.specs.declared.fault.MetricsWhy.TheVariants as why
 use Rattle.book.specs.declared.outcome.Outcome.{Outcome}
@@ -13,10 +14,11 @@ use Rattle.book.specs.declared.outcome.WordsFault.TheVariants as words
 unfoldable pub decimal : ℕ → List ℕ
 decimal n = signed_decimal (pos n)
 
-unfoldable pub file_text : FileOf → List ℕ
-file_text file.Metrics = codes "metrics"
-file_text file.Html = codes "html"
-file_text (file.Sheet n) = codes "sheet " ++ decimal n
+-- the word for a file, and the number of a sheet
+unfoldable pub file_words : FileOf → List ℕ × List ℕ
+file_words file.Metrics = (codes "metrics", [])
+file_words file.Html = (codes "html", [])
+file_words (file.Sheet n) = (codes "sheet ", decimal n)
 
 unfoldable pub why_text : MetricsWhy → List ℕ
 why_text why.Header = codes "header"
@@ -28,24 +30,21 @@ why_text why.Twice = codes "twice"
 why_text why.Many = codes "many"
 why_text why.NoFace = codes "noface"
 
-unfoldable pub usage_text : List ℕ
-usage_text = codes "usage: bookfmt format [--passes N] METRICS HTML [CSS ...] or bookfmt sample N"
-
--- what an answer says
-unfoldable pub answer_text : Outcome → List ℕ
-answer_text (out.Done pages passes) = decimal pages ++ codes " pages, " ++ decimal passes ++ codes " passes"
-answer_text (out.NotRead kind) = usage_text
-answer_text (out.ReadFault f) = codes "cannot read " ++ file_text f
-answer_text (out.TooLarge f) = file_text f ++ codes " has more than 16777216 bytes"
-answer_text (out.NotUtf8 f at) = file_text f ++ codes " is not UTF-8 at " ++ decimal at
-answer_text (out.BadMetrics line reason) = codes "metrics line " ++ decimal line ++ codes ": " ++ why_text reason
-answer_text (out.NotBuilt f at) = codes "not built: " ++ file_text f ++ codes " at " ++ decimal at
-answer_text out.WriteFault = codes "cannot write"
-answer_text out.NoMemory = codes "no memory"
+-- the texts of an answer's line, one after the other
+unfoldable pub texts_of : Outcome → List (List ℕ)
+texts_of (out.Done pages passes) = codes "bookfmt: " ∷ decimal pages ∷ codes " pages, " ∷ decimal passes ∷ codes " passes\n" ∷ []
+texts_of (out.NotRead kind) = codes "bookfmt: usage: bookfmt format [--passes N] METRICS HTML [CSS ...] or bookfmt sample N\n" ∷ []
+texts_of (out.ReadFault f) = codes "bookfmt: cannot read " ∷ (file_words f).0 ∷ (file_words f).1 ∷ codes "\n" ∷ []
+texts_of (out.TooLarge f) = codes "bookfmt: " ∷ (file_words f).0 ∷ (file_words f).1 ∷ codes " has more than 16777216 bytes\n" ∷ []
+texts_of (out.NotUtf8 f at) = codes "bookfmt: " ∷ (file_words f).0 ∷ (file_words f).1 ∷ codes " is not UTF-8 at " ∷ decimal at ∷ codes "\n" ∷ []
+texts_of (out.BadMetrics line reason) = codes "bookfmt: metrics line " ∷ decimal line ∷ codes ": " ∷ why_text reason ∷ codes "\n" ∷ []
+texts_of (out.NotBuilt f at) = codes "bookfmt: not built: " ∷ (file_words f).0 ∷ (file_words f).1 ∷ codes " at " ∷ decimal at ∷ codes "\n" ∷ []
+texts_of out.WriteFault = codes "bookfmt: cannot write\n" ∷ []
+texts_of out.NoMemory = codes "bookfmt: no memory\n" ∷ []
 
 -- the line of an answer
-unfoldable pub message : Outcome → List ℕ
-message o = codes "bookfmt: " ++ answer_text o ++ codes "\n"
+abbrev pub message : Outcome → List ℕ
+message o = flat_map (λ t. t) (texts_of o)
 
 -- the status of an answer: 0 where all went well or help was asked for
 abbrev pub status_of : Outcome → ℕ

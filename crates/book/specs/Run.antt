@@ -22,13 +22,17 @@ text_of f absent = refused (out.ReadFault f)
 text_of f (holds bytes) = if nat_lt 16777216 (length bytes) then refused (out.TooLarge f) else
     if is_utf8 bytes then given (unmarked bytes) else refused (out.NotUtf8 f (utf8_valid_len bytes))
 
--- what is expected of these words over this shelf: the document, or the first refusal in the order of the steps
-abbrev pub expected : List (List ℕ) → (List ℕ → Told) → Expect Document
-expected ws told = asked ws >>= λ names.
+-- the texts of the files that the words name, or the first refusal in the order of the steps
+abbrev pub texts_expected : List (List ℕ) → (List ℕ → Told) → Expect Texts
+texts_expected ws told = asked ws >>= λ names.
     text_of file.Metrics (told names.metrics) >>= λ metrics.
     text_of file.Html (told names.html) >>= λ html.
     text_of (file.Sheet 1) (told names.sheet) >>= λ sheet.
-    document_of (record { metrics = metrics; html = html; sheet = sheet })
+    given (record { metrics = metrics; html = html; sheet = sheet })
+
+-- what is expected of these words over this shelf: the document, or the first refusal in the order of the steps
+abbrev pub expected : List (List ℕ) → (List ℕ → Told) → Expect Document
+expected ws told = texts_expected ws told >>= document_of
 
 -- the order of the files
 abbrev pub file_stage : FileOf → ℕ
@@ -104,6 +108,39 @@ StopsAt f e o = IsRefused e o ⊎ ((o ≡ out.ReadFault f) ⊎ (o ≡ out.NoMemo
 -- what stops the read of a file is no put, and a read fault only of this file, with its cause
 abbrev pub HasCauseAt : FileOf → Told → List ℕ → ℕ → ℕ → Option (List ℕ) → Outcome → Type 0
 HasCauseAt f told name before now last (out.ReadFault g) = (g ≡ f) × Faulted told name before now last
+HasCauseAt f told name before now last (out.NotRead k) = ⊥
 HasCauseAt f told name before now last (out.Done pages passes) = ⊥
 HasCauseAt f told name before now last out.WriteFault = ⊥
 HasCauseAt f told name before now last o = Unit {0}
+
+-- words are refused only for their own fault
+abbrev pub HasWordsCause : Expect Names → Outcome → Type 0
+HasWordsCause e (out.NotRead k) = e ≡ refused (out.NotRead k)
+HasWordsCause e o = Unit {0}
+
+-- a line was put: all of it, or, where the count of faults rose, a front of it
+abbrev pub IsTold : Option (List ℕ) → Option (List ℕ) → ℕ → ℕ → List ℕ → Type 0
+IsTold old new before now line = (before ≤ now) × (Appends old new line ⊎ (Rose before now × ((n : ℕ) × Appends old new (take n line))))
+
+-- the answer is neither a refusal of words or of files nor one of a run that put something
+abbrev pub IsOfTexts : Outcome → Type 0
+IsOfTexts (out.Done pages passes) = ⊥
+IsOfTexts (out.NotRead k) = ⊥
+IsOfTexts (out.ReadFault f) = ⊥
+IsOfTexts out.WriteFault = ⊥
+IsOfTexts o = Unit {0}
+
+-- the answer is a refusal of words
+abbrev pub IsOfWords : Outcome → Type 0
+IsOfWords (out.NotRead k) = Unit {0}
+IsOfWords o = ⊥
+
+abbrev pub IsDoneOrNoMemory : Outcome → Type 0
+IsDoneOrNoMemory (out.Done pages passes) = Unit {0}
+IsDoneOrNoMemory out.NoMemory = Unit {0}
+IsDoneOrNoMemory o = ⊥
+
+-- where a document is expected and neither count of faults rose, the answer is Done, but for want of memory
+abbrev pub IsComplete : Expect Document → Type 0 → Type 0 → Outcome → Type 0
+IsComplete (given d) shelf_rose out_rose o = ¬ shelf_rose → ¬ out_rose → IsDoneOrNoMemory o
+IsComplete e shelf_rose out_rose o = Unit {0}

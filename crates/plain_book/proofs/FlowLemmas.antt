@@ -1,6 +1,7 @@
 -- The lines of a flow, text by text, and that there is one list of them.
-use Rattle.std.proofs.Common.{◌≡◌, ◌≢◌, ℕ, zero, suc, ◌+◌, ◌<◌, ◌≤◌, ◌⊎◌, List, [], ◌∷◌, ◌++◌, length, drop, map, get_or, refl, sym, ap, ◌∙◌, arith, subst, inl, inr, add-one, append_assoc, append-nil, drop-cons}
-use Rattle.plain_book.proofs.LineLemmas.{past_end}
+use Rattle.std.proofs.Common.{◌≡◌, ◌≢◌, ℕ, zero, suc, ◌+◌, ◌<◌, ◌≤◌, ◌⊎◌, List, [], ◌∷◌, ◌++◌, length, drop, map, get_or, refl, sym, ap, ◌∙◌, arith, subst, inl, inr, add-one, append_assoc, append-nil, drop-cons, slice_index, All}
+use Rattle.std.specs.Str.{IsAscii}
+use Rattle.plain_book.proofs.LineLemmas.{past_end, unit_ascii}
 use Rattle.plain_book.specs.LineEnd.{IsLineEnd, at_ordinary, at_emergency, at_least, EndsAt}
 use Rattle.plain_book.specs.Flow.{AreEnds, AreLines, lines_to}
 use Rattle.plain_book.specs.Widths.{unit_at}
@@ -50,3 +51,18 @@ flow-step f advance measure number xs x ends rest h is e l =
 -- behind the last text there is none
 pub flow-end : {X : Type 0} (f : X → List ℕ) (advance : ℕ → ℕ) (measure number : ℕ) (xs : List X) → xs ≡ [] → AreLines advance measure number (map f xs) []
 flow-end f advance measure number xs e = subst (λ ts. AreLines advance measure number (map f ts) []) (sym e) refl
+
+-- two tables of advances that agree on ASCII give a text of ASCII the same lines
+unit-agrees : (f g : ℕ → ℕ) (text : List ℕ) → ((c : ℕ) → c < 128 → f c ≡ g c) → IsAscii text → unit_at f text ≡ unit_at g text
+unit-agrees f g text same ascii = λ i k. (unit_ascii f text k ascii ∙ same (slice_index text k) (ascii k) ∙ sym (unit_ascii g text k ascii)) i
+
+ends-agree : (f g : ℕ → ℕ) (measure : ℕ) (text : List ℕ) (from : ℕ) (ends : List ℕ) → unit_at f text ≡ unit_at g text → AreEnds f measure text from ends → AreEnds g measure text from ends
+ends-agree f g measure text from [] same e = e
+ends-agree f g measure text from (to ∷ ends) same e = (subst (λ u. EndsAt u text measure from to) same e.0, ends-agree f g measure text to ends same e.1)
+
+pub flow-agrees : {X : Type 0} (view : X → List ℕ) (f g : ℕ → ℕ) (measure number : ℕ) (xs : List X) (lines : List FlowLine) → ((c : ℕ) → c < 128 → f c ≡ g c) → All (λ x. IsAscii (view x)) xs → AreLines f measure number (map view xs) lines → AreLines g measure number (map view xs) lines
+flow-agrees view f g measure number [] lines same ascii l = l
+flow-agrees view f g measure number (x ∷ xs) lines same ascii l =
+    let here : IsAscii (view x) = ascii 0 x (omega arith) in
+    let units : unit_at f (view x) ≡ unit_at g (view x) = unit-agrees f g (view x) same here in
+    (l.0, l.1, ends-agree f g measure (view x) 0 l.0 units l.2, l.3, flow-agrees view f g measure (suc number) xs l.1 same (λ k d h. ascii (suc k) d (omega arith)) l.4)

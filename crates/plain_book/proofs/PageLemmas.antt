@@ -1,15 +1,19 @@
 -- Cuts of pages, page by page, and that there is one page list.
-use Rattle.std.proofs.Common.{◌≡◌, ◌≢◌, ℕ, zero, suc, ◌+◌, ◌-◌, ◌<◌, ◌≤◌, ◌⊎◌, max, List, [], ◌∷◌, ◌++◌, length, drop, map, refl, sym, ap, ◌∙◌, arith, subst, inl, inr, ⊎_elim, add-suc, add-zero, append_assoc}
+use Rattle.std.proofs.Common.{◌≡◌, ◌≢◌, ℕ, zero, suc, ◌+◌, ◌-◌, ◌<◌, ◌≤◌, ◌⊎◌, max, List, [], ◌∷◌, ◌++◌, length, drop, map, refl, sym, ap, ◌∙◌, arith, subst, inl, inr, ⊎_elim, slice_get, Some, add-suc, add-zero, append_assoc}
 use Rattle.std.proofs.lemmas.Bool.{cases_lt}
 use Rattle.std.proofs.lemmas.List.{map-append}
 use Rattle.plain_book.specs.Pages.{bottom_of, gap_above, Fits, IsPoint, IsCut, at_level, at_loose, at_first, CutsAt, placed, ArePages, IsPageList, empty, some, paragraph_margin}
 use Rattle.plain_book.specs.declared.lines.FlowLine.{FlowLine}
-use Rattle.plain_book.specs.declared.pages.PlacedLine.{PlacedLine}
+use Rattle.plain_book.specs.declared.lines.PlacedLine.{PlacedLine}
 
 -- more lines reach no less far
 bottom-le : (first : ℕ) (lines : List FlowLine) (j k : ℕ) → bottom_of first lines j ≤ bottom_of first lines (j + k)
 bottom-le first lines j zero = rw add-zero (omega arith)
 bottom-le first lines j (suc k) = rw add-suc (omega (arith, bottom-le first lines j k))
+
+-- a line's top is above the bottom of all that stand to the end
+pub top_below : (first : ℕ) (lines : List FlowLine) (at count : ℕ) → at < count → (bottom_of first lines at + gap_above first lines at) + 1280 ≤ bottom_of first lines count
+top_below first lines at count h = let e : suc at + (count - suc at) ≡ count = omega arith in rw e at (bottom-le first lines (suc at) (count - suc at))
 
 -- once a point misses, no later one fits
 pub misses : (first : ℕ) (lines : List FlowLine) (height j k : ℕ) → j ≤ k → height < bottom_of first lines j → ¬ (Fits first lines height k)
@@ -65,3 +69,7 @@ page_list_unique height _ _ _ (some lines pages n p) (some lines' pages' n' p') 
 -- the page list of a flow without lines
 pub no_lines : (height : ℕ) (lines : List FlowLine) (pages : List (List PlacedLine)) → lines ≡ [] → pages ≡ [] ∷ [] → IsPageList height lines pages
 no_lines height lines pages e p = subst (λ ls. IsPageList height ls pages) (sym e) (subst (λ ps. IsPageList height [] ps) (sym p) empty)
+
+-- one more line of a page
+pub placed_step : (first : ℕ) (lines : List FlowLine) (at top : ℕ) (line : FlowLine) (items more : List PlacedLine) → slice_get lines at ≡ Some line → items ≡ placed first lines at → top ≡ bottom_of first lines at + gap_above first lines at → more ≡ items ++ record { line = line; top = top } ∷ [] → more ≡ placed first lines (suc at)
+placed_step first lines at top line items more l i t m = rw (m, i, t, l) refl

@@ -1,7 +1,7 @@
 -- Pages as a relation between the lines of a flow and a list of pages.
 use Rattle.std.specs.Prelude.{◌≡◌, ◌≢◌, ℕ, zero, suc, ◌+◌, ◌*◌, ◌<◌, ◌≤◌, List, [], ◌∷◌, ◌++◌, length, drop, ◌==◌, if◌then◌else◌, Option, Some, None, slice_get, ◌⊎◌}
 use Rattle.plain_book.specs.declared.lines.FlowLine.{FlowLine}
-use Rattle.plain_book.specs.declared.pages.PlacedLine.{PlacedLine}
+use Rattle.plain_book.specs.declared.lines.PlacedLine.{PlacedLine}
 
 -- the height of a line: 1.25 times 16 px
 abbrev pub line_height : ℕ

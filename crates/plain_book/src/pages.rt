@@ -3,16 +3,9 @@
 ghost use Rattle.std.specs.Prelude.{◌≡◌, ℕ, ◌+◌, ◌<◌, ◌≤◌, ◌^◌, length, map, max, IfOk, Some, None, if◌then◌else◌, ◌==◌};
 ghost use Rattle.plain_book.specs.Pages.{CutsAt, IsPageList, bottom_of, gap_above, gap_of, placed};
 
-use crate::lines::FlowLine;
+use crate::lines::{FlowLine, PlacedLine};
 use bk_num::name::NoMem;
 use std::alloc::Global;
-
-/// A line on a page: its top counts from the frame's top, in units of 1/64 px.
-#[derive(Clone, Copy, Debug)]
-pub struct PlacedLine {
-    pub line: FlowLine,
-    pub top: u64,
-}
 
 /// The height of a line, in units: 1.25 times 16 px.
 const LINE_HEIGHT: u64 = 1280;
@@ -38,8 +31,9 @@ fn gap_above(first: u64, lines: &[FlowLine], at: usize) -> u64
 /// How many of the lines a page takes: as many as fit, and at least one.
 fn cut(lines: &[FlowLine], first: u64, height: u64) -> usize
     requires some { 0 < length lines.now }
-    requires first { first ≤ 2 ^ 40 }
-    requires height { height ≤ 2 ^ 40 }
+    requires first { first ≤ 2 ^ 20 }
+    requires height { height ≤ 2 ^ 30 }
+    ensures bottom { bottom_of first lines.now result ≤ 2 ^ 30 }
     ensures cut { (level : ℕ) × CutsAt first lines.now height level result }
     ensures some { 0 < result }
     ensures within { result ≤ length lines.now }
@@ -62,8 +56,7 @@ fn place(
     count: usize,
 ) -> Result<Vec<PlacedLine>, NoMem>
     requires within { count ≤ length lines.now }
-    requires few { count ≤ 2 ^ 25 }
-    requires first { first ≤ 2 ^ 40 }
+    requires bottom { bottom_of first lines.now count ≤ 2 ^ 30 }
     ensures { IfOk result (λ v. v.items ≡ placed first lines.now count) }
 {
     let mut placed = Vec::with_capacity(alloc, count)?;
@@ -72,7 +65,7 @@ fn place(
         let top = bottom + gap_above(first, lines, at);
         placed.push(PlacedLine {
             line: lines[at],
-            top,
+            top: top as u32,
         })?;
         bottom = top + LINE_HEIGHT;
     }
@@ -86,7 +79,7 @@ pub fn paginate(
     height: u64,
 ) -> Result<Vec<Vec<PlacedLine>>, NoMem>
     requires few { length lines.now ≤ 2 ^ 25 }
-    requires height { height ≤ 2 ^ 40 }
+    requires height { height ≤ 2 ^ 30 }
     ensures pages { IfOk result (λ v. IsPageList height lines.now (map (λ p. p.items) v.items)) }
     ensures few { IfOk result (λ v. length v.items ≤ max 1 (length lines.now)) }
 {

@@ -42,7 +42,7 @@ fn end_after(bytes: &[u8], len: usize) -> Option<(&[u8], &[u8])>
     ensures some { IfSome result (λ p. ended_after len bytes.now ≡ Some p.0.now) }
     ensures front { IfSome result (λ p. p.0.now ≡ take len bytes.now) }
     ensures rest { IfSome result (λ p. p.1.now ≡ drop (4 + len) bytes.now) }
-    ensures shorter { IfSome result (λ p. length p.0.now + length p.1.now ≤ length bytes.now) }
+    ensures shorter { IfSome result (λ p. length p.0.now + length p.1.now + 4 ≤ length bytes.now) }
 {
     let (content, end) = bytes.split_at(len);
     match end.strip_prefix(b"</p>") {
@@ -57,7 +57,7 @@ fn next_paragraph(bytes: &[u8]) -> Option<(&[u8], &[u8])>
     ensures none { IfNone result (paragraph_at bytes.now ≡ None) }
     ensures some { IfSome result (λ p. paragraph_at bytes.now ≡ Some p.0.now) }
     ensures rest { IfSome result (λ p. p.1.now ≡ drop (7 + length p.0.now) bytes.now) }
-    ensures shorter { IfSome result (λ p. length p.0.now + length p.1.now ≤ length bytes.now) }
+    ensures shorter { IfSome result (λ p. length p.0.now + length p.1.now + 7 ≤ length bytes.now) }
     ensures ascii { IfSome result (λ p. IsAscii p.0.now) }
 {
     match bytes.strip_prefix(b"<p>") {
@@ -115,6 +115,7 @@ fn push_text(alloc: Global, texts: &mut Vec<String>, content: &[u8]) -> Result<(
     requires { IsAscii content.now }
     ensures ok { OnOk result (map (λ t. string_bytes t) texts.new.items ≡ map (λ t. string_bytes t) texts.old.items ++ texts_of (content.now ∷ [])) }
     ensures ascii { OnOk result (All (λ t. IsAscii (string_bytes t)) texts.old.items → All (λ t. IsAscii (string_bytes t)) texts.new.items) }
+    ensures count { OnOk result (length texts.new.items ≤ length texts.old.items + 1) }
     ensures few { OnOk result (sum_by (λ t. string_len t) texts.new.items ≤ sum_by (λ t. string_len t) texts.old.items + length content.now) }
 {
     let text = collapse(alloc, content)?;
@@ -128,6 +129,7 @@ fn push_text(alloc: Global, texts: &mut Vec<String>, content: &[u8]) -> Result<(
 pub fn read_paragraphs(alloc: Global, html: &str) -> Result<Option<Vec<String>>, NoMem>
     ensures value { IfOk result (λ o. option_map (λ v. map (λ t. string_bytes t) v.items) o ≡ texts_in html.now) }
     ensures ascii { IfOk result (λ o. IfSome o (λ v. All (λ t. IsAscii (string_bytes t)) v.items)) }
+    ensures count { IfOk result (λ o. IfSome o (λ v. length v.items ≤ length html.now)) }
     ensures few { IfOk result (λ o. IfSome o (λ v. sum_by (λ t. string_len t) v.items ≤ length html.now)) }
 {
     let mut texts = Vec::new(alloc);

@@ -2,7 +2,7 @@ use Rattle.std.proofs.Common.{◌≡◌, ◌≢◌, ℕ, ◌+◌, ◌<◌, ◌�
 use Rattle.std.proofs.lemmas.List.{map-append}
 use Rattle.std.proofs.lemmas.Grind.{common_steps}
 use Rattle.plain_book.specs.Pages.{ArePages, IsPageList, some, placed}
-use Rattle.plain_book.specs.declared.pages.PlacedLine.{PlacedLine}
+use Rattle.plain_book.specs.declared.lines.PlacedLine.{PlacedLine}
 use Rattle.plain_book.proofs.PageLemmas.{no_lines}
 use Rattle.plain_book.proofs.PlainLemmas.{none-left}
 use Rattle.plain_book.proofs.pages.paginate.Goals as goal

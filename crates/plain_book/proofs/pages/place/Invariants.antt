@@ -5,6 +5,5 @@ use Rattle.plain_book.proofs.pages.place.Given as goal
 abbrev pub invariant-loop-at : goal.invariant-loop-at
 invariant-loop-at l = record {
   bottom : l.bottom ≡ bottom_of l.first l.lines l.at;
-  small : l.bottom ≤ 2 ^ 40 + 2304 * l.at;
   placed : l.placed.items ≡ placed l.first l.lines l.at;
 }

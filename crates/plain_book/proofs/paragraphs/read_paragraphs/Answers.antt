@@ -10,6 +10,9 @@ loop-rest-init c = record {
       let n : map (λ t. string_bytes t) c.new-texts.result.items ≡ [] = search rules in
       rw n (front-nil _ ∙ texts-same _ _ e);
   ascii = search rules;
+  count = let n : length c.new-texts.result.items ≡ 0 = search rules in
+      let e : c.as_bytes.result.now ≡ c.args.html.now = search rules in
+      omega (arith, c.after_blanks-rest.ensures.shorter, ap length e);
   few = let s : sum_by (λ t. string_len t) c.new-texts.result.items ≡ 0 = search rules in
       let e : c.as_bytes.result.now ≡ c.args.html.now = search rules in
       omega (arith, c.after_blanks-rest.ensures.shorter, ap length e);
@@ -34,7 +37,9 @@ loop-rest-preserved c =
       goes = let pushed : map (λ t. string_bytes t) c.push_text.new.texts.items ≡ map (λ t. string_bytes t) c.loop-rest.texts.items ++ texts_of (c.in-Some.content.now ∷ []) = search rules in
           rw (pushed, next) (sym (front-front _ _ _) ∙ ap (with_front (map (λ t. string_bytes t) c.loop-rest.texts.items)) (sym here) ∙ c.loop-rest.invariant.goes);
       ascii = c.in_ok-push_text.ensures.ascii c.loop-rest.invariant.ascii;
-      few = let shorter : length c.in-Some.content.now + length c.in-Some.after.now ≤ length c.loop-rest.rest.now = search rules in
+      count = let shorter : length c.in-Some.content.now + length c.in-Some.after.now + 7 ≤ length c.loop-rest.rest.now = search rules in
+          omega (arith, c.in_ok-push_text.ensures.count, c.after_blanks-rest-in-loop-rest.ensures.shorter);
+      few = let shorter : length c.in-Some.content.now + length c.in-Some.after.now + 7 ≤ length c.loop-rest.rest.now = search rules in
           omega (arith, c.in_ok-push_text.ensures.few, c.after_blanks-rest-in-loop-rest.ensures.shorter);
       first = c.after_blanks-rest-in-loop-rest.ensures.first;
     }

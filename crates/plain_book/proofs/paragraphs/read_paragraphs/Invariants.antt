@@ -8,6 +8,7 @@ abbrev pub invariant-loop-rest : goal.invariant-loop-rest
 invariant-loop-rest l = record {
   goes : with_front (map (λ t. string_bytes t) l.texts.items) (texts_in l.rest) ≡ texts_in l.html;
   ascii : All (λ t. IsAscii (string_bytes t)) l.texts.items;
+  count : length l.texts.items + length l.rest ≤ length l.html;
   few : sum_by (λ t. string_len t) l.texts.items + length l.rest ≤ length l.html;
   first : 0 < length l.rest → is_blank (get_or l.rest 0 0) ≡ false;
 }

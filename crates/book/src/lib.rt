@@ -1,0 +1,11 @@
+//! The call behind the program: from words and files to a listing.
+#![tactic(auto)]
+
+mod document;
+mod files;
+mod lay_out;
+mod message;
+pub mod outcome;
+mod print;
+pub mod run;
+mod words;
