@@ -4,7 +4,7 @@
 mod document;
 mod files;
 mod lay_out;
-mod message;
+pub mod message;
 pub mod outcome;
 mod print;
 pub mod run;

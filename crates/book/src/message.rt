@@ -130,7 +130,7 @@ fn put_pages_line<E: Sink>(err: &mut E, pages: u32, passes: u32) -> Result<(), F
 
 /// Puts the line of an answer. It takes no memory but what the sink takes.
 #[tactic(auto, unfolding(crate::specs::Message::texts_of))]
-pub(crate) fn put_message<E: Sink>(err: &mut E, outcome: &Outcome) -> Result<(), Failed>
+pub fn put_message<E: Sink>(err: &mut E, outcome: &Outcome) -> Result<(), Failed>
     ensures bytes { AppendsAllOrPrefix (E.taken err.old) (E.taken err.new) (message outcome.now) result }
     ensures cause { HasCause (E.faults err.old) (E.faults err.new) result }
 {
