@@ -98,40 +98,41 @@ mod tests {
     use crate::decimal::Decimal;
     use crate::px::{Px, scale_floor};
 
+    fn number(units: i64, places: u8) -> Decimal
+        requires few { places ≤ 6 }
+        requires small { unsigned_abs units < 10 ^ 15 }
+    {
+        Decimal { units, places }
+    }
+
     /// Page sizes in millimetres, the CSS inch in each of its units, halves and the clamp.
     #[test]
     fn lengths_are_rounded_to_the_nearest_unit(rt: HostRuntime) {
-        for (units, places, unit, want) in [
-            (148, 0, Unit::Mm, 35800),
-            (210, 0, Unit::Mm, 50797),
-            (297, 0, Unit::Mm, 71841),
-            (75, 2, Unit::In, 4608),
-            (254, 2, Unit::Cm, 6144),
-            (72, 0, Unit::Pt, 6144),
-            (6, 0, Unit::Pc, 6144),
-            (7812, 6, Unit::Px, 0),
-            (7813, 6, Unit::Px, 1),
-            (-7812, 6, Unit::Px, 0),
-            (-7813, 6, Unit::Px, -1),
-            (2097152, 0, Unit::Px, 134217728),
-            (2097153, 0, Unit::Px, 134217728),
-            (-2097153, 0, Unit::Px, -134217728),
+        for (length, unit, want) in [
+            (number(148, 0), Unit::Mm, 35800),
+            (number(210, 0), Unit::Mm, 50797),
+            (number(297, 0), Unit::Mm, 71841),
+            (number(75, 2), Unit::In, 4608),
+            (number(254, 2), Unit::Cm, 6144),
+            (number(72, 0), Unit::Pt, 6144),
+            (number(6, 0), Unit::Pc, 6144),
+            (number(7812, 6), Unit::Px, 0),
+            (number(7813, 6), Unit::Px, 1),
+            (number(-7812, 6), Unit::Px, 0),
+            (number(-7813, 6), Unit::Px, -1),
+            (number(2097152, 0), Unit::Px, 134217728),
+            (number(2097153, 0), Unit::Px, 134217728),
+            (number(-2097153, 0), Unit::Px, -134217728),
         ] {
-            assert_eq!(rt;
-                px_of(Decimal { units, places }, unit).units(),
-                want,
-                "{units} {places}"
-            );
+            assert_eq!(rt; px_of(length, unit).units(), want);
         }
     }
 
     /// Halves go up, also below 0.
+    #[tactic(auto, unfolding(crate::specs::Units::clamped))]
     #[test]
     fn parts_of_a_base(rt: HostRuntime) {
-        let half = Decimal {
-            units: 5,
-            places: 1,
-        };
+        let half = number(5, 1);
         for (base, den, want) in [(5, 1, 3), (-5, 1, -2), (7, 2, 2), (0, 1, 0)] {
             assert_eq!(rt; part_of(half, base, den).units(), want, "{base} {den}");
         }

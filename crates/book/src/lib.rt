@@ -8,4 +8,6 @@ pub mod message;
 pub mod outcome;
 mod print;
 pub mod run;
+#[cfg(test)]
+mod tests;
 mod words;
