@@ -57,9 +57,9 @@ module _ (rs : List GlyphRange) (up : AreAscending rs) (c at : ℕ)
       (λ (g : k < at). passed k d g)
       (λ (g : at ≤ k).
       let first : c < (get_or rs k d).first = ⊎_elim
-          (λ (l : at < k). let f = far rs up at k d l h in let a = above (omega arith) in let s = up.filled at d (omega arith) in omega arith)
-          (λ (l : k ≤ at). let e : k ≡ at = omega arith in rw e (above (omega arith)))
-          (cases_lt at k) in
+      (λ (l : at < k). let f = far rs up at k d l h in let a = above (omega arith) in let s = up.filled at d (omega arith) in omega arith)
+      (λ (l : k ≤ at). let e : k ≡ at = omega arith in rw e (above (omega arith)))
+      (cases_lt at k) in
       let no : leb (get_or rs k d).first c ≡ false = grind (arith, nat_tests) in
       rw no refl)
       (cases_lt k at))

@@ -4,11 +4,9 @@ ghost use Rattle.std.specs.Prelude.{◌≡◌, ℕ, ◌<◌, ◌≤◌, pos, ◌
 ghost use Rattle.metrics.specs.Face.{advance_number, scaled};
 ghost use Rattle.metrics.specs.Table.{IsTable};
 
-use std::marker::Model;
-
-use bk_num::px::{Px, scale_floor};
-
 use crate::face_lines::FaceLines;
+use bk_num::px::{Px, scale_floor};
+use std::marker::Model;
 
 /// How many characters the table has: those of ASCII.
 const ASCII: usize = 128;

@@ -2,19 +2,17 @@
 
 ghost use Rattle.std.specs.Prelude.{◌≡◌, ℕ, ◌<◌, ◌≤◌, ◌^◌, pos, ◌≤ℤ◌, length, IfOk};
 ghost use Rattle.metrics.specs.Choice.{Chooses};
-ghost use Rattle.metrics.specs.Face.{FontFace, advance_of, ascent_of, descent_of, face_at, HaveBounds};
+ghost use Rattle.metrics.specs.Face.{FontFace, advance_of, ascent_of, descent_of, face_at};
 ghost use Rattle.metrics.specs.Text.{AreFaces};
-
-use std::alloc::{AllocError, Global};
-use std::marker::Model;
-
-use bk_num::ids::FaceId;
-use bk_num::name::Name;
-use bk_num::px::Px;
 
 use crate::choice::choose;
 use crate::face::Face;
 use crate::face_lines::FaceLines;
+use bk_num::ids::FaceId;
+use bk_num::name::Name;
+use bk_num::px::Px;
+use std::alloc::{AllocError, Global};
+use std::marker::Model;
 
 /// The faces of a metrics text, in its order. Contracts see their list.
 #[derive(Drop)]
@@ -111,10 +109,4 @@ impl Faces {
         let lines = self.faces[face.0 as usize].lines();
         (lines.name(), lines.italic(), lines.weight())
     }
-}
-
-/// The numbers of a face at a size that isn't negative are from 0 to 2^27.
-pub fn numbers_are_bounded()
-    ensures { HaveBounds }
-{
 }

@@ -5,9 +5,12 @@ use Rattle.metrics.specs.Face.{advance_number}
 use Rattle.metrics.proofs.face.ascii_table.Goals as goal
 
 pub loop-c-preserved : goal.loop-c-preserved
-loop-c-preserved c = record { size = rw length-set c.loop-c.invariant.size; known = λ k h. ⊎_elim
-    (λ (g : k < c.loop-c.c). let n : k ≢ c.loop-c.c = omega arith in get_or-set_other c.loop-c.table c.loop-c.c k c.number.result 0 n ∙ c.loop-c.invariant.known k g)
-    (λ (g : c.loop-c.c ≤ k).
-    let e : k ≡ c.loop-c.c = omega arith in
-    get_or-set_at c.loop-c.table c.loop-c.c k c.number.result 0 e (omega arith) ∙ rw e c.number.ensures.value)
-    (cases_lt k c.loop-c.c) }
+loop-c-preserved c = record {
+  size = rw length-set c.loop-c.invariant.size;
+  known = λ k h. ⊎_elim
+      (λ (g : k < c.loop-c.c). let n : k ≢ c.loop-c.c = omega arith in get_or-set_other c.loop-c.table c.loop-c.c k c.number.result 0 n ∙ c.loop-c.invariant.known k g)
+      (λ (g : c.loop-c.c ≤ k).
+      let e : k ≡ c.loop-c.c = omega arith in
+      get_or-set_at c.loop-c.table c.loop-c.c k c.number.result 0 e (omega arith) ∙ rw e c.number.ensures.value)
+      (cases_lt k c.loop-c.c);
+}
