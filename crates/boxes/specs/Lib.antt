@@ -1,3 +1,7 @@
+pub mod Contents
+pub mod Fields
 pub mod Frames
 pub mod Lines
+pub mod Rows
 pub mod Table
+pub mod Tree

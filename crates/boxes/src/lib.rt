@@ -12,3 +12,4 @@ pub mod page;
 pub mod place;
 pub mod props;
 pub mod table;
+pub mod tree;

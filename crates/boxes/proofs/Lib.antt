@@ -1,0 +1,4 @@
+pub mod ListLemmas
+pub mod Sound
+pub mod TreeFacts
+pub mod TreeLemmas
