@@ -11,5 +11,6 @@ pub mod line;
 pub mod page;
 pub mod place;
 pub mod props;
+pub mod span;
 pub mod table;
 pub mod tree;
