@@ -4,5 +4,6 @@ pub mod Frames
 pub mod Lines
 pub mod Rows
 pub mod Spans
+pub mod Steps
 pub mod Table
 pub mod Tree

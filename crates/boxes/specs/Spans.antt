@@ -23,12 +23,9 @@ is_auto (Some Auto) = true
 abbrev pub units_at : List ℤ → ℕ → ℤ
 units_at units side = unwrap_or (slice_get units side) (pos 0)
 
--- a box's left and right borders and paddings in a containing block of a width: the sides are top, right, bottom, left
-abbrev pub frame_left : BoxProps → ℤ → ℤ
-frame_left p width = units_at p.border 3 +ℤ used_or_zero (slice_get p.padding 3) width
-
-abbrev pub frame_right : BoxProps → ℤ → ℤ
-frame_right p width = units_at p.border 1 +ℤ used_or_zero (slice_get p.padding 1) width
+-- a box's border and padding at a side in a containing block of a width: sides are top, right, bottom, left
+abbrev pub frame_at : BoxProps → ℕ → ℤ → ℤ
+frame_at p side width = units_at p.border side +ℤ used_or_zero (slice_get p.padding side) width
 
 -- both margins, auto ones as 0
 abbrev pub margins_of : BoxProps → ℤ → ℤ
@@ -36,19 +33,19 @@ margins_of p width = used_or_zero (slice_get p.margin 3) width +ℤ used_or_zero
 
 -- what is left of the containing block's width beside a box of a stated width
 abbrev pub rest_of_width : BoxProps → ℤ → ℤ → ℤ
-rest_of_width p width stated = width -ℤ (frame_left p width +ℤ frame_right p width) -ℤ stated -ℤ margins_of p width
+rest_of_width p width stated = width -ℤ (frame_at p 3 width +ℤ frame_at p 1 width) -ℤ stated -ℤ margins_of p width
 
 -- the used left margin of a box of a stated width: an auto one takes what is left, or half of it where both are auto
 abbrev pub stated_left : BoxProps → ℤ → ℤ → ℤ
 stated_left p width rest = if is_auto (slice_get p.margin 3) then (if int_lt rest (pos 0) then pos 0 else (if is_auto (slice_get p.margin 1) then floor_div rest 2 else rest)) else used_or_zero (slice_get p.margin 3) width
 
--- the content left and width of a box in a containing block with a left and a width
+-- the content left and width of a box in a containing block with a left and a width, where its own width is stated or auto
+abbrev pub span_by : BoxProps → ℤ × ℤ → Option ℤ → ℤ × ℤ
+span_by p outer None = (outer.0 +ℤ used_or_zero (slice_get p.margin 3) outer.1 +ℤ frame_at p 3 outer.1, int_max (pos 0) (outer.1 -ℤ (frame_at p 3 outer.1 +ℤ frame_at p 1 outer.1) -ℤ margins_of p outer.1))
+span_by p outer (Some stated) = (outer.0 +ℤ stated_left p outer.1 (rest_of_width p outer.1 stated) +ℤ frame_at p 3 outer.1, stated)
+
 abbrev pub span_in : BoxProps → ℤ × ℤ → ℤ × ℤ
-span_in p outer = by (used_of p.width outer.1)
-  where
-    by : Option ℤ → ℤ × ℤ
-    by None = (outer.0 +ℤ used_or_zero (slice_get p.margin 3) outer.1 +ℤ frame_left p outer.1, int_max (pos 0) (outer.1 -ℤ (frame_left p outer.1 +ℤ frame_right p outer.1) -ℤ margins_of p outer.1))
-    by (Some stated) = (outer.0 +ℤ stated_left p outer.1 (rest_of_width p outer.1 stated) +ℤ frame_left p outer.1, stated)
+span_in p outer = span_by p outer (used_of p.width outer.1)
 
 abbrev pub span_or : Option BoxProps → ℤ × ℤ → ℤ × ℤ
 span_or None outer = outer
