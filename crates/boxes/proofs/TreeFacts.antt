@@ -1,17 +1,18 @@
 -- What is true of each tree that can be built.
-use Rattle.std.proofs.Common.{◌≡◌, ◌<◌, ◌≤◌, ℕ, ◌+◌, Bool, false, IsTrue, List, [], ◌∷◌, ◌++◌, Some, length, slice_get, refl, sym, ap, ◌∙◌, subst, arith, length-append, ◌⊎◌, inl, inr}
+use Rattle.std.proofs.Common.{◌≡◌, ◌<◌, ◌≤◌, ℕ, ◌+◌, Bool, false, IsTrue, List, [], ◌∷◌, ◌++◌, Some, length, slice_get, sym, ap, ◌∙◌, subst, arith, length-append, ◌⊎◌, inl, inr}
 use Rattle.std.proofs.lemmas.List.{take-append-le}
 use Rattle.std.proofs.lemmas.Option.{slice_get_within}
+use Rattle.std.proofs.lemmas.Bool.{cases_lt}
 use Rattle.std.specs.Str.{IsCharBoundary}
 use Rattle.boxes.specs.Contents.{IsGoodBox, IsGoodLeaf}
 use Rattle.boxes.specs.declared.place.Position.{Position}
-use Rattle.boxes.specs.Tree.{Tree, IsTree, Holds, innermost_of, around_of, open_after, open_before, first_of}
+use Rattle.boxes.specs.Tree.{Tree, IsTree, Holds, around_of, open_after, open_before, first_of}
 use Rattle.boxes.specs.Tree.IsTree.{empty, opened, filled, closed}
 use Rattle.boxes.specs.declared.place.Event.{Event}
 use Rattle.boxes.specs.declared.place.Event.TheVariants.{Opens, Closes, Leaf}
 use Rattle.boxes.specs.declared.leaf.Leaf.{Leaf as LeafData}
 use Rattle.boxes.specs.declared.props.BoxProps.{BoxProps}
-use Rattle.boxes.proofs.ListLemmas.{get-push}
+use Rattle.boxes.proofs.ListLemmas.{get-push, get-keep, get-end}
 use Rattle.boxes.proofs.TreeLemmas.{were_opened, WereOpened, all_before}
 
 -- a tree has at most 8,000,000 events, and no more boxes or leaves
@@ -70,6 +71,16 @@ box_there _ (closed t c tree few at) k b e = by (box_there t tree k b) (get-push
     by : (slice_get t.events k ≡ Some (Opens b) → b < length t.boxes) → ((k ≡ length t.events) × (Opens b ≡ Closes c)) ⊎ (slice_get t.events k ≡ Some (Opens b)) → b < length t.boxes
     by there (inl (place, is)) = absurd (cc)
     by there (inr old) = there old
+
+pub opens_there : (t : Tree) → IsTree t → (b : ℕ) → b < length t.boxes → (k : ℕ) × (slice_get t.events k ≡ Some (Opens b))
+opens_there _ empty b less = absurd (omega arith)
+opens_there _ (opened t p tree few place good) b less = by (opens_there t tree b) (cases_lt b (length t.boxes))
+  where
+    by : (b < length t.boxes → (k : ℕ) × (slice_get t.events k ≡ Some (Opens b))) → (b < length t.boxes) ⊎ (length t.boxes ≤ b) → (k : ℕ) × (slice_get (t.events ++ Opens (length t.boxes) ∷ []) k ≡ Some (Opens b))
+    by there (inl low) = let old = there low in (old.0, get-keep t.events (Opens (length t.boxes) ∷ []) old.0 (Opens b) old.1)
+    by there (inr high) = let same : length t.boxes ≡ b = omega (arith, length-append t.boxes (p ∷ [])) in (length t.events, get-end t.events (Opens (length t.boxes)) ∙ ap (λ (x : ℕ). Some (Opens x)) same)
+opens_there _ (filled t leaf tree few place good owners) b less = let old = opens_there t tree b less in (old.0, get-keep t.events (Leaf (length t.leaves) ∷ []) old.0 (Opens b) old.1)
+opens_there _ (closed t c tree few at) b less = let old = opens_there t tree b less in (old.0, get-keep t.events (Closes c ∷ []) old.0 (Opens b) old.1)
 
 pub opens_once : (t : Tree) → IsTree t → (j k b : ℕ) → slice_get t.events j ≡ Some (Opens b) → slice_get t.events k ≡ Some (Opens b) → j ≡ k
 opens_once _ empty j k b d e = absurd (cc)
