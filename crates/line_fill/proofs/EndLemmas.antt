@@ -39,9 +39,9 @@ last_such : (P : ℕ → Type 0) → ((q : ℕ) → Dec (P q)) → (n : ℕ) →
 last_such P dec zero = ⊎_elim (λ (p : P 0). inl (0, p, λ k h _. h)) (λ (not_p : P 0 → ⊥). inr (λ k h p. not_p (subst P (omega arith) p))) (dec 0)
 last_such P dec (suc n) = ⊎_elim (λ (p : P (suc n)). inl (suc n, p, λ k h _. h))
     (λ (not_p : P (suc n) → ⊥). ⊎_elim
-        (λ (f : (q : ℕ) × P q × ((k : ℕ) → k ≤ n → P k → k ≤ q)). inl (f.0, f.1, λ k h p. ⊎_elim (λ (g : n < k). absurd (not_p (subst P (omega arith) p))) (λ (g : k ≤ n). f.2 k g p) (cases_lt n k)))
-        (λ (f : (k : ℕ) → k ≤ n → P k → ⊥). inr (λ k h p. ⊎_elim (λ (g : n < k). not_p (subst P (omega arith) p)) (λ (g : k ≤ n). f k g p) (cases_lt n k)))
-        (last_such P dec n))
+    (λ (f : (q : ℕ) × P q × ((k : ℕ) → k ≤ n → P k → k ≤ q)). inl (f.0, f.1, λ k h p. ⊎_elim (λ (g : n < k). absurd (not_p (subst P (omega arith) p))) (λ (g : k ≤ n). f.2 k g p) (cases_lt n k)))
+    (λ (f : (k : ℕ) → k ≤ n → P k → ⊥). inr (λ k h p. ⊎_elim (λ (g : n < k). not_p (subst P (omega arith) p)) (λ (g : k ≤ n). f k g p) (cases_lt n k)))
+    (last_such P dec n))
     (dec (suc n))
 
 -- the first number up to n with a property
@@ -50,9 +50,9 @@ first_such P dec zero = ⊎_elim (λ (p : P 0). inl (0, p, λ k _. omega arith))
 first_such P dec (suc n) = ⊎_elim
     (λ (f : (q : ℕ) × P q × ((k : ℕ) → P k → q ≤ k)). inl f)
     (λ (f : (k : ℕ) → k ≤ n → P k → ⊥). ⊎_elim
-        (λ (p : P (suc n)). inl (suc n, p, λ k q. ⊎_elim (λ (g : n < k). omega arith) (λ (g : k ≤ n). absurd (f k g q)) (cases_lt n k)))
-        (λ (not_p : P (suc n) → ⊥). inr (λ k h q. ⊎_elim (λ (g : n < k). not_p (subst P (omega arith) q)) (λ (g : k ≤ n). f k g q) (cases_lt n k)))
-        (dec (suc n)))
+    (λ (p : P (suc n)). inl (suc n, p, λ k q. ⊎_elim (λ (g : n < k). omega arith) (λ (g : k ≤ n). absurd (f k g q)) (cases_lt n k)))
+    (λ (not_p : P (suc n) → ⊥). inr (λ k h q. ⊎_elim (λ (g : n < k). not_p (subst P (omega arith) q)) (λ (g : k ≤ n). f k g q) (cases_lt n k)))
+    (dec (suc n)))
     (first_such P dec n)
 
 dec_both : {P Q : Type 0} → Dec P → Dec Q → Dec (P × Q)
@@ -104,12 +104,12 @@ end_exists : (F O E : ℕ → Type 0) (n : ℕ) → ((q : ℕ) → Dec (F q)) �
 end_exists F O E n df d_o de low_o low_e there = ⊎_elim
     (λ (f : (q : ℕ) × (O q × F q) × ((k : ℕ) → k ≤ n → O k × F k → k ≤ q)). let e : IsLineEnd F O E f.0 = at_ordinary f.1.0 f.1.1 (λ q o g. f.2 q (low_o q o) (o, g)) in (f.0, e))
     (λ (none : (k : ℕ) → k ≤ n → O k × F k → ⊥). ⊎_elim
-        (λ (f : (q : ℕ) × (E q × F q) × ((k : ℕ) → k ≤ n → E k × F k → k ≤ q)). let e : IsLineEnd F O E f.0 = at_emergency (λ q o g. none q (low_o q o) (o, g)) f.1.0 f.1.1 (λ q o g. f.2 q (low_e q o) (o, g)) in (f.0, e))
-        (λ (none' : (k : ℕ) → k ≤ n → E k × F k → ⊥). ⊎_elim
-            (λ (f : (q : ℕ) × (O q ⊎ E q) × ((k : ℕ) → O k ⊎ E k → q ≤ k)). let e : IsLineEnd F O E f.0 = at_least (λ q o g. ⊎_elim (λ (p : O q). none q (low_o q p) (p, g)) (λ (p : E q). none' q (low_e q p) (p, g)) o) f.1 f.2 in (f.0, e))
-            (λ (f : (k : ℕ) → k ≤ n → O k ⊎ E k → ⊥). absurd (f n (omega arith) (inl there)))
-            (first_such (λ q. O q ⊎ E q) (λ q. dec_either (d_o q) (de q)) n))
-        (last_such (λ q. E q × F q) (λ q. dec_both (de q) (df q)) n))
+    (λ (f : (q : ℕ) × (E q × F q) × ((k : ℕ) → k ≤ n → E k × F k → k ≤ q)). let e : IsLineEnd F O E f.0 = at_emergency (λ q o g. none q (low_o q o) (o, g)) f.1.0 f.1.1 (λ q o g. f.2 q (low_e q o) (o, g)) in (f.0, e))
+    (λ (none' : (k : ℕ) → k ≤ n → E k × F k → ⊥). ⊎_elim
+    (λ (f : (q : ℕ) × (O q ⊎ E q) × ((k : ℕ) → O k ⊎ E k → q ≤ k)). let e : IsLineEnd F O E f.0 = at_least (λ q o g. ⊎_elim (λ (p : O q). none q (low_o q p) (p, g)) (λ (p : E q). none' q (low_e q p) (p, g)) o) f.1 f.2 in (f.0, e))
+    (λ (f : (k : ℕ) → k ≤ n → O k ⊎ E k → ⊥). absurd (f n (omega arith) (inl there)))
+    (first_such (λ q. O q ⊎ E q) (λ q. dec_either (d_o q) (de q)) n))
+    (last_such (λ q. E q × F q) (λ q. dec_both (de q) (df q)) n))
     (last_such (λ q. O q × F q) (λ q. dec_both (d_o q) (df q)) n)
 
 pub some_line : HaveSomeLine

@@ -19,7 +19,7 @@ module _ (faces : List FontFace) (leaf : Leaf) (good : IsGoodLeaf leaf) (plain :
   widths-same q o =
       let within : q ≤ length leaf.text = (let w = o.within in omega (arith, stop_within leaf.text from (omega arith))) in
       let sums : sum_from (unit_at faces leaf) from (shown_len leaf.text from (q - from)) ≡ sum_from (plain_unit faces leaf.strut leaf.text) from (shown_len leaf.text from (q - from)) =
-          sum-same (unit_at faces leaf) (plain_unit faces leaf.strut leaf.text) from (shown_len leaf.text from (q - from)) (λ k l. unit_plain faces leaf good plain (from + k) (omega (arith, shown-le leaf.text from (q - from), o.after))) in
+      sum-same (unit_at faces leaf) (plain_unit faces leaf.strut leaf.text) from (shown_len leaf.text from (q - from)) (λ k l. unit_plain faces leaf good plain (from + k) (omega (arith, shown-le leaf.text from (q - from), o.after))) in
       rw (no_hyphen_width faces leaf good plain q, add-zero) sums
 
   pub plain_line : (to : ℕ) → IsLineEnd (FitsPlainly (plain_unit faces leaf.strut leaf.text) leaf.text from (line_measure leaf from measure)) (IsOrdinary leaf.text leaf.places from) (λ q. ⊥) to → IsLine faces leaf from measure (record { from = from; to = to; hyphen = false })

@@ -6,12 +6,11 @@ ghost use Rattle.boxes.specs.Contents.{IsGoodLeaf};
 ghost use Rattle.line_fill.specs.LineEnd.{IsLineEnd, IsOrdinary, line_measure};
 ghost use Rattle.line_fill.specs.Plain.{FitsPlainly, plain_unit};
 
+use crate::bytes::{Reach, is_stop, width_of};
+use crate::places::{count_up_to, is_place};
 use boxes::leaf::{Leaf, Span};
 use boxes::span::used_units;
 use metrics::Faces;
-
-use crate::bytes::{Reach, is_stop, width_of};
-use crate::places::{count_up_to, is_place};
 
 /// The measure of the line that begins at a place.
 #[tactic(auto, unfolding(crate::specs::LineEnd::line_measure))]
@@ -38,7 +37,14 @@ pub(crate) fn text_len(leaf: &Leaf) -> u32
 }
 
 /// Where a line of ASCII text in one span ends, at its own measure.
-pub(crate) fn line_end(faces: &Faces, strut: &Span, bytes: &[u8], places: &[u32], from: usize, measure: i64) -> usize
+pub(crate) fn line_end(
+    faces: &Faces,
+    strut: &Span,
+    bytes: &[u8],
+    places: &[u32],
+    from: usize,
+    measure: i64,
+) -> usize
     requires face { strut.now.face.0 < length faces.now }
     requires size { pos 0 ≤ℤ strut.now.size }
     requires few { length bytes.now < 2 ^ 32 }

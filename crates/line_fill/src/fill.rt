@@ -6,15 +6,13 @@ ghost use Rattle.boxes.specs.Contents.{IsGoodLeaf};
 ghost use Rattle.line_fill.specs.LineEnd.{IsLine};
 ghost use Rattle.line_fill.specs.Plain.{IsPlainLeaf};
 
-use std::sync::ledger::Ledger;
-
+use crate::end::{line_end, measure_at, text_len};
 use bk_num::steps::Steps;
 use boxes::laws::make_line;
 use boxes::leaf::Leaf;
 use boxes::line::Line;
 use metrics::Faces;
-
-use crate::end::{line_end, measure_at, text_len};
+use std::sync::ledger::Ledger;
 
 /// The line of a leaf that begins at `from`, at a measure in units. It takes one step and no memory.
 ///
@@ -23,7 +21,13 @@ use crate::end::{line_end, measure_at, text_len};
 /// the greatest emergency place that fits; else at the least of all these. Spaces at its end and
 /// the newline have no width (CSS 2.1, 16.6.1), and the indent is off the first line's measure
 /// (CSS 2.1, 16.1).
-pub fn next_line<L: Ledger>(faces: &Faces, leaf: &Leaf, from: u32, measure: i64, steps: &mut Steps<L>) -> Line
+pub fn next_line<L: Ledger>(
+    faces: &Faces,
+    leaf: &Leaf,
+    from: u32,
+    measure: i64,
+    steps: &mut Steps<L>,
+) -> Line
     requires good { IsGoodLeaf leaf.now }
     requires plain { IsPlainLeaf leaf.now }
     requires face { leaf.now.strut.face.0 < length faces.now }
