@@ -1,19 +1,19 @@
 -- What is true of each tree that can be built.
-use Rattle.std.proofs.Common.{◌≡◌, ◌<◌, ◌≤◌, ℕ, ◌+◌, Bool, false, IsTrue, List, [], ◌∷◌, ◌++◌, Some, length, slice_get, sym, ap, ◌∙◌, subst, arith, length-append, ◌⊎◌, inl, inr}
+use Rattle.std.proofs.Common.{◌≡◌, ◌<◌, ◌≤◌, ℕ, suc, ◌+◌, ◌-◌, Bool, false, IsTrue, List, [], ◌∷◌, ◌++◌, Option, None, Some, length, slice_get, refl, sym, ap, ◌∙◌, subst, arith, length-append, ◌⊎◌, inl, inr}
 use Rattle.std.proofs.lemmas.List.{take-append-le}
 use Rattle.std.proofs.lemmas.Option.{slice_get_within}
 use Rattle.std.proofs.lemmas.Bool.{cases_lt}
 use Rattle.std.specs.Str.{IsCharBoundary}
 use Rattle.boxes.specs.Contents.{IsGoodBox, IsGoodLeaf}
 use Rattle.boxes.specs.declared.place.Position.{Position}
-use Rattle.boxes.specs.Tree.{Tree, IsTree, Holds, around_of, open_after, open_before, first_of}
+use Rattle.boxes.specs.Tree.{Tree, IsTree, Holds, innermost_of, around_of, open_after, open_before, first_of, is_opening, last_event}
 use Rattle.boxes.specs.Tree.IsTree.{empty, opened, filled, closed}
 use Rattle.boxes.specs.declared.place.Event.{Event}
 use Rattle.boxes.specs.declared.place.Event.TheVariants.{Opens, Closes, Leaf}
 use Rattle.boxes.specs.declared.leaf.Leaf.{Leaf as LeafData}
 use Rattle.boxes.specs.declared.props.BoxProps.{BoxProps}
 use Rattle.boxes.proofs.ListLemmas.{get-push, get-keep, get-end}
-use Rattle.boxes.proofs.TreeLemmas.{were_opened, WereOpened, all_before}
+use Rattle.boxes.proofs.TreeLemmas.{were_opened, WereOpened, all_before, open-step}
 
 -- a tree has at most 8,000,000 events, and no more boxes or leaves
 pub few_events : (t : Tree) → IsTree t → length t.events ≤ 8000000
@@ -144,6 +144,37 @@ around_opened es k b low at = go (open_before es k) at (were_opened es k low)
 
 pub around_there : (t : Tree) → IsTree t → (k b : ℕ) → k ≤ length t.events → around_of t.events k ≡ Some b → b < length t.boxes
 around_there t tree k b low at = let o = around_opened t.events k b low at in box_there t tree o.0 b o.1
+
+-- each leaf stands in a box
+pub leaf_inside : (t : Tree) → IsTree t → (k l : ℕ) → slice_get t.events k ≡ Some (Leaf l) → (b : ℕ) × (around_of t.events k ≡ Some b)
+leaf_inside _ empty k l e = absurd (cc)
+leaf_inside _ (opened t p tree few place good) k l e = by (leaf_inside t tree k l) (get-push t.events (Opens (length t.boxes)) (Leaf l) k e)
+  where
+    by : (slice_get t.events k ≡ Some (Leaf l) → (b : ℕ) × (around_of t.events k ≡ Some b)) → ((k ≡ length t.events) × (Leaf l ≡ Opens (length t.boxes))) ⊎ (slice_get t.events k ≡ Some (Leaf l)) → (b : ℕ) × (around_of (t.events ++ Opens (length t.boxes) ∷ []) k ≡ Some b)
+    by inside (inl (at, is)) = absurd (cc)
+    by inside (inr old) = let w = slice_get_within t.events k (Leaf l) old in let o = inside old in (o.0, ap first_of (before_push t.events (Opens (length t.boxes)) k (omega arith)) ∙ o.1)
+leaf_inside _ (filled t leaf tree few place good owners) k l e = by (leaf_inside t tree k l) (get-push t.events (Leaf (length t.leaves)) (Leaf l) k e)
+  where
+    opener : (e : Option Event) → slice_get t.events (length t.events - 1) ≡ e → IsTrue (is_opening e) → (b : ℕ) × (innermost_of t.events ≡ Some b)
+    opener None last t_opens = absurd (cc)
+    opener (Some (Opens b)) last t_opens =
+        let w = slice_get_within t.events (length t.events - 1) (Opens b) last in
+        let size : suc (length t.events - 1) ≡ length t.events = omega arith in
+        let all : open_before t.events (suc (length t.events - 1)) ≡ open_after [] t.events = ap (open_before t.events) size ∙ all_before t.events in
+        (b, ap first_of (sym all ∙ open-step t.events (length t.events - 1) (Opens b) last))
+    opener (Some (Closes b)) last t_opens = absurd (cc)
+    opener (Some (Leaf m)) last t_opens = absurd (cc)
+
+    by : (slice_get t.events k ≡ Some (Leaf l) → (b : ℕ) × (around_of t.events k ≡ Some b)) → ((k ≡ length t.events) × (Leaf l ≡ Leaf (length t.leaves))) ⊎ (slice_get t.events k ≡ Some (Leaf l)) → (b : ℕ) × (around_of (t.events ++ Leaf (length t.leaves) ∷ []) k ≡ Some b)
+    by inside (inl (at, is)) =
+        let o = opener (last_event t.events) refl place in
+        (o.0, ap (around_of (t.events ++ Leaf (length t.leaves) ∷ [])) at ∙ ap first_of (before_push t.events (Leaf (length t.leaves)) (length t.events) (omega arith) ∙ all_before t.events) ∙ o.1)
+    by inside (inr old) = let w = slice_get_within t.events k (Leaf l) old in let o = inside old in (o.0, ap first_of (before_push t.events (Leaf (length t.leaves)) k (omega arith)) ∙ o.1)
+leaf_inside _ (closed t c tree few at) k l e = by (leaf_inside t tree k l) (get-push t.events (Closes c) (Leaf l) k e)
+  where
+    by : (slice_get t.events k ≡ Some (Leaf l) → (b : ℕ) × (around_of t.events k ≡ Some b)) → ((k ≡ length t.events) × (Leaf l ≡ Closes c)) ⊎ (slice_get t.events k ≡ Some (Leaf l)) → (b : ℕ) × (around_of (t.events ++ Closes c ∷ []) k ≡ Some b)
+    by inside (inl (place, is)) = absurd (cc)
+    by inside (inr old) = let w = slice_get_within t.events k (Leaf l) old in let o = inside old in (o.0, ap first_of (before_push t.events (Closes c) k (omega arith)) ∙ o.1)
 
 -- each box is a good one
 pub box_good : (t : Tree) → IsTree t → (b : ℕ) (p : BoxProps) → slice_get t.boxes b ≡ Some p → IsGoodBox p

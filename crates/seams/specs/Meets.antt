@@ -1,5 +1,5 @@
 -- The break values and page names that meet at a seam (CSS 2.1, 13.3; css-break-3, 3.1; css-page-3, 7).
-use Rattle.std.specs.Prelude.{◌≡◌, ℕ, zero, suc, List, [], ◌∷◌, ◌++◌, Option, Some, None, Bool, true, false, not, ◌&&◌, ◌||◌, ◌==◌, drop, map, slice_get}
+use Rattle.std.specs.Prelude.{ℕ, zero, suc, List, [], ◌∷◌, ◌++◌, Option, Some, None, Bool, true, false, not, ◌&&◌, ◌==◌, drop, map, slice_get}
 use Rattle.std.specs.List.{list_any}
 use Rattle.bk_num.specs.declared.ids.NameId.{NameId}
 use Rattle.bk_num.specs.declared.values.BreakAt.{BreakAt}
@@ -96,16 +96,16 @@ abbrev pub name_of : Tree → Option ℕ → NameId
 name_of t None = record { 0 = 0 }
 name_of t (Some b) = name_in (slice_get t.boxes b)
 
-abbrev pub last_of : List ℕ → Option ℕ
-last_of [] = None
-last_of (b ∷ []) = Some b
-last_of (b ∷ c ∷ bs) = last_of (c ∷ bs)
+-- the last of a list, or what came before it
+abbrev pub last_from : Option ℕ → List ℕ → Option ℕ
+last_from last [] = last
+last_from last (b ∷ bs) = last_from (Some b) bs
 
 -- the page name of a solid: a line has that of its block, an upper edge that of the end of the block's first-child chain,
 -- and a lower edge that of the end of its last-child chain
 abbrev pub name_by : Tree → ℕ → Option Event → NameId
 name_by t k None = record { 0 = 0 }
-name_by t k (Some (Opens b)) = name_of t (last_of (opens_from (drop k t.events)))
+name_by t k (Some (Opens b)) = name_of t (last_from None (opens_from (drop k t.events)))
 name_by t k (Some (Closes b)) = name_of t (first_of (closes_to t.events (suc k)))
 name_by t k (Some (Leaf l)) = name_of t (first_of (open_before t.events k))
 
@@ -114,4 +114,4 @@ name_at t k = name_by t k (slice_get t.events k)
 
 -- the page name of a tree without solids: that of the end of the root's first-child chain
 abbrev pub root_name : Tree → NameId
-root_name t = name_of t (last_of (opens_from t.events))
+root_name t = name_of t (last_from None (opens_from t.events))

@@ -1,5 +1,5 @@
 -- The trees whose seams are built so far.
-use Rattle.std.specs.Prelude.{◌≡◌, ℕ, Some, Bool, false, slice_get}
+use Rattle.std.specs.Prelude.{◌≡◌, ℕ, Some, false, slice_get}
 use Rattle.bk_num.specs.declared.values.BreakAt.TheVariants.{Auto}
 use Rattle.boxes.specs.declared.props.BoxProps.{BoxProps}
 use Rattle.boxes.specs.Tree.{Tree}

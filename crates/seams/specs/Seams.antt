@@ -1,5 +1,5 @@
 -- The seam before a solid (css-break-3, 3 and 4).
-use Rattle.std.specs.Prelude.{◌≡◌, ℕ, ℤ, pos, List, [], Option, Some, None, Bool, true, false, not, ◌||◌, ◌==◌, nat_lt, unwrap_or, if◌then◌else◌}
+use Rattle.std.specs.Prelude.{ℕ, ℤ, pos, List, [], Option, Some, None, Bool, not, ◌||◌, ◌==◌, unwrap_or, if◌then◌else◌}
 use Rattle.std.specs.List.{list_any}
 use Rattle.bk_num.specs.declared.ids.NameId.{NameId}
 use Rattle.bk_num.specs.declared.values.BreakAt.{BreakAt}
@@ -15,10 +15,13 @@ use Rattle.seams.specs.Runs.{solid_after, solid_before, run_start, run_end, even
 use Rattle.seams.specs.Meets.{values_from, is_forcing, is_avoid, asked_from, is_inside, name_at, root_name}
 
 -- the class of the seam between two solids, where both are there
+abbrev pub class_by : Option ℕ → Option ℕ → Bool → Class
+class_by None after blocks = NoBreak
+class_by (Some p) None blocks = NoBreak
+class_by (Some p) (Some n) blocks = if blocks then A else NoBreak
+
 abbrev pub class_of : Option ℕ → Option ℕ → List Event → Class
-class_of None after run = NoBreak
-class_of (Some p) None run = NoBreak
-class_of (Some p) (Some n) run = if has_block_seam run then A else NoBreak
+class_of before after run = class_by before after (has_block_seam run)
 
 -- the demand of a seam of a class between solids of two names
 abbrev pub forced_by : Class → List BreakAt → NameId → NameId → Option Demand
@@ -61,6 +64,10 @@ solid_behind t (Some n) = solid_before t n
 abbrev pub line_seam : Tree → ℕ → SeamInfo
 line_seam t k = record { class = B; forced = None; whole_gap = pos 0; kept_gap = pos 0; avoid = is_inside t k []; name = name_at t k }
 
+-- the seam before the first solid at or after an event
+abbrev pub seam_before : Tree → ℕ → ℤ → SeamInfo
+seam_before t k measure = seam_between t measure (solid_behind t (solid_after t k)) (solid_after t k)
+
 -- the seam before the first solid at or after a place
 abbrev pub seam_of : Tree → Position → ℤ → SeamInfo
-seam_of t at measure = if nat_lt 0 at.offset then line_seam t at.event else seam_between t measure (solid_behind t (solid_after t at.event)) (solid_after t at.event)
+seam_of t at measure = if at.offset == 0 then seam_before t at.event measure else line_seam t at.event

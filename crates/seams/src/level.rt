@@ -4,10 +4,9 @@ ghost use Rattle.std.specs.Prelude.{◌≡◌, ◌≤◌, length, nat_lt, ◌||�
 ghost use Rattle.boxes.specs.Tree.{IsTree};
 ghost use Rattle.seams.specs.Levels.{level_of, level_by, is_few, block_at};
 
+use crate::seam_info::{Class, SeamInfo};
 use boxes::place::Position;
 use boxes::tree::BoxTree;
-
-use crate::seam_info::{Class, SeamInfo};
 
 /// Whether a break at a place leaves too few lines before or after it.
 fn leaves_few(tree: &BoxTree, event: u32, before: u32, after: u32) -> bool

@@ -2,5 +2,6 @@
 #![tactic(auto)]
 
 pub mod level;
+mod run;
 pub mod seam;
 pub mod seam_info;
