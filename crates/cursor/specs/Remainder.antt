@@ -50,6 +50,15 @@ pub record IsSolid (faces : List FontFace) (t : Tree) (width : ℤ) (from : Posi
   pub seam_is : s.seam ≡ seam_of t s.placed_at width
   pub text_is : s.text ≡ slice_range leaf.text line_of.from line_of.to
 
+-- the gaps before a solid and its height are within 2^32
+pub record IsSmallSolid (s : SolidView) : Type 0 where
+  pub whole_low : neg_ℤ (pos (2 ^ 32)) ≤ℤ s.seam.whole_gap
+  pub whole_high : s.seam.whole_gap ≤ℤ pos (2 ^ 32)
+  pub kept_low : neg_ℤ (pos (2 ^ 32)) ≤ℤ s.seam.kept_gap
+  pub kept_high : s.seam.kept_gap ≤ℤ pos (2 ^ 32)
+  pub height_low : pos 0 ≤ℤ s.height
+  pub height_high : s.height ≤ℤ pos (2 ^ 32)
+
 -- each solid begins where the one before ends, up to the tree's end
 abbrev pub IsRemainder : List FontFace → Tree → ℤ → Position → List SolidView → Type 0
 IsRemainder faces t width = IsRun (λ at s to. IsSolid faces t width at s × (to ≡ s.end)) (λ at. solid_after t at.event ≡ None)

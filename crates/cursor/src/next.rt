@@ -4,7 +4,7 @@ ghost use Rattle.std.specs.Prelude.{◌≡◌, ℕ, ◌+◌, ◌<◌, ◌≤◌,
 ghost use Rattle.boxes.specs.Tree.{IsWhole, Holds, depth_of};
 ghost use Rattle.cursor.specs.Fields.{solid_view};
 ghost use Rattle.cursor.specs.Plain.{HasPlainLeaves};
-ghost use Rattle.cursor.specs.Remainder.{IsSolid};
+ghost use Rattle.cursor.specs.Remainder.{IsSmallSolid, IsSolid};
 ghost use Rattle.line_fill.specs.Plain.{IsPlainLeaf};
 ghost use Rattle.seams.specs.Plain.{IsPlain};
 ghost use Rattle.seams.specs.Runs.{solid_after};
@@ -39,6 +39,7 @@ pub(crate) fn next_solid<'t, L: Ledger>(
     requires leaves { HasPlainLeaves faces.now tree.now }
     ensures solid { MatchOption result (solid_after tree.now from.event ≡ None) (λ s. IsSolid faces.now tree.now width from (solid_view s)) }
     ensures holds { IfSome result (λ s. Holds tree.now s.end) }
+    ensures small { IfSome result (λ s. IsSmallSolid (solid_view s)) }
     ensures step { MatchOption result (steps.new ≡ steps.old) (λ _. steps.new ≡ steps.old + 1) }
 {
     let _count = tree.count();

@@ -1,10 +1,10 @@
 //! All solids from a place on.
 
-ghost use Rattle.std.specs.Prelude.{◌≡◌, ℕ, ◌+◌, ◌<◌, ◌≤◌, ◌^◌, pos, ◌≤ℤ◌, map, vec_len, IfOk};
+ghost use Rattle.std.specs.Prelude.{◌≡◌, ℕ, ◌+◌, ◌<◌, ◌≤◌, ◌^◌, pos, ◌≤ℤ◌, map, vec_len, All, IfOk};
 ghost use Rattle.boxes.specs.Tree.{IsWhole, Holds, depth_of};
 ghost use Rattle.cursor.specs.Fields.{solid_view};
 ghost use Rattle.cursor.specs.Plain.{HasPlainLeaves};
-ghost use Rattle.cursor.specs.Remainder.{IsRemainder};
+ghost use Rattle.cursor.specs.Remainder.{IsRemainder, IsSmallSolid};
 ghost use Rattle.seams.specs.Plain.{IsPlain};
 
 use crate::next::next_solid;
@@ -35,6 +35,7 @@ pub fn remainder<'t, L: Ledger>(
     requires plain { IsPlain tree.now }
     requires leaves { HasPlainLeaves faces.now tree.now }
     ensures solids { IfOk result (λ v. IsRemainder faces.now tree.now width from (map solid_view v.items)) }
+    ensures small { IfOk result (λ v. All IsSmallSolid (map solid_view v.items)) }
     ensures steps { IfOk result (λ v. steps.new ≡ steps.old + vec_len v) }
 {
     let _count = tree.count();

@@ -3,9 +3,11 @@ use Rattle.std.specs.Result.{is_ok}
 use Rattle.cursor.specs.declared.solid.Solid.{Solid}
 use Rattle.std.specs.Int.{w64}
 use Rattle.std.proofs.lemmas.Int.{to_z-of_z}
+use Rattle.std.specs.List.{All}
 use Rattle.std.proofs.lemmas.List.{map-append}
+use Rattle.std.proofs.lemmas.List.Elements.{All-push}
 use Rattle.cursor.specs.Fields.{solid_view}
-use Rattle.cursor.specs.Remainder.{SolidView, IsSolid, IsRemainder}
+use Rattle.cursor.specs.Remainder.{SolidView, IsSmallSolid, IsSolid, IsRemainder}
 use Rattle.cursor.proofs.RemLemmas.{solid_falls, stands}
 use Rattle.cursor.proofs.walk.remainder.Goals as goal
 use Rattle.cursor.proofs.walk.remainder.Goals.{Else-is_err}
@@ -26,6 +28,7 @@ loop-solid-preserved g c =
       goes = λ rest r.
           let joined : map solid_view c.loop-solid.solids.items ++ solid_view c.in-Some.solid ∷ rest ≡ map solid_view c.push.new.self.items ++ rest = sym (ap (λ (l : List Solid). map solid_view l ++ rest) items ∙ rw (map-append, append_assoc) refl) in
           subst (λ (l : List SolidView). IsRemainder c.args.faces.now c.args.tree.now (to_z w64 (of_z w64 c.args.width)) c.args.from l) joined (c.loop-solid.invariant.goes (solid_view c.in-Some.solid ∷ rest) (c.in-Some.solid.end, (c.in-Some.ensures.solid, refl), r));
+      small = subst (λ (l : List Solid). All IsSmallSolid (map solid_view l)) (sym items) (rw map-append (All-push IsSmallSolid (map solid_view c.loop-solid.solids.items) (solid_view c.in-Some.solid) c.loop-solid.invariant.small c.in-Some.ensures.small));
       count = let s = c.in-Some.ensures.step in let n = c.loop-solid.invariant.count in omega (arith, len);
     }
 
