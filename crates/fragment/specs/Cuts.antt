@@ -16,7 +16,7 @@ IsRowCut first rows height level j = IsCut (IsPoint rows) (Fits first rows heigh
 
 -- a page has one cut
 abbrev pub HasOneCut : Type 0
-HasOneCut = (point : ℕ → ℕ → Type 0) (fits loose : ℕ → Type 0) (level j level' j' : ℕ) → IsCut point fits loose level j → IsCut point fits loose level' j' → (level ≡ level') × (j ≡ j')
+HasOneCut = (first height : ℤ) (rows : List Row) (level j level' j' : ℕ) → IsRowCut first rows height level j → IsRowCut first rows height level' j' → (level ≡ level') × (j ≡ j')
 
 -- no later point fits once one misses
 abbrev pub MissesGoOn : Type 0

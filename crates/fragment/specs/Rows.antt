@@ -1,5 +1,5 @@
 -- The tops and bottoms of a page's solids, and the levels of its seams.
-use Rattle.std.specs.Prelude.{◌≡◌, ℕ, zero, suc, ℤ, pos, neg_ℤ, ◌+◌, ◌<◌, ◌≤◌, ◌^◌, ◌≤ℤ◌, ◌+ℤ◌, List, [], ◌∷◌, Option, Some, None, Bool, true, false, not, ◌&&◌, ◌||◌, nat_lt, is_some, drop, length, slice_get, if◌then◌else◌}
+use Rattle.std.specs.Prelude.{◌≡◌, ℕ, zero, suc, ℤ, pos, neg_ℤ, ◌<◌, ◌≤◌, ◌^◌, ◌≤ℤ◌, ◌+ℤ◌, List, [], ◌∷◌, Option, Some, None, Bool, true, false, not, ◌&&◌, ◌||◌, nat_lt, is_some, drop, slice_get, if◌then◌else◌}
 use Rattle.std.specs.Int.{int_max}
 use Rattle.std.specs.List.{prefix_len}
 use Rattle.seams.specs.declared.seam_info.Class.{Class}
@@ -88,3 +88,7 @@ pub record IsPoint (rows : List Row) (level j : ℕ) : Type 0 where
   pub some : 0 < j
   pub within : j ≤ limit_of rows
   pub level_is : level_after rows j ≡ Some level
+
+-- a forced seam within a page stands between blocks
+abbrev pub AreForcedBetween : List Row → Type 0
+AreForcedBetween rows = (k : ℕ) (r : Row) → slice_get rows (suc k) ≡ Some r → is_some r.seam.forced ≡ true → r.seam.class ≡ A
