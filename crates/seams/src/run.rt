@@ -194,6 +194,10 @@ pub(crate) fn read_run(tree: &BoxTree, from: u32, to: u32, measure: i64) -> Run
     requires measure_high { measure ≤ℤ pos (2 ^ 30) }
     ensures whole { result.whole_gap ≡ whole_gap tree.now measure from to }
     ensures kept { result.kept_gap ≡ kept_gap tree.now measure from to }
+    ensures whole_low { neg_ℤ (pos (2 ^ 28)) ≤ℤ result.whole_gap }
+    ensures whole_high { result.whole_gap ≤ℤ pos (2 ^ 28) }
+    ensures kept_low { neg_ℤ (pos (2 ^ 28)) ≤ℤ result.kept_gap }
+    ensures kept_high { result.kept_gap ≤ℤ pos (2 ^ 28) }
     ensures blocks { result.blocks ≡ has_block_seam (events_in tree.now from to) }
 {
     let mut whole = Extremes::NONE;

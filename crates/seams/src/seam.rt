@@ -1,6 +1,6 @@
 //! The seam before a solid.
 
-ghost use Rattle.std.specs.Prelude.{◌≡◌, ℕ, ◌≤◌, ◌<◌, ◌^◌, ◌≤ℤ◌, pos, true, length, slice_get, Some};
+ghost use Rattle.std.specs.Prelude.{◌≡◌, ℕ, ◌≤◌, ◌<◌, ◌^◌, ◌≤ℤ◌, pos, neg_ℤ, true, length, slice_get, Some};
 ghost use Rattle.std.specs.Option.{ForSome};
 ghost use Rattle.boxes.specs.Tree.{IsTree, IsWhole, Holds, depth_of};
 ghost use Rattle.seams.specs.Meets.{name_of, name_at, root_name};
@@ -88,7 +88,11 @@ fn block_seam(tree: &BoxTree, event: u32, measure: i64) -> SeamInfo
     requires measure_low { pos 0 ≤ℤ measure }
     requires measure_high { measure ≤ℤ pos (2 ^ 30) }
     requires plain { IsPlain tree.now }
-    ensures { result ≡ seam_before tree.now event measure }
+    ensures value { result ≡ seam_before tree.now event measure }
+    ensures whole_low { neg_ℤ (pos (2 ^ 28)) ≤ℤ result.whole_gap }
+    ensures whole_high { result.whole_gap ≤ℤ pos (2 ^ 28) }
+    ensures kept_low { neg_ℤ (pos (2 ^ 28)) ≤ℤ result.kept_gap }
+    ensures kept_high { result.kept_gap ≤ℤ pos (2 ^ 28) }
 {
     let _count = tree.count();
     let after = solid_after(tree, event);
@@ -113,7 +117,11 @@ pub fn seam(tree: &BoxTree, at: Position, measure: i64) -> SeamInfo
     requires measure_low { pos 0 ≤ℤ measure }
     requires measure_high { measure ≤ℤ pos (2 ^ 30) }
     requires plain { IsPlain tree.now }
-    ensures { result ≡ seam_of tree.now at measure }
+    ensures value { result ≡ seam_of tree.now at measure }
+    ensures whole_low { neg_ℤ (pos (2 ^ 28)) ≤ℤ result.whole_gap }
+    ensures whole_high { result.whole_gap ≤ℤ pos (2 ^ 28) }
+    ensures kept_low { neg_ℤ (pos (2 ^ 28)) ≤ℤ result.kept_gap }
+    ensures kept_high { result.kept_gap ≤ℤ pos (2 ^ 28) }
 {
     if at.offset == 0 {
         return block_seam(tree, at.event, measure);

@@ -1,6 +1,6 @@
-use Rattle.std.proofs.Common.{◌≡◌, ◌∙◌, ap, arith, rules, refl, Some, FitsSigned, ℤ, length, to_z, of_z, subst, ℕ, List}
+use Rattle.std.proofs.Common.{◌≡◌, ◌∙◌, ap, arith, rules, refl, Some, FitsSigned, ℤ, length, to_z, of_z, subst, ℕ, List, pos, ◌≤ℤ◌, ◌^◌}
 use Rattle.std.specs.Int.{w64, w32}
-use Rattle.std.proofs.lemmas.Int.{to_z-of_z}
+use Rattle.std.proofs.lemmas.Int.{ints, to_z-of_z}
 use Rattle.boxes.proofs.TreeFacts.{leaf_there}
 use Rattle.line_fill.specs.LineEnd.{IsLine}
 use Rattle.line_fill.proofs.EndLemmas.{lines_go_on}
@@ -53,3 +53,19 @@ returns-clause-solid g c =
 
 pub returns-clause-holds : goal.returns-clause-holds
 returns-clause-holds g c = solid_holds c.args.faces.now c.args.tree.now c.args.width c.args.from _ c.count-count.ensures.tree c.requires.leaves c.requires.holds (returns-clause-solid g c)
+
+pub returns-clause-small : goal.returns-clause-small
+returns-clause-small g c =
+    let tall : FitsSigned w64 c.from.result = search rules in
+    let high : FitsSigned w32 c.units.result = search rules in
+    let height : to_z w64 (of_z w64 c.from.result) ≡ c.units.result = rw (to_z-of_z w64 c.from.result tall) (c.from.ensures ∙ to_z-of_z w32 c.units.result high) in
+    let least : pos 0 ≤ℤ c.units.result = rw c.units.ensures.value (begins_here c.args.faces.now c.args.tree.now c.args.from c.begin_of-at.result c.in_ok-found.found.event c.in_ok-found.found.number c.leaf-leaf.result.now c.count-count.ensures.tree c.requires.leaves c.requires.holds c.in_ok-found.ensures.0 c.in_ok-found.ensures.1 c.leaf-leaf.ensures c.begin_of-at.ensures.event c.begin_of-at.ensures.offset).good.strut.line_height in
+    let most = c.units.ensures.bound in
+    record {
+      whole_low = omega (arith, ints, c.seam.ensures.whole_low);
+      whole_high = omega (arith, ints, c.seam.ensures.whole_high);
+      kept_low = omega (arith, ints, c.seam.ensures.kept_low);
+      kept_high = omega (arith, ints, c.seam.ensures.kept_high);
+      height_low = rw height least;
+      height_high = rw height (omega (arith, ints, nat_abs_bound c.units.result));
+    }

@@ -8,8 +8,8 @@ use Rattle.seams.specs.Seams.{class_by, name_between, solid_behind, seam_between
 use Rattle.seams.proofs.PlainLemmas.{seam_plain, seam_parts}
 use Rattle.seams.proofs.seam.block_seam.Goals as goal
 
-pub returns : goal.returns
-returns c =
+pub returns-clause-value : goal.returns-clause-value
+returns-clause-value c =
     let t : Tree = c.args.tree.now in
     let m : ℤ = c.args.measure in
     let exact : to_z w64 (of_z w64 m) ≡ m = omega (arith, ints) in

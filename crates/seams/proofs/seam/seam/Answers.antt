@@ -8,8 +8,8 @@ use Rattle.seams.specs.Seams.{seam_before, line_seam}
 use Rattle.seams.proofs.PlainLemmas.{line_plain}
 use Rattle.seams.proofs.seam.seam.Goals as goal
 
-pub returns : goal.returns
-returns c =
+pub returns-clause-value : goal.returns-clause-value
+returns-clause-value c =
     let t : Tree = c.args.tree.now in
     let make : NameId → SeamInfo = λ name. record { class = B; forced = None; whole_gap = pos 0; kept_gap = pos 0; avoid = false; name = name } in
     let inside : (c.args.at.offset == 0) ≡ false = ne_eqb c.args.at.offset 0 (λ e. c.if-at-eq0.false e) in
