@@ -1,5 +1,5 @@
 -- The solids from a place of a tree to its end. In a tree without edges each is a line.
-use Rattle.std.specs.Prelude.{◌≡◌, ℕ, ◌+◌, ◌==◌, ℤ, List, length, Option, None, Some, slice_get, slice_range, if◌then◌else◌}
+use Rattle.std.specs.Prelude.{◌≡◌, ℕ, ◌+◌, ◌==◌, ℤ, pos, neg_ℤ, ◌≤ℤ◌, ◌^◌, List, length, Option, None, Some, slice_get, slice_range, if◌then◌else◌}
 use Rattle.metrics.specs.Face.{FontFace}
 use Rattle.boxes.specs.Lines.{LineView}
 use Rattle.boxes.specs.Steps.{IsRun}

@@ -1,4 +1,4 @@
-use Rattle.std.proofs.Common.{◌≡◌, ◌∙◌, ap, arith, rules, refl, Some, FitsSigned, ℤ, length, to_z, of_z, subst, ℕ, List, pos, ◌≤ℤ◌, ◌^◌}
+use Rattle.std.proofs.Common.{◌≡◌, ◌∙◌, ap, arith, rules, refl, Some, FitsSigned, ℤ, length, to_z, of_z, subst, ℕ, List, pos, ◌≤ℤ◌}
 use Rattle.std.specs.Int.{w64, w32}
 use Rattle.std.proofs.lemmas.Int.{ints, to_z-of_z}
 use Rattle.boxes.proofs.TreeFacts.{leaf_there}
@@ -46,7 +46,7 @@ returns-clause-solid g c =
     let line : IsLine c.args.faces.now c.leaf-leaf.result.now c.begin_of-at.result.offset c.measure_of.result c.next_line-line.result = subst (λ (w : ℤ). IsLine c.args.faces.now c.leaf-leaf.result.now c.begin_of-at.result.offset w c.next_line-line.result) (to_z-of_z w64 c.measure_of.result fits) c.next_line-line.ensures.line in
     let fills : IsLine c.args.faces.now c.leaf-leaf.result.now c.begin_of-at.result.offset (leaf_measure c.args.tree.now c.args.width c.in_ok-found.found.event) c.next_line-line.result = subst (λ (w : ℤ). IsLine c.args.faces.now c.leaf-leaf.result.now c.begin_of-at.result.offset w c.next_line-line.result) measure line in
     let height : to_z w64 (of_z w64 c.from.result) ≡ c.leaf-leaf.result.now.strut.line_height = rw (to_z-of_z w64 c.from.result tall) (c.from.ensures ∙ rw (to_z-of_z w32 c.units.result high) c.units.ensures.value) in
-    let seam_is : c.seam.result ≡ seam_of c.args.tree.now c.begin_of-at.result c.args.width = subst (λ (w : ℤ). c.seam.result ≡ seam_of c.args.tree.now c.begin_of-at.result w) (to_z-of_z w64 c.args.width wide) c.seam.ensures in
+    let seam_is : c.seam.result ≡ seam_of c.args.tree.now c.begin_of-at.result c.args.width = subst (λ (w : ℤ). c.seam.result ≡ seam_of c.args.tree.now c.begin_of-at.result w) (to_z-of_z w64 c.args.width wide) c.seam.ensures.value in
     let ends : c.end_at.result ≡ end_of c.begin_of-at.result.event (length c.leaf-leaf.result.now.text) c.next_line-line.result.to = c.end_at.ensures ∙ ap (λ (n : List ℕ). end_of c.begin_of-at.result.event (length n) c.to.result) c.as_str.ensures ∙ ap (end_of c.begin_of-at.result.event (length c.leaf-leaf.result.now.text)) c.to.ensures in
     solid_here c.args.faces.now c.args.tree.now c.args.width c.args.from (made c.begin_of-at.result c.end_at.result Line (Some c.next_line-line.result) (to_z w64 (of_z w64 c.from.result)) c.seam.result c.text_of.result.now) c.in_ok-found.found.event c.in_ok-found.found.number c.leaf-leaf.result.now c.next_line-line.result
     c.in_ok-found.ensures.0 c.in_ok-found.ensures.1 c.leaf-leaf.ensures c.begin_of-at.ensures.event c.begin_of-at.ensures.offset fills refl refl ends height seam_is c.text_of.ensures
@@ -67,5 +67,5 @@ returns-clause-small g c =
       kept_low = omega (arith, ints, c.seam.ensures.kept_low);
       kept_high = omega (arith, ints, c.seam.ensures.kept_high);
       height_low = rw height least;
-      height_high = rw height (omega (arith, ints, nat_abs_bound c.units.result));
+      height_high = rw height (omega (arith, ints));
     }
