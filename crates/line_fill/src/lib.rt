@@ -6,5 +6,7 @@ mod end;
 pub mod fill;
 pub mod laws;
 mod places;
+#[cfg(test)]
+mod tests;
 
 pub use fill::next_line;
