@@ -1,0 +1,9 @@
+pub mod Contents
+pub mod Fields
+pub mod Frames
+pub mod Lines
+pub mod Rows
+pub mod Spans
+pub mod Steps
+pub mod Table
+pub mod Tree

@@ -1,0 +1,3 @@
+pub mod Cuts
+pub mod Notes
+pub mod Rows

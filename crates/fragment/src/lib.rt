@@ -1,0 +1,5 @@
+//! The pages of a flow: each ends at its best cut.
+#![tactic(auto)]
+
+pub mod cut;
+pub mod row;

@@ -1,0 +1,4 @@
+pub mod EndLemmas
+pub mod FillLemmas
+pub mod LineLemmas
+pub mod PlainLemmas

@@ -1,0 +1,3 @@
+pub mod LineEnd
+pub mod Plain
+pub mod Widths

@@ -1,0 +1,3 @@
+pub mod MarginLemmas
+pub mod PlainLemmas
+pub mod RunLemmas
