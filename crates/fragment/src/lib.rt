@@ -2,4 +2,5 @@
 #![tactic(auto)]
 
 pub mod cut;
+pub mod next_cut;
 pub mod row;
