@@ -1,14 +1,14 @@
 -- That each line has one end.
-use Rattle.std.proofs.Common.{◌≡◌, ◌≢◌, ◌<◌, ◌≤◌, ◌^◌, ◌+◌, ◌-◌, ◌*◌, ℕ, zero, suc, ℤ, pos, ◌≤ℤ◌, ◌<ℤ◌, Bool, true, false, cond, eqb, List, [], ◌∷◌, ◌++◌, drop, length, get_or, refl, sym, ap, ◌∙◌, subst, arith, ◌⊎◌, ⊎_elim, inl, inr, length-drop}
+use Rattle.std.proofs.Common.{◌≡◌, ◌≢◌, ◌<◌, ◌≤◌, ◌-◌, ℕ, zero, suc, ℤ, pos, Bool, true, false, cond, eqb, List, [], ◌∷◌, drop, length, get_or, refl, sym, ap, ◌∙◌, subst, arith, ◌⊎◌, ⊎_elim, inl, inr, length-drop}
 use Rattle.std.proofs.lemmas.Bool.{cases_lt}
-use Rattle.std.proofs.lemmas.Bool.Decides.{eqb_tells, nat_tests}
+use Rattle.std.proofs.lemmas.Bool.Decides.{eqb_tells}
 use Rattle.std.proofs.lemmas.Int.{ints, by_lt_z}
 use Rattle.std.specs.List.{Contains}
 use Rattle.metrics.specs.Face.{FontFace}
 use Rattle.boxes.specs.Lines.{LineView}
 use Rattle.boxes.specs.declared.leaf.Leaf.{Leaf}
 use Rattle.line_fill.specs.Widths.{span_at, is_hyphened}
-use Rattle.line_fill.specs.LineEnd.{line_len, stop_of, IsLineEnd, at_ordinary, at_emergency, at_least, Fits, width_to, line_measure, IsOrdinary, IsEmergency, IsLine, ends_anywhere, HaveOneLine, HaveSomeLine, LinesGoOn}
+use Rattle.line_fill.specs.LineEnd.{line_len, stop_of, IsLineEnd, at_ordinary, at_emergency, at_least, Fits, width_to, line_measure, IsOrdinary, IsEmergency, ends_anywhere, HaveOneLine, HaveSomeLine, LinesGoOn}
 use Rattle.line_fill.proofs.LineLemmas.{stop-after}
 
 pub line_end_unique : {fits ordinary emergency : ℕ → Type 0} {a b : ℕ} → IsLineEnd fits ordinary emergency a → IsLineEnd fits ordinary emergency b → a ≡ b

@@ -1,10 +1,10 @@
 -- The end of a line of a plain leaf is that of its line.
-use Rattle.std.proofs.Common.{◌≡◌, ℕ, zero, suc, ◌+◌, ◌-◌, ◌<◌, ◌≤◌, ℤ, pos, ◌≤ℤ◌, Bool, true, false, List, length, get_or, refl, sym, ap, ◌∙◌, arith, subst, add-zero}
+use Rattle.std.proofs.Common.{◌≡◌, ℕ, zero, suc, ◌+◌, ◌-◌, ◌<◌, ◌≤◌, ℤ, false, List, length, refl, sym, arith, add-zero}
 use Rattle.metrics.specs.Face.{FontFace}
 use Rattle.boxes.specs.Contents.{IsGoodLeaf}
 use Rattle.boxes.specs.declared.leaf.Leaf.{Leaf}
-use Rattle.line_fill.specs.Widths.{sum_from, unit_at, hyphen_at, is_hyphened}
-use Rattle.line_fill.specs.LineEnd.{shown_len, stop_of, width_to, line_measure, Fits, IsOrdinary, IsEmergency, IsLineEnd, IsLine}
+use Rattle.line_fill.specs.Widths.{sum_from, unit_at}
+use Rattle.line_fill.specs.LineEnd.{shown_len, width_to, line_measure, IsOrdinary, IsLineEnd, IsLine}
 use Rattle.line_fill.specs.Plain.{IsPlainLeaf, FitsPlainly, plain_unit}
 use Rattle.line_fill.proofs.LineLemmas.{shown-le}
 use Rattle.line_fill.proofs.PlainLemmas.{unit_plain, no_hyphen, no_hyphen_width, no_emergency}

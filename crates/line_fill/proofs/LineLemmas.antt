@@ -1,16 +1,15 @@
 -- Widths, stops and ends of lines of plain text.
-use Rattle.std.proofs.Common.{◌≡◌, ◌≢◌, ℕ, zero, suc, ◌+◌, ◌-◌, ◌*◌, ◌<◌, ◌≤◌, ◌^◌, ℤ, pos, ◌≤ℤ◌, ◌<ℤ◌, Bool, true, false, cond, ◌||◌, ◌+ℤ◌, eqb, ltb, List, [], ◌∷◌, ◌++◌, length, get_or, drop, take, refl, sym, ap, ◌∙◌, arith, subst, ⊎_elim, inl, inr, ◌⊎◌, add-suc, add-zero, add-one, get_or-drop, drop-cons, AllPairs, if◌then◌else◌}
+use Rattle.std.proofs.Common.{◌≡◌, ◌≢◌, ℕ, zero, suc, ◌+◌, ◌-◌, ◌<◌, ◌≤◌, ℤ, pos, Bool, true, false, cond, ◌||◌, ◌+ℤ◌, eqb, List, length, get_or, drop, refl, sym, ◌∙◌, arith, ⊎_elim, inl, inr, ◌⊎◌, add-suc, add-zero, add-one, drop-cons}
 use Rattle.std.proofs.Math.Seq.{drop-length}
 use Rattle.std.specs.List.{Contains}
 use Rattle.std.specs.List.Sorted.{IsStrictlyIncreasing}
 use Rattle.std.proofs.lemmas.Bool.Decides.{nat_tests, eqb_tells}
 use Rattle.std.proofs.lemmas.Int.{ints}
 use Rattle.std.proofs.lemmas.Bool.{cases_lt}
-use Rattle.std.proofs.lemmas.Grind.{common_steps, get_or_default_zero}
-use Rattle.std.proofs.lemmas.List.Kept.{AllPairs-from_increasing}
+use Rattle.std.proofs.lemmas.Grind.{get_or_default_zero}
 use Rattle.line_fill.specs.Widths.{sum_from}
 use Rattle.line_fill.specs.Plain.{FitsPlainly}
-use Rattle.line_fill.specs.LineEnd.{line_len, stop_of, spaceless_len, shown_len, IsOrdinary, IsLineEnd, at_ordinary, at_emergency, at_least}
+use Rattle.line_fill.specs.LineEnd.{line_len, stop_of, spaceless_len, shown_len, IsOrdinary, IsLineEnd, at_ordinary, at_least}
 
 -- widths grow
 pub sum_from-le : (unit : ℕ → ℕ) (a m k : ℕ) → sum_from unit a m ≤ sum_from unit a (m + k)

@@ -1,18 +1,18 @@
 -- Plain leaves: what their bytes add, and that they show no hyphen and have no emergency places.
-use Rattle.std.proofs.Common.{◌≡◌, ◌≢◌, ℕ, zero, suc, ◌+◌, ◌-◌, ◌<◌, ◌≤◌, ◌⊎◌, ℤ, pos, ◌≤ℤ◌, Bool, true, false, cond, not, ◌&&◌, ◌||◌, eqb, ltb, leb, List, [], ◌∷◌, ◌++◌, length, get_or, drop, take, Option, Some, None, refl, sym, ap, ◌∙◌, arith, subst, ⊎_elim, inl, inr, add-zero, get_or-drop}
-use Rattle.std.specs.List.{find, All, Contains}
-use Rattle.std.specs.Str.{IsAscii, IsCharBoundary, chars}
-use Rattle.std.proofs.lemmas.Bool.{cases_lt, cases_Bool}
+use Rattle.std.proofs.Common.{◌≡◌, ℕ, zero, suc, ◌+◌, ◌-◌, ◌<◌, ◌≤◌, Bool, true, false, cond, ◌&&◌, ◌||◌, eqb, ltb, leb, List, [], ◌∷◌, length, get_or, drop, Some, refl, sym, ◌∙◌, arith, ⊎_elim, inl, inr, add-zero, get_or-drop}
+use Rattle.std.specs.List.{find, All}
+use Rattle.std.specs.Str.{IsAscii, chars}
+use Rattle.std.proofs.lemmas.Bool.{cases_lt}
 use Rattle.std.proofs.lemmas.Bool.Decides.{nat_tests}
 use Rattle.std.proofs.lemmas.List.Elements.{All-head, All-tail}
 use Rattle.std.proofs.lemmas.Str.{chars-IsAscii, IsAscii-drop}
 use Rattle.std.proofs.Math.ListN.{get_or-eq_default}
-use Rattle.metrics.specs.Face.{FontFace, advance_of}
+use Rattle.metrics.specs.Face.{FontFace}
 use Rattle.boxes.specs.Contents.{AreSpans, IsGoodLeaf}
 use Rattle.boxes.specs.declared.leaf.Leaf.{Leaf}
 use Rattle.boxes.specs.declared.leaf.Span.{Span}
-use Rattle.line_fill.specs.Widths.{is_lead, char_at, span_at, has_width, width_in, unit_at, sum_from, is_hyphened, hyphen_at}
-use Rattle.line_fill.specs.LineEnd.{IsEmergency, ends_anywhere, stop_of}
+use Rattle.line_fill.specs.Widths.{is_lead, char_at, span_at, width_in, unit_at, is_hyphened, hyphen_at}
+use Rattle.line_fill.specs.LineEnd.{IsEmergency, ends_anywhere}
 use Rattle.line_fill.specs.Plain.{IsPlainByte, IsPlainSpan, IsPlainLeaf, plain_unit}
 
 -- the last span ends at the text's end

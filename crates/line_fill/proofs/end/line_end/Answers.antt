@@ -1,15 +1,14 @@
-use Rattle.std.proofs.Common.{◌≡◌, ◌≢◌, ℕ, suc, pos, ◌+◌, ◌-◌, ◌*◌, ◌<◌, ◌≤◌, ◌^◌, ◌⊎◌, Bool, true, false, cond, ◌||◌, eqb, ℤ, ◌+ℤ◌, ◌≤ℤ◌, ◌<ℤ◌, length, get_or, slice_index, arith, rules, refl, sym, ap, ◌∙◌, ⊎_elim, inl, inr, subst, add-one}
+use Rattle.std.proofs.Common.{◌≡◌, ◌≢◌, suc, pos, ◌+◌, ◌-◌, ◌<◌, ◌≤◌, true, ◌+ℤ◌, ◌≤ℤ◌, ◌<ℤ◌, length, get_or, arith, refl, sym, ◌∙◌, ⊎_elim, inl, inr, subst, add-one}
 use Rattle.std.proofs.lemmas.Bool.{cases_lt}
 use Rattle.std.proofs.lemmas.Int.{ints, to_z-of_z}
 use Rattle.std.specs.List.{Contains}
 use mir.Val.{SFits}
 use mir.Syntax.{w64}
-use Rattle.std.specs.Bool.{MatchBool}
 use Rattle.std.proofs.lemmas.List.Elements.{Contains-get_or}
 use Rattle.line_fill.specs.Widths.{sum_from}
 use Rattle.line_fill.specs.Plain.{FitsPlainly, plain_unit}
-use Rattle.line_fill.specs.LineEnd.{IsLineEnd, IsOrdinary, stop_of, spaceless_len, shown_len}
-use Rattle.line_fill.proofs.LineLemmas.{next_total, next_shown, ends_fit, ends_first, ends_best, stop-step, stop-newline, stop-after, stop-end, stop-last, shown-other, done-reached, coming-reached, done-other, coming-other, none-between}
+use Rattle.line_fill.specs.LineEnd.{IsOrdinary, stop_of, shown_len}
+use Rattle.line_fill.proofs.LineLemmas.{next_total, next_shown, ends_fit, ends_first, ends_best, stop-step, stop-newline, stop-after, stop-last, shown-other, done-reached, coming-reached, done-other, coming-other, none-between}
 use Rattle.line_fill.proofs.end.line_end.Goals as goal
 use Rattle.line_fill.proofs.end.line_end.Goals.{After-is_stop-stops, then-stops-via-then-stops, then-stops-via-else-stops+then-is_place, then-stops+else-reach-measure+else-stops-2, else-stops+else-is_place}
 

@@ -1,4 +1,4 @@
-use Rattle.std.proofs.Common.{◌≡◌, ℕ, pos, ◌+◌, ◌-◌, ◌*◌, ◌<◌, ◌≤◌, ◌^◌, ◌≢◌, ◌≤ℤ◌, length, get_or}
+use Rattle.std.proofs.Common.{◌≡◌, ℕ, pos, ◌-◌, ◌*◌, ◌<◌, ◌≤◌, ◌^◌, ◌≢◌, ◌≤ℤ◌, length, get_or}
 use Rattle.line_fill.specs.Widths.{sum_from}
 use Rattle.line_fill.specs.Plain.{FitsPlainly, plain_unit}
 use Rattle.line_fill.specs.LineEnd.{IsOrdinary, stop_of, spaceless_len}

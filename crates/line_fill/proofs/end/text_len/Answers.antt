@@ -1,5 +1,4 @@
-use Rattle.std.proofs.Common.{◌≡◌, ◌+◌, ◌-◌, ◌<◌, ◌∙◌, ap, sym, arith, length, get_or}
-use Rattle.std.proofs.lemmas.Bool.Decides.{nat_tests}
+use Rattle.std.proofs.Common.{◌-◌, ◌<◌, ◌∙◌, ap, arith, length}
 use Rattle.boxes.specs.declared.leaf.Span.{Span}
 use Rattle.line_fill.proofs.PlainLemmas.{spans_end}
 use Rattle.line_fill.proofs.end.text_len.Goals as goal

@@ -1,8 +1,7 @@
-use Rattle.std.proofs.Common.{◌≡◌, ◌<◌, ◌≤◌, ◌∙◌, ap, sym, arith, rules, subst, length, get_or, FitsSigned, ℕ, ℤ, List, false}
+use Rattle.std.proofs.Common.{◌≡◌, ◌∙◌, arith, rules, FitsSigned}
 use Rattle.std.specs.Int.{w64}
 use Rattle.std.proofs.lemmas.Int.{to_z-of_z}
-use Rattle.boxes.specs.Lines.{LineView}
-use Rattle.line_fill.specs.LineEnd.{IsLineEnd, IsLine, IsOrdinary, line_measure}
+use Rattle.line_fill.specs.LineEnd.{IsLineEnd, IsOrdinary, line_measure}
 use Rattle.line_fill.specs.Plain.{FitsPlainly, plain_unit}
 use Rattle.line_fill.proofs.PlainLemmas.{plain_ascii}
 use Rattle.line_fill.proofs.EndLemmas.{plain_end_bounds}

@@ -1,0 +1,11 @@
+//! The solids of a tree, one after the other.
+#![tactic(auto)]
+
+pub mod laws;
+mod leaves;
+mod next;
+pub mod solid;
+pub mod walk;
+
+pub use solid::Solid;
+pub use walk::remainder;
