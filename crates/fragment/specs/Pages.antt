@@ -130,8 +130,11 @@ is_forced (Some d) = true
 abbrev pub blank_page : PageFrames → Tree → State → Page
 blank_page frames t s = record { index = s.index; kind = kind.Blank; name = name_at t s.at; frame = frames.frame_of s.index (name_at t s.at) kind.Blank; solids = []; notes = []; level = 0 }
 
+abbrev pub flow_page_of : ℕ → NameId → Frame → Cut → Page
+flow_page_of index name frame cut = record { index = index; kind = kind.Flow; name = name; frame = frame; solids = cut.solids; notes = cut.notes; level = cut.level }
+
 abbrev pub flow_page : PageFrames → Tree → State → Cut → Page
-flow_page frames t s cut = record { index = s.index; kind = kind.Flow; name = name_at t s.at; frame = frames.frame_of s.index (name_at t s.at) kind.Flow; solids = cut.solids; notes = cut.notes; level = cut.level }
+flow_page frames t s cut = flow_page_of s.index (name_at t s.at) (frames.frame_of s.index (name_at t s.at) kind.Flow) cut
 
 abbrev pub after_blank : State → State
 after_blank s = record s { index = suc s.index }

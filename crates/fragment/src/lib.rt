@@ -3,4 +3,5 @@
 
 pub mod cut;
 pub mod next_cut;
+pub mod paginate;
 pub mod row;

@@ -1,22 +1,29 @@
 //! The cut of the next page.
 
-ghost use Rattle.std.specs.Prelude.{◌≡◌, ℕ, ℤ, List, pos, neg_ℤ, ◌<◌, ◌≤◌, ◌^◌, ◌≤ℤ◌, ◌+ℤ◌, length, All, map, take, slice_get, IfOk, ◌∷◌, ◌++◌, []};
-ghost use Rattle.boxes.specs.Tree.{IsTree};
+ghost use Rattle.std.specs.Prelude.{◌≡◌, ℕ, ℤ, List, pos, neg_ℤ, ◌<◌, ◌≤◌, ◌^◌, ◌≤ℤ◌, ◌+ℤ◌, length, All, map, take, slice_get, None, IfOk, ◌∷◌, ◌++◌, []};
+ghost use Rattle.boxes.specs.Frames.{IsGoodFrame};
+ghost use Rattle.boxes.specs.Tree.{IsTree, IsWhole, Holds, depth_of};
+ghost use Rattle.cursor.specs.Plain.{HasPlainLeaves};
+ghost use Rattle.seams.specs.Plain.{IsPlain};
 ghost use Rattle.cursor.specs.Fields.{solid_view};
 ghost use Rattle.cursor.specs.Remainder.{SolidView, IsSmallSolid};
-ghost use Rattle.fragment.specs.Pages.{CutsAt, row_of, rows_of, placed_at, placed_from, first_gap, place_after, forced_after, end_cut};
+ghost use Rattle.fragment.specs.Pages.{CutsAt, IsFlowCut, text_size, row_of, rows_of, placed_at, placed_from, first_gap, place_after, forced_after, end_cut};
 ghost use Rattle.fragment.specs.Rows.{AreForcedBetween};
 ghost use Rattle.seams.specs.Levels.{block_at, widows_in, orphans_in};
 
 use std::alloc::Global;
+use std::sync::ledger::Ledger;
 
 use bk_num::name::NoMem;
-use boxes::frames::Demand;
+use bk_num::steps::Steps;
+use boxes::flow::Flow;
+use boxes::frames::{Demand, Frame};
 use boxes::items::Items;
 use boxes::page::{Placed, PlacedNote};
 use boxes::place::Position;
 use boxes::tree::BoxTree;
-use cursor::solid::Solid;
+use cursor::{Solid, remainder};
+use metrics::Faces;
 
 use crate::cut::cut_rows;
 use crate::row::Row;
@@ -211,4 +218,42 @@ fn cut_solids(alloc: Global, tree: &BoxTree, solids: &[Solid<'_>], kept: bool, h
         notes: Items::of(Vec::new(alloc)),
         carried: Items::of(Vec::new(alloc)),
     })
+}
+
+/// The cut of a page of a frame in a tree without notes, from a place on. The whole remainder is made here.
+pub(crate) fn cut_tree<L: Ledger>(alloc: Global, tree: &BoxTree, faces: &Faces, from: CutFrom, frame: Frame, steps: &mut Steps<L>) -> Result<Cut, NoMem>
+    requires whole { IsWhole tree.now.events }
+    requires holds { Holds tree.now from.at }
+    requires depth { depth_of tree.now.events ≤ 2048 }
+    requires bytes { text_size tree.now.leaves tree.now.events ≤ 2 ^ 25 }
+    requires frame { IsGoodFrame frame }
+    requires plain { IsPlain tree.now }
+    requires leaves { HasPlainLeaves faces.now tree.now }
+    ensures cut { IfOk result (λ cut. IsFlowCut faces.now tree.now frame from.at from.kept cut) }
+    ensures holds { IfOk result (λ cut. Holds tree.now cut.to) }
+    ensures free { IfOk result (λ cut. cut.forced ≡ None) }
+{
+    let _count = tree.count();
+    let solids = remainder(alloc, tree, faces, from.at, frame.width, steps)?;
+    if solids.is_empty() {
+        return Ok(end_cut(alloc, tree));
+    }
+    cut_solids(alloc, tree, solids.as_slice(), from.kept, frame.height)
+}
+
+/// The cut of the next page of a flow without notes, whose page has a frame: where it ends, at which level, and what
+/// it places.
+pub fn next_cut<L: Ledger>(alloc: Global, flow: &Flow, faces: &Faces, from: CutFrom, carried: &[Carried], frame: Frame, steps: &mut Steps<L>) -> Result<Cut, NoMem>
+    requires whole { IsWhole flow.now.main.events }
+    requires holds { Holds flow.now.main from.at }
+    requires depth { depth_of flow.now.main.events ≤ 2048 }
+    requires bytes { text_size flow.now.main.leaves flow.now.main.events ≤ 2 ^ 25 }
+    requires frame { IsGoodFrame frame }
+    requires notes { flow.now.notes ≡ [] }
+    requires carried { carried.now ≡ [] }
+    requires plain { IsPlain flow.now.main }
+    requires leaves { HasPlainLeaves faces.now flow.now.main }
+    ensures { IfOk result (λ cut. IsFlowCut faces.now flow.now.main frame from.at from.kept cut) }
+{
+    cut_tree(alloc, &flow.main, faces, from, frame, steps)
 }
