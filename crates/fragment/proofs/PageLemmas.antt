@@ -11,6 +11,7 @@ use Rattle.std.proofs.Math.Seq.{drop-nil}
 use Rattle.metrics.specs.Face.{FontFace}
 use Rattle.boxes.specs.Tree.{Tree, IsTree, Holds}
 use Rattle.boxes.specs.declared.frames.Demand.{Demand}
+use Rattle.bk_num.specs.declared.ids.NameId.{NameId}
 use Rattle.boxes.specs.declared.leaf.Leaf.{Leaf as LeafData}
 use Rattle.boxes.specs.declared.place.Event.{Event}
 use Rattle.boxes.specs.declared.place.Event.TheVariants.{Opens, Closes, Leaf}
@@ -36,7 +37,7 @@ use Rattle.boxes.specs.declared.page.Placed.{Placed}
 use Rattle.boxes.specs.declared.frames.PageKind.TheVariants as kind
 use Rattle.boxes.proofs.RunLemmas.{run_unique}
 use Rattle.fragment.specs.Cuts.IsCut.{at_level, at_loose, at_first}
-use Rattle.fragment.specs.Pages.{State, PageFrames, IsStep, IsEnded, IsPaged, HasOnePageList, CutsAt, CutsSolids, IsFlowCut, start_of, start_place, name_at, flow_page, after_flow, is_forced, first_gap, placed_from, row_of, rows_of, place_after, forced_after, text_size, size_of}
+use Rattle.fragment.specs.Pages.{State, PageFrames, IsStep, IsEnded, IsPaged, HasOnePageList, CutsAt, CutsSolids, IsFlowCut, start_of, start_place, name_at, flow_page_of, flow_page, after_flow, is_forced, first_gap, placed_from, row_of, rows_of, place_after, forced_after, text_size, size_of}
 use Rattle.fragment.specs.declared.next_cut.Cut.{Cut}
 use Rattle.boxes.specs.declared.frames.Frame.{Frame}
 use Rattle.seams.specs.declared.seam_info.SeamInfo.{SeamInfo}
@@ -156,12 +157,12 @@ lines_few faces t w tree from (s ∷ xs) st r =
     from_offset : (from : Position) (s : SolidView) → Stands t from → IsSolid faces t w from s → from.offset ≤ s.placed_at.offset
     from_offset from s st is = ⊎_elim
         (λ (o : 0 < from.offset).
-          let p = st.offset o in
-          let here : solid_after t from.event ≡ Some from.event = ap (λ (es : List Event). solid_from t.boxes es from.event) (drop_get t.events from.event (Leaf p.0) p.2) in
-          let same : s.placed_at.event ≡ from.event = (let q : Some s.placed_at.event ≡ Some from.event = sym is.found ∙ here in cc) in
-          let tells : eqb s.placed_at.event from.event ≡ true = eq-eqb s.placed_at.event from.event same in
-          let e : s.placed_at.offset ≡ from.offset = rw tells at is.begins in
-          omega arith)
+        let p = st.offset o in
+        let here : solid_after t from.event ≡ Some from.event = ap (λ (es : List Event). solid_from t.boxes es from.event) (drop_get t.events from.event (Leaf p.0) p.2) in
+        let same : s.placed_at.event ≡ from.event = (let q : Some s.placed_at.event ≡ Some from.event = sym is.found ∙ here in cc) in
+        let tells : eqb s.placed_at.event from.event ≡ true = eq-eqb s.placed_at.event from.event same in
+        let e : s.placed_at.offset ≡ from.offset = rw tells at is.begins in
+        omega arith)
         (λ (o : from.offset ≤ 0). omega arith)
         (cases_lt 0 from.offset)
 
@@ -219,10 +220,11 @@ module _ (faces : List FontFace) (t : Tree) (w : ℤ) (from : Position) (tree : 
 
   -- a cut of the remainder is a cut of the flow, ends at a place of the tree, and is not forced
   pub flow_cut : (frame : Frame) (kept : Bool) (views : List SolidView) (cut : Cut) → frame.width ≡ w → IsRemainder faces t w from views → 0 < length views → ((count : ℕ) × CutsAt t frame.height kept views cut count) → IsFlowCut faces t frame from kept cut × Holds t cut.to × (cut.forced ≡ None)
-  flow_cut frame kept views cut same r some cuts =
-      (record { solids = views; rest = subst (λ (z : ℤ). IsRemainder faces t z from views) (sym same) r; cuts = solid_cuts views some cuts },
-       subst (Holds t) (sym cuts.1.to_is) (place_holds (slice_get views cuts.0) refl),
-       cuts.1.forced_is ∙ none_at (slice_get views cuts.0) refl)
+  flow_cut frame kept views cut same r some cuts = (
+    record { solids = views; rest = subst (λ (z : ℤ). IsRemainder faces t z from views) (sym same) r; cuts = solid_cuts views some cuts },
+    subst (Holds t) (sym cuts.1.to_is) (place_holds (slice_get views cuts.0) refl),
+    cuts.1.forced_is ∙ none_at (slice_get views cuts.0) refl,
+  )
     where
       solid_cuts : (vs : List SolidView) → 0 < length vs → ((count : ℕ) × CutsAt t frame.height kept vs cut count) → CutsSolids t frame.height kept vs cut
       solid_cuts [] h c = absurd (omega arith)
@@ -261,7 +263,7 @@ pub run_more : (faces : List FontFace) (t : Tree) (frames : PageFrames) (at : Po
     IsRun (IsStep faces t frames) (IsAt (state_at at kept index)) (start_of t) pages → IsRun (IsStep faces t frames) (IsAt (state_at cut.to false (suc index))) (start_of t) (pages ++ flow_page frames t (state_at at kept index) cut ∷ [])
 run_more faces t frames at kept index cut pages is free going run =
     run_push (IsStep faces t frames) (IsAt (state_at cut.to false (suc index))) (IsAt (state_at at kept index)) pages (flow_page frames t (state_at at kept index) cut ∷ []) (start_of t) run
-        (λ u here. (after_flow (state_at at kept index) cut, subst (λ (s : State). IsStep faces t frames s (flow_page frames t (state_at at kept index) cut) (after_flow (state_at at kept index) cut)) (sym here.0) (step_of faces t frames at kept index cut is), (after, going)))
+    (λ u here. (after_flow (state_at at kept index) cut, subst (λ (s : State). IsStep faces t frames s (flow_page frames t (state_at at kept index) cut) (after_flow (state_at at kept index) cut)) (sym here.0) (step_of faces t frames at kept index cut is), (after, going)))
   where
     after : after_flow (state_at at kept index) cut ≡ state_at cut.to false (suc index)
     after = ap (λ (d : Option Demand). record { at = cut.to; index = suc index; kept = is_forced d; demand = d; done = cut.ended }) free ∙ ap (λ (b : Bool). record { at = cut.to; index = suc index; kept = false; demand = None; done = b }) going
@@ -270,7 +272,7 @@ pub run_done : (faces : List FontFace) (t : Tree) (frames : PageFrames) (at : Po
     IsRun (IsStep faces t frames) (IsAt (state_at at kept index)) (start_of t) pages → IsPaged faces t frames (pages ++ flow_page frames t (state_at at kept index) cut ∷ [])
 run_done faces t frames at kept index cut pages is ended run =
     run_push (IsStep faces t frames) IsEnded (IsAt (state_at at kept index)) pages (flow_page frames t (state_at at kept index) cut ∷ []) (start_of t) run
-        (λ u here. (after_flow (state_at at kept index) cut, subst (λ (s : State). IsStep faces t frames s (flow_page frames t (state_at at kept index) cut) (after_flow (state_at at kept index) cut)) (sym here.0) (step_of faces t frames at kept index cut is), ended))
+    (λ u here. (after_flow (state_at at kept index) cut, subst (λ (s : State). IsStep faces t frames s (flow_page frames t (state_at at kept index) cut) (after_flow (state_at at kept index) cut)) (sym here.0) (step_of faces t frames at kept index cut is), ended))
 
 -- a page's cut is one
 pub flow_cut_unique : HaveOneRemainder → (faces : List FontFace) (t : Tree) (frame : Frame) (from : Position) (kept : Bool) (c d : Cut) → IsFlowCut faces t frame from kept c → IsFlowCut faces t frame from kept d → c ≡ d
@@ -284,12 +286,12 @@ flow_cut_unique one faces t frame from kept c d p q = go p.solids q.solids (one 
         let same = cut_unique a.best b.best in
         let at : i ≡ j = same.1 in
         ap (λ x. make x c.ended c.forced c.level c.solids c.notes c.carried) (a.to_is ∙ ap (λ (n : ℕ). place_after t (slice_get vs n)) at ∙ sym b.to_is)
-            ∙ ap (λ x. make d.to x c.forced c.level c.solids c.notes c.carried) (a.ended_is ∙ ap (λ (n : ℕ). n == length vs) at ∙ sym b.ended_is)
-            ∙ ap (λ x. make d.to d.ended x c.level c.solids c.notes c.carried) (a.forced_is ∙ ap (λ (n : ℕ). forced_after (slice_get vs n)) at ∙ sym b.forced_is)
-            ∙ ap (λ x. make d.to d.ended d.forced x c.solids c.notes c.carried) same.0
-            ∙ ap (λ x. make d.to d.ended d.forced d.level x c.notes c.carried) (a.solids_is ∙ ap (λ (n : ℕ). placed_from (first_gap kept vs) (take n vs)) at ∙ sym b.solids_is)
-            ∙ ap (λ x. make d.to d.ended d.forced d.level d.solids x c.carried) (a.notes_is ∙ sym b.notes_is)
-            ∙ ap (make d.to d.ended d.forced d.level d.solids d.notes) (a.carried_is ∙ sym b.carried_is)
+        ∙ ap (λ x. make d.to x c.forced c.level c.solids c.notes c.carried) (a.ended_is ∙ ap (λ (n : ℕ). n == length vs) at ∙ sym b.ended_is)
+        ∙ ap (λ x. make d.to d.ended x c.level c.solids c.notes c.carried) (a.forced_is ∙ ap (λ (n : ℕ). forced_after (slice_get vs n)) at ∙ sym b.forced_is)
+        ∙ ap (λ x. make d.to d.ended d.forced x c.solids c.notes c.carried) same.0
+        ∙ ap (λ x. make d.to d.ended d.forced d.level x c.notes c.carried) (a.solids_is ∙ ap (λ (n : ℕ). placed_from (first_gap kept vs) (take n vs)) at ∙ sym b.solids_is)
+        ∙ ap (λ x. make d.to d.ended d.forced d.level d.solids x c.carried) (a.notes_is ∙ sym b.notes_is)
+        ∙ ap (make d.to d.ended d.forced d.level d.solids d.notes) (a.carried_is ∙ sym b.carried_is)
 
     go : (vs ws : List SolidView) → vs ≡ ws → CutsSolids t frame.height kept vs c → CutsSolids t frame.height kept ws d → c ≡ d
     go [] [] e a b = a ∙ sym b
@@ -311,3 +313,10 @@ paged_unique one faces t frames ps qs = run_unique (IsStep faces t frames) IsEnd
     stops : (s : State) (x : Page) (u : State) → s.done ≡ true → IsStep faces t frames s x u → ⊥
     stops s x u e (blank g n p a) = let f : true ≡ false = sym e ∙ g in cc
     stops s x u e (flow g m cut is p a) = let f : true ≡ false = sym e ∙ g in cc
+
+-- the page that a pass of the code makes is the flow page of its state
+pub page_is : (t : Tree) (frames : PageFrames) (at : Position) (kept : Bool) (index : ℕ) (cut : Cut) (name : NameId) (frame : Frame) → name ≡ name_at t at → frame ≡ frames.frame_of index name kind.Flow →
+    (frame ≡ frames.frame_of index (name_at t at) kind.Flow) × (flow_page_of index name frame cut ≡ flow_page frames t (state_at at kept index) cut)
+page_is t frames at kept index cut name frame n f =
+    let same : frame ≡ frames.frame_of index (name_at t at) kind.Flow = f ∙ ap (λ (x : NameId). frames.frame_of index x kind.Flow) n in
+    (same, ap (λ (x : NameId). flow_page_of index x frame cut) n ∙ ap (λ (x : Frame). flow_page_of index (name_at t at) x cut) same)

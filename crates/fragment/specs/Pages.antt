@@ -1,5 +1,5 @@
 -- The one page list of a flow, as steps from a state to the next (css-break-3, 4; css-page-3, 3).
-use Rattle.std.specs.Prelude.{◌≡◌, ℕ, zero, suc, ℤ, pos, ◌+◌, ◌-◌, ◌<◌, ◌≤◌, ◌^◌, ◌+ℤ◌, ◌==◌, List, [], ◌∷◌, ◌++◌, Option, Some, None, Bool, true, false, length, map, take, slice_get, if◌then◌else◌}
+use Rattle.std.specs.Prelude.{◌≡◌, ℕ, suc, ℤ, pos, ◌+◌, ◌+ℤ◌, ◌==◌, List, [], ◌∷◌, Option, Some, None, Bool, true, false, length, map, take, slice_get}
 use Rattle.bk_num.specs.declared.ids.NameId.{NameId}
 use Rattle.metrics.specs.Face.{FontFace}
 use Rattle.boxes.specs.Steps.{IsRun}

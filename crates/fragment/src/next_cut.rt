@@ -11,9 +11,8 @@ ghost use Rattle.fragment.specs.Pages.{CutsAt, IsFlowCut, text_size, row_of, row
 ghost use Rattle.fragment.specs.Rows.{AreForcedBetween};
 ghost use Rattle.seams.specs.Levels.{block_at, widows_in, orphans_in};
 
-use std::alloc::Global;
-use std::sync::ledger::Ledger;
-
+use crate::cut::cut_rows;
+use crate::row::Row;
 use bk_num::name::NoMem;
 use bk_num::steps::Steps;
 use boxes::flow::Flow;
@@ -24,9 +23,8 @@ use boxes::place::Position;
 use boxes::tree::BoxTree;
 use cursor::{Solid, remainder};
 use metrics::Faces;
-
-use crate::cut::cut_rows;
-use crate::row::Row;
+use std::alloc::Global;
+use std::sync::ledger::Ledger;
 
 /// Where a page begins, and whether the kept gap stands above its first solid.
 #[derive(Clone, Copy, Debug, PartialEq, Eq)]
@@ -77,7 +75,12 @@ fn row_of(tree: &BoxTree, solid: &Solid<'_>) -> Row
     ensures { result ≡ row_of tree.now (solid_view solid.now) }
 {
     let (widows, orphans) = keeps_of(tree, solid.placed_at.event);
-    Row { seam: solid.seam, height: solid.height, widows, orphans }
+    Row {
+        seam: solid.seam,
+        height: solid.height,
+        widows,
+        orphans,
+    }
 }
 
 /// What a cut reads of some solids.
@@ -98,7 +101,13 @@ fn rows_of(alloc: Global, tree: &BoxTree, solids: &[Solid<'_>]) -> Result<Vec<Ro
 fn place(solid: &Solid<'_>, top: i64) -> Placed
     ensures { result ≡ placed_at top (solid_view solid.now) }
 {
-    Placed { at: solid.placed_at, end: solid.end, top, height: solid.height, kind: solid.kind }
+    Placed {
+        at: solid.placed_at,
+        end: solid.end,
+        top,
+        height: solid.height,
+        kind: solid.kind,
+    }
 }
 
 /// The solids of a page with their tops, where a gap stands above the first.
@@ -166,7 +175,10 @@ fn place_after(tree: &BoxTree, solids: &[Solid<'_>], count: usize) -> Position
     if count < solids.len() {
         solids[count].placed_at
     } else {
-        Position { event: tree.count(), offset: 0 }
+        Position {
+            event: tree.count(),
+            offset: 0,
+        }
     }
 }
 
@@ -186,7 +198,10 @@ fn end_cut(alloc: Global, tree: &BoxTree) -> Cut
     ensures { result ≡ end_cut tree.now }
 {
     Cut {
-        to: Position { event: tree.count(), offset: 0 },
+        to: Position {
+            event: tree.count(),
+            offset: 0,
+        },
         ended: true,
         forced: None,
         level: 0,
@@ -197,7 +212,13 @@ fn end_cut(alloc: Global, tree: &BoxTree) -> Cut
 }
 
 /// The cut of the solids that are left, which are one or more.
-fn cut_solids(alloc: Global, tree: &BoxTree, solids: &[Solid<'_>], kept: bool, height: i64) -> Result<Cut, NoMem>
+fn cut_solids(
+    alloc: Global,
+    tree: &BoxTree,
+    solids: &[Solid<'_>],
+    kept: bool,
+    height: i64,
+) -> Result<Cut, NoMem>
     requires some { 0 < length solids.now }
     requires few { length solids.now ≤ 2 ^ 26 }
     requires within { All (λ s. s.placed_at.event ≤ length tree.now.events) solids.now }
@@ -221,7 +242,14 @@ fn cut_solids(alloc: Global, tree: &BoxTree, solids: &[Solid<'_>], kept: bool, h
 }
 
 /// The cut of a page of a frame in a tree without notes, from a place on. The whole remainder is made here.
-pub(crate) fn cut_tree<L: Ledger>(alloc: Global, tree: &BoxTree, faces: &Faces, from: CutFrom, frame: Frame, steps: &mut Steps<L>) -> Result<Cut, NoMem>
+pub(crate) fn cut_tree<L: Ledger>(
+    alloc: Global,
+    tree: &BoxTree,
+    faces: &Faces,
+    from: CutFrom,
+    frame: Frame,
+    steps: &mut Steps<L>,
+) -> Result<Cut, NoMem>
     requires whole { IsWhole tree.now.events }
     requires holds { Holds tree.now from.at }
     requires depth { depth_of tree.now.events ≤ 2048 }
@@ -243,7 +271,15 @@ pub(crate) fn cut_tree<L: Ledger>(alloc: Global, tree: &BoxTree, faces: &Faces, 
 
 /// The cut of the next page of a flow without notes, whose page has a frame: where it ends, at which level, and what
 /// it places.
-pub fn next_cut<L: Ledger>(alloc: Global, flow: &Flow, faces: &Faces, from: CutFrom, carried: &[Carried], frame: Frame, steps: &mut Steps<L>) -> Result<Cut, NoMem>
+pub fn next_cut<L: Ledger>(
+    alloc: Global,
+    flow: &Flow,
+    faces: &Faces,
+    from: CutFrom,
+    carried: &[Carried],
+    frame: Frame,
+    steps: &mut Steps<L>,
+) -> Result<Cut, NoMem>
     requires whole { IsWhole flow.now.main.events }
     requires holds { Holds flow.now.main from.at }
     requires depth { depth_of flow.now.main.events ≤ 2048 }

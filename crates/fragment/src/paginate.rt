@@ -6,9 +6,8 @@ ghost use Rattle.cursor.specs.Plain.{HasPlainLeaves};
 ghost use Rattle.fragment.specs.Pages.{HasOnePageList, IsPaged, LeavesSome, text_size, flow_page_of};
 ghost use Rattle.seams.specs.Plain.{IsPlain};
 
-use std::alloc::Global;
-use std::sync::ledger::Ledger;
-
+use crate::cut::one_cut;
+use crate::next_cut::{Cut, CutFrom, cut_tree};
 use bk_num::ids::NameId;
 use bk_num::steps::Steps;
 use boxes::flow::Flow;
@@ -19,9 +18,8 @@ use boxes::place::Position;
 use cursor::laws::remainder_is_one;
 use metrics::Faces;
 use seams::seam::seam;
-
-use crate::cut::one_cut;
-use crate::next_cut::{Cut, CutFrom, cut_tree};
+use std::alloc::Global;
+use std::sync::ledger::Ledger;
 
 /// Why there are no pages: 100,000 of them leave something unplaced, or want of memory.
 #[derive(Clone, Copy, Debug, PartialEq, Eq)]
@@ -34,8 +32,21 @@ pub enum PageErr {
 fn page_of(index: u32, name: NameId, frame: Frame, cut: Cut) -> Page
     ensures { result ≡ flow_page_of index name frame cut }
 {
-    let Cut { level, solids, notes, .. } = cut;
-    Page { index, kind: PageKind::Flow, name, frame, solids, notes, level }
+    let Cut {
+        level,
+        solids,
+        notes,
+        ..
+    } = cut;
+    Page {
+        index,
+        kind: PageKind::Flow,
+        name,
+        frame,
+        solids,
+        notes,
+        level,
+    }
 }
 
 /// Two page lists of one flow are equal.
@@ -48,7 +59,13 @@ pub fn one_page_list()
 
 /// The pages of a flow without notes, each ended by its best cut. `Pages` comes exactly where 100,000 pages leave
 /// something unplaced.
-pub fn paginate<Fr: Frames, L: Ledger>(alloc: Global, flow: &Flow, faces: &Faces, frames: &Fr, steps: &mut Steps<L>) -> Result<PageList, PageErr>
+pub fn paginate<Fr: Frames, L: Ledger>(
+    alloc: Global,
+    flow: &Flow,
+    faces: &Faces,
+    frames: &Fr,
+    steps: &mut Steps<L>,
+) -> Result<PageList, PageErr>
     requires whole { IsWhole flow.now.main.events }
     requires depth { depth_of flow.now.main.events ≤ 2048 }
     requires bytes { text_size flow.now.main.leaves flow.now.main.events ≤ 2 ^ 25 }
@@ -62,7 +79,13 @@ pub fn paginate<Fr: Frames, L: Ledger>(alloc: Global, flow: &Flow, faces: &Faces
     let tree = &flow.main;
     let _count = tree.count();
     let mut pages = Vec::new(alloc);
-    let mut from = CutFrom { at: Position { event: 0, offset: 0 }, kept: true };
+    let mut from = CutFrom {
+        at: Position {
+            event: 0,
+            offset: 0,
+        },
+        kept: true,
+    };
     for index in 1..100001 {
         let name = seam(tree, from.at, 0).name;
         let frame = frames.frame(index, name, PageKind::Flow);
@@ -70,12 +93,17 @@ pub fn paginate<Fr: Frames, L: Ledger>(alloc: Global, flow: &Flow, faces: &Faces
             return Err(PageErr::NoMemory);
         };
         let ended = cut.ended;
-        let next = CutFrom { at: cut.to, kept: cut.forced.is_some() };
+        let next = CutFrom {
+            at: cut.to,
+            kept: cut.forced.is_some(),
+        };
         if pages.push(page_of(index, name, frame, cut)).is_err() {
             return Err(PageErr::NoMemory);
         }
         if ended {
-            return Ok(PageList { pages: Items::of(pages) });
+            return Ok(PageList {
+                pages: Items::of(pages),
+            });
         }
         from = next;
     }

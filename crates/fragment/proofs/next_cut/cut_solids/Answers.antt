@@ -1,4 +1,4 @@
-use Rattle.std.proofs.Common.{◌≡◌, ◌<◌, ◌≤◌, ◌==◌, ℕ, suc, ℤ, Bool, List, ◌∷◌, Some, rules, All, length, map, take, drop, slice_get, sym, ap, ◌∙◌, subst, refl, arith, to_z, of_z}
+use Rattle.std.proofs.Common.{◌≡◌, ◌≤◌, ◌==◌, ℕ, ℤ, List, ◌∷◌, Some, rules, All, length, map, take, drop, slice_get, sym, ap, ◌∙◌, subst, refl, to_z, of_z}
 use Rattle.std.proofs.lemmas.Int.{to_z-of_z}
 use Rattle.std.proofs.lemmas.List.{length-map, length-take-le, take-map}
 use Rattle.std.proofs.lemmas.Option.{slice_get_read}
@@ -11,7 +11,7 @@ use Rattle.cursor.specs.Remainder.{SolidView}
 use Rattle.fragment.specs.declared.row.Row.{Row}
 use Rattle.fragment.specs.Rows.{IsSmall}
 use Rattle.fragment.specs.Cuts.{IsRowCut}
-use Rattle.fragment.specs.Pages.{CutsAt, rows_of, first_gap, placed_from}
+use Rattle.fragment.specs.Pages.{rows_of, first_gap, placed_from}
 use Rattle.fragment.proofs.PageLemmas.{drop_get, view_at, small_rows, cut_within}
 use Rattle.fragment.proofs.next_cut.cut_solids.Goals as goal
 
@@ -41,16 +41,18 @@ returns c =
     let all : views ≡ solid_view head ∷ drop 1 views = drop_get views 0 (solid_view head) (view_at solids 0 head there) in
     let first : to_z w64 (of_z w64 c.first_gap-first.result) ≡ first_gap c.args.kept views = to_z-of_z w64 c.first_gap-first.result f ∙ c.first_gap-first.ensures.value (drop 1 views) ∙ ap (first_gap c.args.kept) (sym all) in
     let best : IsRowCut (first_gap c.args.kept views) (rows_of t views) c.args.height c.cut_rows-cut.result.level count =
-        subst (λ (z : ℤ). IsRowCut z (rows_of t views) c.args.height c.cut_rows-cut.result.level count) first
-            (subst (λ (z : ℤ). IsRowCut (to_z w64 (of_z w64 c.first_gap-first.result)) (rows_of t views) z c.cut_rows-cut.result.level count) (to_z-of_z w64 c.args.height h)
-                (subst (λ (r : List Row). IsRowCut (to_z w64 (of_z w64 c.first_gap-first.result)) r (to_z w64 (of_z w64 c.args.height)) c.cut_rows-cut.result.level count) is c.cut_rows-cut.ensures)) in
-    let size : length views ≡ length solids = rw length-map refl in
-    (count, record {
-      best = best;
-      to_is = c.place_after.ensures;
-      ended_is = ap (λ (n : ℕ). count == n) (sym size);
-      forced_is = c.forced_after.ensures;
-      solids_is = c.in_ok-placed.ensures ∙ ap (λ (z : ℤ). placed_from z (map solid_view (take count solids))) first ∙ ap (placed_from (first_gap c.args.kept views)) (sym (take-map solid_view count solids));
-      notes_is = c.of.ensures ∙ c.new.ensures.items;
-      carried_is = c.of-2.ensures ∙ c.new-2.ensures.items;
-    })
+    subst (λ (z : ℤ). IsRowCut z (rows_of t views) c.args.height c.cut_rows-cut.result.level count) first
+    (subst (λ (z : ℤ). IsRowCut (to_z w64 (of_z w64 c.first_gap-first.result)) (rows_of t views) z c.cut_rows-cut.result.level count) (to_z-of_z w64 c.args.height h)
+    (subst (λ (r : List Row). IsRowCut (to_z w64 (of_z w64 c.first_gap-first.result)) r (to_z w64 (of_z w64 c.args.height)) c.cut_rows-cut.result.level count) is c.cut_rows-cut.ensures)) in
+    let size : length views ≡ length solids = rw length-map refl in (
+      count,
+      record {
+        best = best;
+        to_is = c.place_after.ensures;
+        ended_is = ap (λ (n : ℕ). count == n) (sym size);
+        forced_is = c.forced_after.ensures;
+        solids_is = c.in_ok-placed.ensures ∙ ap (λ (z : ℤ). placed_from z (map solid_view (take count solids))) first ∙ ap (placed_from (first_gap c.args.kept views)) (sym (take-map solid_view count solids));
+        notes_is = c.of.ensures ∙ c.new.ensures.items;
+        carried_is = c.of-2.ensures ∙ c.new-2.ensures.items;
+      },
+    )

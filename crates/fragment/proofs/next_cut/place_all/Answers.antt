@@ -1,7 +1,7 @@
-use Rattle.std.proofs.Common.{◌≡◌, ◌<◌, ◌≤◌, ◌+◌, ℕ, suc, ℤ, pos, ◌+ℤ◌, ◌≤ℤ◌, List, [], ◌∷◌, ◌++◌, Some, length, map, drop, slice_get, sym, ap, ◌∙◌, subst, refl, arith, add-one, append_assoc, to_z, of_z}
+use Rattle.std.proofs.Common.{◌≡◌, ◌<◌, ℕ, suc, ℤ, ◌+ℤ◌, List, [], ◌∷◌, ◌++◌, Some, length, map, drop, slice_get, sym, ap, ◌∙◌, refl, arith, add-one, append_assoc, to_z, of_z}
 use Rattle.std.proofs.lemmas.Int.{ints}
 use Rattle.std.proofs.lemmas.Grind.{common_steps}
-use Rattle.std.proofs.lemmas.Option.{slice_get_read, slice_get-map}
+use Rattle.std.proofs.lemmas.Option.{slice_get_read}
 use mir.Syntax.{w64}
 use Rattle.boxes.specs.declared.page.Placed.{Placed}
 use Rattle.cursor.specs.declared.solid.Solid.{Solid}
@@ -30,7 +30,7 @@ loop-at-preserved c =
     let tail : List Placed = placed_below ((bottom +ℤ s.seam.whole_gap) +ℤ s.height) (drop (suc at) views) in
     let all : placed_from first views ≡ c.loop-at.items.items ++ p ∷ tail = c.loop-at.invariant.placed ∙ ap (λ (xs : List SolidView). c.loop-at.items.items ++ placed_below bottom xs) rest in
     let joined : c.loop-at.items.items ++ p ∷ tail ≡ (c.loop-at.items.items ++ c.place-in-loop-at.result ∷ []) ++ tail =
-        ap (λ (x : Placed). c.loop-at.items.items ++ x ∷ tail) (sym placed) ∙ sym (append_assoc c.loop-at.items.items (c.place-in-loop-at.result ∷ []) tail) in
+    ap (λ (x : Placed). c.loop-at.items.items ++ x ∷ tail) (sym placed) ∙ sym (append_assoc c.loop-at.items.items (c.place-in-loop-at.result ∷ []) tail) in
     record {
       placed = rw (now, add-one, under) (all ∙ joined);
       low = omega (arith, ints);

@@ -1,4 +1,4 @@
-use Rattle.std.proofs.Common.{◌≡◌, ◌≤◌, ◌*◌, ◌^◌, ◌++◌, pos, neg_ℤ, ◌≤ℤ◌, map, drop, suc}
+use Rattle.std.proofs.Common.{◌≡◌, ◌*◌, ◌^◌, ◌++◌, pos, neg_ℤ, ◌≤ℤ◌, map, drop}
 use Rattle.cursor.specs.Fields.{solid_view}
 use Rattle.fragment.specs.Pages.{placed_from, placed_below}
 use Rattle.fragment.proofs.next_cut.place_all.Given as goal

@@ -1,4 +1,4 @@
-use Rattle.std.proofs.Common.{◌≤◌, length, sym, subst, arith}
+use Rattle.std.proofs.Common.{◌≤◌, length, sym, subst}
 use Rattle.cursor.specs.declared.solid.Solid.{Solid}
 use Rattle.fragment.proofs.next_cut.rows_of.Goals as goal
 

@@ -1,7 +1,7 @@
 use Rattle.std.proofs.Common.{◌≡◌, ◌+◌, length}
 use Rattle.boxes.specs.Steps.{IsRun}
 use Rattle.boxes.specs.Tree.{Holds}
-use Rattle.fragment.specs.Pages.{IsStep, PageFrames, start_of}
+use Rattle.fragment.specs.Pages.{IsStep, start_of}
 use Rattle.fragment.proofs.PageLemmas.{IsAt, state_at}
 use Rattle.fragment.proofs.paginate.paginate.Given as goal
 
