@@ -1,3 +1,4 @@
 pub mod Cuts
 pub mod Notes
+pub mod Pages
 pub mod Rows

@@ -2,4 +2,6 @@
 #![tactic(auto)]
 
 pub mod cut;
+pub mod next_cut;
+pub mod paginate;
 pub mod row;

@@ -1,0 +1,58 @@
+use Rattle.std.proofs.Common.{◌≡◌, ◌≤◌, ◌==◌, ℕ, ℤ, List, ◌∷◌, Some, rules, All, length, map, take, drop, slice_get, sym, ap, ◌∙◌, subst, refl, to_z, of_z}
+use Rattle.std.proofs.lemmas.Int.{to_z-of_z}
+use Rattle.std.proofs.lemmas.List.{length-map, length-take-le, take-map}
+use Rattle.std.proofs.lemmas.Option.{slice_get_read}
+use mir.Val.{SFits}
+use mir.Syntax.{w64}
+use Rattle.boxes.specs.Tree.{Tree}
+use Rattle.cursor.specs.declared.solid.Solid.{Solid}
+use Rattle.cursor.specs.Fields.{solid_view}
+use Rattle.cursor.specs.Remainder.{SolidView}
+use Rattle.fragment.specs.declared.row.Row.{Row}
+use Rattle.fragment.specs.Rows.{IsSmall}
+use Rattle.fragment.specs.Cuts.{IsRowCut}
+use Rattle.fragment.specs.Pages.{rows_of, first_gap, placed_from}
+use Rattle.fragment.proofs.PageLemmas.{drop_get, view_at, small_rows, cut_within}
+use Rattle.fragment.proofs.next_cut.cut_solids.Goals as goal
+
+pub cut_rows-cut-requires-clause-small : goal.cut_rows-cut-requires-clause-small
+cut_rows-cut-requires-clause-small c =
+    let is : c.as_slice.result.now ≡ rows_of c.args.tree.now (map solid_view c.args.solids.now) = c.as_slice.ensures.value ∙ c.in_ok-rows.ensures in
+    subst (All IsSmall) (sym is) (small_rows c.args.tree.now c.args.solids.now c.requires.small)
+
+pub slice_bounds-place_all-end : goal.slice_bounds-place_all-end
+slice_bounds-place_all-end c =
+    let is : c.as_slice.result.now ≡ rows_of c.args.tree.now (map solid_view c.args.solids.now) = c.as_slice.ensures.value ∙ c.in_ok-rows.ensures in
+    let within = cut_within _ _ _ _ _ c.cut_rows-cut.ensures in
+    let high : c.cut_rows-cut.result.count ≤ length c.args.solids.now = simp length-map at (rw is at within.1) in
+    sym (length-take-le c.cut_rows-cut.result.count c.args.solids.now high)
+
+pub returns : goal.returns
+returns c =
+    let t : Tree = c.args.tree.now in
+    let solids : List Solid = c.args.solids.now in
+    let views : List SolidView = map solid_view solids in
+    let count : ℕ = c.cut_rows-cut.result.count in
+    let is : c.as_slice.result.now ≡ rows_of t views = c.as_slice.ensures.value ∙ c.in_ok-rows.ensures in
+    let h : SFits w64 c.args.height = c.ranges.height in
+    let f : SFits w64 c.first_gap-first.result = search rules in
+    let head : Solid = c.index-solids-0.result in
+    let there : slice_get solids 0 ≡ Some head = slice_get_read solids (length solids) 0 head refl c.requires.some c.index-solids-0.is in
+    let all : views ≡ solid_view head ∷ drop 1 views = drop_get views 0 (solid_view head) (view_at solids 0 head there) in
+    let first : to_z w64 (of_z w64 c.first_gap-first.result) ≡ first_gap c.args.kept views = to_z-of_z w64 c.first_gap-first.result f ∙ c.first_gap-first.ensures.value (drop 1 views) ∙ ap (first_gap c.args.kept) (sym all) in
+    let best : IsRowCut (first_gap c.args.kept views) (rows_of t views) c.args.height c.cut_rows-cut.result.level count =
+    subst (λ (z : ℤ). IsRowCut z (rows_of t views) c.args.height c.cut_rows-cut.result.level count) first
+    (subst (λ (z : ℤ). IsRowCut (to_z w64 (of_z w64 c.first_gap-first.result)) (rows_of t views) z c.cut_rows-cut.result.level count) (to_z-of_z w64 c.args.height h)
+    (subst (λ (r : List Row). IsRowCut (to_z w64 (of_z w64 c.first_gap-first.result)) r (to_z w64 (of_z w64 c.args.height)) c.cut_rows-cut.result.level count) is c.cut_rows-cut.ensures)) in
+    let size : length views ≡ length solids = rw length-map refl in (
+      count,
+      record {
+        best = best;
+        to_is = c.place_after.ensures;
+        ended_is = ap (λ (n : ℕ). count == n) (sym size);
+        forced_is = c.forced_after.ensures;
+        solids_is = c.in_ok-placed.ensures ∙ ap (λ (z : ℤ). placed_from z (map solid_view (take count solids))) first ∙ ap (placed_from (first_gap c.args.kept views)) (sym (take-map solid_view count solids));
+        notes_is = c.of.ensures ∙ c.new.ensures.items;
+        carried_is = c.of-2.ensures ∙ c.new-2.ensures.items;
+      },
+    )
