@@ -5,6 +5,8 @@ mod attrs;
 mod classes;
 mod raw;
 mod scan;
+#[cfg(test)]
+mod tests;
 mod tokens;
 
 pub use attrs::Attrs;
