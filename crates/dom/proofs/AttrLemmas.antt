@@ -1,5 +1,5 @@
 -- attributes as a list and as a map
-use Rattle.std.proofs.Common.{◌≡◌, Result, Ok, Err, is_ok, OnOk, ℕ, Bool, true, false, List, [], ◌∷◌, ◌++◌, Option, None, Some, map, option_map, is_some, not, cond, refl, sym, ◌∙◌, ap}
+use Rattle.std.proofs.Common.{◌≡◌, Result, Ok, Err, is_ok, OnOk, ℕ, Bool, true, false, List, [], ◌∷◌, Option, None, Some, map, option_map, is_some, cond, refl, ◌∙◌, ap}
 use Rattle.std.specs.Str.{bytes_eq}
 use Rattle.std.specs.declared.string.String.{String}
 use Rattle.std.specs.String.{string_bytes}

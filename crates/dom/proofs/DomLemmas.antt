@@ -1,5 +1,5 @@
 -- The rows of a tree and the numbers of their parents.
-use Rattle.std.proofs.Common.{◌≡◌, ℕ, ◌+◌, ◌<◌, ◌≤◌, Bool, true, false, nat_le, ◌&&◌, IsTrue, List, [], ◌∷◌, ◌++◌, Option, None, Some, IfSome, map, length, length-append, length-drop, take, drop, slice_get, slice_set, get_or, option_map, cond, refl, sym, ◌∙◌, ap, subst, rules, arith, ◌⊎◌, inl, inr, add-one, eqb, ◌==◌, add-zero, is_some, suc, zero, zero-add, add_assoc, if◌then◌else◌}
+use Rattle.std.proofs.Common.{◌≡◌, ℕ, ◌+◌, ◌<◌, ◌≤◌, Bool, true, false, nat_le, ◌&&◌, IsTrue, List, [], ◌∷◌, ◌++◌, Option, None, Some, IfSome, map, length, length-append, length-drop, take, drop, slice_get, slice_set, get_or, option_map, cond, refl, sym, ◌∙◌, ap, subst, arith, ◌⊎◌, inl, inr, ◌==◌, add-zero, is_some, suc, zero, if◌then◌else◌}
 use Rattle.std.proofs.lemmas.Map.Views.{exact_unsigned_eq}
 use Rattle.std.proofs.lemmas.Bool.Decides.{nat_tests}
 use Rattle.std.proofs.lemmas.Bool.{eq-eqb}
@@ -7,7 +7,7 @@ use Rattle.std.proofs.lemmas.List.{drop-append-le, take-append-le, map-append, l
 use Rattle.std.proofs.Math.ListN.{drop_of_length-le}
 use Rattle.std.proofs.Math.Seq.{take-length}
 use Rattle.std.proofs.lemmas.Option.{slice_get-map, slice_get_read, slice_get_within}
-use Rattle.dom.specs.Nodes.{Node, is_at, first_of, first_from, last_from, parents_of, parent_at, flat, first_child_of, last_child_of, next_under, prev_under, next_of, prev_of, depth_of, depth_at, reach_of, is_element, is_element_at, is_element_node, child_of, element_parent, element_parents_of, element_count, elements_under, elements_before_of, IsTree, HasPlace, changed_at, attributed, with_attribute}
+use Rattle.dom.specs.Nodes.{Node, is_at, first_of, first_from, last_from, parents_of, parent_at, flat, first_child_of, last_child_of, next_under, prev_under, next_of, prev_of, depth_of, depth_at, reach_of, is_element, is_element_at, is_element_node, element_parent, element_parents_of, element_count, elements_under, elements_before_of, IsTree, HasPlace}
 use Rattle.dom.specs.declared.rows.NodeData.{NodeData}
 use Rattle.dom.specs.declared.rows.Row.{Row}
 use Rattle.dom.specs.Links.{change, changed, linked_before, linked_at}
@@ -15,7 +15,6 @@ use Rattle.dom.specs.DomFields.{node_of, parents_in, elements_in, IsLinked, AreS
 use Rattle.dom.specs.Answers.{is_too_deep}
 use Rattle.std.specs.List.{count_by}
 use Rattle.std.proofs.lemmas.List.Sums.{sum_by-append, count_by-le-length}
-use Rattle.std.proofs.lemmas.Bool.{cases_lt}
 
 -- the parent's number of a row
 pub parent_of-row : (rows : List Row) (k : ℕ) (r : Row) → slice_get rows k ≡ Some r → parent_at (parents_in rows) k ≡ r.parent
@@ -680,3 +679,6 @@ read-elements rows k r s h e = (linked-row rows k r s h e).elements
 
 pub few-elements : (rows : List Row) (k : ℕ) → AreSound rows → element_count (elements_in rows) k ≤ 400000
 few-elements rows k s = let l = count_by-le-length (is_at k) (elements_in rows) in let n = s.tree.few in let m : length (map node_of rows) ≡ length rows = simp length-map in omega (arith, length-elements rows)
+
+pub read-most : (rows : List Row) (k : ℕ) (r : Row) → AreSound rows → k < length rows → r ≡ get_or rows k r → r.depth ≤ 201
+read-most rows k r sound h e = let d = sound.tree.deep k (node_of r) (slice_get-map node_of rows k ∙ ap (option_map node_of) (slice_get_read rows (length rows) k r refl h e)) in omega (arith, d)

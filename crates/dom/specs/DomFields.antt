@@ -1,5 +1,5 @@
 -- What the rows of a document keep, and what is seen of them.
-use Rattle.std.specs.Prelude.{◌≡◌, ℕ, List, Option, Some, map, length, slice_get}
+use Rattle.std.specs.Prelude.{◌≡◌, ℕ, List, Option, Some, map, slice_get}
 use Rattle.dom.specs.Nodes.{Node, parents_of, element_parents_of, first_child_of, last_child_of, next_under, prev_under, elements_under, element_count, IsTree}
 use Rattle.dom.specs.declared.rows.Row.{Row}
 use Rattle.dom.specs.declared.dom.Dom.TheInside.{Inside}

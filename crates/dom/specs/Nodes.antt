@@ -1,5 +1,5 @@
 -- A tree as a list of nodes with the numbers of their parents.
-use Rattle.std.specs.Prelude.{◌≡◌, ℕ, zero, suc, ◌+◌, ◌<◌, ◌≤◌, nat_le, ◌&&◌, Bool, false, true, List, [], ◌∷◌, ◌++◌, Option, None, Some, if◌then◌else◌, ◌==◌, take, drop, map, length, slice_get, slice_set, count_by, codes}
+use Rattle.std.specs.Prelude.{◌≡◌, ℕ, ◌+◌, ◌<◌, ◌≤◌, Bool, false, true, List, [], ◌∷◌, ◌++◌, Option, None, Some, if◌then◌else◌, ◌==◌, take, drop, map, length, slice_get, slice_set, count_by, codes}
 use Rattle.dom.specs.Pairs.{pair_value}
 use Rattle.dom.specs.declared.rows.NodeData.{NodeData}
 use Rattle.dom.specs.declared.rows.NodeData.TheVariants.{Element, Text}

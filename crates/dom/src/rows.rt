@@ -1,10 +1,11 @@
 //! The rows of a document: a node each, with its links.
-ghost use Rattle.std.specs.Prelude.{vec_len, IfSome, ◌≡◌, ◌<◌};
+ghost use Rattle.std.specs.Prelude.{vec_len, IfSome, IsTrue, IfOk, true, OnErr, ◌≡◌, ◌<◌, not, is_some, if◌then◌else◌};
 ghost use Rattle.dom.specs.Links.{linked_at};
-ghost use Rattle.dom.specs.Nodes.{is_element};
+ghost use Rattle.dom.specs.Nodes.{is_element, attribute_in, attributed};
 
 use crate::attrs::Attributes;
-use bk_num::name::Name;
+use bk_num::name::{Name, NoMem};
+use std::alloc::Global;
 
 /// What a node is: an element with its name and attributes, or a text.
 #[derive(Drop)]
@@ -57,4 +58,23 @@ pub(crate) fn link(rows: &mut Vec<Row>, parent: u32, last: Option<u32>, index: u
     let row = &mut rows[parent as usize];
     row.last_child = Some(index);
     row.elements = elements;
+}
+
+/// Adds an attribute to an element, unless there is one of the name.
+pub(crate) fn put_attribute(
+    what: &mut NodeData,
+    alloc: Global,
+    name: &str,
+    value: &str,
+) -> Result<bool, NoMem>
+    requires { IsTrue (is_element what.old) }
+    ensures added { IfOk result (λ b. b ≡ not (is_some (attribute_in name.now what.old))) }
+    ensures ok { IfOk result (λ b. what.new ≡ (if b then attributed name.now value.now what.old else what.old)) }
+    ensures err { OnErr result (what.new ≡ what.old) }
+    ensures element { is_element what.new ≡ true }
+{
+    match what {
+        NodeData::Element(_, attributes) => attributes.add(alloc, name, value),
+        NodeData::Text(_) => Ok(false),
+    }
 }

@@ -1,4 +1,4 @@
-use Rattle.std.proofs.Common.{◌≡◌, ℕ, subst, is_ok, true, arith, None, option_map, sym, ◌∙◌, ap, not, is_some, List, ◌++◌, [], ◌∷◌, map}
+use Rattle.std.proofs.Common.{◌≡◌, ℕ, subst, is_ok, true, arith, None, sym, ◌∙◌, ap, not, List, ◌++◌, [], ◌∷◌, map}
 use Rattle.std.specs.String.{string_bytes, string_eq}
 use Rattle.std.proofs.lemmas.List.{map-append}
 use Rattle.std.proofs.lemmas.Grind.{common_steps}

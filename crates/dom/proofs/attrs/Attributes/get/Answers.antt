@@ -1,4 +1,4 @@
-use Rattle.std.proofs.Common.{◌≡◌, option_map, sym, ◌∙◌, ap}
+use Rattle.std.proofs.Common.{option_map, sym, ◌∙◌, ap}
 use Rattle.std.specs.String.{string_bytes}
 use Rattle.dom.proofs.AttrLemmas.{pair_value-map}
 use Rattle.dom.proofs.attrs.Attributes.get.Goals as goal

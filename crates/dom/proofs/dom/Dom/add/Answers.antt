@@ -1,12 +1,12 @@
-use Rattle.std.proofs.Common.{◌≡◌, ℕ, ◌+◌, ◌<◌, ◌≤◌, length, arith, sym, ◌∙◌, ap, refl, vec_len, List, [], ◌∷◌, ◌++◌, Option, None, Some, IfSome, subst, map, option_map, cond}
+use Rattle.std.proofs.Common.{◌≡◌, ℕ, ◌+◌, ◌<◌, ◌≤◌, length, arith, ◌∙◌, ap, refl, vec_len, [], ◌∷◌, ◌++◌, Option, None, Some, IfSome, map}
 use Rattle.std.proofs.lemmas.List.{length-map, map-append}
 use Rattle.std.proofs.lemmas.Grind.{common_steps}
-use Rattle.dom.specs.Nodes.{Node, last_child_of, child_of, element_count, is_element, is_element_at, depth_at}
+use Rattle.dom.specs.Nodes.{last_child_of, element_count}
 use Rattle.dom.specs.Links.{linked_at}
 use Rattle.dom.specs.declared.rows.Row.{Row}
 use Rattle.dom.specs.declared.rows.NodeData.{NodeData}
-use Rattle.dom.specs.DomFields.{parents_in, elements_in, node_of, AreSound, IsLinked}
-use Rattle.dom.proofs.DomLemmas.{sound-add, IsAdded, last-inside, length-parents, nodes-linked, reach-new}
+use Rattle.dom.specs.DomFields.{parents_in, elements_in, node_of}
+use Rattle.dom.proofs.DomLemmas.{sound-add, last-inside, length-parents, nodes-linked, reach-new}
 use Rattle.dom.proofs.dom.Dom.add.Goals as goal
 
 -- the row that is made

@@ -1,4 +1,4 @@
-use Rattle.std.proofs.Common.{◌≡◌, ℕ, ◌<◌, ◌≤◌, length, arith, sym, ◌∙◌}
+use Rattle.std.proofs.Common.{◌<◌, length}
 use Rattle.std.proofs.lemmas.List.{length-map}
 use Rattle.dom.proofs.DomLemmas.{read-before}
 use Rattle.dom.proofs.dom.Dom.elements_before.Goals as goal
