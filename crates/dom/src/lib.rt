@@ -4,6 +4,8 @@
 mod attrs;
 mod dom;
 mod rows;
+#[cfg(test)]
+mod tests;
 
 pub use attrs::Attributes;
 pub use dom::{Dom, DomErr};

@@ -18,5 +18,5 @@ loop-next-preserved c =
       size = simp length-set size;
       here = rw c.parent-next.ensures up.parent;
       way = rw c.in-Some.is at c.loop-next.invariant.way ∙ way-step (parents_of c.args.self.now) c.loop-next.place c.depth-depth.result c.in-Some.node.0 c.loop-next.way some within (omega arith)
-        ∙ ap (λ (o : Option ℕ). way (parents_of c.args.self.now) (c.loop-next.place - 1) o ++ drop (c.loop-next.place - 1) (take c.depth-depth.result (slice_set c.loop-next.way (c.loop-next.place - 1) c.in-Some.node.0))) (sym c.parent-next.ensures);
+          ∙ ap (λ (o : Option ℕ). way (parents_of c.args.self.now) (c.loop-next.place - 1) o ++ drop (c.loop-next.place - 1) (take c.depth-depth.result (slice_set c.loop-next.way (c.loop-next.place - 1) c.in-Some.node.0))) (sym c.parent-next.ensures);
     }
