@@ -1,0 +1,2 @@
+pub mod CookLemmas
+pub mod NumberLemmas

@@ -1,0 +1,5 @@
+//! The tree of an HTML text.
+#![tactic(auto)]
+
+mod cook;
+mod references;
