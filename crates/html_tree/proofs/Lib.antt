@@ -1,2 +1,3 @@
 pub mod CookLemmas
 pub mod NumberLemmas
+pub mod OpenedLemmas

@@ -1,1 +1,4 @@
 pub mod Texts
+pub mod Rules
+pub mod Tree
+pub mod Built

@@ -2,4 +2,7 @@
 #![tactic(auto)]
 
 mod cook;
+mod opened;
 mod references;
+mod rules;
+mod tree;
