@@ -28,6 +28,7 @@ abbrev pub AreElements : List Node → List NodeId → Type 0
 AreElements nodes opened = (k : ℕ) (o : NodeId) → slice_get opened k ≡ Some o → is_element_at nodes o.0 ≡ true
 
 pub record IsBuilt (b : Builder) : Type 0 where
+  pub root : is_element_at b.dom 0 ≡ true
   pub opened : AreElements b.dom b.opened.items
   pub parent : is_element_at b.dom b.parent.0 ≡ true
   pub few : 0 < length (string_bytes b.text) → length b.dom < 400000

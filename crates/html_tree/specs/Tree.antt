@@ -71,12 +71,13 @@ longer more (Text bytes) = Text (bytes ++ more)
 abbrev pub appended : List Node → List ℕ → List Node
 appended nodes more = changed_at (λ n. record n { what = longer more n.what }) nodes (length nodes - 1) (last_of nodes)
 
--- a text goes to the last node where that is a text child of the current element, and is a new node else
+abbrev pub new_text : ℕ → List ℕ → State → Result State DomErr
+new_text parent bytes s = if nat_le 400000 (length s.nodes) then Err Nodes else Ok (record s { nodes = s.nodes ++ child_of s.nodes parent (Text bytes) ∷ [] })
+
+-- a text that isn't empty goes to the last node where that is a text child of the current element, and is a new node else
 abbrev pub add_text : List ℕ → State → Result State DomErr
 add_text [] s = Ok s
-add_text (b ∷ bs) s = if is_text_under (current s.opened) (last_of s.nodes) then Ok (record s { nodes = appended s.nodes (b ∷ bs) }) else
-    if nat_le 400000 (length s.nodes) then Err Nodes else
-    Ok (record s { nodes = s.nodes ++ child_of s.nodes (current s.opened) (Text (b ∷ bs)) ∷ [] })
+add_text (b ∷ bs) s = if is_text_under (current s.opened) (last_of s.nodes) then Ok (record s { nodes = appended s.nodes (b ∷ bs) }) else new_text (current s.opened) (b ∷ bs) s
 
 -- an attribute, unless the node has one of the name
 abbrev pub put : ℕ → List Node → List ℕ × List ℕ → List Node

@@ -6,3 +6,6 @@ mod opened;
 mod references;
 mod rules;
 mod tree;
+
+pub use dom::{Dom, DomErr};
+pub use tree::read_html;

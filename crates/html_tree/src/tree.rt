@@ -4,7 +4,9 @@ ghost use Rattle.dom.specs.Nodes.{Node, is_element_at};
 ghost use Rattle.html_tok.specs.Tags.{attributes_of};
 ghost use Rattle.html_tok.specs.Listed.{TokenView, view_of};
 ghost use Rattle.html_tree.specs.Texts.{text_of, name_of};
-ghost use Rattle.html_tree.specs.Tree.{put_all, State, add_text, add_element, after_start, after_text, after_kind, without, is_blank, is_escapable, current_name};
+ghost use Rattle.html_tree.specs.Tree.{put_all, State, add_text, add_element, after_start, after_text, after_kind, without, is_blank, is_escapable, current_name, appended, new_text, begun, after_rule, tree_of};
+ghost use Rattle.html_tree.specs.Rules.{rules};
+ghost use Rattle.std.specs.Prelude.{fold};
 ghost use Rattle.html_tree.specs.Built.{Answers, waiting, state_of, IsBuilt};
 
 use crate::cook::{name_of, text_of};
@@ -13,7 +15,7 @@ use crate::rules::{RULES, VOID, has};
 use bk_num::ids::NodeId;
 use bk_num::name::NoMem;
 use dom::{Dom, DomErr};
-use html_tok::{Attrs, Token, TokenKind};
+use html_tok::{Attrs, Token, TokenKind, Tokens};
 use std::alloc::Global;
 
 /// The most nodes of a document.
@@ -57,4 +59,251 @@ fn put_text(dom: &mut Dom, alloc: Global, parent: NodeId, text: &mut String) -> 
     }
     text.clear();
     Ok(())
+}
+
+impl Builder {
+    /// The tree of no tokens.
+    pub(crate) fn new(alloc: Global) -> Result<Builder, DomErr>
+        ensures built { IfOk result (λ b. IsBuilt b) }
+        ensures state { IfOk result (λ b. state_of b ≡ begun) }
+        ensures err { IfErr result (λ e. e ≡ DomErr.NoMemory) }
+    {
+        let dom = match Dom::new(alloc) {
+            Ok(dom) => dom,
+            Err(e) => return Err(e),
+        };
+        Ok(Builder {
+            dom,
+            opened: Vec::new(alloc),
+            text: String::new(alloc),
+            parent: NodeId(0),
+        })
+    }
+
+    /// Reads a token.
+    pub(crate) fn read(&mut self, alloc: Global, token: &Token<'_>) -> Result<(), DomErr>
+        requires { IsBuilt self.old }
+        ensures built { OnOk result (IsBuilt self.new) }
+        ensures state { Answers (after_kind (view_of token.now).kind (view_of token.now).slice (state_of self.old)) result (λ _. state_of self.new) }
+    {
+        match token.kind {
+            TokenKind::Text => self.read_text(alloc, token.slice),
+            TokenKind::Raw => self.read_raw(alloc, token.slice),
+            TokenKind::Start { name, attrs } => self.read_start(alloc, name, attrs),
+            TokenKind::End { name } => self.read_end(alloc, name),
+            TokenKind::Skip => Ok(()),
+        }
+    }
+
+    /// The nodes that were built.
+    pub(crate) fn finish(self, alloc: Global) -> Result<Dom, DomErr>
+        requires { IsBuilt self }
+        ensures ok { IfOk result (λ dom. dom ≡ (state_of self).nodes) }
+        ensures err { IfErr result (λ e. e ≡ DomErr.NoMemory) }
+    {
+        let mut dom = self.dom;
+        let mut text = self.text;
+        if put_text(&mut dom, alloc, self.parent, &mut text).is_err() {
+            return Err(DomErr::NoMemory);
+        }
+        Ok(dom)
+    }
+
+    fn read_text(&mut self, alloc: Global, slice: &str) -> Result<(), DomErr>
+        requires { IsBuilt self.old }
+        ensures built { OnOk result (IsBuilt self.new) }
+        ensures state { Answers (after_text (text_of true slice.now) (state_of self.old)) result (λ _. state_of self.new) }
+    {
+        let Ok(text) = text_of(alloc, slice, true) else {
+            return Err(DomErr::NoMemory);
+        };
+        if !is_blank(text.as_bytes()) {
+            self.close("head");
+        }
+        self.add_text(alloc, text.as_str())
+    }
+
+    fn read_raw(&mut self, alloc: Global, slice: &str) -> Result<(), DomErr>
+        requires { IsBuilt self.old }
+        ensures built { OnOk result (IsBuilt self.new) }
+        ensures state { Answers (add_text (text_of (is_escapable (current_name (state_of self.old))) slice.now) (state_of self.old)) result (λ _. state_of self.new) }
+    {
+        let escapable = self.is_in_escapable();
+        let Ok(text) = text_of(alloc, slice, escapable) else {
+            return Err(DomErr::NoMemory);
+        };
+        self.add_text(alloc, text.as_str())
+    }
+
+    fn read_start(&mut self, alloc: Global, name: &str, attrs: &str) -> Result<(), DomErr>
+        requires { IsBuilt self.old }
+        ensures built { OnOk result (IsBuilt self.new) }
+        ensures state { Answers (after_start (name_of name.now) attrs.now (state_of self.old)) result (λ _. state_of self.new) }
+    {
+        let Ok(name) = name_of(alloc, name) else {
+            return Err(DomErr::NoMemory);
+        };
+        if name.as_str() == "html" {
+            return self.add_to_root(alloc, attrs);
+        }
+        self.close_for(name.as_str());
+        self.add_element(alloc, name.as_str(), attrs)
+    }
+
+    fn read_end(&mut self, alloc: Global, name: &str) -> Result<(), DomErr>
+        requires { IsBuilt self.old }
+        ensures built { OnOk result (IsBuilt self.new) }
+        ensures state { Answers (Ok (record (state_of self.old) { opened = without (name_of name.now) (state_of self.old).nodes (state_of self.old).opened })) result (λ _. state_of self.new) }
+    {
+        let Ok(name) = name_of(alloc, name) else {
+            return Err(DomErr::NoMemory);
+        };
+        self.close(name.as_str());
+        Ok(())
+    }
+
+    /// Closes the innermost open element of a name, where there is one.
+    fn close(&mut self, name: &str)
+        requires { IsBuilt self.old }
+        ensures built { IsBuilt self.new }
+        ensures state { state_of self.new ≡ record (state_of self.old) { opened = without name.now (state_of self.old).nodes (state_of self.old).opened } }
+    {
+        close_named(&self.dom, &mut self.opened, name);
+    }
+
+    /// Closes what a start tag closes.
+    fn close_for(&mut self, name: &str)
+        requires { IsBuilt self.old }
+        ensures built { IsBuilt self.new }
+        ensures state { state_of self.new ≡ record (state_of self.old) { opened = fold (after_rule name.now (state_of self.old).nodes) (state_of self.old).opened rules } }
+    {
+        close_rows(&self.dom, &mut self.opened, name, &RULES);
+    }
+
+    /// Whether references are read in the raw text of the current element.
+    fn is_in_escapable(&self) -> bool
+        requires { IsBuilt self.now }
+        ensures { result ≡ is_escapable (current_name (state_of self.now)) }
+    {
+        match self.opened.last() {
+            Some(node) => is_escapable(name_of_element(&self.dom, *node)),
+            None => false,
+        }
+    }
+
+    /// Adds the attributes that node 0 lacks.
+    fn add_to_root(&mut self, alloc: Global, attrs: &str) -> Result<(), DomErr>
+        requires { IsBuilt self.old }
+        ensures built { OnOk result (IsBuilt self.new) }
+        ensures state { Answers (Ok (record (state_of self.old) { nodes = put_all 0 (attributes_of attrs.now) (state_of self.old).nodes })) result (λ _. state_of self.new) }
+    {
+        if put_attributes(&mut self.dom, alloc, NodeId(0), attrs).is_err() {
+            return Err(DomErr::NoMemory);
+        }
+        Ok(())
+    }
+
+    /// Adds a text to the text that waits, where that belongs to the current element, and makes it the one that waits else.
+    fn add_text(&mut self, alloc: Global, text: &str) -> Result<(), DomErr>
+        requires { IsBuilt self.old }
+        ensures built { OnOk result (IsBuilt self.new) }
+        ensures state { Answers (add_text text.now (state_of self.old)) result (λ _. state_of self.new) }
+    {
+        if text.is_empty() {
+            return Ok(());
+        }
+        let parent = current(&self.opened);
+        if !self.text.is_empty() && self.parent.0 == parent.0 {
+            return self.append(text);
+        }
+        self.begin_text(alloc, parent, text)
+    }
+
+    /// Appends to the text that waits.
+    fn append(&mut self, more: &str) -> Result<(), DomErr>
+        requires built { IsBuilt self.old }
+        requires waits { 0 < length (string_bytes self.old.text) }
+        ensures built { OnOk result (IsBuilt self.new) }
+        ensures state { OnOk result (state_of self.new ≡ record (state_of self.old) { nodes = appended (state_of self.old).nodes more.now }) }
+        ensures err { IfErr result (λ e. e ≡ DomErr.NoMemory) }
+    {
+        if self.text.push_str(more).is_err() {
+            return Err(DomErr::NoMemory);
+        }
+        Ok(())
+    }
+
+    /// Makes a text the one that waits.
+    fn begin_text(&mut self, alloc: Global, parent: NodeId, text: &str) -> Result<(), DomErr>
+        requires built { IsBuilt self.old }
+        requires parent { IsTrue (is_element_at self.old.dom parent.0) }
+        requires some { 0 < length text.now }
+        ensures built { OnOk result (IsBuilt self.new) }
+        ensures state { Answers (new_text parent.0 text.now (state_of self.old)) result (λ _. state_of self.new) }
+    {
+        if put_text(&mut self.dom, alloc, self.parent, &mut self.text).is_err() {
+            return Err(DomErr::NoMemory);
+        }
+        if self.dom.len() >= MOST_NODES {
+            return Err(DomErr::Nodes);
+        }
+        self.parent = parent;
+        if self.text.push_str(text).is_err() {
+            return Err(DomErr::NoMemory);
+        }
+        Ok(())
+    }
+
+    /// Adds an element under the current one.
+    fn add_element(&mut self, alloc: Global, name: &str, attrs: &str) -> Result<(), DomErr>
+        requires { IsBuilt self.old }
+        ensures built { OnOk result (IsBuilt self.new) }
+        ensures state { Answers (add_element name.now attrs.now (state_of self.old)) result (λ _. state_of self.new) }
+    {
+        if put_text(&mut self.dom, alloc, self.parent, &mut self.text).is_err() {
+            return Err(DomErr::NoMemory);
+        }
+        let parent = current(&self.opened);
+        let node = match self.dom.add_element(alloc, parent, name) {
+            Ok(node) => node,
+            Err(e) => return Err(e),
+        };
+        if put_attributes(&mut self.dom, alloc, node, attrs).is_err() {
+            return Err(DomErr::NoMemory);
+        }
+        if !has(&VOID, name) && self.opened.push(node).is_err() {
+            return Err(DomErr::NoMemory);
+        }
+        Ok(())
+    }
+}
+
+fn is_blank(bytes: &[u8]) -> bool
+    ensures { result ≡ is_blank bytes.now }
+{
+    bytes.iter().all(|b| b.is_ascii_whitespace())
+}
+
+fn is_escapable(name: &str) -> bool
+    ensures { result ≡ is_escapable name.now }
+{
+    name == "title" || name == "textarea"
+}
+
+/// The tree of an HTML text. Want of memory aside it answers Nodes or Depth exactly where the first token that adds too many nodes, or too deep an element, does.
+#[tactic(auto, unfolding(crate::specs::Tree::tree_of))]
+pub fn read_html(alloc: Global, text: &str) -> Result<Dom, DomErr>
+    ensures { Answers (tree_of text.now) result (λ dom. dom) }
+{
+    let mut builder = match Builder::new(alloc) {
+        Ok(builder) => builder,
+        Err(e) => return Err(e),
+    };
+    let mut tokens = Tokens::new(text);
+    while let Some(token) = tokens.next() {
+        if let Err(e) = builder.read(alloc, &token) {
+            return Err(e);
+        }
+    }
+    builder.finish(alloc)
 }
