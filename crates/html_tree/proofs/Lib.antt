@@ -1,3 +1,4 @@
+pub mod BuildLemmas
 pub mod CookLemmas
 pub mod NumberLemmas
 pub mod OpenedLemmas

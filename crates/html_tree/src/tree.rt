@@ -4,7 +4,7 @@ ghost use Rattle.dom.specs.Nodes.{Node, is_element_at};
 ghost use Rattle.html_tok.specs.Tags.{attributes_of};
 ghost use Rattle.html_tok.specs.Listed.{TokenView, view_of};
 ghost use Rattle.html_tree.specs.Texts.{text_of, name_of};
-ghost use Rattle.html_tree.specs.Tree.{put_all, State, add_text, add_element, after_start, after_text, after_kind, without, is_blank, is_escapable, current_name, appended, new_text, begun, after_rule, tree_of};
+ghost use Rattle.html_tree.specs.Tree.{put_all, State, add_text, add_element, after_start, after_text, after_kind, without, is_blank, is_escapable, current_name, appended, new_text, is_text_under, last_of, begun, after_rule, tree_of};
 ghost use Rattle.html_tree.specs.Rules.{rules};
 ghost use Rattle.std.specs.Prelude.{fold};
 ghost use Rattle.html_tree.specs.Built.{Answers, waiting, state_of, IsBuilt};
@@ -81,6 +81,7 @@ impl Builder {
     }
 
     /// Reads a token.
+    #[tactic(auto, unfolding(crate::specs::Tree::after_kind))]
     pub(crate) fn read(&mut self, alloc: Global, token: &Token<'_>) -> Result<(), DomErr>
         requires { IsBuilt self.old }
         ensures built { OnOk result (IsBuilt self.new) }
@@ -213,10 +214,22 @@ impl Builder {
             return Ok(());
         }
         let parent = current(&self.opened);
-        if !self.text.is_empty() && self.parent.0 == parent.0 {
+        if self.is_joined(parent) {
             return self.append(text);
         }
         self.begin_text(alloc, parent, text)
+    }
+
+    /// Whether the last node is a text child of this element. Such a text waits.
+    fn is_joined(&self, parent: NodeId) -> bool
+        requires { IsBuilt self.now }
+        ensures under { result ≡ is_text_under parent.0 (last_of (state_of self.now).nodes) }
+        ensures waits { IsTrue result → 0 < length (string_bytes self.now.text) }
+    {
+        if self.text.is_empty() {
+            return false;
+        }
+        self.parent.0 == parent.0
     }
 
     /// Appends to the text that waits.
