@@ -10,9 +10,9 @@ use Rattle.dom.specs.declared.rows.NodeData.{NodeData}
 use Rattle.dom.specs.declared.rows.NodeData.TheVariants.{Element, Text}
 use Rattle.dom.specs.declared.dom.DomErr.{DomErr}
 use Rattle.dom.specs.declared.dom.DomErr.TheVariants.{Nodes, Depth, NoMemory}
-use Rattle.html_tree.specs.Rules.{Rule, rules, has_name, names_tag}
+use Rattle.html_tree.specs.Rules.{Rule, rules, has_name, names_tag, void_names}
 use Rattle.html_tree.specs.Texts.{name_of, text_of}
-use Rattle.html_tree.specs.Tree.{State, name_in, kept, closed_by, after_rule, without, current, number_of, is_text_under, last_of, longer, appended, new_text, add_text, put, put_all, opened_after, add_element}
+use Rattle.html_tree.specs.Tree.{State, name_in, kept, closed_by, after_rule, without, current, number_of, is_text_under, last_of, longer, appended, new_text, add_text, put, put_all, opened_after, add_element, after_start}
 use Rattle.html_tree.specs.Built.{waiting, AreElements, Answers}
 use Rattle.html_tree.proofs.OpenedLemmas.{elements-take}
 
@@ -245,3 +245,16 @@ grown-with nodes more parent name attrs = record {
   element = put_all-element (length (nodes ++ more)) attrs ((nodes ++ more) ++ child_of (nodes ++ more) parent (Element name []) ∷ []) (length (nodes ++ more)) ∙ end-element (nodes ++ more) parent name;
   size = put_all-length (length (nodes ++ more)) attrs ((nodes ++ more) ++ child_of (nodes ++ more) parent (Element name []) ∷ []) ∙ length-append (nodes ++ more) (child_of (nodes ++ more) parent (Element name []) ∷ []);
 }
+
+pub opened-elements : (nodes : List Node) (opened : List NodeId) (n : ℕ) (name : List ℕ) → AreElements nodes opened → is_element_at nodes n ≡ true → AreElements nodes (opened_after name n opened)
+opened-elements nodes opened n name h e = by (has_name void_names name)
+  where
+    by : (b : Bool) → AreElements nodes (if b then opened else opened ++ record { 0 = n } ∷ [])
+    by true = h
+    by false = elements-push nodes opened (record { 0 = n }) h e
+
+pub start-other : (name attrs : List ℕ) (s : State) → bytes_eq name (codes "html") ≡ false → after_start name attrs s ≡ add_element name attrs (record s { opened = fold (after_rule name s.nodes) s.opened rules })
+start-other name attrs s h = rw h refl
+
+pub answers-start : {B : Type 0} (name attrs : List ℕ) (s closed : State) (r : Result B DomErr) (f : B → State) → bytes_eq name (codes "html") ≡ false → closed ≡ record s { opened = fold (after_rule name s.nodes) s.opened rules } → Answers (add_element name attrs closed) r f → Answers (after_start name attrs s) r f
+answers-start name attrs s closed r f h e a = subst (λ x. Answers x r f) (sym (start-other name attrs s h)) (subst (λ x. Answers (add_element name attrs x) r f) e a)

@@ -2,3 +2,4 @@ pub mod BuildLemmas
 pub mod CookLemmas
 pub mod NumberLemmas
 pub mod OpenedLemmas
+pub mod ReadLemmas

@@ -4,7 +4,7 @@ ghost use Rattle.dom.specs.Nodes.{Node, is_element_at};
 ghost use Rattle.html_tok.specs.Tags.{attributes_of};
 ghost use Rattle.html_tok.specs.Listed.{TokenView, view_of};
 ghost use Rattle.html_tree.specs.Texts.{text_of, name_of};
-ghost use Rattle.html_tree.specs.Tree.{put_all, State, add_text, add_element, after_start, after_text, after_kind, without, is_blank, is_escapable, current_name, appended, new_text, is_text_under, last_of, begun, after_rule, tree_of};
+ghost use Rattle.html_tree.specs.Tree.{put_all, State, add_text, add_element, after_start, after_text, after_kind, without, is_blank, is_escapable, current_name, appended, new_text, is_text_under, last_of, opened_after, begun, after_rule, tree_of};
 ghost use Rattle.html_tree.specs.Rules.{rules};
 ghost use Rattle.std.specs.Prelude.{fold};
 ghost use Rattle.html_tree.specs.Built.{Answers, waiting, state_of, IsBuilt};
@@ -144,11 +144,20 @@ impl Builder {
         let Ok(name) = name_of(alloc, name) else {
             return Err(DomErr::NoMemory);
         };
-        if name.as_str() == "html" {
+        self.read_named_start(alloc, name.as_str(), attrs)
+    }
+
+    /// Reads a start tag of this name.
+    fn read_named_start(&mut self, alloc: Global, name: &str, attrs: &str) -> Result<(), DomErr>
+        requires { IsBuilt self.old }
+        ensures built { OnOk result (IsBuilt self.new) }
+        ensures state { Answers (after_start name.now attrs.now (state_of self.old)) result (λ _. state_of self.new) }
+    {
+        if name == "html" {
             return self.add_to_root(alloc, attrs);
         }
-        self.close_for(name.as_str());
-        self.add_element(alloc, name.as_str(), attrs)
+        self.close_for(name);
+        self.add_element(alloc, name, attrs)
     }
 
     fn read_end(&mut self, alloc: Global, name: &str) -> Result<(), DomErr>
@@ -284,11 +293,24 @@ impl Builder {
         if put_attributes(&mut self.dom, alloc, node, attrs).is_err() {
             return Err(DomErr::NoMemory);
         }
-        if !has(&VOID, name) && self.opened.push(node).is_err() {
+        if keep_open(&mut self.opened, name, node).is_err() {
             return Err(DomErr::NoMemory);
         }
         Ok(())
     }
+}
+
+/// Opens an element, unless it is void.
+fn keep_open(opened: &mut Vec<NodeId>, name: &str, node: NodeId) -> Result<(), NoMem>
+    ensures { OnOk result (opened.new.items ≡ opened_after name.now node.0 opened.old.items) }
+{
+    if has(&VOID, name) {
+        return Ok(());
+    }
+    if opened.push(node).is_err() {
+        return Err(NoMem);
+    }
+    Ok(())
 }
 
 fn is_blank(bytes: &[u8]) -> bool
