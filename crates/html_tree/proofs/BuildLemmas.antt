@@ -1,7 +1,5 @@
 -- A builder's nodes grow at their end, and what was there stays.
-use Rattle.std.proofs.Common.{◌≡◌, ◌⊎◌, inl, inr, ℕ, suc, zero, ◌+◌, ◌-◌, ◌<◌, ◌≤◌, Bool, true, false, not, cond, nat_le, ◌&&◌, List, [], ◌∷◌, ◌++◌, Option, None, Some, Result, Ok, Err, OnOk, IfErr, fold, map, is_some, unwrap_or, length, length-append, take, slice_get, slice_set, if◌then◌else◌, refl, sym, ◌∙◌, ap, subst, arith, append_assoc, append-nil, eqb, ◌==◌, codes}
-use Rattle.std.proofs.lemmas.Bool.{cases_Bool, cases_lt, both_ways}
-use Rattle.std.proofs.lemmas.Bool.Decides.{nat_tests}
+use Rattle.std.proofs.Common.{◌≡◌, ℕ, suc, zero, ◌+◌, ◌-◌, ◌<◌, Bool, true, false, List, [], ◌∷◌, ◌++◌, Option, None, Some, Result, Ok, Err, OnOk, IfErr, fold, is_some, unwrap_or, length, length-append, take, slice_get, slice_set, if◌then◌else◌, refl, sym, ◌∙◌, ap, subst, arith, append-nil, ◌==◌, codes}
 use Rattle.std.proofs.lemmas.Option.{slice_get_within}
 use Rattle.std.specs.Str.{bytes_eq}
 use Rattle.bk_num.specs.declared.ids.NodeId.{NodeId}
@@ -12,7 +10,7 @@ use Rattle.dom.specs.declared.dom.DomErr.{DomErr}
 use Rattle.dom.specs.declared.dom.DomErr.TheVariants.{Nodes, Depth, NoMemory}
 use Rattle.html_tree.specs.Rules.{Rule, rules, has_name, names_tag, void_names}
 use Rattle.html_tree.specs.Texts.{name_of, text_of}
-use Rattle.html_tree.specs.Tree.{State, name_in, kept, closed_by, after_rule, without, current, number_of, is_text_under, last_of, longer, appended, new_text, add_text, put, put_all, opened_after, add_element, after_start}
+use Rattle.html_tree.specs.Tree.{State, name_in, kept, closed_by, after_rule, current, number_of, is_text_under, last_of, longer, appended, new_text, add_text, put, put_all, opened_after, add_element, after_start}
 use Rattle.html_tree.specs.Built.{waiting, AreElements, Answers}
 use Rattle.html_tree.proofs.OpenedLemmas.{elements-take}
 

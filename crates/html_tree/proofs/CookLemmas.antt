@@ -1,17 +1,16 @@
 -- The mended text, and the text with its references read, piece by piece.
-use Rattle.std.proofs.Common.{◌≡◌, ◌⊎◌, inl, inr, ℕ, zero, suc, ◌+◌, ◌-◌, ◌<◌, ◌≤◌, Bool, true, false, not, cond, List, [], ◌∷◌, ◌++◌, length, take, drop, map, get_or, eqb, nat_eq, ◌==◌, ◌&&◌, ◌||◌, refl, ap, sym, ◌∙◌, arith, rules, subst, append_assoc, append-nil, drop-drop, length-drop, encode_utf8}
-use Rattle.std.specs.List.{starts_with, position_or_len}
-use Rattle.std.specs.Char.{is_digit, digit_value}
+use Rattle.std.proofs.Common.{◌≡◌, ◌⊎◌, inl, inr, ℕ, zero, suc, ◌+◌, ◌-◌, ◌<◌, ◌≤◌, true, false, not, List, [], ◌∷◌, ◌++◌, length, take, drop, get_or, eqb, nat_eq, ◌==◌, ◌&&◌, ◌||◌, refl, ap, sym, ◌∙◌, arith, subst, append_assoc, append-nil, length-drop, encode_utf8}
+use Rattle.std.specs.List.{starts_with}
+use Rattle.std.specs.Char.{is_digit}
 use Rattle.std.specs.Str.{IsCharBoundary, IsUtf8}
 use Rattle.std.proofs.lemmas.Str.{IsCharBoundary-after_ascii}
 use Rattle.std.proofs.lemmas.List.{get_or-drop}
 use Rattle.std.proofs.Math.Seq.{take-length}
-use Rattle.std.proofs.Math.ListN.{drop_of_length-le}
-use Rattle.std.proofs.lemmas.Bool.{cases_Bool, cases_eq, cases_lt, both_ways, false_from_ne_true, eqb-true, and_parts}
+use Rattle.std.proofs.lemmas.Bool.{cases_Bool, cases_eq, both_ways, false_from_ne_true, eqb-true, and_parts}
 use Rattle.std.proofs.lemmas.Bool.Decides.{nat_tests}
 use Rattle.memchr.specs.Find.{Nowhere, Passes, is_byte, is_byte2}
 use Rattle.html_tok.proofs.Places.{place-le, place-fails}
-use Rattle.html_tree.specs.Texts.{mended, mended_byte, Reference, plain, digits_len, closing_len, counted, numeric, named, rows, reference_at, referred_after}
+use Rattle.html_tree.specs.Texts.{mended, mended_byte, digits_len, closing_len, numeric, named, rows, reference_at, referred_after}
 
 -- ---- mending
 

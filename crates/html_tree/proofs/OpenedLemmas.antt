@@ -1,5 +1,5 @@
 -- What a row closes among the open elements.
-use Rattle.std.proofs.Common.{◌≡◌, ℕ, suc, zero, ◌+◌, ◌-◌, ◌<◌, ◌≤◌, Bool, true, false, List, [], ◌∷◌, ◌++◌, Option, None, Some, unwrap_or, length, take, slice_get, get_or, cond, if◌then◌else◌, refl, sym, ◌∙◌, ap, subst, arith, ◌||◌}
+use Rattle.std.proofs.Common.{◌≡◌, ℕ, suc, zero, ◌-◌, ◌<◌, ◌≤◌, Bool, true, List, [], ◌∷◌, None, Some, unwrap_or, length, take, slice_get, get_or, if◌then◌else◌, refl, sym, ap, arith, ◌||◌}
 use Rattle.std.proofs.lemmas.Option.{slice_get_read}
 use Rattle.std.specs.Borrow.{Bor}
 use Rattle.std.specs.List.{list_any}
@@ -8,7 +8,7 @@ use Rattle.std.proofs.Math.Seq.{take-length}
 use Rattle.bk_num.specs.declared.ids.NodeId.{NodeId}
 use Rattle.dom.specs.Nodes.{Node, name_at, is_element_at}
 use Rattle.html_tree.specs.Rules.{has_name, texts}
-use Rattle.html_tree.specs.Tree.{kept, closed_by, name_in}
+use Rattle.html_tree.specs.Tree.{kept, closed_by}
 use Rattle.html_tree.specs.Built.{AreElements}
 
 pub any-texts : (names : List (Bor (List ℕ))) (name : List ℕ) → has_name (texts names) name ≡ list_any (λ n. bytes_eq n.now name) names

@@ -1,5 +1,5 @@
 -- What the builder of a tree answers, and what it keeps of the state.
-use Rattle.std.specs.Prelude.{◌≡◌, ℕ, ◌<◌, ◌+◌, ◌-◌, true, List, [], ◌∷◌, ◌++◌, Option, Some, Result, Ok, Err, length, slice_get}
+use Rattle.std.specs.Prelude.{◌≡◌, ℕ, ◌<◌, ◌-◌, true, List, [], ◌∷◌, ◌++◌, Some, Result, Ok, Err, length, slice_get}
 use Rattle.std.specs.String.{string_bytes}
 use Rattle.bk_num.specs.declared.ids.NodeId.{NodeId}
 use Rattle.dom.specs.Nodes.{Node, child_of, is_element_at}

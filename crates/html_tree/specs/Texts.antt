@@ -1,5 +1,5 @@
 -- The text that the bytes of a token stand for: line ends, U+0000 and character references (HTML, 13.2.3.5 and 13.5).
-use Rattle.std.specs.Prelude.{ℕ, zero, suc, ◌+◌, ◌-◌, ◌*◌, Bool, true, false, not, List, [], ◌∷◌, ◌++◌, Option, None, Some, length, take, drop, map, fold, nat_eq, nat_lt, nat_le, ◌==◌, ◌&&◌, ◌||◌, if◌then◌else◌, slice_index, encode_utf8}
+use Rattle.std.specs.Prelude.{ℕ, zero, suc, ◌+◌, ◌-◌, ◌*◌, Bool, not, List, [], ◌∷◌, ◌++◌, length, take, drop, map, fold, nat_eq, nat_lt, nat_le, ◌==◌, ◌&&◌, ◌||◌, if◌then◌else◌, slice_index, encode_utf8}
 use Rattle.std.specs.List.{starts_with, position_or_len}
 use Rattle.std.specs.Char.{is_digit, digit_value, to_ascii_lowercase}
 use Rattle.html_tree.specs.declared.references.TheConstants.{REFERENCES}

@@ -1,5 +1,5 @@
 -- The tree of a text (HTML, 13.2.6 "Tree construction", in part): what each token closes and adds.
-use Rattle.std.specs.Prelude.{◌≡◌, ℕ, suc, zero, ◌+◌, ◌-◌, Bool, true, false, not, List, [], ◌∷◌, ◌++◌, Option, None, Some, Result, Ok, Err, if◌then◌else◌, fold, ◌&&◌, ◌||◌, ◌==◌, nat_le, is_some, length, map, take, slice_get, unwrap_or, codes}
+use Rattle.std.specs.Prelude.{ℕ, suc, zero, ◌-◌, Bool, true, false, not, List, [], ◌∷◌, ◌++◌, Option, None, Some, Result, Ok, Err, if◌then◌else◌, fold, ◌&&◌, ◌||◌, nat_le, is_some, length, take, slice_get, unwrap_or, codes}
 use Rattle.std.specs.List.{list_all}
 use Rattle.std.specs.Str.{bytes_eq}
 use Rattle.std.specs.Char.{is_ascii_whitespace}

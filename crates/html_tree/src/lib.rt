@@ -5,6 +5,8 @@ mod cook;
 mod opened;
 mod references;
 mod rules;
+#[cfg(test)]
+mod tests;
 mod tree;
 
 pub use dom::{Dom, DomErr};

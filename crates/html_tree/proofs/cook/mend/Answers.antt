@@ -1,4 +1,4 @@
-use Rattle.std.proofs.Common.{◌≡◌, ℕ, ◌+◌, ◌-◌, ◌<◌, length, length-drop, add-zero, arith, sym, ◌∙◌, ap, take, drop, get_or, true, List, ◌++◌}
+use Rattle.std.proofs.Common.{◌≡◌, ◌-◌, ◌<◌, length, length-drop, add-zero, arith, ◌∙◌, ap, take, drop, get_or, ◌++◌}
 use Rattle.std.specs.String.{string_bytes}
 use Rattle.html_tree.specs.Texts.{mended, mended_byte}
 use Rattle.html_tree.proofs.CookLemmas.{mend-on, mend-end, special-small}

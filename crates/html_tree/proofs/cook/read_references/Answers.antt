@@ -1,4 +1,4 @@
-use Rattle.std.proofs.Common.{◌≡◌, ℕ, ◌+◌, ◌-◌, ◌<◌, ◌≤◌, length, length-drop, arith, sym, ◌∙◌, ap, take, drop, get_or, true, List, ◌++◌, encode_utf8, add-zero}
+use Rattle.std.proofs.Common.{◌≡◌, ◌-◌, length, length-drop, arith, ◌∙◌, ap, take, drop, get_or, ◌++◌, encode_utf8, add-zero}
 use Rattle.std.specs.String.{string_bytes}
 use Rattle.std.proofs.lemmas.Bool.{eqb-true}
 use Rattle.std.proofs.lemmas.List.{get_or-drop}

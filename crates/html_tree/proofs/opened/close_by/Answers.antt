@@ -1,7 +1,6 @@
-use Rattle.std.proofs.Common.{◌≡◌, ◌≤◌, length, ℕ, ◌-◌, ◌<◌, Bool, true, false, Option, None, Some, unwrap_or, sym, ◌∙◌, ap, subst, arith, List, [], take, if◌then◌else◌}
+use Rattle.std.proofs.Common.{◌≡◌, ◌-◌, true, false, unwrap_or, sym, ◌∙◌, ap, arith, []}
 use Rattle.dom.specs.Nodes.{name_at}
 use Rattle.html_tree.specs.Rules.{has_name, texts}
-use Rattle.html_tree.specs.Tree.{closed_by, kept}
 use Rattle.html_tree.proofs.OpenedLemmas.{kept-at, closed-take, closed-none, elements-take}
 use Rattle.html_tree.proofs.opened.close_by.Goals as goal
 

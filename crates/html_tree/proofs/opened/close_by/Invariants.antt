@@ -1,4 +1,4 @@
-use Rattle.std.proofs.Common.{◌≡◌, ℕ, ◌≤◌, length}
+use Rattle.std.proofs.Common.{◌≡◌, ◌≤◌, length}
 use Rattle.html_tree.specs.Tree.{kept}
 use Rattle.html_tree.specs.Rules.{has_name, texts}
 use Rattle.html_tree.proofs.opened.close_by.Given as goal

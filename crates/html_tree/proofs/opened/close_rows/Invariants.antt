@@ -1,4 +1,4 @@
-use Rattle.std.proofs.Common.{◌≡◌, ℕ, map, fold, take}
+use Rattle.std.proofs.Common.{◌≡◌, map, fold, take}
 use Rattle.html_tree.specs.Rules.{rule_of}
 use Rattle.html_tree.specs.Tree.{after_rule}
 use Rattle.html_tree.specs.Built.{AreElements}

@@ -1,4 +1,4 @@
-use Rattle.std.proofs.Common.{◌≡◌, ◌∙◌, ap, unwrap_or, length, not}
+use Rattle.std.proofs.Common.{◌∙◌, ap, unwrap_or, length, not}
 use Rattle.std.specs.Char.{is_digit}
 use Rattle.html_tok.proofs.Places.{place-or, place-le}
 use Rattle.html_tree.proofs.references.count_of_digits.Goals as goal

@@ -1,4 +1,4 @@
-use Rattle.std.proofs.Common.{◌≡◌, sym, ◌∙◌}
+use Rattle.std.proofs.Common.{sym, ◌∙◌}
 use Rattle.html_tree.proofs.OpenedLemmas.{any-texts}
 use Rattle.html_tree.proofs.rules.has.Goals as goal
 

@@ -1,4 +1,4 @@
-use Rattle.std.proofs.Common.{◌≡◌, ℕ, length, true}
+use Rattle.std.proofs.Common.{◌≡◌, length, true}
 use Rattle.dom.specs.Nodes.{is_element_at}
 use Rattle.html_tok.specs.Tags.{attributes_of}
 use Rattle.html_tree.specs.Tree.{put_all}

@@ -1,5 +1,4 @@
 use Rattle.html_tok.specs.Listed.{view_of}
-use Rattle.html_tree.specs.Tree.{State}
 use Rattle.html_tree.specs.Built.{state_of}
 use Rattle.html_tree.proofs.ReadLemmas.{read-ends, read-on, read-all}
 use Rattle.html_tree.proofs.tree.read_html.Goals as goal

@@ -1,4 +1,4 @@
-use Rattle.std.proofs.Common.{◌≡◌, ℕ, length}
+use Rattle.std.proofs.Common.{◌≡◌, length}
 use Rattle.html_tok.specs.Listed.{tokens_of}
 use Rattle.html_tree.specs.Tree.{after_tokens, begun}
 use Rattle.html_tree.specs.Built.{state_of, IsBuilt}

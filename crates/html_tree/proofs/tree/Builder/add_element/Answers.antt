@@ -1,13 +1,12 @@
-use Rattle.std.proofs.Common.{◌≡◌, ◌∙◌, ap, sym, List, ◌++◌, [], ◌∷◌, ◌<◌, ◌≤◌, ◌-◌, ◌+◌, length, length-append, ℕ, true, arith, subst, refl}
+use Rattle.std.proofs.Common.{◌≡◌, ◌∙◌, ap, ◌++◌, [], ◌∷◌, ◌-◌, length, true, arith, refl}
 use Rattle.std.specs.String.{string_bytes}
-use Rattle.bk_num.specs.declared.ids.NodeId.{NodeId}
-use Rattle.dom.specs.Nodes.{Node, is_element_at, child_of}
-use Rattle.dom.specs.declared.rows.NodeData.TheVariants.{Element, Text}
+use Rattle.dom.specs.Nodes.{is_element_at, child_of}
+use Rattle.dom.specs.declared.rows.NodeData.TheVariants.{Element}
 use Rattle.html_tok.specs.Tags.{attributes_of}
 use Rattle.html_tree.specs.Tree.{current, put_all, opened_after}
-use Rattle.html_tree.specs.Built.{waiting, IsBuilt, AreElements}
+use Rattle.html_tree.specs.Built.{waiting}
 use Rattle.std.proofs.lemmas.Grind.{common_steps}
-use Rattle.html_tree.proofs.BuildLemmas.{put_all-element, put_all-length, grow-element, elements-grow, current-element, element-within, end-element, opened-elements, IsGrown, grown-with}
+use Rattle.html_tree.proofs.BuildLemmas.{grow-element, current-element, element-within, end-element, opened-elements, IsGrown, grown-with}
 use Rattle.html_tree.proofs.tree.Builder.add_element.Goals as goal
 
 pub add_element-requires-clause-parent : goal.add_element-requires-clause-parent

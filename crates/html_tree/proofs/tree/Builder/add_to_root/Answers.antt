@@ -1,9 +1,9 @@
-use Rattle.std.proofs.Common.{arith, ◌≡◌, ◌∙◌, ap, sym, List, ◌++◌, [], ◌∷◌, ◌-◌, length, ℕ, true, Ok}
+use Rattle.std.proofs.Common.{arith, ◌≡◌, ◌∙◌, ap, sym, List, ◌++◌, ◌-◌, length, ℕ, Ok}
 use Rattle.std.specs.String.{string_bytes}
 use Rattle.dom.specs.Nodes.{Node, is_element_at}
 use Rattle.html_tok.specs.Tags.{attributes_of}
-use Rattle.html_tree.specs.Tree.{State, put_all}
-use Rattle.html_tree.specs.Built.{waiting, IsBuilt}
+use Rattle.html_tree.specs.Tree.{put_all}
+use Rattle.html_tree.specs.Built.{waiting}
 use Rattle.std.proofs.lemmas.Grind.{common_steps}
 use Rattle.html_tree.proofs.BuildLemmas.{put_all-grow, waiting-put, put_all-element, put_all-length}
 use Rattle.html_tree.proofs.tree.Builder.add_to_root.Goals as goal

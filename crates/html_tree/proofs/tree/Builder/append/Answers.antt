@@ -1,7 +1,6 @@
 use Rattle.std.proofs.Common.{arith, ◌≡◌, ◌∙◌, ap, List, ℕ, ◌++◌}
 use Rattle.std.specs.String.{string_bytes}
 use Rattle.dom.specs.Nodes.{Node}
-use Rattle.html_tree.specs.Tree.{State}
 use Rattle.html_tree.specs.Built.{waiting}
 use Rattle.html_tree.proofs.BuildLemmas.{waiting-more}
 use Rattle.std.proofs.lemmas.Grind.{common_steps}

@@ -1,7 +1,6 @@
-use Rattle.std.proofs.Common.{◌≡◌, ◌∙◌, ap, sym, List, ◌++◌, [], ◌<◌, ◌≤◌, length, length-append, ℕ, true, arith}
+use Rattle.std.proofs.Common.{◌≡◌, ◌∙◌, ap, ◌++◌, [], ◌<◌, length, length-append, arith}
 use Rattle.std.specs.String.{string_bytes}
-use Rattle.dom.specs.Nodes.{Node, is_element_at}
-use Rattle.html_tree.specs.Built.{waiting, IsBuilt}
+use Rattle.html_tree.specs.Built.{waiting}
 use Rattle.std.proofs.lemmas.Grind.{common_steps}
 use Rattle.html_tree.proofs.BuildLemmas.{grow-element, elements-grow}
 use Rattle.html_tree.proofs.tree.Builder.begin_text.Goals as goal

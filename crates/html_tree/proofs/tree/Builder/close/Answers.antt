@@ -1,8 +1,7 @@
-use Rattle.std.proofs.Common.{◌≡◌, ◌∙◌, ap, sym, List, ◌++◌, [], ◌∷◌}
+use Rattle.std.proofs.Common.{◌∙◌, ap, sym, List, ◌++◌, [], ◌∷◌}
 use Rattle.std.specs.String.{string_bytes}
 use Rattle.bk_num.specs.declared.ids.NodeId.{NodeId}
 use Rattle.html_tree.specs.Rules.{has_name}
-use Rattle.html_tree.specs.Tree.{State}
 use Rattle.html_tree.specs.Built.{waiting}
 use Rattle.html_tree.proofs.BuildLemmas.{closed-grow}
 use Rattle.html_tree.proofs.tree.Builder.close.Goals as goal

@@ -1,4 +1,4 @@
-use Rattle.std.proofs.Common.{◌≡◌, ℕ, ◌<◌, length, arith, sym, ◌∙◌}
+use Rattle.std.proofs.Common.{◌≡◌, ◌<◌, length, arith, sym}
 use Rattle.std.specs.String.{string_bytes}
 use Rattle.std.proofs.lemmas.Bool.Decides.{nat_tests}
 use Rattle.html_tree.proofs.BuildLemmas.{waiting-under, none-under}

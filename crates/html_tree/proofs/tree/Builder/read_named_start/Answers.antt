@@ -1,6 +1,5 @@
 use Rattle.std.proofs.Common.{◌≡◌, sym, ◌∙◌, false, codes}
 use Rattle.std.specs.Str.{bytes_eq}
-use Rattle.html_tree.specs.Tree.{State}
 use Rattle.html_tree.specs.Built.{state_of}
 use Rattle.html_tree.proofs.BuildLemmas.{answers-start}
 use Rattle.html_tree.proofs.tree.Builder.read_named_start.Goals as goal

@@ -1,4 +1,4 @@
-use Rattle.std.proofs.Common.{◌≡◌, sym, ◌∙◌}
+use Rattle.std.proofs.Common.{◌≡◌, ◌∙◌}
 use Rattle.html_tree.specs.Texts.{name_of}
 use Rattle.html_tree.proofs.tree.Builder.read_start.Goals as goal
 
