@@ -7,6 +7,7 @@ ghost use Rattle.html_tree.specs.Texts.{text_of, name_of};
 ghost use Rattle.html_tree.specs.Tree.{put_all, State, add_text, add_element, after_start, after_text, after_kind, without, is_blank, is_escapable, current_name, appended, new_text, is_text_under, last_of, opened_after, begun, after_rule, tree_of};
 ghost use Rattle.html_tree.specs.Rules.{rules};
 ghost use Rattle.std.specs.Prelude.{fold};
+ghost use Rattle.html_tree.specs.Order.{AreInOrder};
 ghost use Rattle.html_tree.specs.Built.{Answers, waiting, state_of, IsBuilt};
 
 use crate::cook::{name_of, text_of};
@@ -328,7 +329,8 @@ fn is_escapable(name: &str) -> bool
 /// The tree of an HTML text. Want of memory aside it answers Nodes or Depth exactly where the first token that adds too many nodes, or too deep an element, does.
 #[tactic(auto, unfolding(crate::specs::Tree::tree_of))]
 pub fn read_html(alloc: Global, text: &str) -> Result<Dom, DomErr>
-    ensures { Answers (tree_of text.now) result (λ dom. dom) }
+    ensures tree { Answers (tree_of text.now) result (λ dom. dom) }
+    ensures order { IfOk result (λ dom. AreInOrder dom) }
 {
     let mut builder = match Builder::new(alloc) {
         Ok(builder) => builder,
