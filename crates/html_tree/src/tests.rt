@@ -48,8 +48,21 @@ fn printed(alloc: Global, dom: &Dom) -> Result<String, AllocError> {
     Ok(out)
 }
 
-/// Texts and their trees without the word `1html`.
-const ROWS: [(&str, &str); 112] = [
+/// The first text whose tree isn't the one beside it, which leaves out the word `1html`.
+fn first_wrong<'a>(alloc: Global, rows: &[(&'a str, &str)]) -> Result<Option<&'a str>, DomErr> {
+    for (text, wanted) in rows {
+        let dom = read_html(alloc, text)?;
+        let Ok(got) = printed(alloc, &dom) else {
+            return Err(DomErr::NoMemory);
+        };
+        if got.as_str().strip_prefix("1html") != Some(*wanted) {
+            return Ok(Some(*text));
+        }
+    }
+    Ok(None)
+}
+
+const TOKENS: [(&str, &str); 29] = [
     ("", ""),
     ("a", " 2'a'"),
     ("<p>a<b>c</p>d", " 2p 3'a' 3b 4'c' 2'd'"),
@@ -88,6 +101,15 @@ const ROWS: [(&str, &str); 112] = [
     ("<head><title></title>a", " 2head 3title 2'a'"),
     ("<head><title> a</title> b", " 2head 3title 4' a' 2' b'"),
     ("<head> <!---->x", " 2head 3' ' 2'x'"),
+];
+
+#[test]
+fn texts_tags_that_are_cut_and_head(rt: HostRuntime) -> Result<(), Fail> {
+    assert_eq!(rt; first_wrong(rt.alloc(), &TOKENS)?, None);
+    Ok(())
+}
+
+const LISTS_AND_TABLES: [(&str, &str); 21] = [
     ("<ul><li>a<li>b</ul>", " 2ul 3li 4'a' 3li 4'b'"),
     ("<li><b><li>", " 2li 3b 2li"),
     ("<li>a<ul><li>b", " 2li 3'a' 3ul 4li 5'b'"),
@@ -118,6 +140,15 @@ const ROWS: [(&str, &str); 112] = [
         " 2table 3thead 4tr 3tbody 4tr 3tfoot",
     ),
     ("<tbody><table><tbody>", " 2tbody 3table 4tbody"),
+];
+
+#[test]
+fn lists_and_tables_close_as_in_the_table(rt: HostRuntime) -> Result<(), Fail> {
+    assert_eq!(rt; first_wrong(rt.alloc(), &LISTS_AND_TABLES)?, None);
+    Ok(())
+}
+
+const OPTIONS_AND_PARAGRAPHS: [(&str, &str); 15] = [
     (
         "<select><option>a<option>b",
         " 2select 3option 4'a' 3option 4'b'",
@@ -136,6 +167,15 @@ const ROWS: [(&str, &str); 112] = [
     ("<p><button><p>", " 2p 3button 4p"),
     ("<p><object><p>", " 2p 3object 4p"),
     ("<p>a</p>b</p>c", " 2p 3'a' 2'bc'"),
+];
+
+#[test]
+fn options_and_paragraphs_close_as_in_the_table(rt: HostRuntime) -> Result<(), Fail> {
+    assert_eq!(rt; first_wrong(rt.alloc(), &OPTIONS_AND_PARAGRAPHS)?, None);
+    Ok(())
+}
+
+const NAMES_AND_VALUES: [(&str, &str); 25] = [
     ("<b><i>a</b>c", " 2b 3i 4'a' 2'c'"),
     ("</html>a</HTML >b", " 2'ab'"),
     ("<div><div>a</div>b</div>c", " 2div 3div 4'a' 3'b' 2'c'"),
@@ -167,6 +207,15 @@ const ROWS: [(&str, &str); 112] = [
     ("<textarea>&lt;</textarea>", " 2textarea 3'<'"),
     ("<TITLE>&lt;</title>", " 2title 3'<'"),
     ("<style></style>a", " 2style 2'a'"),
+];
+
+#[test]
+fn names_values_void_elements_and_line_ends(rt: HostRuntime) -> Result<(), Fail> {
+    assert_eq!(rt; first_wrong(rt.alloc(), &NAMES_AND_VALUES)?, None);
+    Ok(())
+}
+
+const REFERENCES: [(&str, &str); 22] = [
     ("&#65", " 2'A'"),
     ("&#65b", " 2'Ab'"),
     ("&#x41;&#X41", " 2'AA'"),
@@ -198,16 +247,8 @@ const ROWS: [(&str, &str); 112] = [
 ];
 
 #[test]
-fn texts_have_the_trees_of_the_table(rt: HostRuntime) -> Result<(), Fail> {
-    for (text, wanted) in ROWS {
-        let dom = read_html(rt.alloc(), text)?;
-        let got = printed(rt.alloc(), &dom)?;
-        assert_eq!(rt;
-            got.as_str().strip_prefix("1html"),
-            Some(wanted),
-            "at {text}"
-        );
-    }
+fn references_are_read_or_stay(rt: HostRuntime) -> Result<(), Fail> {
+    assert_eq!(rt; first_wrong(rt.alloc(), &REFERENCES)?, None);
     Ok(())
 }
 
