@@ -1,0 +1,44 @@
+-- What a row closes among the open elements.
+use Rattle.std.proofs.Common.{◌≡◌, ℕ, suc, zero, ◌-◌, ◌<◌, ◌≤◌, Bool, true, List, [], ◌∷◌, None, Some, unwrap_or, length, take, slice_get, get_or, if◌then◌else◌, refl, sym, ap, arith, ◌||◌}
+use Rattle.std.proofs.lemmas.Option.{slice_get_read}
+use Rattle.std.specs.Borrow.{Bor}
+use Rattle.std.specs.List.{list_any}
+use Rattle.std.specs.Str.{bytes_eq}
+use Rattle.std.proofs.Math.Seq.{take-length}
+use Rattle.bk_num.specs.declared.ids.NodeId.{NodeId}
+use Rattle.dom.specs.Nodes.{Node, name_at, is_element_at}
+use Rattle.html_tree.specs.Rules.{has_name, texts}
+use Rattle.html_tree.specs.Tree.{kept, closed_by}
+use Rattle.html_tree.specs.Built.{AreElements}
+
+pub any-texts : (names : List (Bor (List ℕ))) (name : List ℕ) → has_name (texts names) name ≡ list_any (λ n. bytes_eq n.now name) names
+any-texts [] name = refl
+any-texts (n ∷ names) name = ap (λ b. bytes_eq n.now name || b) (any-texts names name)
+
+module _ (closes unless : List ℕ → Bool) (nodes : List Node) (opened : List NodeId) where
+  -- one element further in
+  pub kept-at : (at : ℕ) (o : NodeId) → 0 < at → at ≤ length opened → o ≡ get_or opened (at - 1) o → kept closes unless nodes opened at ≡ (if closes (unwrap_or (name_at nodes o.0) []) then Some (at - 1) else if unless (unwrap_or (name_at nodes o.0) []) then None else kept closes unless nodes opened (at - 1))
+  kept-at zero o some within e = absurd (omega arith)
+  kept-at (suc n) o some within e =
+      let s : suc n - 1 ≡ n = omega arith in
+      let g : slice_get opened n ≡ Some o = slice_get_read opened (length opened) n o refl (omega arith) (rw s at e) in
+      rw (s, g) refl
+
+  pub closed-take : (n : ℕ) → kept closes unless nodes opened (length opened) ≡ Some n → take n opened ≡ closed_by closes unless nodes opened
+  closed-take n e = rw e refl
+
+  pub closed-none : kept closes unless nodes opened (length opened) ≡ None → opened ≡ closed_by closes unless nodes opened
+  closed-none e = rw e (sym (take-length opened))
+
+pub get-take : {A : Type 0} (xs : List A) (n k : ℕ) (x : A) → slice_get (take n xs) k ≡ Some x → slice_get xs k ≡ Some x
+get-take [] zero k x h = h
+get-take [] (suc n) k x h = h
+get-take (a ∷ xs) zero k x h = cc
+get-take (a ∷ xs) (suc n) zero x h = h
+get-take (a ∷ xs) (suc n) (suc k) x h = get-take xs n k x h
+
+pub elements-take : (nodes : List Node) (opened : List NodeId) (n : ℕ) → AreElements nodes opened → AreElements nodes (take n opened)
+elements-take nodes opened n h k o g = h k o (get-take opened n k o g)
+
+pub element-at : (nodes : List Node) (opened : List NodeId) (at : ℕ) (o : NodeId) → AreElements nodes opened → 0 < at → at ≤ length opened → o ≡ get_or opened (at - 1) o → is_element_at nodes o.0 ≡ true
+element-at nodes opened at o h some within e = h (at - 1) o (slice_get_read opened (length opened) (at - 1) o refl (omega arith) e)

@@ -1,0 +1,14 @@
+use Rattle.std.proofs.Common.{◌≡◌, ◌≤◌, length}
+use Rattle.html_tree.specs.Tree.{kept}
+use Rattle.html_tree.specs.Rules.{has_name, texts}
+use Rattle.html_tree.proofs.opened.close_by.Given as goal
+
+abbrev pub invariant-loop-at : goal.invariant-loop-at
+invariant-loop-at l = record {
+  same : l.opened ≡ l.fn.opened;
+  within : l.at ≤ length l.opened.items;
+  rest : kept (has_name (texts l.closes)) (has_name (texts l.unless)) l.dom l.opened.items l.at ≡ kept (has_name (texts l.closes)) (has_name (texts l.unless)) l.dom l.opened.items (length l.opened.items);
+}
+
+abbrev pub decreases-loop-at : goal.decreases-loop-at
+decreases-loop-at l = l.at

@@ -1,0 +1,35 @@
+-- What the builder of a tree answers, and what it keeps of the state.
+use Rattle.std.specs.Prelude.{◌≡◌, ℕ, ◌<◌, ◌-◌, true, List, [], ◌∷◌, ◌++◌, Some, Result, Ok, Err, length, slice_get}
+use Rattle.std.specs.String.{string_bytes}
+use Rattle.bk_num.specs.declared.ids.NodeId.{NodeId}
+use Rattle.dom.specs.Nodes.{Node, child_of, is_element_at}
+use Rattle.dom.specs.declared.dom.DomErr.{DomErr}
+use Rattle.dom.specs.declared.dom.DomErr.TheVariants.{Nodes, Depth, NoMemory}
+use Rattle.dom.specs.declared.rows.NodeData.TheVariants.{Text}
+use Rattle.html_tree.specs.declared.tree.Builder.{Builder}
+use Rattle.html_tree.specs.Tree.{State}
+
+-- what is expected comes, but for want of memory
+abbrev pub Answers : {A B : Type 0} → Result A DomErr → Result B DomErr → (B → A) → Type 0
+Answers expected (Ok b) made = expected ≡ Ok (made b)
+Answers expected (Err Nodes) made = expected ≡ Err Nodes
+Answers expected (Err Depth) made = expected ≡ Err Depth
+Answers expected (Err NoMemory) made = Unit {0}
+
+-- a text that waits is a node to come
+abbrev pub waiting : List Node → ℕ → List ℕ → List Node
+waiting nodes parent [] = []
+waiting nodes parent (b ∷ bs) = child_of nodes parent (Text (b ∷ bs)) ∷ []
+
+abbrev pub state_of : Builder → State
+state_of b = record { nodes = b.dom ++ waiting b.dom b.parent.0 (string_bytes b.text); opened = b.opened.items }
+
+abbrev pub AreElements : List Node → List NodeId → Type 0
+AreElements nodes opened = (k : ℕ) (o : NodeId) → slice_get opened k ≡ Some o → is_element_at nodes o.0 ≡ true
+
+pub record IsBuilt (b : Builder) : Type 0 where
+  pub root : is_element_at b.dom 0 ≡ true
+  pub opened : AreElements b.dom b.opened.items
+  pub parent : is_element_at b.dom b.parent.0 ≡ true
+  pub few : 0 < length (string_bytes b.text) → length b.dom < 400000
+  pub last : length (string_bytes b.text) ≡ 0 → is_element_at b.dom (length b.dom - 1) ≡ true

@@ -1,0 +1,5 @@
+pub mod Texts
+pub mod Rules
+pub mod Tree
+pub mod Order
+pub mod Built

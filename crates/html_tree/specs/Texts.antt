@@ -1,0 +1,77 @@
+-- The text that the bytes of a token stand for: line ends, U+0000 and character references (HTML, 13.2.3.5 and 13.5).
+use Rattle.std.specs.Prelude.{ℕ, zero, suc, ◌+◌, ◌-◌, ◌*◌, Bool, not, List, [], ◌∷◌, ◌++◌, length, take, drop, map, fold, nat_eq, nat_lt, nat_le, ◌==◌, ◌&&◌, ◌||◌, if◌then◌else◌, slice_index, encode_utf8}
+use Rattle.std.specs.List.{starts_with, position_or_len}
+use Rattle.std.specs.Char.{is_digit, digit_value, to_ascii_lowercase}
+use Rattle.html_tree.specs.declared.references.TheConstants.{REFERENCES}
+
+-- what a byte becomes before the next one: CR before LF goes, other CR are LF, and U+0000 is U+FFFD
+abbrev pub mended_byte : ℕ → ℕ → List ℕ
+mended_byte b next = if b == 13 then (if next == 10 then [] else 10 ∷ []) else if b == 0 then encode_utf8 0xFFFD else b ∷ []
+
+unfoldable pub mended : List ℕ → List ℕ
+mended [] = []
+mended (b ∷ bs) = mended_byte b (slice_index bs 0) ++ mended bs
+
+-- the name of an element or of an attribute
+abbrev pub name_of : List ℕ → List ℕ
+name_of bs = map to_ascii_lowercase (mended bs)
+
+-- ---- references
+
+-- a reference: its character and how many bytes it has
+pub record Reference : Type 0 where
+  pub code : ℕ
+  pub len : ℕ
+
+-- an `&` that begins no reference
+abbrev pub plain : Reference
+plain = record { code = 38; len = 1 }
+
+-- the number that digits write
+abbrev pub number_of : ℕ → List ℕ → ℕ
+number_of base ds = fold (λ v d. v * base + digit_value d) 0 ds
+
+-- whether a number is that of a character: at most 10FFFF, and no surrogate
+abbrev pub is_scalar : ℕ → Bool
+is_scalar n = nat_lt n 0xD800 || nat_le 0xE000 n && nat_lt n 0x11_0000
+
+-- the character of a number: U+FFFD for 0, surrogates and numbers above 10FFFF
+abbrev pub character_of : ℕ → ℕ
+character_of n = if n == 0 || not (is_scalar n) then 0xFFFD else n
+
+abbrev pub digits_len : ℕ → List ℕ → ℕ
+digits_len base bs = position_or_len (λ b. not (is_digit b base)) bs
+
+-- a `;` after a reference belongs to it
+abbrev pub closing_len : List ℕ → ℕ
+closing_len bs = if slice_index bs 0 == 59 then 1 else 0
+
+-- a number in this base after so many bytes
+abbrev pub counted : ℕ → ℕ → ℕ → List ℕ → Reference
+counted base lead n bs = record { code = character_of (number_of base (take n bs)); len = lead + n + closing_len (drop n bs) }
+
+unfoldable pub numeric : ℕ → ℕ → List ℕ → Reference
+numeric base lead bs = if digits_len base bs == 0 then plain else counted base lead (digits_len base bs) bs
+
+-- a name of these rows with its `;`
+abbrev pub named : List (List ℕ × ℕ) → List ℕ → Reference
+named [] bs = plain
+named (r ∷ rows) bs = if starts_with nat_eq bs r.0 && closing_len (drop (length r.0) bs) == 1 then record { code = r.1; len = 1 + length r.0 + 1 } else named rows bs
+
+-- the rows of the table: each a name and its character
+abbrev pub rows : List (List ℕ × ℕ)
+rows = map (λ r. (r.0.now, r.1)) REFERENCES
+
+-- the reference at an `&`: a number in hexadecimal digits, one in decimal digits, or a name
+unfoldable pub reference_at : List ℕ → Reference
+reference_at bs = if slice_index bs 1 == 35 then (if slice_index bs 2 == 120 || slice_index bs 2 == 88 then numeric 16 3 (drop 3 bs) else numeric 10 2 (drop 2 bs)) else named rows (drop 1 bs)
+
+-- the text with its references read, where the first n bytes belong to one that is read
+unfoldable pub referred_after : ℕ → List ℕ → List ℕ
+referred_after n [] = []
+referred_after (suc n) (b ∷ bs) = referred_after n bs
+referred_after zero (b ∷ bs) = if b == 38 then encode_utf8 (reference_at (b ∷ bs)).code ++ referred_after ((reference_at (b ∷ bs)).len - 1) bs else b ∷ referred_after 0 bs
+
+-- line ends are mended first, and then references are read where there are any
+unfoldable pub text_of : Bool → List ℕ → List ℕ
+text_of references bs = if references then referred_after 0 (mended bs) else mended bs

@@ -1,0 +1,13 @@
+//! The tree of an HTML text.
+#![tactic(auto)]
+
+mod cook;
+mod opened;
+mod references;
+mod rules;
+#[cfg(test)]
+mod tests;
+mod tree;
+
+pub use dom::{Dom, DomErr};
+pub use tree::read_html;

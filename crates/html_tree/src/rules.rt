@@ -1,0 +1,95 @@
+//! What a start tag closes, and which elements have no content.
+ghost use Rattle.std.specs.Prelude.{◌≡◌, Bool};
+ghost use Rattle.std.specs.List.{list_any};
+ghost use Rattle.std.specs.Str.{bytes_eq};
+ghost use Rattle.html_tree.specs.Rules.{has_name, texts};
+
+/// A row has true where it counts for all start tags but those that it names; then the start tags, the elements of which the innermost closes, and those that keep it open from inside.
+pub(crate) const RULES: [(bool, &[&str], &[&str], &[&str]); 8] = [
+    (
+        true,
+        &[
+            "title", "base", "link", "meta", "style", "script", "noscript", "template",
+        ],
+        &["head"],
+        &[],
+    ),
+    (
+        false,
+        &["li"],
+        &["li"],
+        &["ul", "ol", "menu", "table", "td", "th"],
+    ),
+    (
+        false,
+        &["dt", "dd"],
+        &["dt", "dd"],
+        &["dl", "table", "td", "th"],
+    ),
+    (false, &["td", "th"], &["td", "th"], &["tr", "table"]),
+    (false, &["tr"], &["tr"], &["table"]),
+    (
+        false,
+        &["tbody", "thead", "tfoot"],
+        &["tbody", "thead", "tfoot"],
+        &["table"],
+    ),
+    (false, &["option"], &["option"], &["select"]),
+    (
+        false,
+        &[
+            "address",
+            "article",
+            "aside",
+            "blockquote",
+            "dd",
+            "details",
+            "div",
+            "dl",
+            "dt",
+            "fieldset",
+            "figcaption",
+            "figure",
+            "footer",
+            "form",
+            "h1",
+            "h2",
+            "h3",
+            "h4",
+            "h5",
+            "h6",
+            "header",
+            "hr",
+            "li",
+            "main",
+            "nav",
+            "ol",
+            "p",
+            "pre",
+            "section",
+            "table",
+            "ul",
+        ],
+        &["p"],
+        &["table", "td", "th", "caption", "button", "object"],
+    ),
+];
+
+/// Void elements (HTML, 13.1.2).
+pub(crate) const VOID: [&str; 13] = [
+    "area", "base", "br", "col", "embed", "hr", "img", "input", "link", "meta", "source", "track",
+    "wbr",
+];
+
+/// Whether a list of names has one.
+pub(crate) fn has(names: &[&str], name: &str) -> bool
+    ensures { result ≡ has_name (texts names.now) name.now }
+{
+    is_among(names, name)
+}
+
+fn is_among(names: &[&str], name: &str) -> bool
+    ensures { result ≡ list_any (λ n. bytes_eq n.now name.now) names.now }
+{
+    names.iter().any(|other| *other == name)
+}
