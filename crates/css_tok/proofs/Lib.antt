@@ -1,0 +1,4 @@
+pub mod Runs
+pub mod TokenLemmas
+pub mod Boundaries
+pub mod PlainLemmas
