@@ -2,3 +2,4 @@ pub mod Runs
 pub mod TokenLemmas
 pub mod Boundaries
 pub mod PlainLemmas
+pub mod WordLemmas

@@ -1,7 +1,8 @@
 -- A text with its escapes undone (CSS 2.1, 4.1.3).
-use Rattle.std.specs.Prelude.{ℕ, zero, suc, ◌||◌, nat_lt, if◌then◌else◌, ◌==◌, List, [], ◌∷◌, ◌++◌, take, Option, Some, None}
+use Rattle.std.specs.Prelude.{◌≡◌, ℕ, zero, suc, Bool, false, MatchOption, ◌||◌, nat_lt, if◌then◌else◌, ◌==◌, List, [], ◌∷◌, ◌++◌, take, Option, Some, None}
 use Rattle.std.specs.Char.{is_ascii_hexdigit, encode_utf8}
 use Rattle.std.specs.Int.{is_in_range}
+use Rattle.std.specs.Str.{str_eq_ignore_ascii_case}
 use Rattle.std.specs.Str.Parse.{digits_value}
 use Rattle.css_tok.specs.Lengths.{is_newline, hex_len, quoted_len}
 
@@ -29,3 +30,11 @@ plain_of bs = plain_from 0 bs
 abbrev pub bytes_of : Option ℕ → List ℕ
 bytes_of None = []
 bytes_of (Some c) = encode_utf8 c
+
+-- A text with its escapes undone is this word, ASCII case aside. A name of CSS is compared so (CSS 2.1, 4.1.3).
+abbrev pub is_word : List ℕ → List ℕ → Bool
+is_word bs word = str_eq_ignore_ascii_case (plain_of bs) word
+
+-- what is left of a word behind a part of a text, or none where the part isn't its beginning, ASCII case aside
+abbrev pub Strips : Option (List ℕ) → List ℕ → List ℕ → Type 0
+Strips left part word = MatchOption left ((rest : List ℕ) → str_eq_ignore_ascii_case (part ++ rest) word ≡ false) (λ more. (rest : List ℕ) → str_eq_ignore_ascii_case (part ++ rest) word ≡ str_eq_ignore_ascii_case rest more)

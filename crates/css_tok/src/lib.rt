@@ -8,3 +8,4 @@ pub mod plain;
 mod tests;
 pub mod tokens;
 pub mod value;
+pub mod words;

@@ -12,7 +12,7 @@ use bk_num::name::{Name, NoMem};
 use std::alloc::Global;
 
 /// The text up to the first `\`, and what follows that, if there is one.
-fn until_escape(text: &str) -> (&str, Option<&str>)
+pub(crate) fn until_escape(text: &str) -> (&str, Option<&str>)
     ensures parts { MatchOption result.1 (spec.plain_of text.now ≡ result.0.now) (λ after. spec.plain_of text.now ≡ result.0.now ++ (spec.escaped after.now ++ spec.plain_from (lengths.quoted_len after.now) after.now)) }
     ensures shorter { MatchOption result.1 (0 ≤ length text.now) (λ after. length after.now < length text.now) }
 {
@@ -50,7 +50,7 @@ fn hex_escape(text: &str) -> (usize, usize)
 }
 
 /// What a `\` and the text behind it stand for, and the place in that text where the plain text goes on.
-fn escape(after: &str) -> (Option<char>, usize)
+pub(crate) fn escape(after: &str) -> (Option<char>, usize)
     ensures value { spec.escaped after.now ++ spec.plain_from (lengths.quoted_len after.now) after.now ≡ spec.bytes_of result.0 ++ spec.plain_of (drop result.1 after.now) }
     ensures cut { IsCharBoundary after.now result.1 }
 {

@@ -3,6 +3,7 @@
 use crate::front::CssKind;
 use crate::plain::plain;
 use crate::tokens::CssTokens;
+use crate::words::is_word;
 use std::alloc::Global;
 use std::test::Fail;
 
@@ -19,7 +20,7 @@ fn shown(alloc: Global, text: &str) -> Result<String, Fail> {
     Ok(all)
 }
 
-const TOKENS: [(&str, &str); 112] = [
+static TOKENS: [(&str, &str); 112] = [
     ("", ""),
     (" \t\n\u{c}\r", "Space< \t\n\u{c}\r>"),
     ("a b", "Ident<a>Space< >Ident<b>"),
@@ -145,9 +146,9 @@ const TOKENS: [(&str, &str); 112] = [
 
 #[test]
 fn tokens_are_the_longest_readings(rt: HostRuntime) -> Result<(), Fail> {
-    for (text, want) in TOKENS {
+    for (text, want) in &TOKENS {
         let got = shown(rt.alloc(), text)?;
-        assert_eq!(rt; got.as_str(), want, "of {text}");
+        assert_eq!(rt; got.as_str(), *want, "of {text}");
     }
     Ok(())
 }
@@ -213,4 +214,21 @@ fn places_count_bytes(rt: HostRuntime) {
         assert_eq!(rt; tokens.next().map(|token| token.at), Some(at));
     }
     assert!(rt; tokens.next().is_none());
+}
+
+#[test]
+fn words_are_compared_after_escapes_and_without_case(rt: HostRuntime) {
+    for (name, word, want) in [
+        ("important", "important", true),
+        ("IMPORTANT", "important", true),
+        ("\\69mportant", "important", true),
+        ("i\\mp\\6frtant", "important", true),
+        ("importan", "important", false),
+        ("importants", "important", false),
+        ("importan\\74\\74", "important", false),
+        ("", "", true),
+        ("\\", "", false),
+    ] {
+        assert_eq!(rt; is_word(name, word), want, "of {name}");
+    }
 }
