@@ -1,0 +1,109 @@
+-- The way from the root to a node, and the first of some nodes in tree order.
+use Rattle.std.proofs.Common.{◌≡◌, inl, inr, ℕ, zero, suc, ◌+◌, ◌-◌, ◌<◌, ◌≤◌, true, false, List, [], ◌∷◌, ◌++◌, Option, None, Some, length, take, drop, slice_get, slice_set, option_map, refl, sym, ◌∙◌, ap, subst, arith, append_assoc}
+use Rattle.std.proofs.lemmas.Bool.{cases_lt, both_ways}
+use Rattle.std.proofs.lemmas.Cmp.{nat_list_cmp_total}
+use Rattle.std.specs.Cmp.{upto}
+use Rattle.std.specs.Cmp.Lexicographic.{slice_cmp}
+use Rattle.std.specs.Ordering.{nat_cmp, is_gt, ordering_reverse}
+use Rattle.std.specs.declared.cmp.Ordering.{Ordering}
+use Rattle.std.specs.declared.cmp.Ordering.TheVariants.{Less, Equal, Greater}
+use Rattle.std.proofs.lemmas.Option.{slice_get-map}
+use Rattle.dom.specs.Nodes.{Node, parents_of, parent_at, flat, depth_at, depth_of, IsTree, HasPlace}
+use Rattle.dom.specs.Order.{way, way_to, comes_after, has_id, IsFirstOf, IsFirstBelow}
+
+-- ---- the way to a node
+
+-- the node that is looked at is d deep, or there is none left
+abbrev pub IsStep : List Node → ℕ → Option ℕ → Type 0
+IsStep nodes d None = d ≡ 0
+IsStep nodes d (Some n) = (n < length nodes) × (depth_at nodes n ≡ d)
+
+slice_get_at : {A : Type 0} (xs : List A) (k : ℕ) → k < length xs → (x : A) × (slice_get xs k ≡ Some x)
+slice_get_at [] k h = absurd (omega arith)
+slice_get_at (a ∷ xs) zero h = (a, refl)
+slice_get_at (a ∷ xs) (suc k) h = slice_get_at xs k (omega arith)
+
+get-past : {A : Type 0} (xs : List A) (k : ℕ) → length xs ≤ k → slice_get xs k ≡ None
+get-past [] k h = refl
+get-past (a ∷ xs) zero h = absurd (omega arith)
+get-past (a ∷ xs) (suc k) h = get-past xs k (omega arith)
+
+parent-of : (nodes : List Node) (k : ℕ) (n : Node) → slice_get nodes k ≡ Some n → parent_at (parents_of nodes) k ≡ n.parent
+parent-of nodes k n h = ap flat (slice_get-map (λ (n : Node). n.parent) nodes k ∙ ap (option_map (λ (n : Node). n.parent)) h)
+
+pub record IsStepUp (nodes : List Node) (d n : ℕ) : Type 0 where
+  pub some : 0 < d
+  pub parent : IsStep nodes (d - 1) (parent_at (parents_of nodes) n)
+
+pub step-up : (nodes : List Node) (d n : ℕ) → IsTree nodes → IsStep nodes d (Some n) → IsStepUp nodes d n
+step-up nodes d n t s = by (slice_get_at nodes n s.0)
+  where
+    of : (x : Node) (o : Option ℕ) → x.depth ≡ d → HasPlace nodes n x o → (0 < d) × IsStep nodes (d - 1) o
+    of x None e h = (let g = h.1 in omega arith, let g = h.1 in omega arith)
+    of x (Some p) e h = (let g = h.2 in omega arith, (let f = h.0 in let w = s.0 in omega arith, let g = h.2 in omega arith))
+
+    by : ((x : Node) × (slice_get nodes n ≡ Some x)) → IsStepUp nodes d n
+    by (x, g) =
+        let depth : x.depth ≡ d = sym (ap depth_of g) ∙ s.1 in
+        let w = of x x.parent depth (t.placed n x g) in
+        record { some = w.0; parent = subst (λ o. IsStep nodes (d - 1) o) (sym (parent-of nodes n x g)) w.1 }
+
+drop-set : (e depth n : ℕ) (w : List ℕ) → e < depth → depth ≤ length w → drop e (take depth (slice_set w e n)) ≡ n ∷ drop (suc e) (take depth w)
+drop-set e depth n [] h l = absurd (omega arith)
+drop-set e zero n (a ∷ w) h l = absurd (omega arith)
+drop-set zero (suc depth) n (a ∷ w) h l = refl
+drop-set (suc e) (suc depth) n (a ∷ w) h l = drop-set e depth n w (omega arith) (omega arith)
+
+pub way-step : (ps : List (Option ℕ)) (d depth n : ℕ) (w : List ℕ) → 0 < d → d ≤ depth → depth ≤ length w → way ps d (Some n) ++ drop d (take depth w) ≡ way ps (d - 1) (parent_at ps n) ++ drop (d - 1) (take depth (slice_set w (d - 1) n))
+way-step ps zero depth n w some h l = absurd (omega arith)
+way-step ps (suc e) depth n w some h l =
+    let s : suc e - 1 ≡ e = omega arith in
+    rw s (append_assoc (way ps e (parent_at ps n)) (n ∷ []) (drop (suc e) (take depth w)) ∙ ap (λ r. way ps e (parent_at ps n) ++ r) (sym (drop-set e depth n w (omega arith) l)))
+
+-- ---- the first of some nodes
+
+reverse-self : (r : Ordering) → r ≡ ordering_reverse r → is_gt r ≡ false
+reverse-self Less h = refl
+reverse-self Equal h = refl
+reverse-self Greater h = cc
+
+reverse-gt : (r s : Ordering) → s ≡ ordering_reverse r → is_gt r ≡ true → is_gt s ≡ false
+reverse-gt Less s h g = cc
+reverse-gt Equal s h g = cc
+reverse-gt Greater s h g = ap is_gt h
+
+module _ (nodes : List Node) where
+  after-self : (n : ℕ) → comes_after nodes n n ≡ false
+  after-self n = reverse-self (slice_cmp nat_cmp (way_to nodes n) (way_to nodes n)) (nat_list_cmp_total.antisymm (way_to nodes n) (way_to nodes n))
+
+  after-one-way : (a b : ℕ) → comes_after nodes a b ≡ true → comes_after nodes b a ≡ false
+  after-one-way a b h = reverse-gt (slice_cmp nat_cmp (way_to nodes a) (way_to nodes b)) (slice_cmp nat_cmp (way_to nodes b) (way_to nodes a)) (nat_list_cmp_total.antisymm (way_to nodes b) (way_to nodes a)) h
+
+  after-trans : (a b c : ℕ) → comes_after nodes a b ≡ false → comes_after nodes b c ≡ false → comes_after nodes a c ≡ false
+  after-trans a b c = upto nat_list_cmp_total (way_to nodes a) (way_to nodes b) (way_to nodes c)
+
+  module _ (id : List ℕ) where
+    -- a node below i + 1 is one below i, or i
+    below : (P : ℕ → Type 0) (i : ℕ) → ((m : ℕ) → m < i → P m) → P i → (m : ℕ) → m < i + 1 → P m
+    below P i f g m l = elim (cases_lt m i) [ inl h ↦ f m h | inr h ↦ subst P (let e : i ≡ m = omega arith in e) g ]
+
+    pub first-without : (i : ℕ) (o : Option ℕ) → has_id nodes id i ≡ false → IsFirstBelow nodes id i o → IsFirstBelow nodes id (i + 1) o
+    first-without i None un h = below (λ m. has_id nodes id m ≡ false) i h un
+    first-without i (Some n) un h = (let l = h.0 in omega arith, h.1, below (λ m. has_id nodes id m ≡ true → comes_after nodes n m ≡ false) i h.2 (λ y. absurd (both_ways _ un y)))
+
+    pub first-kept : (i n : ℕ) → comes_after nodes n i ≡ false → IsFirstBelow nodes id i (Some n) → IsFirstBelow nodes id (i + 1) (Some n)
+    first-kept i n le h = (let l = h.0 in omega arith, h.1, below (λ m. has_id nodes id m ≡ true → comes_after nodes n m ≡ false) i h.2 (λ y. le))
+
+    pub first-found : (i : ℕ) → has_id nodes id i ≡ true → IsFirstBelow nodes id i None → IsFirstBelow nodes id (i + 1) (Some i)
+    first-found i is h = (omega arith, is, below (λ m. has_id nodes id m ≡ true → comes_after nodes i m ≡ false) i (λ m l y. absurd (both_ways _ (h m l) y)) (λ y. after-self i))
+
+    pub first-before : (i n : ℕ) → has_id nodes id i ≡ true → comes_after nodes n i ≡ true → IsFirstBelow nodes id i (Some n) → IsFirstBelow nodes id (i + 1) (Some i)
+    first-before i n is gt h = (omega arith, is, below (λ m. has_id nodes id m ≡ true → comes_after nodes i m ≡ false) i (λ m l y. after-trans i n m (after-one-way n i gt) (h.2 m l y)) (λ y. after-self i))
+
+    beyond : (m : ℕ) → length nodes ≤ m → has_id nodes id m ≡ false
+    beyond m h = rw (get-past nodes m h) refl
+
+    -- none is past the end
+    pub first-of : (o : Option ℕ) → IsFirstBelow nodes id (length nodes) o → IsFirstOf nodes id o
+    first-of None h = λ m. elim (cases_lt m (length nodes)) [ inl l ↦ h m l | inr g ↦ beyond m g ]
+    first-of (Some n) h = (h.1, λ m y. elim (cases_lt m (length nodes)) [ inl l ↦ h.2 m l y | inr g ↦ absurd (both_ways _ (beyond m g) y) ])

@@ -1,0 +1,10 @@
+use Rattle.std.proofs.Common.{◌<◌, length}
+use Rattle.std.proofs.lemmas.List.{length-map}
+use Rattle.dom.proofs.DomLemmas.{read-elements, few-elements}
+use Rattle.dom.proofs.dom.Dom.element_count.Goals as goal
+
+pub returns : goal.returns
+returns c =
+    let h : c.args.node.0 < length c.self.inside.rows.items = simp length-map at (rw (← c.self.view_is) at c.requires) in
+    let count = read-elements c.self.inside.rows.items c.args.node.0 c.index.result.now c.self.invariant h c.index.ensures in
+    rw (← c.self.view_is) (record { count = count; few = rw count (few-elements c.self.inside.rows.items c.args.node.0 c.self.invariant) })

@@ -1,0 +1,36 @@
+-- Tree order, and the first element of an id in it.
+use Rattle.std.specs.Prelude.{◌≡◌, ℕ, zero, suc, ◌<◌, Bool, true, false, List, [], ◌∷◌, ◌++◌, Option, None, Some, MatchOption}
+use Rattle.std.specs.Str.{bytes_eq}
+use Rattle.std.specs.Ordering.{nat_cmp, is_gt}
+use Rattle.std.specs.Cmp.Lexicographic.{slice_cmp}
+use Rattle.dom.specs.Nodes.{Node, parents_of, parent_at, depth_at, attribute_at}
+
+-- the last d nodes of the way from the root to a node
+abbrev pub way : List (Option ℕ) → ℕ → Option ℕ → List ℕ
+way ps zero n = []
+way ps (suc d) None = []
+way ps (suc d) (Some n) = way ps d (parent_at ps n) ++ n ∷ []
+
+-- the nodes from the root to a node
+abbrev pub way_to : List Node → ℕ → List ℕ
+way_to nodes n = way (parents_of nodes) (depth_at nodes n) (Some n)
+
+-- whether one node comes after another in tree order (DOM, 4.2, "tree order"): the order of their ways, the shorter before what goes on from it
+abbrev pub comes_after : List Node → ℕ → ℕ → Bool
+comes_after nodes a b = is_gt (slice_cmp nat_cmp (way_to nodes a) (way_to nodes b))
+
+abbrev pub is_text : List ℕ → Option (List ℕ) → Bool
+is_text id None = false
+is_text id (Some value) = bytes_eq value id
+
+-- whether a node is an element of this id
+abbrev pub has_id : List Node → List ℕ → ℕ → Bool
+has_id nodes id n = is_text id (attribute_at nodes n (105 ∷ 100 ∷ []))
+
+-- the element of an id that comes after no other, or none where there is none
+abbrev pub IsFirstOf : List Node → List ℕ → Option ℕ → Type 0
+IsFirstOf nodes id r = MatchOption r ((m : ℕ) → has_id nodes id m ≡ false) (λ n. (has_id nodes id n ≡ true) × ((m : ℕ) → has_id nodes id m ≡ true → comes_after nodes n m ≡ false))
+
+-- the same among the first i nodes
+abbrev pub IsFirstBelow : List Node → List ℕ → ℕ → Option ℕ → Type 0
+IsFirstBelow nodes id i r = MatchOption r ((m : ℕ) → m < i → has_id nodes id m ≡ false) (λ n. (n < i) × (has_id nodes id n ≡ true) × ((m : ℕ) → m < i → has_id nodes id m ≡ true → comes_after nodes n m ≡ false))

@@ -1,0 +1,412 @@
+//! The document.
+ghost use Rattle.std.specs.Prelude.{vec_len, IfSome, IfErr, IsTrue, ◌≡◌, ◌+◌, ◌<◌, ◌≤◌, List, [], ◌∷◌, ◌++◌, Option, Some, IfOk, OnErr, OnOk, length, slice_get, option_map, true, false, not, is_some, if◌then◌else◌};
+ghost use Rattle.dom.specs.Nodes.{Node, IsTree, parents_of, element_parents_of, parent_at, first_child_of, next_of, prev_of, is_element, child_of, depth_at, is_element_at, last_child_of, element_count, elements_before_of, name_at, text_at, attribute_at, root, with_attribute};
+ghost use Rattle.std.specs.Prelude.{take};
+ghost use Rattle.std.specs.Ordering.{nat_cmp, is_gt};
+ghost use Rattle.std.specs.Cmp.Lexicographic.{slice_cmp};
+ghost use Rattle.dom.specs.Order.{IsFirstOf, IsFirstBelow, has_id, comes_after, way_to};
+ghost use Rattle.dom.specs.Answers.{AddAnswers, HasRoom, is_below_all};
+ghost use Rattle.dom.specs.declared.rows.NodeData.TheVariants.{Element, Text};
+
+use crate::attrs::Attributes;
+use crate::rows::{NodeData, Row, link, put_attribute};
+use bk_num::ids::NodeId;
+use bk_num::name::{Name, NoMem};
+use std::alloc::Global;
+use std::cmp::Ordering;
+use std::marker::Model;
+
+/// The most nodes of a document.
+const MOST_NODES: u32 = 400000;
+
+/// The depth of the deepest elements. The element `html` has depth 1.
+const MOST_DEPTH: u8 = 200;
+
+/// The most nodes on the way from the root to a node.
+const WAY: usize = 201;
+
+/// Why a node was not added.
+#[derive(Clone, Copy, PartialEq, Eq, Debug)]
+pub enum DomErr {
+    /// There are 400,000 nodes already.
+    Nodes,
+    /// The element would be at depth 201.
+    Depth,
+    NoMemory,
+}
+
+/// A document. Contracts see the list of its nodes, each with the number of its parent. Node 0 is the element `html`.
+#[derive(Drop)]
+pub struct Dom {
+    rows: Vec<Row>,
+}
+
+impl Model for Dom {
+    ghost use Rattle.std.specs.Prelude.{List};
+    ghost use Rattle.dom.specs.Nodes.{Node};
+
+    ghost Value = { List Node };
+
+    ghost use Rattle.dom.specs.DomFields.{nodes_of, IsSound};
+
+    ghost view = { nodes_of };
+
+    ghost invariant = { IsSound };
+}
+
+impl Dom {
+    /// The document that has the element `html` alone.
+    pub fn new(alloc: Global) -> Result<Dom, DomErr>
+        ensures ok { IfOk result (λ dom. dom ≡ root ∷ []) }
+        ensures err { IfErr result (λ e. e ≡ DomErr.NoMemory) }
+    {
+        let Ok(name) = Name::new(alloc, "html") else {
+            return Err(DomErr::NoMemory);
+        };
+        let what = NodeData::Element(name, Attributes::new(alloc));
+        let mut rows = Vec::new(alloc);
+        let row = Row {
+            parent: None,
+            depth: 1,
+            first_child: None,
+            last_child: None,
+            next: None,
+            prev: None,
+            elements_before: 0,
+            elements: 0,
+            what,
+        };
+        if rows.push(row).is_err() {
+            return Err(DomErr::NoMemory);
+        }
+        Ok(Dom { rows })
+    }
+
+    /// How many nodes there are.
+    pub fn len(&self) -> u32
+        ensures len { result ≡ length self.now }
+        ensures tree { IsTree self.now }
+    {
+        self.rows.len() as u32
+    }
+
+    /// The parent of a node; None exactly for node 0.
+    pub fn parent(&self, node: NodeId) -> Option<NodeId>
+        requires { node.0 < length self.now }
+        ensures { option_map (λ n. n.0) result ≡ parent_at (parents_of self.now) node.0 }
+    {
+        named(self.rows[node.0 as usize].parent)
+    }
+
+    pub fn first_child(&self, node: NodeId) -> Option<NodeId>
+        requires { node.0 < length self.now }
+        ensures { option_map (λ n. n.0) result ≡ first_child_of (parents_of self.now) node.0 }
+    {
+        named(self.rows[node.0 as usize].first_child)
+    }
+
+    pub fn last_child(&self, node: NodeId) -> Option<NodeId>
+        requires { node.0 < length self.now }
+        ensures { option_map (λ n. n.0) result ≡ last_child_of (parents_of self.now) node.0 }
+    {
+        named(self.rows[node.0 as usize].last_child)
+    }
+
+    pub fn next_sibling(&self, node: NodeId) -> Option<NodeId>
+        requires { node.0 < length self.now }
+        ensures { option_map (λ n. n.0) result ≡ next_of (parents_of self.now) node.0 }
+    {
+        named(self.rows[node.0 as usize].next)
+    }
+
+    pub fn prev_sibling(&self, node: NodeId) -> Option<NodeId>
+        requires { node.0 < length self.now }
+        ensures { option_map (λ n. n.0) result ≡ prev_of (parents_of self.now) node.0 }
+    {
+        named(self.rows[node.0 as usize].prev)
+    }
+
+    /// How deep a node is: 1 for node 0, and one more than its parent for each other.
+    pub fn depth(&self, node: NodeId) -> u8
+        requires { node.0 < length self.now }
+        ensures depth { result ≡ depth_at self.now node.0 }
+        ensures element { IsTrue (is_element_at self.now node.0) → result ≤ 200 }
+        ensures most { result ≤ 201 }
+        ensures tree { IsTree self.now }
+    {
+        self.rows[node.0 as usize].depth
+    }
+
+    /// How many elements among a node's siblings come before it.
+    pub fn elements_before(&self, node: NodeId) -> u32
+        requires { node.0 < length self.now }
+        ensures { result ≡ elements_before_of self.now node.0 }
+    {
+        self.rows[node.0 as usize].elements_before
+    }
+
+    /// How many children of a node are elements, at most 400,000.
+    pub fn element_count(&self, node: NodeId) -> u32
+        requires { node.0 < length self.now }
+        ensures count { result ≡ element_count (element_parents_of self.now) node.0 }
+        ensures few { result ≤ 400000 }
+    {
+        self.rows[node.0 as usize].elements
+    }
+
+    /// An element's name; None exactly for a text.
+    pub fn name(&self, node: NodeId) -> Option<&str>
+        requires { node.0 < length self.now }
+        ensures { option_map (λ s. s.now) result ≡ name_at self.now node.0 }
+    {
+        match &self.rows[node.0 as usize].what {
+            NodeData::Element(name, _) => Some(name.as_str()),
+            NodeData::Text(_) => None,
+        }
+    }
+
+    /// A text's text; None exactly for an element.
+    pub fn text(&self, node: NodeId) -> Option<&str>
+        requires { node.0 < length self.now }
+        ensures { option_map (λ s. s.now) result ≡ text_at self.now node.0 }
+    {
+        match &self.rows[node.0 as usize].what {
+            NodeData::Element(_, _) => None,
+            NodeData::Text(text) => Some(text.as_str()),
+        }
+    }
+
+    /// The value of an element's attribute of this name.
+    pub fn attr(&self, node: NodeId, name: &str) -> Option<&str>
+        requires { node.0 < length self.now }
+        ensures { option_map (λ s. s.now) result ≡ attribute_at self.now node.0 name.now }
+    {
+        match &self.rows[node.0 as usize].what {
+            NodeData::Element(_, attributes) => attributes.get(name),
+            NodeData::Text(_) => None,
+        }
+    }
+
+    /// Adds an element without attributes as the last child of an element.
+    pub fn add_element(
+        &mut self,
+        alloc: Global,
+        parent: NodeId,
+        name: &str,
+    ) -> Result<NodeId, DomErr>
+        requires parent { parent.0 < length self.old }
+        requires element { IsTrue (is_element_at self.old parent.0) }
+        ensures number { IfOk result (λ n. n.0 ≡ length self.old) }
+        ensures ok { OnOk result (self.new ≡ self.old ++ child_of self.old parent.0 (Element name.now []) ∷ []) }
+        ensures err { OnErr result (self.new ≡ self.old) }
+        ensures causes { AddAnswers self.old parent.0 true result }
+    {
+        if let Err(e) = self.room(parent, true) {
+            return Err(e);
+        }
+        let Ok(name) = Name::new(alloc, name) else {
+            return Err(DomErr::NoMemory);
+        };
+        let what = NodeData::Element(name, Attributes::new(alloc));
+        match self.add(parent, what) {
+            Ok(node) => Ok(node),
+            Err(_) => Err(DomErr::NoMemory),
+        }
+    }
+
+    /// Adds a text as the last child of an element. A text may be at depth 201.
+    pub fn add_text(&mut self, alloc: Global, parent: NodeId, text: &str) -> Result<NodeId, DomErr>
+        requires parent { parent.0 < length self.old }
+        requires element { IsTrue (is_element_at self.old parent.0) }
+        ensures number { IfOk result (λ n. n.0 ≡ length self.old) }
+        ensures ok { OnOk result (self.new ≡ self.old ++ child_of self.old parent.0 (Text text.now) ∷ []) }
+        ensures err { OnErr result (self.new ≡ self.old) }
+        ensures causes { AddAnswers self.old parent.0 false result }
+    {
+        if let Err(e) = self.room(parent, false) {
+            return Err(e);
+        }
+        let Ok(text) = Name::new(alloc, text) else {
+            return Err(DomErr::NoMemory);
+        };
+        match self.add(parent, NodeData::Text(text)) {
+            Ok(node) => Ok(node),
+            Err(_) => Err(DomErr::NoMemory),
+        }
+    }
+
+    /// Adds an attribute to an element, and answers false where it has one of the name.
+    pub fn add_attr(
+        &mut self,
+        alloc: Global,
+        node: NodeId,
+        name: &str,
+        value: &str,
+    ) -> Result<bool, NoMem>
+        requires node { node.0 < length self.old }
+        requires element { IsTrue (is_element_at self.old node.0) }
+        ensures added { IfOk result (λ b. b ≡ not (is_some (attribute_at self.old node.0 name.now))) }
+        ensures ok { IfOk result (λ b. self.new ≡ (if b then with_attribute self.old node.0 name.now value.now else self.old)) }
+        ensures err { OnErr result (self.new ≡ self.old) }
+    {
+        let row = &mut self.rows[node.0 as usize];
+        put_attribute(&mut row.what, alloc, name, value)
+    }
+
+    /// The first element in tree order whose attribute `id` is this text. It looks at each node once; whoever asks for many makes a map.
+    pub fn by_id(&self, id: &str) -> Option<NodeId>
+        ensures { IsFirstOf self.now id.now (option_map (λ n. n.0) result) }
+    {
+        let mut first = None;
+        for index in 0..self.len() {
+            first = self.earlier(first, NodeId(index), id);
+        }
+        first
+    }
+
+    /// The first element of an id, where `first` was that among the nodes before this one.
+    fn earlier(&self, first: Option<NodeId>, node: NodeId, id: &str) -> Option<NodeId>
+        requires node { node.0 < length self.now }
+        requires first { IsFirstBelow self.now id.now node.0 (option_map (λ n. n.0) first) }
+        ensures { IsFirstBelow self.now id.now (node.0 + 1) (option_map (λ n. n.0) result) }
+    {
+        if !self.has_id(node, id) {
+            return first;
+        }
+        match first {
+            None => Some(node),
+            Some(other) => {
+                if self.comes_after(other, node) {
+                    Some(node)
+                } else {
+                    first
+                }
+            }
+        }
+    }
+
+    fn has_id(&self, node: NodeId, id: &str) -> bool
+        requires { node.0 < length self.now }
+        ensures { result ≡ has_id self.now id.now node.0 }
+    {
+        match self.attr(node, "id") {
+            Some(value) => value == id,
+            None => false,
+        }
+    }
+
+    /// Whether one node comes after another in tree order.
+    fn comes_after(&self, a: NodeId, b: NodeId) -> bool
+        requires a { a.0 < length self.now }
+        requires b { b.0 < length self.now }
+        ensures { result ≡ comes_after self.now a.0 b.0 }
+    {
+        let mut way_a = [0; WAY];
+        let mut way_b = [0; WAY];
+        let len_a = self.write_way(a, &mut way_a);
+        let len_b = self.write_way(b, &mut way_b);
+        is_after(&way_a[..len_a], &way_b[..len_b])
+    }
+
+    /// Writes the nodes from the root to a node, and answers how many they are.
+    fn write_way(&self, node: NodeId, way: &mut [u32; WAY]) -> usize
+        requires { node.0 < length self.now }
+        ensures way { take result way.new ≡ way_to self.now node.0 }
+        ensures len { result ≤ 201 }
+    {
+        let depth = self.depth(node) as usize;
+        let mut place = depth;
+        let mut next = Some(node);
+        while let Some(node) = next {
+            place -= 1;
+            way[place] = node.0;
+            next = self.parent(node);
+        }
+        depth
+    }
+
+    /// Whether there is room for one more node under a parent.
+    fn room(&self, parent: NodeId, element: bool) -> Result<(), DomErr>
+        requires { parent.0 < length self.now }
+        ensures { AddAnswers self.now parent.0 element result }
+    {
+        if self.len() >= MOST_NODES {
+            return Err(DomErr::Nodes);
+        }
+        if is_below_all(element, self.depth(parent)) {
+            return Err(DomErr::Depth);
+        }
+        Ok(())
+    }
+
+    /// Adds a node as the last child of an element.
+    fn add(&mut self, parent: NodeId, what: NodeData) -> Result<NodeId, NoMem>
+        requires parent { parent.0 < length self.old }
+        requires element { IsTrue (is_element_at self.old parent.0) }
+        requires room { HasRoom self.old parent.0 (is_element what) }
+        ensures number { IfOk result (λ n. n.0 ≡ length self.old) }
+        ensures ok { OnOk result (self.new ≡ self.old ++ child_of self.old parent.0 what ∷ []) }
+        ensures err { OnErr result (self.new ≡ self.old) }
+    {
+        let index = self.len();
+        let depth = self.depth(parent);
+        let last = unnamed(self.last_child(parent));
+        let before = self.element_count(parent);
+        let elements = count_after(before, what.is_element());
+        let row = Row {
+            parent: Some(parent.0),
+            depth: depth + 1,
+            first_child: None,
+            last_child: None,
+            next: None,
+            prev: last,
+            elements_before: before,
+            elements: 0,
+            what,
+        };
+        if self.rows.push(row).is_err() {
+            return Err(NoMem);
+        }
+        link(&mut self.rows, parent.0, last, index, elements);
+        Ok(NodeId(index))
+    }
+}
+
+/// Whether one list comes after another in lexicographic order.
+fn is_after(a: &[u32], b: &[u32]) -> bool
+    ensures { result ≡ is_gt (slice_cmp nat_cmp a.now b.now) }
+{
+    matches!(a.cmp(b), Ordering::Greater)
+}
+
+fn is_below_all(element: bool, depth: u8) -> bool
+    ensures { result ≡ is_below_all element depth }
+{
+    depth >= MOST_DEPTH && element
+}
+
+/// How many element children there are after one more child.
+fn count_after(before: u32, element: bool) -> u32
+    requires { before ≤ 400000 }
+    ensures { result ≡ before + (if element then 1 else 0) }
+{
+    if element { before + 1 } else { before }
+}
+
+fn named(number: Option<u32>) -> Option<NodeId>
+    ensures { option_map (λ n. n.0) result ≡ number }
+{
+    match number {
+        Some(n) => Some(NodeId(n)),
+        None => None,
+    }
+}
+
+fn unnamed(node: Option<NodeId>) -> Option<u32>
+    ensures { result ≡ option_map (λ n. n.0) node }
+{
+    match node {
+        Some(n) => Some(n.0),
+        None => None,
+    }
+}

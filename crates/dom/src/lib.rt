@@ -1,0 +1,12 @@
+//! A document as a tree of elements and texts, kept in one list of nodes.
+#![tactic(auto)]
+
+mod attrs;
+mod dom;
+mod rows;
+#[cfg(test)]
+mod tests;
+
+pub use attrs::Attributes;
+pub use dom::{Dom, DomErr};
+pub use rows::NodeData;
