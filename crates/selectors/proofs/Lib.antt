@@ -1,0 +1,5 @@
+pub mod SetLemmas
+pub mod TextLemmas
+pub mod WalkLemmas
+pub mod Pending
+pub mod ReadLemmas

@@ -1,0 +1,6 @@
+pub mod Sets
+pub mod Walk
+pub mod Fits
+pub mod Match
+pub mod Specificity
+pub mod Reader
