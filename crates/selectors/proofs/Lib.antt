@@ -3,3 +3,6 @@ pub mod TextLemmas
 pub mod WalkLemmas
 pub mod Pending
 pub mod ReadLemmas
+pub mod NthLemmas
+pub mod GrammarLemmas
+pub mod LoopLemmas

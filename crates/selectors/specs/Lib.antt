@@ -4,3 +4,5 @@ pub mod Fits
 pub mod Match
 pub mod Specificity
 pub mod Reader
+pub mod Nth
+pub mod Grammar

@@ -1,5 +1,6 @@
 -- What a reader of selectors has ahead: the tokens that are left, without comments.
-use Rattle.std.specs.Prelude.{Bool, true, false, not, if◌then◌else◌, List, [], ◌∷◌, Option, Some, None, filter}
+use Rattle.std.specs.Prelude.{Bool, true, false, not, drop, List, [], ◌∷◌, Option, Some, None, filter}
+use Rattle.std.specs.List.{prefix_len}
 use Rattle.css_tok.specs.declared.front.CssKind.{CssKind}
 use Rattle.css_tok.specs.declared.front.CssKind.TheVariants as kind
 use Rattle.css_tok.specs.Tokens.{Item}
@@ -25,5 +26,4 @@ is_space_kind _ = false
 
 -- what follows white space
 unfoldable pub past_spaces : List Item → List Item
-past_spaces [] = []
-past_spaces (t ∷ ts) = if is_space_kind t.kind then past_spaces ts else t ∷ ts
+past_spaces ts = drop (prefix_len (λ t. is_space_kind t.kind) ts) ts

@@ -3,6 +3,8 @@
 
 pub mod fits;
 pub mod matching;
+pub mod grammar;
+pub mod nth;
 pub mod reader;
 pub mod sets;
 pub mod specificity;

@@ -1,6 +1,7 @@
 //! The tokens of a selector, without comments.
 
-ghost use Rattle.std.specs.Prelude.{◌≡◌, ◌<◌, length, option_map, map, IfOk};
+ghost use Rattle.std.specs.Prelude.{◌≡◌, ◌<◌, ◌≤◌, length, option_map, map, [], ◌∷◌, MatchOption, IfOk};
+ghost use Rattle.std.specs.List.{prefix_len};
 ghost use Rattle.css_tok.specs.Tokens.{item_in, tokens_of};
 ghost use Rattle.selectors.specs.Reader as spec;
 
@@ -20,6 +21,24 @@ fn is_space(token: &CssToken<'_>) -> bool
     ensures { result ≡ spec.is_space_kind token.now.kind }
 {
     matches!(token.kind, CssKind::Space)
+}
+
+fn space_run(tokens: &[CssToken<'_>]) -> usize
+    ensures value { result ≡ prefix_len (λ t. spec.is_space_kind t.kind) tokens.now }
+    ensures within { result ≤ length tokens.now }
+{
+    let mut count = 0;
+    while count < tokens.len() && is_space(&tokens[count]) {
+        count += 1;
+    }
+    count
+}
+
+#[tactic(auto, using(crate::proofs::ReadLemmas::spaces_are))]
+fn past_spaces<'t, 'a>(tokens: &'t [CssToken<'a>]) -> &'t [CssToken<'a>]
+    ensures { map item_in result.now ≡ spec.past_spaces (map item_in tokens.now) }
+{
+    &tokens[space_run(tokens)..]
 }
 
 /// The tokens of a text without its comments.
@@ -87,16 +106,30 @@ impl<'t, 'a> Reader<'t, 'a> {
     pub fn pass_spaces(&mut self)
         ensures { self.new ≡ spec.past_spaces self.old }
     {
-        'spaces: loop {
-            match self.peek() {
-                Some(token) => {
-                    if !is_space(&token) {
-                        return;
-                    }
-                }
-                None => return,
+        self.tokens = past_spaces(self.tokens);
+    }
+
+    /// The token after the next.
+    #[tactic(auto, unfolding(crate::specs::Reader::first_of, crate::specs::Reader::rest_of))]
+    pub fn second(&self) -> Option<CssToken<'a>>
+        ensures { option_map item_in result ≡ spec.first_of (spec.rest_of self.now) }
+    {
+        match self.tokens {
+            [_, token, ..] => Some(*token),
+            _ => None,
+        }
+    }
+
+    /// Takes the next token; None exactly at the end.
+    pub fn next(&mut self) -> Option<CssToken<'a>>
+        ensures { MatchOption result (self.old ≡ []) (λ t. self.old ≡ item_in t ∷ self.new) }
+    {
+        match self.tokens {
+            [token, rest @ ..] => {
+                self.tokens = rest;
+                Some(*token)
             }
-            self.advance();
+            [] => None,
         }
     }
 }
