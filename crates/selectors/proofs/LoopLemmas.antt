@@ -4,7 +4,7 @@ use Rattle.std.specs.Prelude.{Option, Some, None}
 use Rattle.bk_num.specs.declared.values.Pseudo.{Pseudo}
 use Rattle.selectors.specs.declared.types.Join.{Join}
 use Rattle.selectors.specs.declared.types.Compound.{Compound}
-use Rattle.selectors.specs.declared.types.Selector.{Selector}
+use Rattle.selectors.specs.Selectors.{SelectorView}
 use Rattle.selectors.specs.declared.grammar.Part.{Part}
 use Rattle.selectors.specs.Grammar.{Input, Parts, next_part, parts_from, with_part, pseudo_element, next_compound, rest_from, next_selector, selectors_from}
 
@@ -36,14 +36,14 @@ pub rest_none : (n : ℕ) (parts : List Compound) (joins : List Join) (i j : Inp
 unfolding rest_from
 rest_none n parts joins i j p is next = rw is (rw next)
 
-pub selectors_more : (n : ℕ) (found : List Selector) (i j : Input) (s : Selector) → next_selector i ≡ Some ((s, true), j) → selectors_from (suc n) found i ≡ selectors_from n (found ++ s ∷ []) j
+pub selectors_more : (n : ℕ) (found : List SelectorView) (i j : Input) (s : SelectorView) → next_selector i ≡ Some ((s, true), j) → selectors_from (suc n) found i ≡ selectors_from n (found ++ s ∷ []) j
 unfolding selectors_from
 selectors_more n found i j s is = rw is
 
-pub selectors_last : (n : ℕ) (found : List Selector) (i j : Input) (s : Selector) → next_selector i ≡ Some ((s, false), j) → selectors_from (suc n) found i ≡ Some (found ++ s ∷ [], j)
+pub selectors_last : (n : ℕ) (found : List SelectorView) (i j : Input) (s : SelectorView) → next_selector i ≡ Some ((s, false), j) → selectors_from (suc n) found i ≡ Some (found ++ s ∷ [], j)
 unfolding selectors_from
 selectors_last n found i j s is = rw is
 
-pub selectors_err : (n : ℕ) (found : List Selector) (i : Input) → next_selector i ≡ None → selectors_from (suc n) found i ≡ None
+pub selectors_err : (n : ℕ) (found : List SelectorView) (i : Input) → next_selector i ≡ None → selectors_from (suc n) found i ≡ None
 unfolding selectors_from
 selectors_err n found i is = rw is

@@ -5,15 +5,15 @@ use Rattle.std.proofs.lemmas.Bool.{and_parts, and_from, or_cases, or_left, or_ri
 use Rattle.selectors.specs.declared.types.Join.{Join}
 use Rattle.selectors.specs.declared.types.Join.TheVariants.{Child, Inside, Next, Later}
 use Rattle.selectors.specs.Walk.{prev_element}
-use Rattle.selectors.specs.declared.types.Selector.{Selector}
+use Rattle.selectors.specs.Selectors.{SelectorView}
 use Rattle.selectors.specs.Match.{Tree, parent_of, IsAbove, nearest, further, IsEarlier, just_before, long_before, fits, Reaches, Stands, StandBy, joins_by, is_join}
 
 -- compounds that are wanted at a node that stands by this join before x
-abbrev pub Wanted : Tree → Selector → (Join → ℕ → Bool) → ℕ → Type 0
+abbrev pub Wanted : Tree → SelectorView → (Join → ℕ → Bool) → ℕ → Type 0
 Wanted dom s wanted x = (j : Join) × (k : ℕ) × (m : ℕ) × (wanted j k ≡ true) × Stands dom j m x × Reaches dom s k m
 
 -- the search goes on to a match: from a compound that is wanted at x, or before it
-abbrev pub Pending : Tree → Selector → (ℕ → Bool) → (Join → ℕ → Bool) → ℕ → Type 0
+abbrev pub Pending : Tree → SelectorView → (ℕ → Bool) → (Join → ℕ → Bool) → ℕ → Type 0
 Pending dom s here wanted x = ((k : ℕ) × (here k ≡ true) × Reaches dom s k x) ⊎ Wanted dom s wanted x
 
 join_is : (i j : Join) → is_join j i ≡ true → i ≡ j
@@ -40,7 +40,7 @@ join_same Inside = refl
 join_same Next = refl
 join_same Later = refl
 
-joins_is : (s : Selector) (j : Join) (k : ℕ) → slice_get s.joins k ≡ Some j → joins_by s j k ≡ true
+joins_is : (s : SelectorView) (j : Join) (k : ℕ) → slice_get s.joins k ≡ Some j → joins_by s j k ≡ true
 unfolding joins_by
 joins_is s j k is = rw is (join_same j)
 
@@ -48,12 +48,12 @@ option_is : (j : Join) (o : Option Join) → option_map_or (is_join j) o false �
 option_is j None e = cc
 option_is j (Some i) e = ap (λ z. Some z) (join_is i j e)
 
-joined_by : (s : Selector) (j : Join) (k : ℕ) → joins_by s j k ≡ true → slice_get s.joins k ≡ Some j
+joined_by : (s : SelectorView) (j : Join) (k : ℕ) → joins_by s j k ≡ true → slice_get s.joins k ≡ Some j
 unfolding joins_by
 joined_by s j k e = option_is j (slice_get s.joins k) e
 
 -- one node is looked at
-module _ (dom : Tree) (s : Selector) (here : ℕ → Bool) (wanted : Join → ℕ → Bool) (found : ℕ → Bool) (wanted' : Join → ℕ → Bool) (x : ℕ)
+module _ (dom : Tree) (s : SelectorView) (here : ℕ → Bool) (wanted : Join → ℕ → Bool) (found : ℕ → Bool) (wanted' : Join → ℕ → Bool) (x : ℕ)
     (finds : (k : ℕ) → found k ≡ (here k && fits dom s k x))
     (grows : (j : Join) (k : ℕ) → wanted' j k ≡ (wanted j k || (joins_by s j k && found (suc k)))) where
   by_join : (k m : ℕ) (o : Option Join) → slice_get s.joins k ≡ o → found (suc k) ≡ true → StandBy dom o m x → Reaches dom s k m → Wanted dom s wanted' x
@@ -77,7 +77,7 @@ module _ (dom : Tree) (s : Selector) (here : ℕ → Bool) (wanted : Join → �
   ]
 
 -- the first compound is found
-pub hit : (dom : Tree) (s : Selector) (here : ℕ → Bool) (wanted : Join → ℕ → Bool) (found : ℕ → Bool) (x : ℕ) → ((k : ℕ) → found k ≡ (here k && fits dom s k x)) → found 0 ≡ true → Pending dom s here wanted x
+pub hit : (dom : Tree) (s : SelectorView) (here : ℕ → Bool) (wanted : Join → ℕ → Bool) (found : ℕ → Bool) (x : ℕ) → ((k : ℕ) → found k ≡ (here k && fits dom s k x)) → found 0 ≡ true → Pending dom s here wanted x
 hit dom s here wanted found x finds f = let at = and_parts (here 0) (fits dom s 0 x) (sym (finds 0) ∙ f) in inl (0, at.0, at.1)
 
 -- the sets by their joins
@@ -117,7 +117,7 @@ same_above : (dom : Tree) (y x z : ℕ) → parent_of dom z ≡ parent_of dom x 
 same_above dom y x z row (nearest e) = nearest (row ∙ e)
 same_above dom y x z row (further p e a) = further p (row ∙ e) a
 
-module _ (dom : Tree) (s : Selector) (child inside next later here : ℕ → Bool) (x z : ℕ)
+module _ (dom : Tree) (s : SelectorView) (child inside next later here : ℕ → Bool) (x z : ℕ)
     (is : prev_element dom x ≡ Some z) (row : parent_of dom z ≡ parent_of dom x) (wants : (k : ℕ) → here k ≡ (next k || later k)) where
   at_prev : (j : Join) (k m : ℕ) → by_joins child inside next later j k ≡ true → Stands dom j m x → Reaches dom s k m → Pending dom s here (by_joins child inside nothing later) z
   at_prev Child k m w stands r = inr (Child, k, m, w, row ∙ stands, r)
@@ -144,7 +144,7 @@ module _ (dom : Tree) (s : Selector) (child inside next later here : ℕ → Boo
   ]
   from_prev (inr w) = before_prev w.0 w.1 w.2 w.3 w.4 w.5
 
-module _ (dom : Tree) (s : Selector) (child inside next later : ℕ → Bool) (x : ℕ)
+module _ (dom : Tree) (s : SelectorView) (child inside next later : ℕ → Bool) (x : ℕ)
     (alone : (k : ℕ) → (next k || later k) ≡ true → prev_element dom x ≡ None) where
   no_next : (k m : ℕ) → next k ≡ true → prev_element dom x ≡ Some m → ⊥
   no_next k m w e = no_node m (sym (alone k (or_left (next k) (later k) w)) ∙ e)
@@ -189,9 +189,9 @@ module _ (dom : Tree) (s : Selector) (child inside next later : ℕ → Bool) (x
     from_parent (inr w) = above_parent w.0 w.1 w.2 w.3 w.4 w.5
 
 -- at the start the last compound is wanted at the node
-pub starts : (dom : Tree) (s : Selector) (here : ℕ → Bool) (wanted : Join → ℕ → Bool) (last x : ℕ) → here last ≡ true → Reaches dom s last x → Pending dom s here wanted x
+pub starts : (dom : Tree) (s : SelectorView) (here : ℕ → Bool) (wanted : Join → ℕ → Bool) (last x : ℕ) → here last ≡ true → Reaches dom s last x → Pending dom s here wanted x
 starts dom s here wanted last x is r = inl (last, is, r)
 
-pub started : (dom : Tree) (s : Selector) (here : ℕ → Bool) (wanted : Join → ℕ → Bool) (last x : ℕ) → ((k : ℕ) → k ≢ last → here k ≡ false) → ((j : Join) (k : ℕ) → wanted j k ≡ false) → Pending dom s here wanted x → Reaches dom s last x
+pub started : (dom : Tree) (s : SelectorView) (here : ℕ → Bool) (wanted : Join → ℕ → Bool) (last x : ℕ) → ((k : ℕ) → k ≢ last → here k ≡ false) → ((j : Join) (k : ℕ) → wanted j k ≡ false) → Pending dom s here wanted x → Reaches dom s last x
 started dom s here wanted last x alone none (inl h) = elim (cases_eq h.0 last) [ inl same ↦ subst (λ k. Reaches dom s k x) same h.2 | inr other ↦ absurd (true≢false (sym h.1 ∙ alone h.0 other)) ]
 started dom s here wanted last x alone none (inr w) = absurd (true≢false (sym w.3 ∙ none w.0 w.1))

@@ -8,7 +8,7 @@ use Rattle.std.proofs.lemmas.Bool.{cases_lt, lt-ltb, le-ltb}
 use Rattle.std.proofs.lemmas.Option.{slice_get_past}
 use Rattle.selectors.specs.declared.types.Join.{Join}
 use Rattle.selectors.specs.Match.{Tree, fits, joins_by}
-use Rattle.selectors.specs.declared.types.Selector.{Selector}
+use Rattle.selectors.specs.Selectors.{SelectorView}
 use Rattle.selectors.specs.Sets.{has}
 
 pub has_none : (k : ℕ) → has 0 k ≡ false
@@ -37,11 +37,11 @@ bounded f g n is past k = elim (cases_lt k n) [
   | inr above ↦ is k ∙ rw (le-ltb k n above) (sym (past k above))
 ]
 
-pub fits_past : (dom : Tree) (s : Selector) (k n : ℕ) → length s.parts ≤ k → fits dom s k n ≡ false
+pub fits_past : (dom : Tree) (s : SelectorView) (k n : ℕ) → length s.parts ≤ k → fits dom s k n ≡ false
 unfolding fits
 fits_past dom s k n past = rw (slice_get_past s.parts k past)
 
-pub joins_past : (s : Selector) (join : Join) (k : ℕ) → length s.joins ≤ k → joins_by s join k ≡ false
+pub joins_past : (s : SelectorView) (join : Join) (k : ℕ) → length s.joins ≤ k → joins_by s join k ≡ false
 unfolding joins_by
 joins_past s join k past = rw (slice_get_past s.joins k past)
 

@@ -19,7 +19,7 @@ use Rattle.selectors.specs.declared.types.Plain.{Plain}
 use Rattle.selectors.specs.declared.types.Compound.{Compound}
 use Rattle.selectors.specs.declared.types.Join.{Join}
 use Rattle.selectors.specs.declared.types.Join.TheVariants as join
-use Rattle.selectors.specs.declared.types.Selector.{Selector}
+use Rattle.selectors.specs.Selectors.{SelectorView}
 use Rattle.selectors.specs.declared.grammar.Kinship.{Kinship}
 use Rattle.selectors.specs.declared.grammar.Kinship.TheVariants.{Named, Any, Bare}
 use Rattle.selectors.specs.declared.grammar.Part.{Part}
@@ -342,7 +342,7 @@ next_compound p = do
   on_some j (pure None) (λ k. if is_pseudo p then refuse else (compound >>= (λ c. pure (Some (k, c)))))
 
 -- The number bounds the compounds, of which one was read.
-unfoldable pub rest_from : ℕ → List Compound → List Join → Parser Selector
+unfoldable pub rest_from : ℕ → List Compound → List Join → Parser SelectorView
 rest_from zero parts joins = refuse
 rest_from (suc n) parts joins = do
   p ← pseudo_element
@@ -350,27 +350,27 @@ rest_from (suc n) parts joins = do
   on_some c (pure (record { parts = parts; joins = joins; pseudo = p })) (λ k. rest_from n (parts ++ k.1 ∷ []) (joins ++ k.0 ∷ []))
 
 -- one to sixteen compounds and a pseudo-element or none, with white space round them
-unfoldable pub selector : Parser Selector
+unfoldable pub selector : Parser SelectorView
 selector = do
   spaces
   c ← compound
   rest_from 16 (c ∷ []) []
 
 -- a selector, and whether a comma follows
-unfoldable pub next_selector : Parser (Selector × Bool)
+unfoldable pub next_selector : Parser (SelectorView × Bool)
 next_selector = do
   s ← selector
   t ← peek
   if is_mark 44 t then (advance >> pure (s, true)) else pure (s, false)
 
 -- The number bounds the turns, and each turn takes a token.
-unfoldable pub selectors_from : ℕ → List Selector → Parser (List Selector)
+unfoldable pub selectors_from : ℕ → List SelectorView → Parser (List SelectorView)
 selectors_from zero found = refuse
 selectors_from (suc n) found = do
   s ← next_selector
   if s.1 then selectors_from n (found ++ s.0 ∷ []) else pure (found ++ s.0 ∷ [])
 
-unfoldable pub selectors : Parser (List Selector)
+unfoldable pub selectors : Parser (List SelectorView)
 selectors = λ i. selectors_from (length i + 1) [] i
 
 -- what a function that reads ensures: the parser's outcome, unless memory fails
@@ -384,10 +384,10 @@ Owns text (Ok n) = n ≡ text
 Owns text (Err NoMemory) = Unit {0}
 Owns text (Err NoReading) = ⊥
 
-abbrev pub read_of : Outcome (List Selector) → Option (List Selector)
+abbrev pub read_of : Outcome (List SelectorView) → Option (List SelectorView)
 read_of None = None
 read_of (Some p) = Some p.0
 
 -- the selectors that a list of tokens is read as
-abbrev pub selectors_in : Input → Option (List Selector)
+abbrev pub selectors_in : Input → Option (List SelectorView)
 selectors_in i = read_of (selectors i)

@@ -1,6 +1,7 @@
 pub mod Sets
 pub mod Walk
 pub mod Fits
+pub mod Selectors
 pub mod Match
 pub mod Specificity
 pub mod Reader

@@ -12,7 +12,7 @@ use Rattle.selectors.specs.declared.types.Compound.{Compound}
 use Rattle.selectors.specs.declared.types.Plain.{Plain}
 use Rattle.selectors.specs.declared.types.Test.{Test}
 use Rattle.selectors.specs.declared.types.Test.TheVariants as test
-use Rattle.selectors.specs.declared.types.Selector.{Selector}
+use Rattle.selectors.specs.Selectors.{SelectorView}
 
 abbrev pub Tree : Type 0
 Tree = List Node
@@ -35,7 +35,7 @@ fits_part dom n None = false
 fits_part dom n (Some c) = fits_compound dom n c
 
 -- whether a node fits the k-th compound
-unfoldable pub fits : Tree → Selector → ℕ → ℕ → Bool
+unfoldable pub fits : Tree → SelectorView → ℕ → ℕ → Bool
 fits dom s k n = fits_part dom n (slice_get s.parts k)
 
 -- the left node and the right one of a join
@@ -50,11 +50,11 @@ StandBy dom None m n = ⊥
 StandBy dom (Some j) m n = Stands dom j m n
 
 -- there are nodes for the compounds up to the k-th, each fits, neighbours stand by their join, and the last is n
-abbrev pub Reaches : Tree → Selector → ℕ → ℕ → Type 0
+abbrev pub Reaches : Tree → SelectorView → ℕ → ℕ → Type 0
 Reaches dom s zero n = fits dom s 0 n ≡ true
 Reaches dom s (suc k) n = (fits dom s (suc k) n ≡ true) × ((m : ℕ) × StandBy dom (slice_get s.joins k) m n × Reaches dom s k m)
 
-abbrev pub Matches : Tree → Selector → ℕ → Type 0
+abbrev pub Matches : Tree → SelectorView → ℕ → Type 0
 Matches dom s n = Reaches dom s (length s.joins) n
 
 abbrev pub is_join : Join → Join → Bool
@@ -65,10 +65,5 @@ is_join Later Later = true
 is_join _ _ = false
 
 -- whether this join comes after the k-th compound
-unfoldable pub joins_by : Selector → Join → ℕ → Bool
+unfoldable pub joins_by : SelectorView → Join → ℕ → Bool
 joins_by s join k = option_map_or (is_join join) (slice_get s.joins k) false
-
--- one to sixteen compounds, with one join fewer
-pub record IsSelector (s : Selector) : Type 0 where
-  pub few : length s.parts ≤ 16
-  pub count : length s.parts ≡ length s.joins + 1

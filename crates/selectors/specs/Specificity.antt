@@ -6,7 +6,7 @@ use Rattle.selectors.specs.declared.types.Test.{Test}
 use Rattle.selectors.specs.declared.types.Test.TheVariants as test
 use Rattle.selectors.specs.declared.types.Plain.{Plain}
 use Rattle.selectors.specs.declared.types.Compound.{Compound}
-use Rattle.selectors.specs.declared.types.Selector.{Selector}
+use Rattle.selectors.specs.Selectors.{SelectorView}
 
 abbrev pub is_id : Test → Bool
 is_id (test.Id v) = true
@@ -48,5 +48,5 @@ abbrev pub is_pseudo : Pseudo → Bool
 is_pseudo pseudo.Element = false
 is_pseudo _ = true
 
-abbrev pub specificity_of : Selector → Counts
+abbrev pub specificity_of : SelectorView → Counts
 specificity_of s = plus (of_parts s.parts) (0, 0, one_if (is_pseudo s.pseudo))

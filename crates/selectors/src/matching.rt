@@ -1,7 +1,7 @@
 //! Whether a selector matches a node: one pass from the node to the root, over sets of compounds.
 
 ghost use Rattle.std.specs.Prelude.{◌≡◌, ◌<◌, ◌≤◌, ◌+◌, ◌&&◌, ◌↔◌, ℕ, suc, true, length, option_map, Some, None, IsTrue, IfNone, IfSome};
-ghost use Rattle.selectors.specs.Match.{Matches, IsSelector, fits, joins_by, parent_of};
+ghost use Rattle.selectors.specs.Match.{Matches, fits, joins_by, parent_of};
 ghost use Rattle.selectors.specs.Sets as sets;
 ghost use Rattle.selectors.specs.Walk.{prev_element};
 
@@ -18,7 +18,7 @@ fn fits(selector: &Selector, at: usize, dom: &Dom, node: NodeId) -> bool
     requires node { node.0 < length dom.now }
     ensures { result ≡ fits dom.now selector.now at node.0 }
 {
-    match selector.parts.as_slice().get(at) {
+    match selector.parts().get(at) {
         Some(compound) => fits_compound(dom, node, compound),
         None => false,
     }
@@ -28,7 +28,7 @@ fn fits(selector: &Selector, at: usize, dom: &Dom, node: NodeId) -> bool
 fn joins_by(selector: &Selector, join: Join, at: usize) -> bool
     ensures { result ≡ joins_by selector.now join at }
 {
-    match (selector.joins.as_slice().get(at), join) {
+    match (selector.joins().get(at), join) {
         (Some(Join::Child), Join::Child) => true,
         (Some(Join::Inside), Join::Inside) => true,
         (Some(Join::Next), Join::Next) => true,
@@ -39,19 +39,17 @@ fn joins_by(selector: &Selector, join: Join, at: usize) -> bool
 
 /// The number of compounds.
 fn count(selector: &Selector) -> usize
-    requires { IsSelector selector.now }
     ensures count { result ≡ length selector.now.parts }
     ensures few { result ≤ 16 }
     ensures joins { result ≡ length selector.now.joins + 1 }
 {
-    selector.parts.as_slice().len()
+    selector.parts().len()
 }
 
 /// The wanted compounds that a node fits.
 #[tactic(auto, using(crate::proofs::SetLemmas::has_none))]
 fn fitting(selector: &Selector, dom: &Dom, node: NodeId, wanted: u16) -> u16
-    requires selector { IsSelector selector.now }
-    requires node { node.0 < length dom.now }
+    requires { node.0 < length dom.now }
     ensures { (k : ℕ) → sets.has result k ≡ (sets.has wanted k && fits dom.now selector.now k node.0) }
 {
     let mut found = 0;
@@ -66,7 +64,6 @@ fn fitting(selector: &Selector, dom: &Dom, node: NodeId, wanted: u16) -> u16
 /// The compounds that stand before a found one by this join.
 #[tactic(auto, using(crate::proofs::SetLemmas::has_none))]
 fn before(selector: &Selector, join: Join, found: u16) -> u16
-    requires { IsSelector selector.now }
     ensures { (k : ℕ) → sets.has result k ≡ (joins_by selector.now join k && sets.has found (suc k)) }
 {
     let mut wanted = 0;
@@ -101,8 +98,7 @@ fn wanted_prev(dom: &Dom, node: NodeId, wanted: u16) -> Option<NodeId>
 /// of n siblings costs at most n steps a node. `:nth-child` and its kin read places that the document
 /// keeps; `:first-of-type` and `:last-of-type` go to the nearest sibling of the type.
 pub fn matches(dom: &Dom, node: NodeId, selector: &Selector) -> bool
-    requires node { node.0 < length dom.now }
-    requires selector { IsSelector selector.now }
+    requires { node.0 < length dom.now }
     ensures { IsTrue result ↔ Matches dom.now selector.now node.0 }
 {
     let mut here = with(0, count(selector) - 1);

@@ -126,12 +126,47 @@ pub enum Join {
     Later,
 }
 
-/// One to sixteen compounds, with one join fewer, and a pseudo-element or none.
+/// One to sixteen compounds, with one join fewer, and a pseudo-element or none. Contracts see these three.
 #[derive(Drop)]
 pub struct Selector {
-    pub parts: Items<Compound>,
-    pub joins: Items<Join>,
-    pub pseudo: Pseudo,
+    pub(crate) parts: Items<Compound>,
+    pub(crate) joins: Items<Join>,
+    pub(crate) pseudo: Pseudo,
+}
+
+impl Model for Selector {
+    ghost use Rattle.selectors.specs.Selectors.{SelectorView, IsSelector};
+
+    ghost Value = { SelectorView };
+
+    ghost view = { λ s. record { parts = s.parts; joins = s.joins; pseudo = s.pseudo } };
+
+    ghost invariant = { λ s. IsSelector (record { parts = s.parts; joins = s.joins; pseudo = s.pseudo }) };
+}
+
+impl Selector {
+    /// The compounds, from left to right.
+    pub fn parts(&self) -> &[Compound]
+        ensures parts { result.now ≡ self.now.parts }
+        ensures few { length result.now ≤ 16 }
+        ensures joins { length result.now ≡ length self.now.joins + 1 }
+    {
+        self.parts.as_slice()
+    }
+
+    /// The combinators between the compounds.
+    pub fn joins(&self) -> &[Join]
+        ensures { result.now ≡ self.now.joins }
+    {
+        self.joins.as_slice()
+    }
+}
+
+/// The pseudo-element that a selector names, or the element itself. It takes no memory.
+pub fn pseudo(s: &Selector) -> Pseudo
+    ensures { result ≡ s.now.pseudo }
+{
+    s.pseudo
 }
 
 /// The selectors of a list.

@@ -20,7 +20,7 @@ path-init c =
     let last : c.count.result - 1 ≡ length c.args.selector.now.joins = omega arith in
     let is : has c.with-here.result (length c.args.selector.now.joins) ≡ true = subst (λ k. has c.with-here.result k ≡ true) last c.with-here.ensures.same in
     record {
-      within = c.requires.node;
+      within = c.requires;
       sound = started c.args.dom.now c.args.selector.now (has c.with-here.result) (by_joins (has 0) (has 0) nothing (has 0)) (length c.args.selector.now.joins) c.args.node.0 (λ k other. c.with-here.ensures.other k (λ e. other (e ∙ last)) ∙ has_none k) no_joins;
       complete = starts c.args.dom.now c.args.selector.now (has c.with-here.result) (by_joins (has 0) (has 0) nothing (has 0)) (length c.args.selector.now.joins) c.args.node.0 is;
     }
