@@ -1,6 +1,6 @@
 -- The text of an argument, a token at a time.
-use Rattle.std.proofs.Common.{◌≡◌, ℕ, true, false, List, [], ◌∷◌, ◌++◌, refl, ap, sym, ◌∙◌, append_assoc, append-nil}
-use Rattle.std.specs.Prelude.{Option, Some, None}
+use Rattle.std.proofs.Common.{◌≡◌, ℕ, true, false, List, [], ◌∷◌, ◌++◌, refl, ap, sym, append_assoc, append-nil}
+use Rattle.std.specs.Prelude.{Some, None}
 use Rattle.css_tok.specs.Tokens.{Item}
 use Rattle.selectors.specs.Grammar.{text_to, with_text, is_mark, Outcome}
 

@@ -1,6 +1,6 @@
 -- A turn of the loops of the grammar.
-use Rattle.std.proofs.Common.{◌≡◌, ℕ, suc, Bool, true, false, List, [], ◌∷◌, ◌++◌, refl}
-use Rattle.std.specs.Prelude.{Option, Some, None}
+use Rattle.std.proofs.Common.{◌≡◌, ℕ, suc, true, false, List, [], ◌∷◌, ◌++◌}
+use Rattle.std.specs.Prelude.{Some, None}
 use Rattle.bk_num.specs.declared.values.Pseudo.{Pseudo}
 use Rattle.selectors.specs.declared.types.Join.{Join}
 use Rattle.selectors.specs.declared.types.Compound.{Compound}

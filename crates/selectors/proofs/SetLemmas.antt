@@ -1,5 +1,4 @@
-use Rattle.std.proofs.Common.{◌≡◌, ℕ, suc, ◌<◌, ◌≤◌, Bool, true, false, ◌||◌, ◌&&◌, eqb, ltb, max, sym, ◌∙◌, arith, ◌^◌, ◌*◌, ◌%◌, ◌≢◌, w16, inl, inr, length, Option, Some, None}
-use Rattle.std.specs.Option.{IfSome}
+use Rattle.std.proofs.Common.{◌≡◌, ℕ, suc, ◌<◌, ◌≤◌, Bool, true, false, ◌||◌, ◌&&◌, eqb, ltb, max, sym, ◌∙◌, arith, ◌^◌, ◌*◌, ◌%◌, ◌≢◌, w16, inl, inr, length}
 use Rattle.std.specs.Prelude.{bit_or}
 use Rattle.std.specs.Int.{bit_at}
 use Rattle.std.proofs.lemmas.Bool.Decides.{nat_tests}
@@ -50,4 +49,3 @@ bounded_suc f g n is past k = elim (cases_lt (suc k) n) [
   | inl within ↦ is k ∙ rw (lt-ltb (suc k) n within)
   | inr above ↦ is k ∙ rw (le-ltb (suc k) n above) (sym (past k above))
 ]
-

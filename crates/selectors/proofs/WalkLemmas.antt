@@ -1,10 +1,10 @@
 -- The numbers of the nodes beside a node.
-use Rattle.std.proofs.Common.{◌≡◌, ℕ, zero, suc, ◌+◌, ◌-◌, ◌<◌, ◌≤◌, Bool, true, false, cond, List, [], ◌∷◌, take, drop, length, refl, ap, sym, ◌∙◌, subst, arith, inl, inr, eqb, length-drop, length-take, Option, Some, None}
+use Rattle.std.proofs.Common.{◌≡◌, ℕ, zero, suc, ◌+◌, ◌-◌, ◌<◌, Bool, false, List, [], ◌∷◌, take, drop, length, refl, ap, sym, ◌∙◌, subst, arith, inl, inr, length-drop, Option, Some, None}
 use Rattle.std.specs.Prelude.{option_map, IfSome, slice_get}
-use Rattle.std.proofs.lemmas.Bool.{cases_Bool, cases_lt}
+use Rattle.std.proofs.lemmas.Bool.{cases_Bool}
 use Rattle.std.proofs.lemmas.Option.{slice_get-map}
 use Rattle.bk_num.specs.declared.ids.NodeId.{NodeId}
-use Rattle.dom.specs.Nodes.{Node, is_at, first_from, last_from, parents_of, parent_at, flat, first_child_of, next_under, prev_under, next_of, prev_of, IsTree, HasPlace}
+use Rattle.dom.specs.Nodes.{Node, is_at, first_from, parents_of, parent_at, flat, first_child_of, next_under, prev_under, next_of, prev_of, IsTree, HasPlace}
 use Rattle.dom.proofs.DomLemmas.{last-is}
 use Rattle.selectors.specs.Walk.{chain, first_such, beside, siblings_before, prev_element}
 use Rattle.selectors.specs.declared.walk.Way.TheVariants as way

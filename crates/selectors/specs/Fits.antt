@@ -1,11 +1,11 @@
 -- Whether an element fits a compound (Selectors 3, 6).
-use Rattle.std.specs.Prelude.{◌≡◌, ℕ, zero, suc, ◌+◌, ◌-◌, ◌<◌, Bool, true, false, not, ◌&&◌, ◌||◌, if◌then◌else◌, ◌==◌, ℤ, pos, ◌-ℤ◌, List, [], ◌∷◌, ◌++◌, Option, None, Some, take, drop, length, slice_get, slice_index, nat_eq, nat_le, int_lt, codes, is_some}
+use Rattle.std.specs.Prelude.{ℕ, ◌+◌, Bool, true, false, not, ◌&&◌, ◌||◌, if◌then◌else◌, ◌==◌, ℤ, pos, ◌-ℤ◌, List, [], ◌∷◌, Option, None, Some, length, slice_index, nat_eq, int_lt, codes, is_some}
 use Rattle.std.specs.Ordering.{int_eq}
 use Rattle.std.specs.Int.{int_rem_euclid}
 use Rattle.std.specs.List.{list_any, list_all, starts_with, ends_with}
 use Rattle.std.specs.Str.{bytes_eq}
 use Rattle.css_tok.specs.Lengths.{is_blank}
-use Rattle.dom.specs.Nodes.{Node, parents_of, element_parents_of, parent_at, first_child_of, next_of, prev_of, is_element_at, element_count, elements_before_of, name_at, text_at, attribute_at}
+use Rattle.dom.specs.Nodes.{Node, parents_of, element_parents_of, parent_at, is_element_at, element_count, elements_before_of, name_at, attribute_at}
 use Rattle.selectors.specs.Walk.{first_such, siblings_before, siblings_after, children, name_is, same_type, is_content, has_text}
 use Rattle.selectors.specs.declared.types.AttrTest.{AttrTest}
 use Rattle.selectors.specs.declared.types.AttrTest.TheVariants as by

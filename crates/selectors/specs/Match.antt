@@ -1,17 +1,12 @@
 -- What it is for a selector to match a node (Selectors 3, 8), and how specific it is (Selectors 3, 9).
-use Rattle.std.specs.Prelude.{◌≡◌, ℕ, zero, suc, ◌+◌, ◌<◌, ◌≤◌, Bool, true, false, ◌==◌, List, [], ◌∷◌, Option, Some, None, slice_get, length}
+use Rattle.std.specs.Prelude.{◌≡◌, ℕ, zero, suc, Bool, true, false, List, Option, Some, None, slice_get, length}
 use Rattle.std.specs.Option.{option_map_or}
-use Rattle.bk_num.specs.declared.values.Pseudo.{Pseudo}
-use Rattle.bk_num.specs.declared.values.Pseudo.TheVariants as pseudo
 use Rattle.dom.specs.Nodes.{Node, parents_of, parent_at}
 use Rattle.selectors.specs.Walk.{prev_element}
 use Rattle.selectors.specs.Fits.{fits_compound}
 use Rattle.selectors.specs.declared.types.Join.{Join}
 use Rattle.selectors.specs.declared.types.Join.TheVariants.{Child, Inside, Next, Later}
 use Rattle.selectors.specs.declared.types.Compound.{Compound}
-use Rattle.selectors.specs.declared.types.Plain.{Plain}
-use Rattle.selectors.specs.declared.types.Test.{Test}
-use Rattle.selectors.specs.declared.types.Test.TheVariants as test
 use Rattle.selectors.specs.Selectors.{SelectorView}
 
 abbrev pub Tree : Type 0

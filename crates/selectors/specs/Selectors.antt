@@ -1,5 +1,5 @@
 -- What contracts see of a selector.
-use Rattle.std.specs.Prelude.{◌≡◌, ℕ, ◌+◌, ◌≤◌, List, length}
+use Rattle.std.specs.Prelude.{◌≡◌, ◌+◌, ◌≤◌, List, length}
 use Rattle.bk_num.specs.declared.values.Pseudo.{Pseudo}
 use Rattle.selectors.specs.declared.types.Join.{Join}
 use Rattle.selectors.specs.declared.types.Compound.{Compound}

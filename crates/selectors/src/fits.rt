@@ -239,8 +239,7 @@ fn fits_plain(dom: &Dom, node: NodeId, plain: &Plain) -> bool
     requires { node.0 < length dom.now }
     ensures { result ≡ spec.fits_plain dom.now node.0 plain.now }
 {
-    has_name(dom, node, &plain.name)
-        && passes_all(dom, node, plain.tests.as_slice())
+    has_name(dom, node, &plain.name) && passes_all(dom, node, plain.tests.as_slice())
 }
 
 /// Whether an element fits what a compound asks for, and nothing that it excludes.

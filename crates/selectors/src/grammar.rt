@@ -368,11 +368,7 @@ fn nth(alloc: Global, reader: &mut Reader<'_, '_>) -> Result<Test, Unread>
     }
 }
 
-fn is_function(
-    token: Option<CssToken<'_>>,
-    second: Option<CssToken<'_>>,
-    name: &str,
-) -> bool
+fn is_function(token: Option<CssToken<'_>>, second: Option<CssToken<'_>>, name: &str) -> bool
     ensures { result ≡ spec.is_function (option_map item_in token.entry) (option_map item_in second.entry) name.now }
 {
     is_mark(b':', token) && is_func(second) && is_named(second, name)

@@ -2,11 +2,13 @@
 #![tactic(auto)]
 
 pub mod fits;
-pub mod matching;
 pub mod grammar;
+pub mod matching;
 pub mod nth;
 pub mod reader;
 pub mod sets;
 pub mod specificity;
+#[cfg(test)]
+mod tests;
 pub mod types;
 pub mod walk;

@@ -5,9 +5,9 @@ ghost use Rattle.std.specs.List.{prefix_len};
 ghost use Rattle.css_tok.specs.Tokens.{item_in, tokens_of};
 ghost use Rattle.selectors.specs.Reader as spec;
 
+use bk_num::name::NoMem;
 use css_tok::front::CssKind;
 use css_tok::tokens::{CssToken, CssTokens};
-use bk_num::name::NoMem;
 use std::alloc::Global;
 use std::marker::Model;
 

@@ -142,7 +142,15 @@ pub(crate) fn has_content(dom: &Dom, node: NodeId) -> bool
     requires { node.0 < length dom.now }
     ensures { result ≡ is_some (spec.first_such (spec.is_content dom.now) (spec.children dom.now node.0)) }
 {
-    first_such(dom, Way::After, first_child(dom, node), dom.len(), Ask::Content, node).is_some()
+    first_such(
+        dom,
+        Way::After,
+        first_child(dom, node),
+        dom.len(),
+        Ask::Content,
+        node,
+    )
+    .is_some()
 }
 
 /// The element sibling just before a node, which has a lesser number.

@@ -1,4 +1,4 @@
-use Rattle.std.proofs.Common.{◌≡◌, ◌∙◌, ◌||◌, ap, sym, true, false, ◌+◌, drop}
+use Rattle.std.proofs.Common.{◌∙◌, ap, sym, ◌+◌, drop}
 use Rattle.selectors.specs.Fits.{has_word_from}
 use Rattle.selectors.proofs.TextLemmas.{word_step, passed, ended}
 use Rattle.selectors.proofs.fits.has_word_in.Goals as goal

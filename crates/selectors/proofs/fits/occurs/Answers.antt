@@ -1,4 +1,4 @@
-use Rattle.std.proofs.Common.{◌≡◌, ◌∙◌, sym}
+use Rattle.std.proofs.Common.{◌∙◌, sym}
 use Rattle.selectors.proofs.TextLemmas.{occurs_step, passed, ended}
 use Rattle.selectors.proofs.fits.occurs.Goals as goal
 

@@ -1,7 +1,7 @@
-use Rattle.std.proofs.Common.{◌≡◌, ◌∙◌, ap, sym}
-use Rattle.std.specs.Prelude.{string_bytes, Some, Option}
+use Rattle.std.proofs.Common.{◌∙◌, ap, sym}
+use Rattle.std.specs.Prelude.{string_bytes, Some}
 use Rattle.css_tok.specs.Tokens.{item_in}
-use Rattle.selectors.specs.Grammar.{text_to, with_text, Input}
+use Rattle.selectors.specs.Grammar.{text_to, with_text}
 use Rattle.selectors.proofs.GrammarLemmas.{text_stops, text_goes, text_none}
 use Rattle.selectors.proofs.grammar.text_to.Goals as goal
 

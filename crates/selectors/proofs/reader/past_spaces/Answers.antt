@@ -1,7 +1,6 @@
-use Rattle.std.proofs.Common.{◌≡◌, ◌∙◌, ap, map, drop, sym}
+use Rattle.std.proofs.Common.{◌∙◌, ap, map, drop}
 use Rattle.std.proofs.lemmas.List.{take_rest}
 use Rattle.css_tok.specs.Tokens.{item_in}
-use Rattle.css_tok.specs.declared.tokens.CssToken.{CssToken}
 use Rattle.selectors.proofs.ReadLemmas.{spaces_are}
 use Rattle.selectors.proofs.reader.past_spaces.Goals as goal
 

@@ -1,6 +1,6 @@
-use Rattle.std.proofs.Common.{◌≡◌, ◌<◌, length, arith}
+use Rattle.std.proofs.Common.{◌≡◌, length, arith}
 use Rattle.std.proofs.lemmas.List.{length-map}
-use Rattle.dom.specs.Nodes.{Node, parents_of, next_of, prev_of}
+use Rattle.dom.specs.Nodes.{Node, parents_of}
 use Rattle.selectors.proofs.WalkLemmas.{all_within, next_in, prev_in}
 use Rattle.selectors.proofs.walk.beside.Goals as goal
 

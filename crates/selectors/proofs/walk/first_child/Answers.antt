@@ -1,4 +1,4 @@
-use Rattle.std.proofs.Common.{◌≡◌, ◌<◌, length, arith}
+use Rattle.std.proofs.Common.{◌≡◌, length, arith}
 use Rattle.std.proofs.lemmas.List.{length-map}
 use Rattle.dom.specs.Nodes.{Node, parents_of}
 use Rattle.selectors.proofs.WalkLemmas.{all_within, child_in}
