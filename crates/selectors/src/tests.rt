@@ -2,6 +2,7 @@
 
 use crate::grammar::read_selectors;
 use crate::matching::matches;
+use crate::specificity::specificity;
 use crate::types::pseudo;
 use crate::walk::is_element;
 use bk_num::ids::NodeId;
@@ -279,6 +280,27 @@ fn a_selector_names_its_pseudo_element(rt: HostRuntime) -> Result<(), Fail> {
                 .as_slice()
                 .first()
                 .map(|selector| pseudo(selector));
+        }
+        assert_eq!(rt; got, Some(want), "of {text}");
+    }
+    Ok(())
+}
+
+#[test]
+fn specificity_counts_ids_classes_and_types(rt: HostRuntime) -> Result<(), Fail> {
+    for (text, want) in [
+        ("*", (0, 0, 0)),
+        ("li", (0, 0, 1)),
+        ("ul li::after", (0, 0, 3)),
+        ("#a .b li:not(.c)::before", (1, 2, 2)),
+        ("*:not(#a)[b]:root", (1, 2, 0)),
+        (":not(a):not(*)", (0, 0, 1)),
+    ] {
+        let mut got = None;
+        if let Some(list) = read_selectors(rt.alloc(), text)? {
+            if let Some(selector) = list.items.as_slice().first() {
+                got = Some(specificity(selector));
+            }
         }
         assert_eq!(rt; got, Some(want), "of {text}");
     }
