@@ -1,3 +1,4 @@
+-- Tokens as contracts see them.
 use Rattle.std.specs.Prelude.{List, map}
 use Rattle.css_tok.specs.declared.tokens.CssToken.{CssToken}
 use Rattle.css_tok.specs.Tokens.{Item, item_in}
