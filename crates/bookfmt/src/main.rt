@@ -24,12 +24,19 @@ fn words(rt: &(impl Env + AllocGlobal)) -> Result<Vec<String>, Outcome> {
             Err(_) => Err(Outcome::NoMemory),
         },
         Err(e) if e.kind() == ErrorKind::OutOfMemory => Err(Outcome::NoMemory),
-        Err(_) => Err(Outcome::NotRead { kind: WordsFault::Refused }),
+        Err(_) => Err(Outcome::NotRead {
+            kind: WordsFault::Refused,
+        }),
     }
 }
 
 /// Formats what the words ask for, with a counter of its own.
-fn format<R: Env + Files + AllocGlobal, O: Write + Drop, E: Write + Drop, L: Ledger>(rt: &R, out: O, err: E, token: Blank) -> Outcome
+fn format<R: Env + Files + AllocGlobal, O: Write + Drop, E: Write + Drop, L: Ledger>(
+    rt: &R,
+    out: O,
+    err: E,
+    token: Blank,
+) -> Outcome
     requires name { token.name ≡ L.name }
     requires parts { token.parts ≡ L.parts }
     requires some { 0 < L.parts }
@@ -39,7 +46,14 @@ fn format<R: Env + Files + AllocGlobal, O: Write + Drop, E: Write + Drop, L: Led
     match words(rt) {
         Ok(words) => {
             let mut shelf = DirShelf::new(rt.alloc(), rt);
-            run(rt.alloc(), &words, &mut shelf, &mut StdSink::new(out), &mut err, &mut steps)
+            run(
+                rt.alloc(),
+                &words,
+                &mut shelf,
+                &mut StdSink::new(out),
+                &mut err,
+                &mut steps,
+            )
         }
         Err(outcome) => {
             let _ = put_message(&mut err, &outcome);

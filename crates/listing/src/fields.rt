@@ -4,11 +4,10 @@ ghost use Rattle.std.specs.Prelude.{◌≡◌, ℕ, ◌++◌, OnOk, ◌<◌};
 ghost use Rattle.std.specs.Char.{digit_char};
 ghost use Rattle.listing.specs.Records.{escape, quoted, field, word, string_field, hex_pair, color_field, style_name, face_field};
 
+use crate::records::FaceLabel;
 use bk_num::values::Color;
 use itoa::Buffer;
 use std::alloc::AllocError;
-
-use crate::records::FaceLabel;
 
 /// Appends a space and a number.
 #[tactic(auto, unfolding(crate::specs::Records::field))]

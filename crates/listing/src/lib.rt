@@ -3,3 +3,5 @@
 
 mod fields;
 pub mod records;
+#[cfg(test)]
+mod tests;

@@ -3,10 +3,9 @@
 ghost use Rattle.std.specs.Prelude.{◌≡◌, ℕ, ◌++◌, OnOk, ℤ, pos};
 ghost use Rattle.listing.specs.Records.{book_record, page_record, line_record, text_record, end_record, face_field, side_name, kind_name};
 
+use crate::fields::{push_color, push_face, push_field, push_string, push_word};
 use bk_num::values::{Color, Side};
 use std::alloc::AllocError;
-
-use crate::fields::{push_color, push_face, push_field, push_string, push_word};
 
 /// What stands on a page.
 #[derive(Clone, Copy, Debug, PartialEq, Eq)]
