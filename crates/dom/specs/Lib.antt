@@ -5,3 +5,4 @@ pub mod Order
 pub mod DomFields
 pub mod Links
 pub mod Answers
+pub mod Texts

@@ -1,0 +1,7 @@
+//! The paragraphs of a document of the form that is built.
+#![tactic(auto)]
+
+mod form;
+mod texts;
+
+pub use texts::read_paragraphs;
