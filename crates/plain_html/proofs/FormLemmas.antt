@@ -1,5 +1,7 @@
 -- One node more.
-use Rattle.std.proofs.Common.{◌≡◌, ◌⊎◌, inl, inr, ℕ, zero, suc, ◌+◌, ◌-◌, ◌<◌, ◌≤◌, Bool, true, false, not, cond, List, [], ◌∷◌, ◌++◌, Option, None, Some, length, take, slice_get, get_or, sum_by, count_by, map, refl, ap, sym, ◌∙◌, arith, rules, subst, append_assoc, append-nil, nat_lt, ◌&&◌, All}
+use Rattle.std.proofs.Common.{◌≡◌, inl, inr, ℕ, zero, suc, ◌+◌, ◌-◌, ◌<◌, ◌≤◌, Bool, true, false, not, cond, List, [], ◌∷◌, ◌++◌, Option, None, Some, length, take, slice_get, get_or, count_by, refl, ap, sym, ◌∙◌, arith, subst, append_assoc, All, if◌then◌else◌, drop, add-one, codes}
+use Rattle.std.proofs.Math.Seq.{drop-cons}
+use Rattle.std.proofs.lemmas.List.Sums.{sum_by-append}
 use Rattle.std.specs.List.{list_all}
 use Rattle.std.proofs.lemmas.Bool.{cases_Bool, both_ways, and_parts}
 use Rattle.std.proofs.lemmas.Bool.Decides.{nat_tests}
@@ -7,7 +9,7 @@ use Rattle.dom.specs.Nodes.{Node, name_at, text_at, part_of, text_in}
 use Rattle.dom.specs.Texts.{ascii_len, ascii_of, ascii_in, is_ascii}
 use Rattle.dom.specs.declared.rows.NodeData.{NodeData}
 use Rattle.dom.specs.declared.rows.NodeData.TheVariants.{Element, Text}
-use Rattle.plain_html.specs.Form.{is_blank, is_plain, is_named, above, is_fit, is_unbuilt, is_unbuilt_node, is_unbuilt_text, first_from, first_unbuilt}
+use Rattle.plain_html.specs.Form.{is_blank, is_plain, is_named, above, is_fit, is_unbuilt, is_unbuilt_node, first_from, first_unbuilt}
 use Rattle.plain_html.specs.Texts.{left_of, collapsed, collapsed_after, if_some, texts_in, texts_at, texts_from, paragraph_texts, IsPlainText, ArePlainTexts, ascii_at, ascii_text}
 
 module _ (nodes : List Node) where
@@ -34,3 +36,116 @@ module _ (nodes : List Node) where
 
   pub all-built : first_unbuilt nodes ≡ None → (k : ℕ) → k < length nodes → is_unbuilt nodes k ≡ false
   all-built h k l = none-from (length nodes) 0 h k (omega arith) (omega arith)
+
+-- ---- texts
+
+-- one more character of a text that is collapsed
+pub collapse-step : (spaced : Bool) (bs front : List ℕ) (at : ℕ) → at < length bs → (front ++ left_of spaced (get_or bs at 0)) ++ collapsed_after (is_blank (get_or bs at 0)) (drop (at + 1) bs) ≡ front ++ collapsed_after spaced (drop at bs)
+collapse-step spaced bs front at h = rw (drop-cons bs at 0 h, add-one, append_assoc) refl
+
+-- a text in a `p` of a tree that is built has plain characters alone
+pub fit-at : (nodes : List Node) (k : ℕ) (t : List ℕ) → is_unbuilt nodes k ≡ false → text_at nodes k ≡ Some t → is_named nodes (codes "p") (above nodes k) ≡ true → list_all is_plain t ≡ true
+unfolding is_unbuilt
+fit-at nodes k t u h e = by (slice_get nodes k) h u
+  where
+    fits : (bytes : List ℕ) → not (is_fit nodes (above nodes k) bytes) ≡ false → list_all is_plain bytes ≡ true
+    fits bytes g = by (list_all is_plain bytes) refl (rw e at g)
+      where
+        by : (b : Bool) → list_all is_plain bytes ≡ b → not (list_all is_plain bytes) ≡ false → list_all is_plain bytes ≡ true
+        by true s f = s
+        by false s f = let z : not false ≡ false = rw s at f in cc
+
+    of : (what : NodeData) → text_in what ≡ Some t → is_unbuilt_node nodes k (Rattle.dom.specs.Nodes.name_in what) (text_in what) ≡ false → list_all is_plain t ≡ true
+    of (Element name attrs) g f = cc
+    of (Text bytes) g f = let s : bytes ≡ t = cc in subst (λ (x : List ℕ). list_all is_plain x ≡ true) s (fits bytes f)
+
+    by : (o : Option Node) → part_of text_in o ≡ Some t → is_unbuilt_node nodes k (part_of Rattle.dom.specs.Nodes.name_in o) (part_of text_in o) ≡ false → list_all is_plain t ≡ true
+    by None g f = cc
+    by (Some n) g f = of n.what g f
+
+all-cons : (p : ℕ → Bool) (b : ℕ) (bs : List ℕ) → list_all p (b ∷ bs) ≡ true → (p b ≡ true) × (list_all p bs ≡ true)
+all-cons p b bs h = and_parts (p b) (list_all p bs) h
+
+count-cons : (p : ℕ → Bool) (b : ℕ) (bs : List ℕ) → count_by p (b ∷ bs) ≡ count_by p (b ∷ []) + count_by p bs
+count-cons p b bs = sum_by-append (λ y. cond (p y) 1 0) (b ∷ []) bs
+
+small : (b : ℕ) → is_plain b ≡ true → is_ascii b ≡ true
+small b h = grind (arith, nat_tests)
+
+pub plain-ascii : (bs : List ℕ) → list_all is_plain bs ≡ true → ascii_len bs ≡ length bs
+plain-ascii [] h = refl
+plain-ascii (b ∷ bs) h =
+    let p = all-cons is_plain b bs h in
+    count-cons is_ascii b bs ∙ rw (small b p.0, plain-ascii bs p.1) (omega arith)
+
+all-nil : {A : Type 0} (P : A → Type 0) → All P []
+all-nil P k d l = absurd (omega arith)
+
+all-more : {A : Type 0} (P : A → Type 0) (x : A) (xs : List A) → P x → All P xs → All P (x ∷ xs)
+all-more P x xs p h zero d l = p
+all-more P x xs p h (suc k) d l = h k d (omega arith)
+
+all-both : {A : Type 0} (P : A → Type 0) (xs ys : List A) → All P xs → All P ys → All P (xs ++ ys)
+all-both P [] ys h g = g
+all-both P (x ∷ xs) ys h g = all-more P x (xs ++ ys) (h 0 x (omega arith)) (all-both P xs ys (λ k d l. h (suc k) d (omega arith)) g)
+
+abbrev IsVisible : ℕ → Type 0
+IsVisible x = (32 ≤ x) × (x ≤ 126)
+
+-- what a plain character leaves is visible or a space
+left-plain : (spaced : Bool) (b : ℕ) (rest : List ℕ) → is_plain b ≡ true → All (λ x. (32 ≤ x) × (x ≤ 126)) rest → All (λ x. (32 ≤ x) × (x ≤ 126)) (left_of spaced b ++ rest)
+left-plain spaced b rest p h = by (is_blank b) spaced refl
+  where
+    visible : is_blank b ≡ false → (32 ≤ b) × (b ≤ 126)
+    visible e = (grind (arith, nat_tests), grind (arith, nat_tests))
+
+    by : (c s : Bool) → is_blank b ≡ c → All (λ x. (32 ≤ x) × (x ≤ 126)) ((if c then (if s then [] else 32 ∷ []) else b ∷ []) ++ rest)
+    by true true e = h
+    by true false e = all-more IsVisible 32 rest (omega arith, omega arith) h
+    by false s e = all-more IsVisible b rest (visible e) h
+
+collapsed-plain : (spaced : Bool) (bs : List ℕ) → list_all is_plain bs ≡ true → All (λ x. (32 ≤ x) × (x ≤ 126)) (collapsed_after spaced bs)
+collapsed-plain spaced [] h = all-nil IsVisible
+collapsed-plain spaced (b ∷ bs) h = let p = all-cons is_plain b bs h in left-plain spaced b (collapsed_after (is_blank b) bs) p.0 (collapsed-plain (is_blank b) bs p.1)
+
+some-plain : (bs : List ℕ) → All (λ x. (32 ≤ x) × (x ≤ 126)) bs → ArePlainTexts (if_some bs)
+some-plain [] h = all-nil IsPlainText
+some-plain (b ∷ bs) h = all-more IsPlainText (b ∷ bs) [] (record { some = omega arith; plain = h }) (all-nil IsPlainText)
+
+at-plain : (nodes : List Node) (k : ℕ) → is_unbuilt nodes k ≡ false → ArePlainTexts (texts_at nodes k)
+unfolding collapsed
+at-plain nodes k u = by (text_at nodes k) (is_named nodes (codes "p") (above nodes k)) refl refl
+  where
+    by : (o : Option (List ℕ)) (b : Bool) → text_at nodes k ≡ o → is_named nodes (codes "p") (above nodes k) ≡ b → ArePlainTexts (texts_in nodes (above nodes k) o)
+    by None b e f = all-nil IsPlainText
+    by (Some t) true e f = rw f (some-plain (collapsed_after true t) (collapsed-plain true t (fit-at nodes k t u e f)))
+    by (Some t) false e f = rw f (all-nil IsPlainText)
+
+from-plain : (nodes : List Node) (n k : ℕ) → ((j : ℕ) → j < k + n → is_unbuilt nodes j ≡ false) → ArePlainTexts (texts_from nodes k n)
+from-plain nodes zero k h = all-nil IsPlainText
+from-plain nodes (suc n) k h = all-both IsPlainText (texts_at nodes k) (texts_from nodes (k + 1) n) (at-plain nodes k (h k (omega arith))) (from-plain nodes n (k + 1) (λ j l. h j (omega arith)))
+
+pub plain-texts : (nodes : List Node) → first_unbuilt nodes ≡ None → ArePlainTexts (paragraph_texts nodes)
+plain-texts nodes h = from-plain nodes (length nodes) 0 (λ j l. all-built nodes h j (omega arith))
+
+-- ---- how many characters
+
+ascii-at : (nodes : List Node) (k : ℕ) (n : Node) → slice_get nodes k ≡ Some n → ascii_at nodes k ≡ ascii_of n.what
+ascii-at nodes k n h = ap (λ o. ascii_text (part_of text_in o)) h ∙ of n.what
+  where
+    of : (what : NodeData) → ascii_text (text_in what) ≡ ascii_of what
+    of (Element name attrs) = refl
+    of (Text bytes) = refl
+
+get-there : {A : Type 0} (xs : List A) (k : ℕ) → k < length xs → (x : A) × (slice_get xs k ≡ Some x) × (take (k + 1) xs ≡ take k xs ++ x ∷ [])
+get-there [] k h = absurd (omega arith)
+get-there (a ∷ xs) zero h = (a, refl, refl)
+get-there (a ∷ xs) (suc k) h = let w = get-there xs k (omega arith) in let s : suc k + 1 ≡ suc (k + 1) = omega arith in (w.0, w.1, ap (λ n. take n (a ∷ xs)) s ∙ ap (λ l. a ∷ l) w.2)
+
+pub ascii-step : (nodes : List Node) (k : ℕ) → k < length nodes → ascii_in (take (k + 1) nodes) ≡ ascii_in (take k nodes) + ascii_at nodes k
+ascii-step nodes k h =
+    let w = get-there nodes k h in
+    ap ascii_in w.2 ∙ sum_by-append (λ (n : Node). ascii_of n.what) (take k nodes) (w.0 ∷ []) ∙ ap (λ m. ascii_in (take k nodes) + m) (one w.0 ∙ sym (ascii-at nodes k w.0 w.1))
+  where
+    one : (n : Node) → ascii_in (n ∷ []) ≡ ascii_of n.what
+    one n = omega arith

@@ -1,5 +1,5 @@
 -- The trees that are built: paragraphs under `html` or `body`, beside a `head` with titles, metas and styles.
-use Rattle.std.specs.Prelude.{ℕ, zero, suc, ◌+◌, Bool, true, false, not, List, [], ◌∷◌, Option, None, Some, is_some, length, nat_le, ◌==◌, ◌&&◌, ◌||◌, if◌then◌else◌, codes}
+use Rattle.std.specs.Prelude.{ℕ, zero, suc, ◌+◌, Bool, true, false, not, List, Option, None, Some, is_some, length, nat_le, ◌==◌, ◌&&◌, ◌||◌, if◌then◌else◌, codes}
 use Rattle.std.specs.List.{list_all}
 use Rattle.std.specs.Str.{bytes_eq}
 use Rattle.dom.specs.Nodes.{Node, parents_of, parent_at, name_at, text_at, attribute_at}
