@@ -5,4 +5,3 @@ pub mod Order
 pub mod DomFields
 pub mod Links
 pub mod Answers
-pub mod Texts

@@ -1,16 +1,14 @@
 -- One node more.
-use Rattle.std.proofs.Common.{◌≡◌, inl, inr, ℕ, zero, suc, ◌+◌, ◌-◌, ◌<◌, ◌≤◌, Bool, true, false, not, cond, List, [], ◌∷◌, ◌++◌, Option, None, Some, length, take, slice_get, get_or, count_by, refl, ap, sym, ◌∙◌, arith, subst, append_assoc, All, if◌then◌else◌, drop, add-one, codes}
+use Rattle.std.proofs.Common.{◌≡◌, inl, inr, ℕ, zero, suc, ◌+◌, ◌-◌, ◌<◌, ◌≤◌, Bool, true, false, not, cond, List, [], ◌∷◌, ◌++◌, Option, None, Some, length, slice_get, get_or, refl, ap, ◌∙◌, arith, subst, append_assoc, All, if◌then◌else◌, drop, add-one, codes}
 use Rattle.std.proofs.Math.Seq.{drop-cons}
-use Rattle.std.proofs.lemmas.List.Sums.{sum_by-append}
 use Rattle.std.specs.List.{list_all}
 use Rattle.std.proofs.lemmas.Bool.{cases_Bool, both_ways, and_parts}
 use Rattle.std.proofs.lemmas.Bool.Decides.{nat_tests}
 use Rattle.dom.specs.Nodes.{Node, name_at, text_at, part_of, text_in}
-use Rattle.dom.specs.Texts.{ascii_len, ascii_of, ascii_in, is_ascii}
 use Rattle.dom.specs.declared.rows.NodeData.{NodeData}
 use Rattle.dom.specs.declared.rows.NodeData.TheVariants.{Element, Text}
 use Rattle.plain_html.specs.Form.{is_blank, is_plain, is_named, above, is_fit, is_unbuilt, is_unbuilt_node, first_from, first_unbuilt}
-use Rattle.plain_html.specs.Texts.{left_of, collapsed, collapsed_after, if_some, texts_in, texts_at, texts_from, paragraph_texts, IsPlainText, ArePlainTexts, ascii_at, ascii_text}
+use Rattle.plain_html.specs.Texts.{left_of, collapsed, collapsed_after, if_some, texts_in, texts_at, texts_from, paragraph_texts, IsPlainText, ArePlainTexts}
 
 module _ (nodes : List Node) where
   pub first-step : (i : ℕ) → i < length nodes → first_from nodes i (length nodes - i) ≡ cond (is_unbuilt nodes i) (Some i) (first_from nodes (i + 1) (length nodes - (i + 1)))
@@ -66,18 +64,6 @@ fit-at nodes k t u h e = by (slice_get nodes k) h u
 all-cons : (p : ℕ → Bool) (b : ℕ) (bs : List ℕ) → list_all p (b ∷ bs) ≡ true → (p b ≡ true) × (list_all p bs ≡ true)
 all-cons p b bs h = and_parts (p b) (list_all p bs) h
 
-count-cons : (p : ℕ → Bool) (b : ℕ) (bs : List ℕ) → count_by p (b ∷ bs) ≡ count_by p (b ∷ []) + count_by p bs
-count-cons p b bs = sum_by-append (λ y. cond (p y) 1 0) (b ∷ []) bs
-
-small : (b : ℕ) → is_plain b ≡ true → is_ascii b ≡ true
-small b h = grind (arith, nat_tests)
-
-pub plain-ascii : (bs : List ℕ) → list_all is_plain bs ≡ true → ascii_len bs ≡ length bs
-plain-ascii [] h = refl
-plain-ascii (b ∷ bs) h =
-    let p = all-cons is_plain b bs h in
-    count-cons is_ascii b bs ∙ rw (small b p.0, plain-ascii bs p.1) (omega arith)
-
 all-nil : {A : Type 0} (P : A → Type 0) → All P []
 all-nil P k d l = absurd (omega arith)
 
@@ -127,25 +113,3 @@ from-plain nodes (suc n) k h = all-both IsPlainText (texts_at nodes k) (texts_fr
 
 pub plain-texts : (nodes : List Node) → first_unbuilt nodes ≡ None → ArePlainTexts (paragraph_texts nodes)
 plain-texts nodes h = from-plain nodes (length nodes) 0 (λ j l. all-built nodes h j (omega arith))
-
--- ---- how many characters
-
-ascii-at : (nodes : List Node) (k : ℕ) (n : Node) → slice_get nodes k ≡ Some n → ascii_at nodes k ≡ ascii_of n.what
-ascii-at nodes k n h = ap (λ o. ascii_text (part_of text_in o)) h ∙ of n.what
-  where
-    of : (what : NodeData) → ascii_text (text_in what) ≡ ascii_of what
-    of (Element name attrs) = refl
-    of (Text bytes) = refl
-
-get-there : {A : Type 0} (xs : List A) (k : ℕ) → k < length xs → (x : A) × (slice_get xs k ≡ Some x) × (take (k + 1) xs ≡ take k xs ++ x ∷ [])
-get-there [] k h = absurd (omega arith)
-get-there (a ∷ xs) zero h = (a, refl, refl)
-get-there (a ∷ xs) (suc k) h = let w = get-there xs k (omega arith) in let s : suc k + 1 ≡ suc (k + 1) = omega arith in (w.0, w.1, ap (λ n. take n (a ∷ xs)) s ∙ ap (λ l. a ∷ l) w.2)
-
-pub ascii-step : (nodes : List Node) (k : ℕ) → k < length nodes → ascii_in (take (k + 1) nodes) ≡ ascii_in (take k nodes) + ascii_at nodes k
-ascii-step nodes k h =
-    let w = get-there nodes k h in
-    ap ascii_in w.2 ∙ sum_by-append (λ (n : Node). ascii_of n.what) (take k nodes) (w.0 ∷ []) ∙ ap (λ m. ascii_in (take k nodes) + m) (one w.0 ∙ sym (ascii-at nodes k w.0 w.1))
-  where
-    one : (n : Node) → ascii_in (n ∷ []) ≡ ascii_of n.what
-    one n = omega arith

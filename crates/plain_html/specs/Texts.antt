@@ -1,7 +1,6 @@
 -- The texts of the paragraphs.
 use Rattle.std.specs.Prelude.{ℕ, zero, suc, ◌+◌, ◌<◌, ◌≤◌, Bool, true, List, [], ◌∷◌, ◌++◌, Option, None, Some, length, if◌then◌else◌, codes, All}
 use Rattle.dom.specs.Nodes.{Node, text_at}
-use Rattle.dom.specs.Texts.{ascii_len}
 use Rattle.plain_html.specs.Form.{is_blank, is_named, above}
 
 -- what a character leaves of itself where white space is collapsed (CSS 2.1, 16.6.1, `normal`), after other white space or the start, or not
@@ -43,11 +42,3 @@ pub record IsPlainText (bytes : List ℕ) : Type 0 where
 
 abbrev pub ArePlainTexts : List (List ℕ) → Type 0
 ArePlainTexts texts = All IsPlainText texts
-
-abbrev pub ascii_text : Option (List ℕ) → ℕ
-ascii_text None = 0
-ascii_text (Some text) = ascii_len text
-
--- how many ASCII characters a node's text has
-abbrev pub ascii_at : List Node → ℕ → ℕ
-ascii_at nodes k = ascii_text (text_at nodes k)

@@ -1,11 +1,10 @@
 //! The texts of the paragraphs.
-ghost use Rattle.std.specs.Prelude.{◌≡◌, ◌++◌, ◌+◌, ◌≤◌, ◌<◌, [], length, map, sum_by, All, IfOk, IfSome, IsTrue, MatchResult, OnOk, None, Some, true, string_bytes, string_len, option_map};
+ghost use Rattle.std.specs.Prelude.{◌≡◌, ◌++◌, ◌+◌, ◌≤◌, ◌<◌, [], length, map, All, IfOk, IfSome, IsTrue, MatchResult, OnOk, None, Some, true, string_bytes, option_map};
 ghost use Rattle.std.specs.List.{list_all};
 ghost use Rattle.dom.specs.Nodes.{text_at};
-ghost use Rattle.dom.specs.Texts.{ascii_in};
 ghost use Rattle.std.specs.Result.{result_err};
 ghost use Rattle.plain_html.specs.Form.{is_blank, is_plain, is_named, above, first_unbuilt};
-ghost use Rattle.plain_html.specs.Texts.{left_of, collapsed, texts_at, texts_in, if_some, paragraph_texts, IsPlainText, ArePlainTexts, ascii_at};
+ghost use Rattle.plain_html.specs.Texts.{left_of, collapsed, texts_at, texts_in, if_some, paragraph_texts, IsPlainText, ArePlainTexts};
 
 use crate::form::{above, first_unbuilt, is_blank, is_named};
 use bk_num::ids::NodeId;
@@ -19,7 +18,6 @@ pub fn read_paragraphs(alloc: Global, dom: &Dom) -> Result<Result<Vec<String>, N
     ensures first { IfOk result (λ r. first_unbuilt dom.now ≡ option_map (λ n. n.0) (result_err r)) }
     ensures plain { IfOk result (λ r. IfOk r (λ v. ArePlainTexts (map (λ t. string_bytes t) v.items))) }
     ensures count { IfOk result (λ r. IfOk r (λ v. length v.items ≤ length dom.now)) }
-    ensures few { IfOk result (λ r. IfOk r (λ v. sum_by (λ t. string_len t) v.items ≤ ascii_in dom.now)) }
 {
     match first_unbuilt(dom) {
         Some(node) => Ok(Err(node)),
@@ -33,7 +31,6 @@ fn texts_of(alloc: Global, dom: &Dom) -> Result<Vec<String>, NoMem>
     ensures texts { IfOk result (λ v. map (λ t. string_bytes t) v.items ≡ paragraph_texts dom.now) }
     ensures plain { IfOk result (λ v. ArePlainTexts (map (λ t. string_bytes t) v.items)) }
     ensures count { IfOk result (λ v. length v.items ≤ length dom.now) }
-    ensures few { IfOk result (λ v. sum_by (λ t. string_len t) v.items ≤ ascii_in dom.now) }
 {
     let mut texts = Vec::new(alloc);
     for index in 0..dom.len() {
@@ -48,7 +45,6 @@ fn push_texts(alloc: Global, texts: &mut Vec<String>, dom: &Dom, node: NodeId) -
     requires built { first_unbuilt dom.now ≡ None }
     ensures texts { OnOk result (map (λ t. string_bytes t) texts.new.items ≡ map (λ t. string_bytes t) texts.old.items ++ texts_at dom.now node.0) }
     ensures count { OnOk result (length texts.new.items ≤ length texts.old.items + 1) }
-    ensures few { OnOk result (sum_by (λ t. string_len t) texts.new.items ≤ sum_by (λ t. string_len t) texts.old.items + ascii_at dom.now node.0) }
 {
     let Some(text) = dom.text(node) else {
         return Ok(());
@@ -64,7 +60,6 @@ fn push_text(alloc: Global, texts: &mut Vec<String>, text: &[u8]) -> Result<(), 
     requires { list_all is_plain text.now ≡ true }
     ensures texts { OnOk result (map (λ t. string_bytes t) texts.new.items ≡ map (λ t. string_bytes t) texts.old.items ++ if_some (collapsed text.now)) }
     ensures count { OnOk result (length texts.new.items ≤ length texts.old.items + 1) }
-    ensures few { OnOk result (sum_by (λ t. string_len t) texts.new.items ≤ sum_by (λ t. string_len t) texts.old.items + length text.now) }
 {
     let text = collapse(alloc, text)?;
     if !text.is_empty() {
@@ -77,8 +72,7 @@ fn push_text(alloc: Global, texts: &mut Vec<String>, text: &[u8]) -> Result<(), 
 #[tactic(auto, unfolding(crate::specs::Texts::collapsed))]
 fn collapse(alloc: Global, content: &[u8]) -> Result<String, NoMem>
     requires { list_all is_plain content.now ≡ true }
-    ensures value { IfOk result (λ t. string_bytes t ≡ collapsed content.now) }
-    ensures shorter { IfOk result (λ t. string_len t ≤ length content.now) }
+    ensures { IfOk result (λ t. string_bytes t ≡ collapsed content.now) }
 {
     let mut text = String::new(alloc);
     let mut spaced = true;

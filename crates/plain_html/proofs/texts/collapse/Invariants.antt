@@ -1,9 +1,6 @@
-use Rattle.std.proofs.Common.{◌≡◌, ◌≤◌, ◌++◌, drop, string_bytes, string_len}
+use Rattle.std.proofs.Common.{◌≡◌, ◌++◌, drop, string_bytes}
 use Rattle.plain_html.specs.Texts.{collapsed, collapsed_after}
 use Rattle.plain_html.proofs.texts.collapse.Given as goal
 
 abbrev pub invariant-loop-b : goal.invariant-loop-b
-invariant-loop-b l = record {
-  goes : string_bytes l.text ++ collapsed_after l.spaced (drop l.b-index l.content) ≡ collapsed l.content;
-  shorter : string_len l.text ≤ l.b-index;
-}
+invariant-loop-b l = string_bytes l.text ++ collapsed_after l.spaced (drop l.b-index l.content) ≡ collapsed l.content
