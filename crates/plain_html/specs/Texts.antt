@@ -1,0 +1,44 @@
+-- The texts of the paragraphs.
+use Rattle.std.specs.Prelude.{ℕ, zero, suc, ◌+◌, ◌<◌, ◌≤◌, Bool, true, List, [], ◌∷◌, ◌++◌, Option, None, Some, length, if◌then◌else◌, codes, All}
+use Rattle.dom.specs.Nodes.{Node, text_at}
+use Rattle.plain_html.specs.Form.{is_blank, is_named, above}
+
+-- what a character leaves of itself where white space is collapsed (CSS 2.1, 16.6.1, `normal`), after other white space or the start, or not
+abbrev pub left_of : Bool → ℕ → List ℕ
+left_of spaced b = if is_blank b then (if spaced then [] else 32 ∷ []) else b ∷ []
+
+abbrev pub collapsed_after : Bool → List ℕ → List ℕ
+collapsed_after spaced [] = []
+collapsed_after spaced (b ∷ bs) = left_of spaced b ++ collapsed_after (is_blank b) bs
+
+-- a text with its white space collapsed
+unfoldable pub collapsed : List ℕ → List ℕ
+collapsed text = collapsed_after true text
+
+abbrev pub if_some : List ℕ → List (List ℕ)
+if_some [] = []
+if_some (b ∷ bs) = (b ∷ bs) ∷ []
+
+abbrev pub texts_in : List Node → Option ℕ → Option (List ℕ) → List (List ℕ)
+texts_in nodes parent None = []
+texts_in nodes parent (Some text) = if is_named nodes (codes "p") parent then if_some (collapsed text) else []
+
+-- what a node gives: a text in a `p`, if a character is left of it
+abbrev pub texts_at : List Node → ℕ → List (List ℕ)
+texts_at nodes k = texts_in nodes (above nodes k) (text_at nodes k)
+
+abbrev pub texts_from : List Node → ℕ → ℕ → List (List ℕ)
+texts_from nodes k zero = []
+texts_from nodes k (suc n) = texts_at nodes k ++ texts_from nodes (k + 1) n
+
+-- the texts of the paragraphs, in the order of their nodes
+abbrev pub paragraph_texts : List Node → List (List ℕ)
+paragraph_texts nodes = texts_from nodes 0 (length nodes)
+
+-- a text that isn't empty, of visible ASCII characters and spaces
+pub record IsPlainText (bytes : List ℕ) : Type 0 where
+  pub some : 0 < length bytes
+  pub plain : All (λ b. (32 ≤ b) × (b ≤ 126)) bytes
+
+abbrev pub ArePlainTexts : List (List ℕ) → Type 0
+ArePlainTexts texts = All IsPlainText texts
