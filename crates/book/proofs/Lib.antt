@@ -1,3 +1,5 @@
+pub mod Complete
+pub mod PlainTexts
 pub mod PutLemmas
 pub mod RequestLemmas
 pub mod Stopping

@@ -1,5 +1,5 @@
 -- How a run stops at a file, and goes on after one.
-use Rattle.std.proofs.Common.{◌≡◌, ◌≢◌, ap, ◌⊎◌, ℕ, ◌≤◌, List, length, nat_lt, nat_eq, true, false, cond, inl, inr, refl, sym, arith, rules, subst, Option, Some, None, Result, Ok, Err, Bool, ◌==◌}
+use Rattle.std.proofs.Common.{◌≡◌, ◌≢◌, ap, ◌⊎◌, ℕ, ◌≤◌, List, length, sum_by, nat_lt, nat_eq, true, false, cond, inl, inr, refl, sym, arith, rules, subst, Option, Some, None, Result, Ok, Err, Bool, ◌==◌}
 use Rattle.std.specs.Str.{is_utf8}
 use Rattle.bk_io.proofs.Reading.{Rose-since}
 use Rattle.bk_io.specs.Shelf.{Told, untold, absent, holds, Faulted}
@@ -8,10 +8,15 @@ use Rattle.bk_text.specs.Texts.{unmarked}
 use Rattle.metrics.specs.Text.{faces_of}
 use Rattle.metrics.specs.Face.{FontFace}
 use Rattle.metrics.specs.declared.fault.MetricsWhy.{MetricsWhy}
-use Rattle.plain_book.specs.Plain.{texts_in}
+use Rattle.dom.specs.Nodes.{Node}
+use Rattle.dom.specs.declared.dom.DomErr.{DomErr}
+use Rattle.dom.specs.declared.dom.DomErr.TheVariants as dom_err
+use Rattle.html_tree.specs.Tree.{tree_of}
+use Rattle.plain_html.specs.Form.{first_unbuilt}
+use Rattle.plain_html.specs.Texts.{paragraph_texts}
 use Rattle.book.specs.Request.{Names, name_of, asked}
-use Rattle.book.specs.Document.{Texts, Document, document_of, with_metrics, with_html, with_paragraphs, with_sheet}
-use Rattle.book.specs.Run.{text_of, StopsAt, Stops, ComesBefore, IsReadBefore, IsUnforeseen, file_stage, texts_expected, HasReadCause, HasCauseAt, HasWordsCause, IsBookFor, IsOfTexts, IsNoPut}
+use Rattle.book.specs.Document.{Texts, Document, document_of, faces_expected, nodes_expected, form_expected}
+use Rattle.book.specs.Run.{text_of, StopsAt, Stops, Ends, Halts, HaltsAt, ComesBefore, IsReadBefore, IsUnforeseen, file_stage, texts_expected, HasReadCause, HasCauseAt, HasWordsCause, IsBookFor, IsOfTexts, IsNoPut}
 use Rattle.book.specs.Answer.{Book}
 use Rattle.book.specs.declared.outcome.WordsFault.{WordsFault}
 use Rattle.book.specs.declared.outcome.FileOf.{FileOf}
@@ -51,27 +56,27 @@ later_text f g untold h = tt
 later_text f g absent h = h
 later_text f g (holds bytes) h = later_cond f (nat_lt 16777216 (length bytes)) _ _ h (later_cond f (is_utf8 bytes) _ _ tt h)
 
-later_sheet : (f : FileOf) (faces : List FontFace) (texts : List (List ℕ)) (sheet : List ℕ) → Later f (with_sheet faces texts sheet)
-unfolding with_sheet
-later_sheet f faces texts sheet = later_cond f (length sheet == 0) _ _ tt tt
+later_faces : (f : FileOf) (read : Result (List FontFace) (ℕ × MetricsWhy)) → Later f (faces_expected read)
+later_faces f (Ok faces) = tt
+later_faces f (Err (line, why)) = tt
 
-later_paragraphs : (f : FileOf) (faces : List FontFace) (texts : Option (List (List ℕ))) (sheet : List ℕ) → Later f (with_paragraphs faces texts sheet)
-unfolding with_paragraphs
-later_paragraphs f faces None sheet = tt
-later_paragraphs f faces (Some texts) sheet = later_sheet f faces texts sheet
+later_nodes : (f : FileOf) (read : Result (List Node) DomErr) → Later f (nodes_expected read)
+later_nodes f (Ok nodes) = tt
+later_nodes f (Err dom_err.Nodes) = tt
+later_nodes f (Err dom_err.Depth) = tt
+later_nodes f (Err dom_err.NoMemory) = tt
 
-later_html : (f : FileOf) (faces : List FontFace) (t : Texts) → Later f (with_html faces t)
-unfolding with_html
-later_html f faces t = later_cond f (nat_lt 65536 (length t.html)) _ _ tt (later_paragraphs f faces (texts_in t.html) t.sheet)
-
-later_metrics : (f : FileOf) (read : Result (List FontFace) (ℕ × MetricsWhy)) (t : Texts) → Later f (with_metrics read t)
-unfolding with_metrics
-later_metrics f (Ok faces) t = later_html f faces t
-later_metrics f (Err (line, why)) t = tt
+later_form : (f : FileOf) (first : Option ℕ) (texts : List (List ℕ)) → Later f (form_expected first texts)
+later_form f None texts = tt
+later_form f (Some n) texts = tt
 
 later_book : (f : FileOf) (t : Texts) → Later f (document_of t)
-unfolding document_of
-later_book f t = later_metrics f (faces_of t.metrics) t
+later_book f t =
+    later_bind f _ _ (later_faces f (faces_of t.metrics)) (λ faces.
+    later_bind f _ _ (later_nodes f (tree_of t.html)) (λ nodes.
+    later_bind f _ _ (later_form f (first_unbuilt nodes) (paragraph_texts nodes)) (λ texts.
+    later_bind f _ _ (later_cond f (length t.sheet == 0) _ _ tt tt) (λ sheet.
+    later_bind f _ _ (later_cond f (nat_lt 33554432 (sum_by length texts)) _ _ tt tt) (λ room. tt)))))
 
 unforeseen_before : (f : FileOf) (p o : Outcome) → IsReadBefore f p → (o ≡ out.ReadFault f) ⊎ (o ≡ out.NoMemory) → ComesBefore o p
 unforeseen_before f p o l u = elim u [ inl e ↦ rw e l | inr e ↦ rw e tt ]
@@ -113,51 +118,58 @@ has_cause (given n) names f told before mid now last (out.ReadFault k) g l h =
     rw (h.0, ← g) (elim h.1 [ inl a ↦ inl a | inr r ↦ inr (Rose-since before mid now l r.0, r.1) ])
 has_cause (given n) names f told before mid now last o g l h = tt
 
--- what stops before the texts are there stops the document
-unforeseen_stops : (e : Expect Document) (o : Outcome) → ((f : FileOf) → Later f e) → IsUnforeseen o → Stops e o
-unforeseen_stops free o l u = tt
-unforeseen_stops (refused p) (out.ReadFault f) l u = inr (l f)
-unforeseen_stops (refused p) out.NoMemory l u = inr tt
-unforeseen_stops (refused p) (out.Done pages passes) l u = absurd u
-unforeseen_stops (refused p) (out.NotRead k) l u = absurd u
-unforeseen_stops (refused p) (out.TooLarge f) l u = absurd u
-unforeseen_stops (refused p) (out.NotUtf8 f at) l u = absurd u
-unforeseen_stops (refused p) (out.BadMetrics line why) l u = absurd u
-unforeseen_stops (refused p) (out.NotBuilt f at) l u = absurd u
-unforeseen_stops (refused p) out.WriteFault l u = absurd u
-unforeseen_stops (given d) o l u = u
+-- what no input explains ends a run over any document
+ends_unforeseen : (d : Document) (o : Outcome) → IsUnforeseen o → Ends d o
+ends_unforeseen d (out.ReadFault f) u = tt
+ends_unforeseen d out.NoMemory u = tt
+ends_unforeseen d (out.Done pages passes) u = absurd u
+ends_unforeseen d (out.NotRead k) u = absurd u
+ends_unforeseen d (out.TooLarge f) u = absurd u
+ends_unforeseen d (out.NotUtf8 f at) u = absurd u
+ends_unforeseen d (out.BadMetrics line why) u = absurd u
+ends_unforeseen d (out.NotBuilt f at) u = absurd u
+ends_unforeseen d (out.Limit what) u = absurd u
+ends_unforeseen d out.WriteFault u = absurd u
 
-pub texts_stop : (e : Expect Texts) (o : Outcome) → Stops e o → Stops (e >>= document_of) o
+-- what stops before the texts are there stops the document
+unforeseen_halts : (e : Expect Document) (o : Outcome) → ((f : FileOf) → Later f e) → IsUnforeseen o → Halts e o
+unforeseen_halts free o l u = tt
+unforeseen_halts (refused p) (out.ReadFault f) l u = inr (l f)
+unforeseen_halts (refused p) out.NoMemory l u = inr tt
+unforeseen_halts (refused p) (out.Done pages passes) l u = absurd u
+unforeseen_halts (refused p) (out.NotRead k) l u = absurd u
+unforeseen_halts (refused p) (out.TooLarge f) l u = absurd u
+unforeseen_halts (refused p) (out.NotUtf8 f at) l u = absurd u
+unforeseen_halts (refused p) (out.BadMetrics line why) l u = absurd u
+unforeseen_halts (refused p) (out.NotBuilt f at) l u = absurd u
+unforeseen_halts (refused p) (out.Limit what) l u = absurd u
+unforeseen_halts (refused p) out.WriteFault l u = absurd u
+unforeseen_halts (given d) o l u = ends_unforeseen d o u
+
+pub texts_stop : (e : Expect Texts) (o : Outcome) → Stops e o → Halts (e >>= document_of) o
 texts_stop free o s = tt
 texts_stop (refused p) o s = s
-texts_stop (given t) o s = unforeseen_stops (document_of t) o (λ f. later_book f t) s
+texts_stop (given t) o s = unforeseen_halts (document_of t) o (λ f. later_book f t) s
 
 -- a refusal of the texts stops the document
-refused_stops : (e : Expect Document) (o : Outcome) → IsRefusedUnlessMemory e o → Stops e o
-refused_stops free o r = tt
-refused_stops (refused p) (out.ReadFault f) r = inl r
-refused_stops (refused p) out.NoMemory r = inr tt
-refused_stops (refused p) (out.Done pages passes) r = inl r
-refused_stops (refused p) (out.NotRead k) r = inl r
-refused_stops (refused p) (out.TooLarge f) r = inl r
-refused_stops (refused p) (out.NotUtf8 f at) r = inl r
-refused_stops (refused p) (out.BadMetrics line why) r = inl r
-refused_stops (refused p) (out.NotBuilt f at) r = inl r
-refused_stops (refused p) out.WriteFault r = inl r
-refused_stops (given d) (out.ReadFault f) r = absurd r
-refused_stops (given d) out.NoMemory r = tt
-refused_stops (given d) (out.Done pages passes) r = absurd r
-refused_stops (given d) (out.NotRead k) r = absurd r
-refused_stops (given d) (out.TooLarge f) r = absurd r
-refused_stops (given d) (out.NotUtf8 f at) r = absurd r
-refused_stops (given d) (out.BadMetrics line why) r = absurd r
-refused_stops (given d) (out.NotBuilt f at) r = absurd r
-refused_stops (given d) out.WriteFault r = absurd r
+refused_halts : (e : Expect Document) (o : Outcome) → HaltsAt e o → Halts e o
+refused_halts free o r = tt
+refused_halts (refused p) (out.ReadFault f) r = inl r
+refused_halts (refused p) out.NoMemory r = inr tt
+refused_halts (refused p) (out.Done pages passes) r = inl r
+refused_halts (refused p) (out.NotRead k) r = inl r
+refused_halts (refused p) (out.TooLarge f) r = inl r
+refused_halts (refused p) (out.NotUtf8 f at) r = inl r
+refused_halts (refused p) (out.BadMetrics line why) r = inl r
+refused_halts (refused p) (out.NotBuilt f at) r = inl r
+refused_halts (refused p) (out.Limit what) r = inl r
+refused_halts (refused p) out.WriteFault r = inl r
+refused_halts (given d) o r = r
 
-pub document_stops : (e : Expect Texts) (t : Texts) (o : Outcome) → IsGiven e t → IsRefusedUnlessMemory (document_of t) o → Stops (e >>= document_of) o
+pub document_stops : (e : Expect Texts) (t : Texts) (o : Outcome) → IsGiven e t → HaltsAt (document_of t) o → Halts (e >>= document_of) o
 document_stops free t o g r = tt
 document_stops (refused p) t o g r = absurd g
-document_stops (given u) t o g r = subst (λ v. Stops (document_of v) o) g (refused_stops (document_of t) o r)
+document_stops (given u) t o g r = subst (λ v. Halts (document_of v) o) g (refused_halts (document_of t) o r)
 
 pub book_for : (e : Expect Texts) (t : Texts) (b : Book) → IsGiven e t → IsBookFor (document_of t) b → IsBookFor (e >>= document_of) b
 book_for free t b g r = tt
@@ -173,6 +185,7 @@ cause_words f told name before now last e (out.TooLarge g) h = tt
 cause_words f told name before now last e (out.NotUtf8 g at) h = tt
 cause_words f told name before now last e (out.BadMetrics line why) h = tt
 cause_words f told name before now last e (out.NotBuilt g at) h = tt
+cause_words f told name before now last e (out.Limit what) h = tt
 cause_words f told name before now last e out.WriteFault h = tt
 cause_words f told name before now last e out.NoMemory h = tt
 
@@ -188,8 +201,11 @@ texts_fault free told before now last (out.BadMetrics line why) h = (tt, tt, tt)
 texts_fault (refused p) told before now last (out.BadMetrics line why) h = (tt, tt, tt)
 texts_fault (given n) told before now last (out.BadMetrics line why) h = (tt, tt, tt)
 texts_fault free told before now last (out.NotBuilt g at) h = (tt, tt, tt)
+texts_fault free told before now last (out.Limit what) h = (tt, tt, tt)
 texts_fault (refused p) told before now last (out.NotBuilt g at) h = (tt, tt, tt)
+texts_fault (refused p) told before now last (out.Limit what) h = (tt, tt, tt)
 texts_fault (given n) told before now last (out.NotBuilt g at) h = (tt, tt, tt)
+texts_fault (given n) told before now last (out.Limit what) h = (tt, tt, tt)
 texts_fault free told before now last out.NoMemory h = (tt, tt, tt)
 texts_fault (refused p) told before now last out.NoMemory h = (tt, tt, tt)
 texts_fault (given n) told before now last out.NoMemory h = (tt, tt, tt)
@@ -206,3 +222,42 @@ words_fault e told before now last o k is r n = rw is (by e (subst (λ p. IsRefu
     by free r n = absurd (n refl)
     by (refused p) r n = (tt, ap refused (sym r))
     by (given x) r n = absurd r
+
+-- a refusal of a step is one of the whole, and so is want of memory
+refused_bind : {A B : Type 0} (e : Expect A) (k : A → Expect B) (o : Outcome) → IsRefused e o → IsRefused (e >>= k) o
+refused_bind free k o r = tt
+refused_bind (refused p) k o r = r
+refused_bind (given x) k o r = absurd r
+
+pub memory_bind : {A B : Type 0} (e : Expect A) (k : A → Expect B) (o : Outcome) → IsRefusedUnlessMemory e o → IsRefusedUnlessMemory (e >>= k) o
+memory_bind e k out.NoMemory r = tt
+memory_bind e k (out.ReadFault f) r = refused_bind e k _ r
+memory_bind e k (out.Done pages passes) r = refused_bind e k _ r
+memory_bind e k (out.NotRead w) r = refused_bind e k _ r
+memory_bind e k (out.TooLarge f) r = refused_bind e k _ r
+memory_bind e k (out.NotUtf8 f at) r = refused_bind e k _ r
+memory_bind e k (out.BadMetrics line why) r = refused_bind e k _ r
+memory_bind e k (out.NotBuilt f at) r = refused_bind e k _ r
+memory_bind e k (out.Limit what) r = refused_bind e k _ r
+memory_bind e k out.WriteFault r = refused_bind e k _ r
+
+-- a refusal of the texts is one of the book
+pub texts_halt : (e : Expect Document) (o : Outcome) → IsRefusedUnlessMemory e o → HaltsAt e o
+texts_halt free o r = tt
+texts_halt (refused p) o r = r
+texts_halt (given d) out.NoMemory r = tt
+texts_halt (given d) (out.ReadFault f) r = absurd r
+texts_halt (given d) (out.Done pages passes) r = absurd r
+texts_halt (given d) (out.NotRead k) r = absurd r
+texts_halt (given d) (out.TooLarge f) r = absurd r
+texts_halt (given d) (out.NotUtf8 f at) r = absurd r
+texts_halt (given d) (out.BadMetrics line why) r = absurd r
+texts_halt (given d) (out.NotBuilt f at) r = absurd r
+texts_halt (given d) (out.Limit what) r = absurd r
+texts_halt (given d) out.WriteFault r = absurd r
+
+-- a document that isn't laid out halts
+pub unlaid_halts : (e : Expect Document) (d : Document) (o : Outcome) → IsGiven e d → Ends d o → HaltsAt e o
+unlaid_halts free d o g h = tt
+unlaid_halts (refused p) d o g h = absurd g
+unlaid_halts (given e) d o g h = subst (λ x. Ends x o) g h

@@ -1,5 +1,5 @@
 -- The book of a document: its pages, and the bytes of its listing.
-use Rattle.std.specs.Prelude.{◌≡◌, ℕ, suc, ◌+◌, ◌-◌, ◌%◌, Bool, false, List, [], ◌∷◌, ◌++◌, length, take, drop, nat_lt, nat_le, ◌==◌, ◌&&◌, if◌then◌else◌, codes, ℤ, pos, ◌+ℤ◌, ◌-ℤ◌, unsigned_abs, slice_index_or}
+use Rattle.std.specs.Prelude.{◌≡◌, ℕ, suc, ◌+◌, ◌-◌, ◌%◌, ◌<◌, ◌≤◌, Bool, false, List, [], ◌∷◌, ◌++◌, length, take, drop, nat_lt, nat_le, ◌==◌, ◌&&◌, if◌then◌else◌, codes, ℤ, pos, ◌+ℤ◌, ◌-ℤ◌, unsigned_abs, slice_index_or}
 use Rattle.std.specs.List.{flat_map}
 use Rattle.bk_num.specs.Units.{floor_div}
 use Rattle.bk_num.specs.declared.ids.FaceId.{FaceId}
@@ -91,5 +91,14 @@ pub record IsBookOf (d : Document) (b : Book) : Type 0 where
   pub pages : List (List PlacedLine)
   pub chosen : Chooses d.faces paragraph_families false 400 face
   pub paged : IsPagesOf d face pages
+  pub few : length pages ≤ 100000
   pub count : b.pages ≡ length pages
   pub listed : b.bytes ≡ listing_of (print_of d.faces face d.texts) pages
+
+-- a document that takes more than 100,000 pages
+pub record HasTooManyPages (d : Document) : Type 0 where
+  pub face : FaceId
+  pub pages : List (List PlacedLine)
+  pub chosen : Chooses d.faces paragraph_families false 400 face
+  pub paged : IsPagesOf d face pages
+  pub many : 100000 < length pages

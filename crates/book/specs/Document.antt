@@ -1,12 +1,18 @@
 -- What the texts of the files are read as, or the refusal that they give.
-use Rattle.std.specs.Prelude.{◌≡◌, ℕ, Bool, List, [], length, nat_lt, ◌==◌, if◌then◌else◌, Option, Some, None, Result, Ok, Err}
+use Rattle.std.specs.Prelude.{◌≡◌, ℕ, Bool, List, length, sum_by, nat_lt, ◌==◌, if◌then◌else◌, Option, Some, None, Result, Ok, Err}
 use Rattle.metrics.specs.Face.{FontFace}
 use Rattle.metrics.specs.Text.{faces_of}
 use Rattle.metrics.specs.declared.fault.MetricsWhy.{MetricsWhy}
-use Rattle.plain_book.specs.Plain.{texts_in}
-use Rattle.book.specs.Expect.{Expect, free, refused, given}
+use Rattle.dom.specs.Nodes.{Node}
+use Rattle.dom.specs.declared.dom.DomErr.{DomErr}
+use Rattle.dom.specs.declared.dom.DomErr.TheVariants as dom_err
+use Rattle.html_tree.specs.Tree.{tree_of}
+use Rattle.plain_html.specs.Form.{first_unbuilt}
+use Rattle.plain_html.specs.Texts.{paragraph_texts}
+use Rattle.book.specs.Expect.{Expect, free, refused, given, ◌>>=◌}
 use Rattle.book.specs.declared.outcome.Outcome.TheVariants as out
 use Rattle.book.specs.declared.outcome.FileOf.TheVariants as file
+use Rattle.book.specs.declared.outcome.LimitOf.TheVariants as limit
 
 -- the texts of the files, less a leading U+FEFF
 pub record Texts : Type 0 where
@@ -19,23 +25,39 @@ pub record Document : Type 0 where
   pub faces : List FontFace
   pub texts : List (List ℕ)
 
+-- the faces of a metrics text, or its first bad line
+abbrev pub faces_expected : Result (List FontFace) (ℕ × MetricsWhy) → Expect (List FontFace)
+faces_expected (Ok faces) = given faces
+faces_expected (Err (line, why)) = refused (out.BadMetrics line why)
+
+-- the nodes of the HTML, or the limit that they pass
+abbrev pub nodes_expected : Result (List Node) DomErr → Expect (List Node)
+nodes_expected (Ok nodes) = given nodes
+nodes_expected (Err dom_err.Nodes) = refused (out.Limit limit.Nodes)
+nodes_expected (Err dom_err.Depth) = refused (out.Limit limit.Depth)
+nodes_expected (Err dom_err.NoMemory) = refused out.NoMemory
+
+abbrev pub form_expected : Option ℕ → List (List ℕ) → Expect (List (List ℕ))
+form_expected (Some n) texts = refused (out.NotBuilt file.Html n)
+form_expected None texts = given texts
+
+-- the texts of the paragraphs, or the first node that isn't built
+abbrev pub paragraphs_expected : List Node → Expect (List (List ℕ))
+paragraphs_expected nodes = form_expected (first_unbuilt nodes) (paragraph_texts nodes)
+
 -- the sheet that is built is the empty one
-unfoldable pub with_sheet : List FontFace → List (List ℕ) → List ℕ → Expect Document
-with_sheet faces texts sheet = if length sheet == 0 then given (record { faces = faces; texts = texts }) else refused (out.NotBuilt (file.Sheet 1) 0)
+abbrev pub sheet_expected : List ℕ → Expect (Unit {0})
+sheet_expected sheet = if length sheet == 0 then given tt else refused (out.NotBuilt (file.Sheet 1) 0)
 
--- the HTML that is built has the plain form
-unfoldable pub with_paragraphs : List FontFace → Option (List (List ℕ)) → List ℕ → Expect Document
-with_paragraphs faces None sheet = refused (out.NotBuilt file.Html 0)
-with_paragraphs faces (Some texts) sheet = with_sheet faces texts sheet
+-- at most 33,554,432 bytes of text are laid out
+abbrev pub room_expected : List (List ℕ) → Expect (Unit {0})
+room_expected texts = if nat_lt 33554432 (sum_by length texts) then refused (out.Limit limit.Text) else given tt
 
--- and at most 65,536 bytes
-unfoldable pub with_html : List FontFace → Texts → Expect Document
-with_html faces t = if nat_lt 65536 (length t.html) then refused (out.NotBuilt file.Html 0) else with_paragraphs faces (texts_in t.html) t.sheet
-
-unfoldable pub with_metrics : Result (List FontFace) (ℕ × MetricsWhy) → Texts → Expect Document
-with_metrics (Err (line, why)) t = refused (out.BadMetrics line why)
-with_metrics (Ok faces) t = with_html faces t
-
--- the document of the texts
-unfoldable pub document_of : Texts → Expect Document
-document_of t = with_metrics (faces_of t.metrics) t
+-- the document of the texts, or the first refusal
+abbrev pub document_of : Texts → Expect Document
+document_of t = faces_expected (faces_of t.metrics) >>= λ faces.
+    nodes_expected (tree_of t.html) >>= λ nodes.
+    paragraphs_expected nodes >>= λ texts.
+    sheet_expected t.sheet >>= λ sheet.
+    room_expected texts >>= λ room.
+    given (record { faces = faces; texts = texts })

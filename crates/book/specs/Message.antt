@@ -8,6 +8,8 @@ use Rattle.book.specs.declared.outcome.Outcome.{Outcome}
 use Rattle.book.specs.declared.outcome.Outcome.TheVariants as out
 use Rattle.book.specs.declared.outcome.FileOf.{FileOf}
 use Rattle.book.specs.declared.outcome.FileOf.TheVariants as file
+use Rattle.book.specs.declared.outcome.LimitOf.{LimitOf}
+use Rattle.book.specs.declared.outcome.LimitOf.TheVariants as limit
 use Rattle.book.specs.declared.outcome.WordsFault.{WordsFault}
 use Rattle.book.specs.declared.outcome.WordsFault.TheVariants as words
 
@@ -30,6 +32,12 @@ why_text why.Twice = codes "twice"
 why_text why.Many = codes "many"
 why_text why.NoFace = codes "noface"
 
+unfoldable pub limit_text : LimitOf → List ℕ
+limit_text limit.Nodes = codes "nodes"
+limit_text limit.Depth = codes "depth"
+limit_text limit.Text = codes "text"
+limit_text limit.Pages = codes "pages"
+
 -- the texts of an answer's line, one after the other
 unfoldable pub texts_of : Outcome → List (List ℕ)
 texts_of (out.Done pages passes) = codes "bookfmt: " ∷ decimal pages ∷ codes " pages, " ∷ decimal passes ∷ codes " passes\n" ∷ []
@@ -39,6 +47,7 @@ texts_of (out.TooLarge f) = codes "bookfmt: " ∷ (file_words f).0 ∷ (file_wor
 texts_of (out.NotUtf8 f at) = codes "bookfmt: " ∷ (file_words f).0 ∷ (file_words f).1 ∷ codes " is not UTF-8 at " ∷ decimal at ∷ codes "\n" ∷ []
 texts_of (out.BadMetrics line reason) = codes "bookfmt: metrics line " ∷ decimal line ∷ codes ": " ∷ why_text reason ∷ codes "\n" ∷ []
 texts_of (out.NotBuilt f at) = codes "bookfmt: not built: " ∷ (file_words f).0 ∷ (file_words f).1 ∷ codes " at " ∷ decimal at ∷ codes "\n" ∷ []
+texts_of (out.Limit what) = codes "bookfmt: limit: " ∷ limit_text what ∷ codes "\n" ∷ []
 texts_of out.WriteFault = codes "bookfmt: cannot write\n" ∷ []
 texts_of out.NoMemory = codes "bookfmt: no memory\n" ∷ []
 
@@ -57,6 +66,7 @@ status_of (out.ReadFault f) = 1
 status_of (out.TooLarge f) = 8
 status_of (out.NotUtf8 f at) = 3
 status_of (out.BadMetrics line reason) = 5
+status_of (out.Limit what) = 8
 status_of (out.NotBuilt f at) = 10
 status_of out.WriteFault = 7
 status_of out.NoMemory = 9

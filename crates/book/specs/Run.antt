@@ -6,14 +6,15 @@ use Rattle.std.specs.Str.Lossy.{utf8_valid_len}
 use Rattle.bk_text.specs.Texts.{unmarked}
 use Rattle.bk_io.specs.Shelf.{Told, untold, absent, holds, Faulted}
 use Rattle.bk_io.specs.Causes.{Rose}
-use Rattle.book.specs.Expect.{Expect, free, refused, given, ◌>>=◌, IsRefused}
+use Rattle.book.specs.Expect.{Expect, free, refused, given, ◌>>=◌, IsRefused, IsRefusedUnlessMemory}
 use Rattle.book.specs.Request.{Names, name_of, asked}
 use Rattle.book.specs.Document.{Texts, Document, document_of}
-use Rattle.book.specs.Answer.{Book, IsBookOf}
+use Rattle.book.specs.Answer.{Book, IsBookOf, HasTooManyPages}
 use Rattle.book.specs.declared.outcome.Outcome.{Outcome}
 use Rattle.book.specs.declared.outcome.Outcome.TheVariants as out
 use Rattle.book.specs.declared.outcome.FileOf.{FileOf}
 use Rattle.book.specs.declared.outcome.FileOf.TheVariants as file
+use Rattle.book.specs.declared.outcome.LimitOf.TheVariants as limit
 
 -- the text of a file that has at most 16,777,216 bytes
 abbrev pub text_of : FileOf → Told → Expect (List ℕ)
@@ -66,11 +67,27 @@ Stops free o = Unit {0}
 Stops (refused p) o = (o ≡ p) ⊎ ComesBefore o p
 Stops (given b) o = IsUnforeseen o
 
+-- a run over a document that puts nothing: its pages are too many, or no input explains it
+abbrev pub Ends : Document → Outcome → Type 0
+Ends d (out.Limit what) = (what ≡ limit.Pages) × HasTooManyPages d
+Ends d o = IsUnforeseen o
+
+-- the outcome of a run that puts nothing, by what is expected
+abbrev pub Halts : Expect Document → Outcome → Type 0
+Halts (given d) o = Ends d o
+Halts e o = Stops e o
+
+-- the texts of the files are laid out no further: a refusal of theirs, or too many pages; want of memory is free
+abbrev pub HaltsAt : Expect Document → Outcome → Type 0
+HaltsAt free o = Unit {0}
+HaltsAt (refused p) o = IsRefusedUnlessMemory {A = Document} (refused p) o
+HaltsAt (given d) o = Ends d o
+
 -- what a run over a document answers, by the bytes taken: Done wrote the document's book, and a write fault a front of it
 abbrev pub Writes : Document → Option (List ℕ) → Option (List ℕ) → Outcome → Type 0
 Writes d old new (out.Done pages passes) = (b : Book) × IsBookOf d b × (pages ≡ b.pages) × (passes ≡ 1) × Appends old new b.bytes
 Writes d old new out.WriteFault = (b : Book) × IsBookOf d b × ((n : ℕ) × Appends old new (take n b.bytes))
-Writes d old new o = IsUnforeseen o
+Writes d old new o = Ends d o
 
 -- what a run answers, by what is expected and the bytes taken
 abbrev pub Meets : Expect Document → Option (List ℕ) → Option (List ℕ) → Outcome → Type 0
@@ -135,12 +152,14 @@ abbrev pub IsOfWords : Outcome → Type 0
 IsOfWords (out.NotRead k) = Unit {0}
 IsOfWords o = ⊥
 
-abbrev pub IsDoneOrNoMemory : Outcome → Type 0
-IsDoneOrNoMemory (out.Done pages passes) = Unit {0}
-IsDoneOrNoMemory out.NoMemory = Unit {0}
-IsDoneOrNoMemory o = ⊥
+-- a book was put, or its pages are too many, or memory ran out
+abbrev pub IsDoneOrTooLong : Outcome → Type 0
+IsDoneOrTooLong (out.Done pages passes) = Unit {0}
+IsDoneOrTooLong (out.Limit what) = what ≡ limit.Pages
+IsDoneOrTooLong out.NoMemory = Unit {0}
+IsDoneOrTooLong o = ⊥
 
--- where a document is expected and neither count of faults rose, the answer is Done, but for want of memory
+-- where a document is expected and neither count of faults rose, the answer is Done or the limit of pages, but for want of memory
 abbrev pub IsComplete : Expect Document → Type 0 → Type 0 → Outcome → Type 0
-IsComplete (given d) shelf_rose out_rose o = ¬ shelf_rose → ¬ out_rose → IsDoneOrNoMemory o
+IsComplete (given d) shelf_rose out_rose o = ¬ shelf_rose → ¬ out_rose → IsDoneOrTooLong o
 IsComplete e shelf_rose out_rose o = Unit {0}

@@ -1,16 +1,20 @@
 //! Reads the texts of the files as a document.
 
-ghost use Rattle.std.specs.Prelude.{◌≡◌, ◌≤◌, MatchResult, IfErr, IfOk, length, map, sum_by, All, string_bytes, string_len};
+ghost use Rattle.std.specs.Prelude.{◌≡◌, ℕ, ◌<◌, ◌≤◌, MatchBool, MatchResult, IfErr, IfOk, length, map, sum_by, All, string_bytes, string_len};
 ghost use Rattle.std.specs.Str.{IsAscii};
+ghost use Rattle.metrics.specs.Text.{faces_of};
+ghost use Rattle.html_tree.specs.Tree.{tree_of};
 ghost use Rattle.book.specs.Expect.{IsRefusedUnlessMemory, IsGiven};
-ghost use Rattle.book.specs.Document.{document_of, with_metrics, with_html, with_paragraphs, with_sheet};
+ghost use Rattle.book.specs.Document.{document_of, faces_expected, nodes_expected, paragraphs_expected, sheet_expected, room_expected};
 ghost use Rattle.book.specs.DocumentView.{document_in};
 ghost use Rattle.book.specs.Run.{IsOfTexts};
 
-use crate::outcome::{FileOf, Outcome};
+use crate::outcome::{FileOf, LimitOf, Outcome};
 use bk_num::name::NoMem;
+use dom::{Dom, DomErr};
+use html_tree::read_html;
 use metrics::{Faces, MetricsErr, read_metrics};
-use plain_book::paragraphs::read_paragraphs;
+use plain_html::read_paragraphs;
 use std::alloc::{AllocError, Global};
 
 /// The faces of the metrics text, and the texts of the paragraphs.
@@ -28,8 +32,8 @@ pub(crate) struct Texts<'a> {
     pub(crate) sheet: &'a str,
 }
 
-/// The most bytes of the HTML.
-const MOST: usize = 65536;
+/// The most bytes of text that are laid out.
+const MOST: usize = 33554432;
 
 impl From<AllocError> for Outcome {
     ghost use Rattle.std.specs.Prelude.{◌≡◌};
@@ -53,49 +57,114 @@ impl From<NoMem> for Outcome {
     }
 }
 
-/// The texts of the paragraphs, where HTML and sheet have the form that is built.
-#[tactic(auto, unfolding(crate::specs::Document::with_html, crate::specs::Document::with_paragraphs, crate::specs::Document::with_sheet))]
-fn read_texts(alloc: Global, faces: Faces, html: &str, sheet: &str) -> Result<Document, Outcome>
-    ensures document { (metrics : _) → let document = with_html faces (record { metrics = metrics; html = html.now; sheet = sheet.now }) in
-        MatchResult result (λ d. IsGiven document (document_in d)) (λ o. IsRefusedUnlessMemory document o) }
-    ensures ascii { IfOk result (λ d. All (λ t. IsAscii (string_bytes t)) d.texts.items) }
-    ensures count { IfOk result (λ d. length d.texts.items ≤ 65536) }
-    ensures few { IfOk result (λ d. sum_by (λ t. string_len t) d.texts.items ≤ 65536) }
+/// The faces of the metrics text.
+fn read_faces(alloc: Global, metrics: &str) -> Result<Faces, Outcome>
+    requires { length metrics.now ≤ 33554432 }
+    ensures faces { MatchResult result (λ f. IsGiven (faces_expected (faces_of metrics.now)) f) (λ o. IsRefusedUnlessMemory (faces_expected (faces_of metrics.now)) o) }
     ensures of_texts { IfErr result IsOfTexts }
 {
-    let not_built = Outcome::NotBuilt {
-        file: FileOf::Html,
-        at: 0,
-    };
-    if html.len() > MOST {
-        return Err(not_built);
+    match read_metrics(alloc, metrics) {
+        Ok(faces) => Ok(faces),
+        Err(MetricsErr::Line { line, why }) => Err(Outcome::BadMetrics { line, why }),
+        Err(MetricsErr::NoMemory) => Err(Outcome::NoMemory),
     }
-    let Some(texts) = read_paragraphs(alloc, html)? else {
-        return Err(not_built);
-    };
-    if !sheet.is_empty() {
-        return Err(Outcome::NotBuilt {
-            file: FileOf::Sheet(1),
-            at: 0,
+}
+
+/// The tree of the HTML.
+fn read_tree(alloc: Global, html: &str) -> Result<Dom, Outcome>
+    ensures nodes { MatchResult result (λ d. IsGiven (nodes_expected (tree_of html.now)) d) (λ o. IsRefusedUnlessMemory (nodes_expected (tree_of html.now)) o) }
+    ensures of_texts { IfErr result IsOfTexts }
+{
+    match read_html(alloc, html) {
+        Ok(dom) => Ok(dom),
+        Err(DomErr::Nodes) => Err(Outcome::Limit {
+            what: LimitOf::Nodes,
+        }),
+        Err(DomErr::Depth) => Err(Outcome::Limit {
+            what: LimitOf::Depth,
+        }),
+        Err(DomErr::NoMemory) => Err(Outcome::NoMemory),
+    }
+}
+
+/// The texts of the paragraphs.
+#[tactic(auto, using(crate::proofs::PlainTexts::texts_ascii))]
+fn read_texts(alloc: Global, dom: &Dom) -> Result<Vec<String>, Outcome>
+    ensures texts { MatchResult result (λ v. IsGiven (paragraphs_expected dom.now) (map (λ t. string_bytes t) v.items)) (λ o. IsRefusedUnlessMemory (paragraphs_expected dom.now) o) }
+    ensures ascii { IfOk result (λ v. All (λ t. IsAscii (string_bytes t)) v.items) }
+    ensures count { IfOk result (λ v. length v.items ≤ 400000) }
+    ensures of_texts { IfErr result IsOfTexts }
+{
+    // a tree has at most 400,000 nodes
+    let _count = dom.len();
+    match read_paragraphs(alloc, dom)? {
+        Ok(texts) => Ok(texts),
+        Err(node) => Err(Outcome::NotBuilt {
+            file: FileOf::Html,
+            at: u64::from(node.0),
+        }),
+    }
+}
+
+/// Whether the sheet is the empty one, which alone is built.
+fn check_sheet(sheet: &str) -> Result<(), Outcome>
+    ensures sheet { MatchResult result (λ u. IsGiven (sheet_expected sheet.now) u) (λ o. IsRefusedUnlessMemory (sheet_expected sheet.now) o) }
+    ensures of_texts { IfErr result IsOfTexts }
+{
+    if sheet.is_empty() {
+        return Ok(());
+    }
+    Err(Outcome::NotBuilt {
+        file: FileOf::Sheet(1),
+        at: 0,
+    })
+}
+
+/// Whether the texts have more bytes than are laid out.
+#[tactic(auto, using(crate::proofs::PlainTexts::sum_next))]
+fn is_too_long(texts: &[String]) -> bool
+    ensures { MatchBool result (33554432 < sum_by (λ t. string_len t) texts.now) (sum_by (λ t. string_len t) texts.now ≤ 33554432) }
+{
+    let mut room = MOST;
+    for text in texts {
+        if text.len() > room {
+            return true;
+        }
+        room -= text.len();
+    }
+    false
+}
+
+fn check_room(texts: &[String]) -> Result<(), Outcome>
+    ensures room { MatchResult result (λ u. IsGiven (room_expected (map (λ t. string_bytes t) texts.now)) u) (λ o. IsRefusedUnlessMemory (room_expected (map (λ t. string_bytes t) texts.now)) o) }
+    ensures few { IfOk result (λ u. sum_by (λ t. string_len t) texts.now ≤ 33554432) }
+    ensures of_texts { IfErr result IsOfTexts }
+{
+    if is_too_long(texts) {
+        return Err(Outcome::Limit {
+            what: LimitOf::Text,
         });
     }
-    Ok(Document { faces, texts })
+    Ok(())
 }
 
 /// The document of the texts.
-#[tactic(auto, unfolding(crate::specs::Document::document_of, crate::specs::Document::with_metrics))]
 pub(crate) fn read_document(alloc: Global, texts: Texts<'_>) -> Result<Document, Outcome>
     requires { length texts.metrics.now ≤ 33554432 }
     ensures document { let document = document_of (record { metrics = texts.entry.metrics.now; html = texts.entry.html.now; sheet = texts.entry.sheet.now }) in
         MatchResult result (λ d. IsGiven document (document_in d)) (λ o. IsRefusedUnlessMemory document o) }
     ensures ascii { IfOk result (λ d. All (λ t. IsAscii (string_bytes t)) d.texts.items) }
-    ensures count { IfOk result (λ d. length d.texts.items ≤ 65536) }
-    ensures few { IfOk result (λ d. sum_by (λ t. string_len t) d.texts.items ≤ 65536) }
+    ensures count { IfOk result (λ d. length d.texts.items ≤ 400000) }
+    ensures few { IfOk result (λ d. sum_by (λ t. string_len t) d.texts.items ≤ 33554432) }
     ensures of_texts { IfErr result IsOfTexts }
 {
-    match read_metrics(alloc, texts.metrics) {
-        Ok(faces) => read_texts(alloc, faces, texts.html, texts.sheet),
-        Err(MetricsErr::Line { line, why }) => Err(Outcome::BadMetrics { line, why }),
-        Err(MetricsErr::NoMemory) => Err(Outcome::NoMemory),
-    }
+    let faces = read_faces(alloc, texts.metrics)?;
+    let dom = read_tree(alloc, texts.html)?;
+    let paragraphs = read_texts(alloc, &dom)?;
+    check_sheet(texts.sheet)?;
+    check_room(paragraphs.as_slice())?;
+    Ok(Document {
+        faces,
+        texts: paragraphs,
+    })
 }

@@ -1,12 +1,14 @@
 //! Lays a document out.
 
-ghost use Rattle.std.specs.Prelude.{◌≡◌, ℕ, ◌<◌, ◌≤◌, false, length, map, sum_by, All, IfOk, pos, slice_index, string_bytes, string_len, unsigned_abs, ◌^◌};
+ghost use Rattle.std.specs.Prelude.{◌≡◌, ℕ, ◌<◌, ◌≤◌, false, length, map, sum_by, All, IfOk, IfErr, pos, slice_index, string_bytes, string_len, unsigned_abs, ◌^◌};
 ghost use Rattle.std.specs.Str.{IsAscii};
 ghost use Rattle.metrics.specs.Choice.{Chooses};
 ghost use Rattle.book.specs.DocumentView.{document_in};
-ghost use Rattle.book.specs.Answer.{paragraph_advance, paragraph_families, baseline_of, text_size, IsBookOf, IsPagesOf};
+ghost use Rattle.book.specs.Answer.{paragraph_advance, paragraph_families, baseline_of, text_size, listing_of, print_of, IsBookOf, IsPagesOf};
+ghost use Rattle.book.specs.Run.{Ends, IsOfTexts};
 
 use crate::document::Document;
+use crate::outcome::{LimitOf, Outcome};
 use crate::print::{Printer, print};
 use bk_num::ids::FaceId;
 use bk_num::name::{Name, NoMem};
@@ -27,6 +29,9 @@ pub(crate) struct Book {
 
 /// The width of a frame, in units: an A5 page less margins of 72 px.
 const FRAME_WIDTH: u64 = 26584;
+
+/// The most pages.
+const MOST_PAGES: usize = 100000;
 
 /// The height of a frame, in units.
 const FRAME_HEIGHT: u64 = 41581;
@@ -91,10 +96,10 @@ fn baseline(faces: &Faces, face: FaceId) -> i64
 fn pages_of(alloc: Global, document: &Document, face: FaceId) -> Result<Vec<Vec<PlacedLine>>, NoMem>
     requires face { face.0 < length document.now.faces }
     requires ascii { All (λ t. IsAscii (string_bytes t)) document.now.texts.items }
-    requires count { length document.now.texts.items ≤ 65536 }
-    requires few { sum_by (λ t. string_len t) document.now.texts.items ≤ 65536 }
+    requires count { length document.now.texts.items ≤ 400000 }
+    requires few { sum_by (λ t. string_len t) document.now.texts.items ≤ 33554432 }
     ensures pages { IfOk result (λ v. IsPagesOf (document_in document.now) face (map (λ p. p.items) v.items)) }
-    ensures few { IfOk result (λ v. length v.items ≤ 65536) }
+    ensures few { IfOk result (λ v. length v.items ≤ 33554432) }
 {
     let advances = advances(&document.faces, face);
     let lines = fill(alloc, &advances, document.texts.as_slice(), FRAME_WIDTH)?;
@@ -102,15 +107,31 @@ fn pages_of(alloc: Global, document: &Document, face: FaceId) -> Result<Vec<Vec<
     Ok(pages)
 }
 
-/// The book of a document.
-pub(crate) fn lay_out(alloc: Global, document: &Document) -> Result<Book, NoMem>
-    requires ascii { All (λ t. IsAscii (string_bytes t)) document.now.texts.items }
-    requires count { length document.now.texts.items ≤ 65536 }
-    requires few { sum_by (λ t. string_len t) document.now.texts.items ≤ 65536 }
-    ensures { IfOk result (λ b. IsBookOf (document_in document.now) (record { pages = b.pages; bytes = b.bytes.items })) }
+/// The pages, where they are not too many.
+fn check_pages(pages: &[Vec<PlacedLine>]) -> Result<(), Outcome>
+    ensures ok { IfOk result (λ u. length pages.now ≤ 100000) }
+    ensures err { IfErr result (λ o. (o ≡ Outcome.Limit LimitOf.Pages) × (100000 < length pages.now)) }
 {
-    let face = paragraph_face(alloc, &document.faces)?;
-    let pages = pages_of(alloc, document, face)?;
+    if pages.len() > MOST_PAGES {
+        return Err(Outcome::Limit {
+            what: LimitOf::Pages,
+        });
+    }
+    Ok(())
+}
+
+/// The listing of the pages.
+fn list(
+    alloc: Global,
+    document: &Document,
+    face: FaceId,
+    pages: &[Vec<PlacedLine>],
+) -> Result<Vec<u8>, NoMem>
+    requires face { face.0 < length document.now.faces }
+    requires ascii { All (λ t. IsAscii (string_bytes t)) document.now.texts.items }
+    requires few { length pages.now ≤ 100000 }
+    ensures { IfOk result (λ v. v.items ≡ listing_of (print_of document.now.faces face (map (λ t. string_bytes t) document.now.texts.items)) (map (λ p. p.items) pages.now)) }
+{
     let (name, italic, weight) = document.faces.label(face);
     let printer = Printer {
         label: FaceLabel {
@@ -121,7 +142,23 @@ pub(crate) fn lay_out(alloc: Global, document: &Document) -> Result<Book, NoMem>
         baseline: baseline(&document.faces, face),
         texts: document.texts.as_slice(),
     };
-    let bytes = print(alloc, &printer, pages.as_slice())?;
+    let bytes = print(alloc, &printer, pages)?;
+    Ok(bytes)
+}
+
+/// The book of a document.
+pub(crate) fn lay_out(alloc: Global, document: &Document) -> Result<Book, Outcome>
+    requires ascii { All (λ t. IsAscii (string_bytes t)) document.now.texts.items }
+    requires count { length document.now.texts.items ≤ 400000 }
+    requires few { sum_by (λ t. string_len t) document.now.texts.items ≤ 33554432 }
+    ensures book { IfOk result (λ b. IsBookOf (document_in document.now) (record { pages = b.pages; bytes = b.bytes.items })) }
+    ensures ends { IfErr result (λ o. Ends (document_in document.now) o) }
+    ensures of_texts { IfErr result IsOfTexts }
+{
+    let face = paragraph_face(alloc, &document.faces)?;
+    let pages = pages_of(alloc, document, face)?;
+    check_pages(pages.as_slice())?;
+    let bytes = list(alloc, document, face, pages.as_slice())?;
     Ok(Book {
         pages: pages.len() as u32,
         bytes,

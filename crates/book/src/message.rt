@@ -3,9 +3,9 @@
 ghost use Rattle.std.specs.Prelude.{◌≡◌, ◌∷◌, [], codes};
 ghost use Rattle.std.specs.List.{flat_map};
 ghost use Rattle.bk_io.specs.Sink.{AppendsAllOrPrefix, HasCause};
-ghost use Rattle.book.specs.Message.{message, texts_of, file_words, why_text, decimal};
+ghost use Rattle.book.specs.Message.{message, texts_of, file_words, why_text, limit_text, decimal};
 
-use crate::outcome::{FileOf, Outcome};
+use crate::outcome::{FileOf, LimitOf, Outcome};
 use bk_io::put_all::put_all;
 use bk_io::sink::{Failed, Sink};
 use itoa::Buffer;
@@ -53,6 +53,26 @@ fn why_text(why: MetricsWhy) -> &'static str
         MetricsWhy::Many => "many",
         MetricsWhy::NoFace => "noface",
     }
+}
+
+#[tactic(auto, unfolding(crate::specs::Message::limit_text))]
+fn limit_text(what: LimitOf) -> &'static str
+    ensures { result.now ≡ limit_text what }
+{
+    match what {
+        LimitOf::Nodes => "nodes",
+        LimitOf::Depth => "depth",
+        LimitOf::Text => "text",
+        LimitOf::Pages => "pages",
+    }
+}
+
+/// Puts the line that tells which limit is passed.
+fn put_limit_line<E: Sink>(err: &mut E, what: LimitOf) -> Result<(), Failed>
+    ensures bytes { AppendsAllOrPrefix (E.taken err.old) (E.taken err.new) (flat_map (λ t. t) (codes "bookfmt: limit: " ∷ limit_text what ∷ codes "\n" ∷ [])) result }
+    ensures cause { HasCause (E.faults err.old) (E.faults err.new) result }
+{
+    put_texts(err, &["bookfmt: limit: ", limit_text(what), "\n"])
 }
 
 /// Puts a line that tells of a file.
@@ -159,6 +179,7 @@ pub fn put_message<E: Sink>(err: &mut E, outcome: &Outcome) -> Result<(), Failed
             " at ",
             at,
         ),
+        Outcome::Limit { what } => put_limit_line(err, what),
         Outcome::WriteFault => put_texts(err, &["bookfmt: cannot write\n"]),
         Outcome::NoMemory => put_texts(err, &["bookfmt: no memory\n"]),
     }

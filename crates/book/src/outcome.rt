@@ -20,6 +20,8 @@ pub enum Outcome {
     NotUtf8 { file: FileOf, at: u64 },
     /// The metrics text has no reading: its first bad line, from 1, and the first test that this line fails.
     BadMetrics { line: u32, why: MetricsWhy },
+    /// A number passes its limit.
+    Limit { what: LimitOf },
     /// A file has a form that isn't built yet.
     NotBuilt { file: FileOf, at: u64 },
     /// The listing could not be written; a front of it was.
@@ -35,6 +37,15 @@ pub enum WordsFault {
     UnknownCommand,
     Help,
     Refused,
+}
+
+/// What is limited: 400,000 nodes, elements 200 deep, 33,554,432 bytes of text, 100,000 pages.
+#[derive(Clone, Copy, Debug, PartialEq, Eq)]
+pub enum LimitOf {
+    Nodes,
+    Depth,
+    Text,
+    Pages,
 }
 
 /// One of the files that the words name. Sheets are numbered from 1.
@@ -61,6 +72,7 @@ impl Outcome {
             Outcome::BadMetrics { .. } => 5,
             Outcome::WriteFault => 7,
             Outcome::TooLarge { .. } => 8,
+            Outcome::Limit { .. } => 8,
             Outcome::NoMemory => 9,
             Outcome::NotBuilt { .. } => 10,
         }

@@ -2,12 +2,11 @@
 
 ghost use Rattle.std.specs.Prelude.{◌≡◌, ℕ, ◌≤◌, List, MatchResult, IfErr, map, string_bytes, string_len};
 ghost use Rattle.bk_io.specs.Causes.{Rose};
-ghost use Rattle.book.specs.Expect.{IsRefusedUnlessMemory};
 ghost use Rattle.book.specs.FilesView.{texts_in};
 ghost use Rattle.book.specs.Document.{document_of};
 ghost use Rattle.book.specs.Request.{asked};
 ghost use Rattle.book.specs.Message.{message};
-ghost use Rattle.book.specs.Run.{expected, Stops, IsBookFor, IsNoPut, IsOfTexts, Meets, PutsOnlyABook, HasReadCause, HasWordsCause, IsTold, IsComplete};
+ghost use Rattle.book.specs.Run.{expected, Halts, HaltsAt, IsBookFor, IsNoPut, IsOfTexts, Meets, PutsOnlyABook, HasReadCause, HasWordsCause, IsTold, IsComplete};
 
 use crate::document::{Texts, read_document};
 use crate::files::{FileTexts, read_files};
@@ -25,7 +24,7 @@ use std::sync::ledger::Ledger;
 /// The book of the texts.
 fn build(alloc: Global, files: &FileTexts) -> Result<Book, Outcome>
     requires { string_len files.now.metrics ≤ 16777216 }
-    ensures book { MatchResult result (λ b. IsBookFor (document_of (texts_in files.now)) (record { pages = b.pages; bytes = b.bytes.items })) (λ o. IsRefusedUnlessMemory (document_of (texts_in files.now)) o) }
+    ensures book { MatchResult result (λ b. IsBookFor (document_of (texts_in files.now)) (record { pages = b.pages; bytes = b.bytes.items })) (λ o. HaltsAt (document_of (texts_in files.now)) o) }
     ensures of_texts { IfErr result IsOfTexts }
 {
     let texts = Texts {
@@ -34,16 +33,14 @@ fn build(alloc: Global, files: &FileTexts) -> Result<Book, Outcome>
         sheet: without_mark(files.sheet.as_str()),
     };
     let document = read_document(alloc, texts)?;
-    match lay_out(alloc, &document) {
-        Ok(book) => Ok(book),
-        Err(_) => Err(Outcome::NoMemory),
-    }
+    let book = lay_out(alloc, &document)?;
+    Ok(book)
 }
 
 /// The book that the words ask for.
 fn read_book<F: Shelf>(alloc: Global, words: &[String], shelf: &mut F) -> Result<Book, Outcome>
     ensures book { let document = expected (map (λ w. string_bytes w) words.now) (F.told shelf.old) in
-        MatchResult result (λ b. IsBookFor document (record { pages = b.pages; bytes = b.bytes.items })) (λ o. Stops document o) }
+        MatchResult result (λ b. IsBookFor document (record { pages = b.pages; bytes = b.bytes.items })) (λ o. Halts document o) }
     ensures fault { IfErr result (λ o. HasReadCause (asked (map (λ w. string_bytes w) words.now)) (F.told shelf.old) (F.faults shelf.old) (F.faults shelf.new) (F.last_fault shelf.new) o) }
     ensures words { IfErr result (λ o. HasWordsCause (asked (map (λ w. string_bytes w) words.now)) o) }
     ensures no_put { IfErr result IsNoPut }
@@ -97,7 +94,7 @@ pub fn run<F: Shelf, O: Sink, E: Sink, L: Ledger>(
     ensures read_fault { HasReadCause (asked (map (λ w. string_bytes w) words.now)) (F.told shelf.old) (F.faults shelf.old) (F.faults shelf.new) (F.last_fault shelf.new) result }
     ensures write_fault { result ≡ Outcome.WriteFault → Rose (O.faults out.old) (O.faults out.new) }
 
-    // with a document to be had and no fault, the answer is Done, but for want of memory
+    // with a document to be had and no fault, the answer is Done or the limit of pages, but for want of memory
     ensures complete { IsComplete (expected (map (λ w. string_bytes w) words.now) (F.told shelf.old)) (Rose (F.faults shelf.old) (F.faults shelf.new)) (Rose (O.faults out.old) (O.faults out.new)) result }
 
     // the line of the answer is put on `err`, whose faults change nothing of it

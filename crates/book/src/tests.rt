@@ -2,7 +2,7 @@
 
 ghost use Rattle.std.specs.Prelude.{◌≡◌, ◌<◌};
 
-use crate::outcome::{FileOf, Outcome, WordsFault};
+use crate::outcome::{FileOf, LimitOf, Outcome, WordsFault};
 use crate::run::run;
 use bk_io::mem_shelf::MemShelf;
 use bk_io::mem_sink::MemSink;
@@ -113,6 +113,10 @@ fn books_of_one_page(rt: HostRuntime) {
             "line 4608 5632 26584 1280\ntext 4608 6528 test/normal/400 1024 #000000 \"aaaa bbbb cccc\"\n",
         ),
         (
+            "<!-- a --><head><title>a</title></head><body><p>a<p>\tb",
+            "line 4608 5632 26584 1280\ntext 4608 6528 test/normal/400 1024 #000000 \"a\"\nline 4608 7936 26584 1280\ntext 4608 8832 test/normal/400 1024 #000000 \"b\"\n",
+        ),
+        (
             "<p> a\n\"b\\ </p>\n<p>c</p>",
             "line 4608 5632 26584 1280\ntext 4608 6528 test/normal/400 1024 #000000 \"a \\\"b\\\\ \"\nline 4608 7936 26584 1280\ntext 4608 8832 test/normal/400 1024 #000000 \"c\"\n",
         ),
@@ -190,21 +194,28 @@ fn refusals_of_files(rt: HostRuntime) {
     let good = METRICS.as_bytes();
     let weight = b"bookmetrics 1\nface t normal 450 16 12 4 8\n".as_slice();
     let not_utf8 = |file, at| Outcome::NotUtf8 { file, at };
-    let not_built = |file| Outcome::NotBuilt { file, at: 0 };
+    let not_built = |file, at| Outcome::NotBuilt { file, at };
     let bad = |line, why| Outcome::BadMetrics { line, why };
     for (metrics, html, sheet, outcome, line) in [
         (
             good,
             b"<p>a</p><b>".as_slice(),
             b"".as_slice(),
-            not_built(FileOf::Html),
-            "bookfmt: not built: html at 0\n",
+            not_built(FileOf::Html, 3),
+            "bookfmt: not built: html at 3\n",
+        ),
+        (
+            good,
+            b"<head><title>&amp; <b></title><meta></head><body><p style>",
+            b"p{}",
+            not_built(FileOf::Html, 6),
+            "bookfmt: not built: html at 6\n",
         ),
         (
             good,
             b"<p>a</p>",
             b"p{}",
-            not_built(FileOf::Sheet(1)),
+            not_built(FileOf::Sheet(1), 0),
             "bookfmt: not built: sheet 1 at 0\n",
         ),
         (
@@ -370,4 +381,61 @@ fn a_failed_put_leaves_a_front(rt: HostRuntime) {
     assert_eq!(rt; outcome, Some(Outcome::WriteFault));
     assert!(rt; out.bytes() == b"book 1 1\npage 1 1 right flow \"\" ".as_slice());
     assert!(rt; err.bytes() == b"bookfmt: cannot write\n".as_slice());
+}
+
+/// The same start tag a number of times.
+fn nested(alloc: Global, tag: &[u8], count: usize) -> Option<Vec<u8>> {
+    let mut html = Vec::new(alloc);
+    for _ in 0..count {
+        html.extend_from_slice(tag).ok()?;
+    }
+    Some(html)
+}
+
+#[test]
+fn limits_of_trees(rt: HostRuntime) {
+    let not_built = Outcome::NotBuilt {
+        file: FileOf::Html,
+        at: 1,
+    };
+    let limit = |what| Outcome::Limit { what };
+    for (tag, count, outcome, line) in [
+        (
+            b"<div>".as_slice(),
+            199,
+            not_built,
+            "bookfmt: not built: html at 1\n",
+        ),
+        (
+            b"<div>".as_slice(),
+            200,
+            limit(LimitOf::Depth),
+            "bookfmt: limit: depth\n",
+        ),
+        (
+            b"<br>".as_slice(),
+            399999,
+            not_built,
+            "bookfmt: not built: html at 1\n",
+        ),
+        (
+            b"<br>".as_slice(),
+            400000,
+            limit(LimitOf::Nodes),
+            "bookfmt: limit: nodes\n",
+        ),
+    ] {
+        let left = nested(rt.alloc(), tag, count).and_then(|html| formatted(
+            rt.alloc(),
+            METRICS.as_bytes(),
+            &html,
+            b"",
+        ));
+        let Some(left) = left else {
+            assert!(rt; false);
+            return;
+        };
+        assert_eq!(rt; left.outcome, outcome);
+        assert!(rt; left.written.is_empty() && left.line.as_slice() == line.as_bytes());
+    }
 }

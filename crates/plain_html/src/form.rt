@@ -78,7 +78,7 @@ fn is_top_name(name: &str) -> bool
 fn is_head_name(name: &str) -> bool
     ensures { result ≡ is_head_name name.now }
 {
-    name == "title" || name == "meta" || name == "style"
+    name == "title" || name == "meta"
 }
 
 /// Whether an element of this name may stand under a parent other than node 0.
@@ -116,11 +116,7 @@ fn is_free(dom: &Dom, parent: Option<NodeId>) -> bool
 {
     match parent {
         None => false,
-        Some(parent) => {
-            is_named(dom, "title", Some(parent))
-                || (is_named(dom, "style", Some(parent))
-                    && is_named(dom, "head", above(dom, parent)))
-        }
+        Some(parent) => is_named(dom, "title", Some(parent)),
     }
 }
 

@@ -6,7 +6,7 @@ use Rattle.book.specs.Answer.{paragraph_advance}
 use Rattle.book.proofs.lay_out.pages_of.Goals as goal
 use Rattle.book.proofs.lay_out.pages_of.Goals.{After-as_slice-2}
 
-few_lines : (c : After-as_slice-2) → length c.in_ok-lines.lines.items ≤ 65536
+few_lines : (c : After-as_slice-2) → length c.in_ok-lines.lines.items ≤ 33554432
 few_lines c =
     let texts : c.as_slice.result.now ≡ c.args.document.now.texts.items = c.as_slice.ensures.value in
     let few : length c.in_ok-lines.lines.items ≤ sum_by (λ t. string_len t) c.args.document.now.texts.items = rw texts at c.in_ok-lines.ensures.few in

@@ -24,3 +24,7 @@ returns-in-WriteFault-clause-bytes g c = rw c.in-WriteFault.is c.put_texts-in-Wr
 pub returns-in-NoMemory-clause-bytes : goal.returns-in-NoMemory-clause-bytes
 unfolding texts_of
 returns-in-NoMemory-clause-bytes g c = rw c.in-NoMemory.is c.put_texts-in-NoMemory.ensures.bytes
+
+pub returns-in-Limit-clause-bytes : goal.returns-in-Limit-clause-bytes
+unfolding texts_of
+returns-in-Limit-clause-bytes g c = rw c.in-Limit.is c.put_limit_line.ensures.bytes
