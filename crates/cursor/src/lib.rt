@@ -7,5 +7,6 @@ mod next;
 pub mod solid;
 pub mod walk;
 
+pub use next::next_solid;
 pub use solid::Solid;
 pub use walk::remainder;

@@ -22,8 +22,9 @@ use metrics::Faces;
 use seams::seam::seam;
 use std::sync::ledger::Ledger;
 
-/// The first solid at or after a place, in a frame of a width, or None at the tree's end.
-pub(crate) fn next_solid<'t, L: Ledger>(
+/// The first solid at or after a place, in a frame of a width in units from 0 to 2^30, or None at the tree's end. It takes
+/// a step for a solid, and none at the end.
+pub fn next_solid<'t, L: Ledger>(
     tree: &'t BoxTree,
     faces: &Faces,
     from: Position,

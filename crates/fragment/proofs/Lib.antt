@@ -1,2 +1,4 @@
 pub mod CutLemmas
+pub mod FlowLemmas
+pub mod FrontLemmas
 pub mod PageLemmas

@@ -194,26 +194,25 @@ run_push step ended going (x ∷ xs) ys s r next = (r.0, r.1, run_push step ende
 
 module _ (faces : List FontFace) (t : Tree) (w : ℤ) (from : Position) (tree : IsTree t) (plain : IsPlain t) (leaves : HasPlainLeaves faces t) (holds : Holds t from) where
   -- the solids of a remainder are few, stand in the tree, and are not forced
-  pub rest_few : (xs : List Solid) → IsRemainder faces t w from (map solid_view xs) → text_size t.leaves t.events ≤ 2 ^ 25 → length xs ≤ 2 ^ 26
+  pub rest_few : (xs : List SolidView) → IsRemainder faces t w from xs → text_size t.leaves t.events ≤ 2 ^ 25 → length xs ≤ 2 ^ 25
   rest_few xs r small =
-      let few = lines_few faces t w tree from (map solid_view xs) (stands t from holds) r in
+      let few = lines_few faces t w tree from xs (stands t from holds) r in
       let all : text_size t.leaves (drop from.event t.events) ≤ text_size t.leaves t.events = size_later t.leaves t.events 0 from.event (omega arith) in
-      let size : length (map solid_view xs) ≡ length xs = rw length-map refl in
       omega arith
 
-  pub rest_within : (xs : List Solid) → IsRemainder faces t w from (map solid_view xs) → All (λ s. s.placed_at.event ≤ length t.events) xs
-  rest_within xs r = all_views (λ v. v.placed_at.event ≤ length t.events) xs (all_of (λ v. v.placed_at.event ≤ length t.events) (map solid_view xs)
-      (each_solid faces t w tree leaves (λ v. v.placed_at.event ≤ length t.events) (λ at s h is. let low = slice_get_within t.events s.placed_at.event (Leaf is.number) is.names in omega arith) from (map solid_view xs) holds r))
+  pub rest_within : (xs : List SolidView) → IsRemainder faces t w from xs → (k : ℕ) (s : SolidView) → slice_get xs k ≡ Some s → s.placed_at.event ≤ length t.events
+  rest_within xs r = each_solid faces t w tree leaves (λ v. v.placed_at.event ≤ length t.events) (λ at s h is. let low = slice_get_within t.events s.placed_at.event (Leaf is.number) is.names in omega arith) from xs holds r
 
   free_seam : (views : List SolidView) → IsRemainder faces t w from views → (k : ℕ) (s : SolidView) → slice_get views k ≡ Some s → s.seam.forced ≡ None
   free_seam = λ views r. each_solid faces t w tree leaves (λ v. v.seam.forced ≡ None) (λ at s h is. ap (λ (i : SeamInfo). i.forced) is.seam_is ∙ seam_free t tree plain s.placed_at w) from views holds r
 
-  pub rest_between : (views : List SolidView) → IsRemainder faces t w from views → AreForcedBetween (rows_of t views)
-  rest_between views r = unforced (rows_of t views) (λ k row e. by k row (slice_get views k) refl (sym (slice_get-map (row_of t) views k) ∙ e))
+  -- the rows of a remainder are not forced
+  pub rest_free : (views : List SolidView) → IsRemainder faces t w from views → (k : ℕ) (row : Row) → slice_get (rows_of t views) k ≡ Some row → row.seam.forced ≡ None
+  rest_free views r k row e = by (slice_get views k) refl (sym (slice_get-map (row_of t) views k) ∙ e)
     where
-      by : (k : ℕ) (row : Row) (o : Option SolidView) → slice_get views k ≡ o → option_map (row_of t) (slice_get views k) ≡ Some row → row.seam.forced ≡ None
-      by k row None e f = absurd (let g : option_map (row_of t) None ≡ Some row = sym (ap (option_map (row_of t)) e) ∙ f in cc)
-      by k row (Some s) e f =
+      by : (o : Option SolidView) → slice_get views k ≡ o → option_map (row_of t) (slice_get views k) ≡ Some row → row.seam.forced ≡ None
+      by None e f = absurd (let g : option_map (row_of t) None ≡ Some row = sym (ap (option_map (row_of t)) e) ∙ f in cc)
+      by (Some s) e f =
           let g : Some (row_of t s) ≡ Some row = sym (ap (option_map (row_of t)) e) ∙ f in
           let same : row_of t s ≡ row = cc in
           ap (λ (q : Row). q.seam.forced) (sym same) ∙ free_seam views r k s e

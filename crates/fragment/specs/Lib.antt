@@ -1,4 +1,5 @@
 pub mod Cuts
+pub mod Fronts
 pub mod Notes
 pub mod Pages
 pub mod Rows

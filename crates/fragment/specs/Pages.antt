@@ -1,5 +1,5 @@
 -- The one page list of a flow, as steps from a state to the next (css-break-3, 4; css-page-3, 3).
-use Rattle.std.specs.Prelude.{◌≡◌, ℕ, suc, ℤ, pos, ◌+◌, ◌+ℤ◌, ◌==◌, List, [], ◌∷◌, Option, Some, None, Bool, true, false, length, map, take, slice_get}
+use Rattle.std.specs.Prelude.{◌≡◌, ℕ, suc, ℤ, pos, ◌+◌, ◌<◌, ◌⊎◌, ◌+ℤ◌, ◌==◌, List, [], ◌∷◌, ◌++◌, Option, Some, None, Bool, true, false, length, map, take, slice_get}
 use Rattle.bk_num.specs.declared.ids.NameId.{NameId}
 use Rattle.metrics.specs.Face.{FontFace}
 use Rattle.boxes.specs.Steps.{IsRun}
@@ -20,6 +20,7 @@ use Rattle.cursor.specs.Remainder.{SolidView, IsRemainder}
 use Rattle.fragment.specs.declared.row.Row.{Row}
 use Rattle.fragment.specs.declared.next_cut.Cut.{Cut}
 use Rattle.fragment.specs.Cuts.{IsRowCut}
+use Rattle.fragment.specs.Fronts.{Decides}
 
 abbrev pub size_of : Option LeafData → ℕ
 size_of None = 0
@@ -92,6 +93,13 @@ pub record IsFlowCut (faces : List FontFace) (t : Tree) (frame : Frame) (from : 
   pub solids : List SolidView
   pub rest : IsRemainder faces t frame.width from solids
   pub cuts : CutsSolids t frame.height kept solids cut
+
+-- a front of the solids that are left, which tells the cut of a page of a frame
+pub record IsFront (faces : List FontFace) (t : Tree) (frame : Frame) (from : Position) (kept : Bool) (front : List SolidView) : Type 0 where
+  pub behind : List SolidView
+  pub rest : IsRemainder faces t frame.width from (front ++ behind)
+  pub some : (behind ≡ []) ⊎ (0 < length front)
+  pub decides : Decides (first_gap kept front) frame.height (rows_of t front) (rows_of t behind)
 
 -- where a page list stands: the place and the index of its next page, whether the kept gap stands above that page's
 -- first solid, the demand that the page has to meet, and whether the flow has ended

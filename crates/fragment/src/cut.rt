@@ -65,7 +65,7 @@ impl Bests {
 }
 
 /// Whether a solid is a line that goes on with the leaf of the solid before it.
-fn joins(row: &Row) -> bool
+pub(crate) fn joins(row: &Row) -> bool
     ensures { result ≡ is_joined row.now }
 {
     match row.seam.class {
@@ -124,13 +124,13 @@ fn limit_of(rows: &[Row]) -> usize
 
 /// The bottom of the solids that are placed, and the greatest bottom so far.
 #[derive(Clone, Copy, Debug)]
-struct Reach {
-    bottom: i64,
-    extent: i64,
+pub(crate) struct Reach {
+    pub bottom: i64,
+    pub extent: i64,
 }
 
 impl Reach {
-    fn place(&mut self, gap: i64, height: i64)
+    pub(crate) fn place(&mut self, gap: i64, height: i64)
         requires low { neg_ℤ (pos (2 ^ 60)) ≤ℤ self.old.bottom }
         requires high { self.old.bottom ≤ℤ pos (2 ^ 60) }
         requires gap_low { neg_ℤ (pos (2 ^ 32)) ≤ℤ gap }

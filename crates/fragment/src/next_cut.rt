@@ -1,17 +1,18 @@
 //! The cut of the next page.
 
-ghost use Rattle.std.specs.Prelude.{◌≡◌, ℕ, ℤ, List, pos, neg_ℤ, ◌<◌, ◌≤◌, ◌^◌, ◌≤ℤ◌, ◌+ℤ◌, length, All, map, take, slice_get, None, IfOk, ◌∷◌, ◌++◌, []};
+ghost use Rattle.std.specs.Prelude.{◌≡◌, ℕ, ℤ, List, pos, neg_ℤ, ◌<◌, ◌≤◌, ◌^◌, ◌≤ℤ◌, ◌+ℤ◌, length, All, map, take, slice_get, None, IfOk, true, false, ◌∷◌, ◌++◌, []};
 ghost use Rattle.boxes.specs.Frames.{IsGoodFrame};
 ghost use Rattle.boxes.specs.Tree.{IsTree, IsWhole, Holds, depth_of};
 ghost use Rattle.cursor.specs.Plain.{HasPlainLeaves};
 ghost use Rattle.seams.specs.Plain.{IsPlain};
 ghost use Rattle.cursor.specs.Fields.{solid_view};
 ghost use Rattle.cursor.specs.Remainder.{SolidView, IsSmallSolid};
-ghost use Rattle.fragment.specs.Pages.{CutsAt, IsFlowCut, text_size, row_of, rows_of, placed_at, placed_from, first_gap, place_after, forced_after, end_cut};
+ghost use Rattle.fragment.specs.Pages.{CutsAt, IsFlowCut, IsFront, text_size, row_of, rows_of, placed_at, placed_from, first_gap, place_after, forced_after, end_cut};
 ghost use Rattle.fragment.specs.Rows.{AreForcedBetween};
 ghost use Rattle.seams.specs.Levels.{block_at, widows_in, orphans_in};
 
 use crate::cut::cut_rows;
+use crate::front::Look;
 use crate::row::Row;
 use bk_num::name::NoMem;
 use bk_num::steps::Steps;
@@ -21,7 +22,7 @@ use boxes::items::Items;
 use boxes::page::{Placed, PlacedNote};
 use boxes::place::Position;
 use boxes::tree::BoxTree;
-use cursor::{Solid, remainder};
+use cursor::{Solid, next_solid};
 use metrics::Faces;
 use std::alloc::Global;
 use std::sync::ledger::Ledger;
@@ -193,6 +194,59 @@ fn forced_after(solids: &[Solid<'_>], count: usize) -> Option<Demand>
     }
 }
 
+/// The gap above a solid on its page, which is the first one or stands below others.
+fn gap_on_page(solid: &Solid<'_>, is_first: bool, kept: bool) -> i64
+    requires { IsSmallSolid (solid_view solid.now) }
+    ensures head { is_first ≡ true → result ≡ first_gap kept (solid_view solid.now ∷ []) }
+    ensures below { is_first ≡ false → result ≡ solid.now.seam.whole_gap }
+    ensures low { neg_ℤ (pos (2 ^ 32)) ≤ℤ result }
+    ensures high { result ≤ℤ pos (2 ^ 32) }
+{
+    if is_first {
+        first_gap(solid, kept)
+    } else {
+        solid.seam.whole_gap
+    }
+}
+
+/// The solids of a flow that tell a page's cut: those up to the first point that misses, and as many lines behind it
+/// as widows ask for; else all that are left.
+fn front<'t, L: Ledger>(
+    alloc: Global,
+    tree: &'t BoxTree,
+    faces: &Faces,
+    from: CutFrom,
+    frame: Frame,
+    steps: &mut Steps<L>,
+) -> Result<Vec<Solid<'t>>, NoMem>
+    requires whole { IsWhole tree.now.events }
+    requires holds { Holds tree.now from.at }
+    requires depth { depth_of tree.now.events ≤ 2048 }
+    requires bytes { text_size tree.now.leaves tree.now.events ≤ 2 ^ 25 }
+    requires frame { IsGoodFrame frame }
+    requires plain { IsPlain tree.now }
+    requires leaves { HasPlainLeaves faces.now tree.now }
+    ensures front { IfOk result (λ v. IsFront faces.now tree.now frame from.at from.kept (map solid_view v.items)) }
+    ensures small { IfOk result (λ v. All IsSmallSolid (map solid_view v.items)) }
+{
+    let _count = tree.count();
+    let mut solids = Vec::new(alloc);
+    let mut look = Look::start();
+    let mut at = from.at;
+    while let Some(solid) = next_solid(tree, faces, at, frame.width, steps) {
+        at = solid.end;
+        let gap = gap_on_page(&solid, solids.is_empty(), from.kept);
+        look.take(&row_of(tree, &solid), gap, frame.height);
+        if solids.push(solid).is_err() {
+            return Err(NoMem);
+        }
+        if look.is_enough() {
+            return Ok(solids);
+        }
+    }
+    Ok(solids)
+}
+
 /// The cut where no solid is left.
 fn end_cut(alloc: Global, tree: &BoxTree) -> Cut
     ensures { result ≡ end_cut tree.now }
@@ -241,7 +295,7 @@ fn cut_solids(
     })
 }
 
-/// The cut of a page of a frame in a tree without notes, from a place on. The whole remainder is made here.
+/// The cut of a page of a frame in a tree without notes, from a place on.
 pub(crate) fn cut_tree<L: Ledger>(
     alloc: Global,
     tree: &BoxTree,
@@ -262,7 +316,7 @@ pub(crate) fn cut_tree<L: Ledger>(
     ensures free { IfOk result (λ cut. cut.forced ≡ None) }
 {
     let _count = tree.count();
-    let solids = remainder(alloc, tree, faces, from.at, frame.width, steps)?;
+    let solids = front(alloc, tree, faces, from, frame, steps)?;
     if solids.is_empty() {
         return Ok(end_cut(alloc, tree));
     }
