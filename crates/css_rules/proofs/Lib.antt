@@ -1,0 +1,10 @@
+pub mod PartLemmas
+pub mod CoverLemmas
+pub mod First
+pub mod MediaLemmas
+pub mod PageLemmas
+pub mod SheetLemmas
+pub mod PageUnique
+pub mod Unique
+pub mod Total
+pub mod CountLemmas

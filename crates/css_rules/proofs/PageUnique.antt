@@ -1,0 +1,60 @@
+-- A list of tokens has one reading as the block of a page rule.
+use Rattle.std.proofs.Common.{◌≡◌, List, ◌∷◌, ◌++◌, refl, ap, sym, ◌∙◌}
+use Rattle.std.specs.Prelude.{option_to_list}
+use Rattle.std.proofs.lemmas.Bool.{both_ways}
+use Rattle.css_tok.specs.Tokens.{Item}
+use Rattle.css_rules.specs.Decls.{Decl, decl_of}
+use Rattle.css_rules.specs.Pages.{BoxOf, IsPageBlock, cut, closer, between, margin_box, at_rule, at_closer, piece, last, box_of, at_end, piece_at}
+use Rattle.css_rules.specs.declared.pages.Lead.TheVariants as lead
+
+pub page_unique : {ts rest left : List Item} {ds es : List Decl} {bs cs : List BoxOf} → IsPageBlock ts ds bs rest → IsPageBlock ts es cs left → (ds ≡ es) × (bs ≡ cs) × (rest ≡ left)
+page_unique cut cut = (refl, refl, refl)
+page_unique (closer t ts here) (closer t' ts' here') = (refl, refl, refl)
+page_unique (closer t ts here) (between t' ts' ds' bs' rest' here' a') = absurd (let e : lead.Closer ≡ lead.Between = sym here ∙ here' in cc)
+page_unique (closer t ts here) (margin_box t' ts' ds' bs' rest' here' box' a') = absurd (let e : lead.Closer ≡ lead.At = sym here ∙ here' in cc)
+page_unique (closer t ts here) (at_rule t' ts' ds' bs' rest' here' box' mark' a') = absurd (let e : lead.Closer ≡ lead.At = sym here ∙ here' in cc)
+page_unique (closer t ts here) (at_closer t' ts' here' box' mark') = absurd (let e : lead.Closer ≡ lead.At = sym here ∙ here' in cc)
+page_unique (closer t ts here) (piece t' ts' ds' bs' rest' here' mark' a') = absurd (let e : lead.Closer ≡ lead.Content = sym here ∙ here' in cc)
+page_unique (closer t ts here) (last t' ts' here' mark') = absurd (let e : lead.Closer ≡ lead.Content = sym here ∙ here' in cc)
+page_unique (between t ts ds bs rest here a) (closer t' ts' here') = absurd (let e : lead.Between ≡ lead.Closer = sym here ∙ here' in cc)
+page_unique (between t ts ds bs rest here a) (between t' ts' ds' bs' rest' here' a') = page_unique a a'
+page_unique (between t ts ds bs rest here a) (margin_box t' ts' ds' bs' rest' here' box' a') = absurd (let e : lead.Between ≡ lead.At = sym here ∙ here' in cc)
+page_unique (between t ts ds bs rest here a) (at_rule t' ts' ds' bs' rest' here' box' mark' a') = absurd (let e : lead.Between ≡ lead.At = sym here ∙ here' in cc)
+page_unique (between t ts ds bs rest here a) (at_closer t' ts' here' box' mark') = absurd (let e : lead.Between ≡ lead.At = sym here ∙ here' in cc)
+page_unique (between t ts ds bs rest here a) (piece t' ts' ds' bs' rest' here' mark' a') = absurd (let e : lead.Between ≡ lead.Content = sym here ∙ here' in cc)
+page_unique (between t ts ds bs rest here a) (last t' ts' here' mark') = absurd (let e : lead.Between ≡ lead.Content = sym here ∙ here' in cc)
+page_unique (margin_box t ts ds bs rest here box a) (closer t' ts' here') = absurd (let e : lead.At ≡ lead.Closer = sym here ∙ here' in cc)
+page_unique (margin_box t ts ds bs rest here box a) (between t' ts' ds' bs' rest' here' a') = absurd (let e : lead.At ≡ lead.Between = sym here ∙ here' in cc)
+page_unique (margin_box t ts ds bs rest here box a) (margin_box t' ts' ds' bs' rest' here' box' a') = (let u = page_unique a a' in (u.0, ap (λ z. box_of t (at_end ts) ∷ z) u.1, u.2))
+page_unique (margin_box t ts ds bs rest here box a) (at_rule t' ts' ds' bs' rest' here' box' mark' a') = absurd (both_ways _ box' box)
+page_unique (margin_box t ts ds bs rest here box a) (at_closer t' ts' here' box' mark') = absurd (both_ways _ box' box)
+page_unique (margin_box t ts ds bs rest here box a) (piece t' ts' ds' bs' rest' here' mark' a') = absurd (let e : lead.At ≡ lead.Content = sym here ∙ here' in cc)
+page_unique (margin_box t ts ds bs rest here box a) (last t' ts' here' mark') = absurd (let e : lead.At ≡ lead.Content = sym here ∙ here' in cc)
+page_unique (at_rule t ts ds bs rest here box mark a) (closer t' ts' here') = absurd (let e : lead.At ≡ lead.Closer = sym here ∙ here' in cc)
+page_unique (at_rule t ts ds bs rest here box mark a) (between t' ts' ds' bs' rest' here' a') = absurd (let e : lead.At ≡ lead.Between = sym here ∙ here' in cc)
+page_unique (at_rule t ts ds bs rest here box mark a) (margin_box t' ts' ds' bs' rest' here' box' a') = absurd (both_ways _ box box')
+page_unique (at_rule t ts ds bs rest here box mark a) (at_rule t' ts' ds' bs' rest' here' box' mark' a') = page_unique a a'
+page_unique (at_rule t ts ds bs rest here box mark a) (at_closer t' ts' here' box' mark') = absurd (both_ways _ mark mark')
+page_unique (at_rule t ts ds bs rest here box mark a) (piece t' ts' ds' bs' rest' here' mark' a') = absurd (let e : lead.At ≡ lead.Content = sym here ∙ here' in cc)
+page_unique (at_rule t ts ds bs rest here box mark a) (last t' ts' here' mark') = absurd (let e : lead.At ≡ lead.Content = sym here ∙ here' in cc)
+page_unique (at_closer t ts here box mark) (closer t' ts' here') = absurd (let e : lead.At ≡ lead.Closer = sym here ∙ here' in cc)
+page_unique (at_closer t ts here box mark) (between t' ts' ds' bs' rest' here' a') = absurd (let e : lead.At ≡ lead.Between = sym here ∙ here' in cc)
+page_unique (at_closer t ts here box mark) (margin_box t' ts' ds' bs' rest' here' box' a') = absurd (both_ways _ box box')
+page_unique (at_closer t ts here box mark) (at_rule t' ts' ds' bs' rest' here' box' mark' a') = absurd (both_ways _ mark' mark)
+page_unique (at_closer t ts here box mark) (at_closer t' ts' here' box' mark') = (refl, refl, refl)
+page_unique (at_closer t ts here box mark) (piece t' ts' ds' bs' rest' here' mark' a') = absurd (let e : lead.At ≡ lead.Content = sym here ∙ here' in cc)
+page_unique (at_closer t ts here box mark) (last t' ts' here' mark') = absurd (let e : lead.At ≡ lead.Content = sym here ∙ here' in cc)
+page_unique (piece t ts ds bs rest here mark a) (closer t' ts' here') = absurd (let e : lead.Content ≡ lead.Closer = sym here ∙ here' in cc)
+page_unique (piece t ts ds bs rest here mark a) (between t' ts' ds' bs' rest' here' a') = absurd (let e : lead.Content ≡ lead.Between = sym here ∙ here' in cc)
+page_unique (piece t ts ds bs rest here mark a) (margin_box t' ts' ds' bs' rest' here' box' a') = absurd (let e : lead.Content ≡ lead.At = sym here ∙ here' in cc)
+page_unique (piece t ts ds bs rest here mark a) (at_rule t' ts' ds' bs' rest' here' box' mark' a') = absurd (let e : lead.Content ≡ lead.At = sym here ∙ here' in cc)
+page_unique (piece t ts ds bs rest here mark a) (at_closer t' ts' here' box' mark') = absurd (let e : lead.Content ≡ lead.At = sym here ∙ here' in cc)
+page_unique (piece t ts ds bs rest here mark a) (piece t' ts' ds' bs' rest' here' mark' a') = (let u = page_unique a a' in (ap (λ z. option_to_list (decl_of (piece_at (t ∷ ts))) ++ z) u.0, u.1, u.2))
+page_unique (piece t ts ds bs rest here mark a) (last t' ts' here' mark') = absurd (both_ways _ mark' mark)
+page_unique (last t ts here mark) (closer t' ts' here') = absurd (let e : lead.Content ≡ lead.Closer = sym here ∙ here' in cc)
+page_unique (last t ts here mark) (between t' ts' ds' bs' rest' here' a') = absurd (let e : lead.Content ≡ lead.Between = sym here ∙ here' in cc)
+page_unique (last t ts here mark) (margin_box t' ts' ds' bs' rest' here' box' a') = absurd (let e : lead.Content ≡ lead.At = sym here ∙ here' in cc)
+page_unique (last t ts here mark) (at_rule t' ts' ds' bs' rest' here' box' mark' a') = absurd (let e : lead.Content ≡ lead.At = sym here ∙ here' in cc)
+page_unique (last t ts here mark) (at_closer t' ts' here' box' mark') = absurd (let e : lead.Content ≡ lead.At = sym here ∙ here' in cc)
+page_unique (last t ts here mark) (piece t' ts' ds' bs' rest' here' mark' a') = absurd (both_ways _ mark mark')
+page_unique (last t ts here mark) (last t' ts' here' mark') = (refl, refl, refl)

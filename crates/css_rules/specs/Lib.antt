@@ -1,0 +1,7 @@
+pub mod Brackets
+pub mod Views
+pub mod Parts
+pub mod Decls
+pub mod Media
+pub mod Pages
+pub mod Sheet

@@ -1,0 +1,228 @@
+//! Page rules.
+
+ghost use Rattle.std.specs.Prelude.{◌≡◌, ◌≤◌, ◌<◌, ◌++◌, ◌==◌, List, ℕ, [], ◌∷◌, length, map, true, option_map, option_to_list, IsTrue, IfOk, OnOk};
+ghost use Rattle.css_tok.specs.Tokens.{tokens_of, item_in};
+ghost use Rattle.css_rules.specs.Brackets as brackets;
+ghost use Rattle.css_rules.specs.Decls.{Decl, decl_in};
+ghost use Rattle.css_rules.specs.Decls as spec_decls;
+ghost use Rattle.css_rules.specs.Pages as spec;
+ghost use Rattle.css_rules.specs.Parts.{first_mark, rest_of};
+
+use crate::brackets::mark;
+use crate::decls::{DeclSlice, decl_of, is_gap, read_block};
+use crate::parts::{Stop, take_until};
+use bk_num::name::NoMem;
+use css_tok::front::CssKind;
+use css_tok::tokens::{CssToken, CssTokens};
+use css_tok::words::is_word;
+use std::alloc::Global;
+
+/// What stands where a rule or a declaration could begin.
+#[derive(Clone, Copy, Debug)]
+pub enum Lead {
+    /// White space or a comment, and between rules also `<!--` and `-->`.
+    Between,
+    /// The `}` that ends the block.
+    Closer,
+    /// An at-keyword.
+    At,
+    /// Anything else.
+    Content,
+}
+
+/// A page rule, by its parts of the source: its page selectors, its declarations, and its margin boxes by
+/// their names, escapes as they stand.
+#[derive(Drop)]
+pub struct PageSlice<'a> {
+    pub selectors: &'a str,
+    pub decls: Vec<DeclSlice<'a>>,
+    pub boxes: Vec<(&'a str, Vec<DeclSlice<'a>>)>,
+}
+
+/// Whether a name is that of one of the sixteen margin boxes (css-page, 5), ASCII case aside.
+#[tactic(auto, unfolding(crate::specs::Pages::is_margin_name))]
+pub fn is_margin_name(name: &str) -> bool
+    ensures { result ≡ spec.is_margin_name name.now }
+{
+    is_word(name, "top-left-corner")
+        || is_word(name, "top-left")
+        || is_word(name, "top-center")
+        || is_word(name, "top-right")
+        || is_word(name, "top-right-corner")
+        || is_word(name, "right-top")
+        || is_word(name, "right-middle")
+        || is_word(name, "right-bottom")
+        || is_word(name, "bottom-right-corner")
+        || is_word(name, "bottom-right")
+        || is_word(name, "bottom-center")
+        || is_word(name, "bottom-left")
+        || is_word(name, "bottom-left-corner")
+        || is_word(name, "left-bottom")
+        || is_word(name, "left-middle")
+        || is_word(name, "left-top")
+}
+
+pub(crate) fn is_at(token: &CssToken<'_>) -> bool
+    ensures { result ≡ spec.is_at_kind token.now.kind }
+{
+    matches!(token.kind, CssKind::At)
+}
+
+#[tactic(auto, unfolding(crate::specs::Pages::page_lead))]
+fn page_lead(token: &CssToken<'_>) -> Lead
+    ensures { result ≡ spec.page_lead (item_in token.now) }
+{
+    if is_gap(token) {
+        Lead::Between
+    } else if mark(token) == b'}' {
+        Lead::Closer
+    } else if is_at(token) {
+        Lead::At
+    } else {
+        Lead::Content
+    }
+}
+
+/// A part of the block of a page rule, and whether the block goes on.
+#[derive(Drop)]
+pub struct PagePart<'a> {
+    decl: Option<DeclSlice<'a>>,
+    margin: Option<(&'a str, Vec<DeclSlice<'a>>)>,
+    more: bool,
+}
+
+/// Reads an at-rule in the block, whose At was taken: a margin box with its block, or nothing.
+#[tactic(auto, unfolding(crate::specs::Pages::is_margin_box, crate::specs::Pages::past_end, crate::specs::Pages::at_end))]
+fn read_page_at<'a>(
+    alloc: Global,
+    token: &CssToken<'a>,
+    tokens: &mut CssTokens<'a>,
+    found: &mut Vec<CssToken<'a>>,
+) -> Result<PagePart<'a>, NoMem>
+    ensures part { IfOk result (λ p. spec.IsPageAt p (item_in token.now) (tokens_of tokens.old.rest.now) (tokens_of tokens.new.rest.now)) }
+    ensures within { IfOk result (λ _. length tokens.new.rest.now ≤ length tokens.old.rest.now) }
+{
+    let end = take_until(alloc, tokens, Stop::InnerAtRule, found)?;
+    if end != b'{' {
+        return Ok(PagePart {
+            decl: None,
+            margin: None,
+            more: end != b'}',
+        });
+    }
+    let decls = read_block(alloc, tokens, Stop::BlockPiece)?;
+    let name = token.value_slice();
+    Ok(PagePart {
+        decl: None,
+        margin: if is_margin_name(name) {
+            Some((name, decls))
+        } else {
+            None
+        },
+        more: true,
+    })
+}
+
+/// Reads a piece of the block.
+#[tactic(auto, unfolding(crate::specs::Pages::piece_at, crate::specs::Pages::piece_end))]
+fn read_page_piece<'a>(
+    alloc: Global,
+    tokens: &mut CssTokens<'a>,
+    found: &mut Vec<CssToken<'a>>,
+) -> Result<PagePart<'a>, NoMem>
+    ensures decl { IfOk result (λ p. option_map decl_in p.decl ≡ spec_decls.decl_of (spec.piece_at (tokens_of tokens.old.rest.now))) }
+    ensures margin { IfOk result (λ p. option_map spec.box_in p.margin ≡ None) }
+    ensures more { IfOk result (λ p. p.more ≡ (first_mark (spec.piece_end (tokens_of tokens.old.rest.now)) == 59)) }
+    ensures rest { IfOk result (λ _. tokens_of tokens.new.rest.now ≡ rest_of (spec.piece_end (tokens_of tokens.old.rest.now))) }
+    ensures takes { IfOk result (λ _. 0 < length tokens.old.rest.now → length tokens.new.rest.now < length tokens.old.rest.now) }
+{
+    let start = tokens.rest;
+    let end = take_until(alloc, tokens, Stop::BlockPiece, found)?;
+    Ok(PagePart {
+        decl: decl_of(start, found),
+        margin: None,
+        more: end == b';',
+    })
+}
+
+/// Reads the next part of the block.
+fn next_page_part<'a>(
+    alloc: Global,
+    tokens: &mut CssTokens<'a>,
+    found: &mut Vec<CssToken<'a>>,
+) -> Result<PagePart<'a>, NoMem>
+    ensures part { IfOk result (λ p. spec.IsPartOfPage p (tokens_of tokens.old.rest.now) (tokens_of tokens.new.rest.now)) }
+    ensures within { IfOk result (λ _. length tokens.new.rest.now ≤ length tokens.old.rest.now) }
+    ensures moves { IfOk result (λ p. IsTrue p.more → length tokens.new.rest.now < length tokens.old.rest.now) }
+{
+    let mut ahead = *tokens;
+    let Some(token) = ahead.next() else {
+        return Ok(PagePart {
+            decl: None,
+            margin: None,
+            more: false,
+        });
+    };
+    match page_lead(&token) {
+        Lead::Content => {
+            let part = read_page_piece(alloc, tokens, found)?;
+            Ok(part)
+        }
+        Lead::At => {
+            *tokens = ahead;
+            let part = read_page_at(alloc, &token, tokens, found)?;
+            Ok(part)
+        }
+        Lead::Closer => {
+            *tokens = ahead;
+            Ok(PagePart {
+                decl: None,
+                margin: None,
+                more: false,
+            })
+        }
+        Lead::Between => {
+            *tokens = ahead;
+            Ok(PagePart {
+                decl: None,
+                margin: None,
+                more: true,
+            })
+        }
+    }
+}
+
+fn push_some<T: Drop>(items: &mut Vec<T>, item: Option<T>) -> Result<(), NoMem>
+    ensures { OnOk result (items.new.items ≡ items.old.items ++ option_to_list item) }
+{
+    match item {
+        Some(item) => Ok(items.push(item)?),
+        None => Ok(()),
+    }
+}
+
+/// Reads the block of a page rule, whose `{` was taken, and makes the rule.
+pub(crate) fn read_page<'a>(
+    alloc: Global,
+    selectors: &'a str,
+    tokens: &mut CssTokens<'a>,
+    found: &mut Vec<CssToken<'a>>,
+) -> Result<PageSlice<'a>, NoMem>
+    ensures block { IfOk result (λ p. ((spec.page_in p).selectors ≡ selectors.now) × spec.IsPageBlock (tokens_of tokens.old.rest.now) (spec.page_in p).decls (spec.page_in p).boxes (tokens_of tokens.new.rest.now)) }
+    ensures within { IfOk result (λ _. length tokens.new.rest.now ≤ length tokens.old.rest.now) }
+{
+    let mut decls = Vec::new(alloc);
+    let mut boxes = Vec::new(alloc);
+    'parts: loop {
+        let PagePart { decl, margin, more } = next_page_part(alloc, tokens, found)?;
+        push_some(&mut decls, decl)?;
+        push_some(&mut boxes, margin)?;
+        if !more {
+            return Ok(PageSlice {
+                selectors,
+                decls,
+                boxes,
+            });
+        }
+    }
+}

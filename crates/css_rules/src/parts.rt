@@ -1,0 +1,101 @@
+//! Takes the tokens up to where a part of a sheet ends.
+
+ghost use Rattle.std.specs.Prelude.{◌≡◌, ◌≢◌, ◌++◌, ◌≤◌, ◌<◌, ◌||◌, ◌==◌, ℕ, List, [], ◌∷◌, if◌then◌else◌, length, IfOk};
+ghost use Rattle.css_tok.specs.Tokens.{tokens_of, item_in};
+ghost use Rattle.css_rules.specs.Views.{items_in};
+ghost use Rattle.css_rules.specs.Parts as spec;
+
+use crate::brackets::{Open, mark};
+use bk_num::name::NoMem;
+use css_tok::tokens::{CssToken, CssTokens};
+use std::alloc::Global;
+
+/// What ends a part of a sheet, outside brackets.
+#[derive(Clone, Copy, Debug)]
+pub enum Stop {
+    /// `;`: a piece of a style attribute.
+    Piece,
+    /// `;` or `}`: a piece of a block.
+    BlockPiece,
+    /// `{`: a prelude.
+    Prelude,
+    /// `{` or `}`: a prelude in a block.
+    InnerPrelude,
+    /// `;` or `{`: the prelude of an at-rule.
+    AtRule,
+    /// `;`, `{` or `}`: the prelude of an at-rule in a block.
+    InnerAtRule,
+    /// `,`: a part of a list.
+    Comma,
+}
+
+fn is_stop(stop: Stop, mark: u8) -> bool
+    ensures { result ≡ spec.is_stop stop mark }
+{
+    match stop {
+        Stop::Piece => mark == b';',
+        Stop::BlockPiece => mark == b';' || mark == b'}',
+        Stop::Prelude => mark == b'{',
+        Stop::InnerPrelude => mark == b'{' || mark == b'}',
+        Stop::AtRule => mark == b';' || mark == b'{',
+        Stop::InnerAtRule => mark == b';' || mark == b'{' || mark == b'}',
+        Stop::Comma => mark == b',',
+    }
+}
+
+#[tactic(auto, unfolding(crate::specs::Parts::ends))]
+fn ends(stop: Stop, open: &Open, token: &CssToken<'_>) -> bool
+    ensures { result ≡ spec.ends stop open.now (item_in token.now) }
+{
+    open.is_outside() && is_stop(stop, mark(token))
+}
+
+/// Reads the tokens before the one that ends a part, and takes that one. Answers its mark, or 0 at the end.
+pub(crate) fn take_until<'a>(
+    alloc: Global,
+    tokens: &mut CssTokens<'a>,
+    stop: Stop,
+    found: &mut Vec<CssToken<'a>>,
+) -> Result<u8, NoMem>
+    ensures found { IfOk result (λ _. items_in found.new.items ≡ spec.front_from stop [] (tokens_of tokens.old.rest.now)) }
+    ensures end { IfOk result (λ m. m ≡ spec.first_mark (spec.after_from stop [] (tokens_of tokens.old.rest.now))) }
+    ensures rest { IfOk result (λ _. tokens_of tokens.new.rest.now ≡ spec.rest_of (spec.after_from stop [] (tokens_of tokens.old.rest.now))) }
+    ensures front { IfOk result (λ _. (rest : List ℕ) × (tokens.old.rest.now ≡ spec.joined (items_in found.new.items) ++ rest)) }
+    ensures within { length tokens.new.rest.now ≤ length tokens.old.rest.now }
+    ensures moves { IfOk result (λ m. m ≢ 0 → length tokens.new.rest.now < length tokens.old.rest.now) }
+    ensures takes { IfOk result (λ m. 0 < length tokens.old.rest.now → length tokens.new.rest.now < length tokens.old.rest.now) }
+{
+    found.clear();
+    let mut open = Open::new(alloc);
+    while let Some(token) = tokens.next() {
+        if ends(stop, &open, &token) {
+            return Ok(mark(&token));
+        }
+        open.pass(&token)?;
+        found.push(token)?;
+    }
+    Ok(0)
+}
+
+/// Reads the next piece of a list. Answers what ended it.
+#[tactic(auto, using(crate::proofs::PartLemmas::parts_first, crate::proofs::PartLemmas::past_first))]
+pub(crate) fn next_part<'a>(
+    alloc: Global,
+    tokens: &mut CssTokens<'a>,
+    stop: Stop,
+    part: &mut Vec<CssToken<'a>>,
+) -> Result<u8, NoMem>
+    ensures parted { IfOk result (λ m. spec.parts_from stop [] (tokens_of tokens.old.rest.now) ≡ items_in part.new.items ∷ (if m == spec.separator stop then spec.parts_from stop [] (tokens_of tokens.new.rest.now) else [])) }
+    ensures past { IfOk result (λ m. spec.past_from stop [] (tokens_of tokens.old.rest.now) ≡ (if m == spec.separator stop then spec.past_from stop [] (tokens_of tokens.new.rest.now) else tokens_of tokens.new.rest.now)) }
+    ensures front { IfOk result (λ _. (rest : List ℕ) × (tokens.old.rest.now ≡ spec.joined (items_in part.new.items) ++ rest)) }
+    ensures within { length tokens.new.rest.now ≤ length tokens.old.rest.now }
+    ensures moves { IfOk result (λ m. m ≢ 0 → length tokens.new.rest.now < length tokens.old.rest.now) }
+{
+    let end = take_until(alloc, tokens, stop, part)?;
+    Ok(end)
+}
+
+/// A part ends at the first place outside brackets whose token stops it.
+pub fn parts_end_first()
+    ensures { spec.EachPartEndsFirst }
+{}

@@ -1,0 +1,5 @@
+pub mod Runs
+pub mod TokenLemmas
+pub mod Boundaries
+pub mod PlainLemmas
+pub mod WordLemmas

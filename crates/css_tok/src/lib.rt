@@ -1,0 +1,11 @@
+//! The tokens of a style sheet (CSS 2.1, 4.1), without memory, and their escapes undone.
+#![tactic(auto)]
+
+pub mod front;
+pub mod lengths;
+pub mod plain;
+#[cfg(test)]
+mod tests;
+pub mod tokens;
+pub mod value;
+pub mod words;

@@ -1,0 +1,8 @@
+pub mod SetLemmas
+pub mod TextLemmas
+pub mod WalkLemmas
+pub mod Pending
+pub mod ReadLemmas
+pub mod NthLemmas
+pub mod GrammarLemmas
+pub mod LoopLemmas

@@ -1,0 +1,10 @@
+use Rattle.std.proofs.Common.{◌≡◌, ◌-◌, ◌+◌, ◌∷◌, [], length}
+use Rattle.selectors.specs.Grammar.{rest_from}
+use Rattle.selectors.proofs.grammar.rest.Given as goal
+
+abbrev pub invariant-loop-turn : goal.invariant-loop-turn
+invariant-loop-turn l = record {
+  parts : length l.parts ≡ l.turn + 1;
+  joins : length l.joins ≡ l.turn;
+  read : rest_from 16 (l.fn.first ∷ []) [] l.fn.reader ≡ rest_from (16 - l.turn) l.parts l.joins l.reader;
+}

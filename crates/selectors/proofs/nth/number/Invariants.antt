@@ -1,0 +1,9 @@
+use Rattle.std.proofs.Common.{◌≡◌, ◌≤◌, drop}
+use Rattle.selectors.specs.Nth.{number_from}
+use Rattle.selectors.proofs.nth.number.Given as goal
+
+abbrev pub invariant-loop-at : goal.invariant-loop-at
+invariant-loop-at l = record {
+  few : l.number ≤ 999999999;
+  same : number_from 0 l.digits ≡ number_from l.number (drop l.at l.digits);
+}

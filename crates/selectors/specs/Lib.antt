@@ -1,0 +1,9 @@
+pub mod Sets
+pub mod Walk
+pub mod Fits
+pub mod Selectors
+pub mod Match
+pub mod Specificity
+pub mod Reader
+pub mod Nth
+pub mod Grammar

@@ -1,0 +1,130 @@
+//! Whether a selector matches a node: one pass from the node to the root, over sets of compounds.
+
+ghost use Rattle.std.specs.Prelude.{◌≡◌, ◌<◌, ◌≤◌, ◌+◌, ◌&&◌, ◌↔◌, ℕ, suc, true, length, option_map, Some, None, IsTrue, IfNone, IfSome};
+ghost use Rattle.selectors.specs.Match.{Matches, fits, joins_by, parent_of};
+ghost use Rattle.selectors.specs.Sets as sets;
+ghost use Rattle.selectors.specs.Walk.{prev_element};
+
+use crate::fits::fits_compound;
+use crate::sets::{has, union, with};
+use crate::types::{Join, Selector};
+use crate::walk::{parent, prev_element};
+use bk_num::ids::NodeId;
+use dom::Dom;
+
+#[tactic(auto, unfolding(crate::specs::Match::fits))]
+fn fits(selector: &Selector, at: usize, dom: &Dom, node: NodeId) -> bool
+    requires within { at < length selector.now.parts }
+    requires node { node.0 < length dom.now }
+    ensures { result ≡ fits dom.now selector.now at node.0 }
+{
+    match selector.parts().get(at) {
+        Some(compound) => fits_compound(dom, node, compound),
+        None => false,
+    }
+}
+
+#[tactic(auto, unfolding(crate::specs::Match::joins_by))]
+fn joins_by(selector: &Selector, join: Join, at: usize) -> bool
+    ensures { result ≡ joins_by selector.now join at }
+{
+    match (selector.joins().get(at), join) {
+        (Some(Join::Child), Join::Child) => true,
+        (Some(Join::Inside), Join::Inside) => true,
+        (Some(Join::Next), Join::Next) => true,
+        (Some(Join::Later), Join::Later) => true,
+        _ => false,
+    }
+}
+
+/// The number of compounds.
+fn count(selector: &Selector) -> usize
+    ensures count { result ≡ length selector.now.parts }
+    ensures few { result ≤ 16 }
+    ensures joins { result ≡ length selector.now.joins + 1 }
+{
+    selector.parts().len()
+}
+
+/// The wanted compounds that a node fits.
+#[tactic(auto, using(crate::proofs::SetLemmas::has_none))]
+fn fitting(selector: &Selector, dom: &Dom, node: NodeId, wanted: u16) -> u16
+    requires { node.0 < length dom.now }
+    ensures { (k : ℕ) → sets.has result k ≡ (sets.has wanted k && fits dom.now selector.now k node.0) }
+{
+    let mut found = 0;
+    for k in 0..count(selector) {
+        if has(wanted, k) && fits(selector, k, dom, node) {
+            found = with(found, k);
+        }
+    }
+    found
+}
+
+/// The compounds that stand before a found one by this join.
+#[tactic(auto, using(crate::proofs::SetLemmas::has_none))]
+fn before(selector: &Selector, join: Join, found: u16) -> u16
+    ensures { (k : ℕ) → sets.has result k ≡ (joins_by selector.now join k && sets.has found (suc k)) }
+{
+    let mut wanted = 0;
+    for k in 1..count(selector) {
+        if joins_by(selector, join, k - 1) && has(found, k) {
+            wanted = with(wanted, k - 1);
+        }
+    }
+    wanted
+}
+
+/// The element sibling before a node, if a compound is wanted there.
+#[tactic(auto, using(crate::proofs::SetLemmas::has_none))]
+fn wanted_prev(dom: &Dom, node: NodeId, wanted: u16) -> Option<NodeId>
+    requires { node.0 < length dom.now }
+    ensures none { IfNone result ((k : ℕ) → sets.has wanted k ≡ true → prev_element dom.now node.0 ≡ None) }
+    ensures some { IfSome result (λ p. prev_element dom.now node.0 ≡ Some p.0) }
+    ensures below { IfSome result (λ p. p.0 < node.0) }
+    ensures row { IfSome result (λ p. parent_of dom.now p.0 ≡ parent_of dom.now node.0) }
+{
+    if wanted == 0 {
+        None
+    } else {
+        prev_element(dom, node)
+    }
+}
+
+/// Whether a selector matches a node (Selectors 3, 8): nodes for all its compounds exist, the last is the
+/// node, each fits its compound, and neighbours stand in the relation of their combinator. It takes no
+/// memory and goes once from the node to the root, and along the siblings before a node of that way only
+/// where a `+` or `~` asks for them; on each node it tries at most sixteen compounds. So a `~` over a row
+/// of n siblings costs at most n steps a node. `:nth-child` and its kin read places that the document
+/// keeps; `:first-of-type` and `:last-of-type` go to the nearest sibling of the type.
+pub fn matches(dom: &Dom, node: NodeId, selector: &Selector) -> bool
+    requires { node.0 < length dom.now }
+    ensures { IsTrue result ↔ Matches dom.now selector.now node.0 }
+{
+    let mut here = with(0, count(selector) - 1);
+    let mut child = 0;
+    let mut inside = 0;
+    let mut later = 0;
+    let mut at = node;
+    'path: loop {
+        let found = fitting(selector, dom, at, here);
+        if has(found, 0) {
+            return true;
+        }
+        child = union(child, before(selector, Join::Child, found));
+        inside = union(inside, before(selector, Join::Inside, found));
+        later = union(later, before(selector, Join::Later, found));
+        here = union(before(selector, Join::Next, found), later);
+        if let Some(prev) = wanted_prev(dom, at, here) {
+            at = prev;
+            continue;
+        }
+        match parent(dom, at) {
+            None => return false,
+            Some(parent) => at = parent,
+        }
+        here = union(child, inside);
+        child = 0;
+        later = 0;
+    }
+}
