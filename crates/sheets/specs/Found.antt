@@ -1,7 +1,6 @@
 -- What is found among the sheets of elements.
-use Rattle.std.specs.Prelude.{◌≡◌, ℕ, ◌≤◌, ◌<◌, Bool, true, false, nat_lt, if◌then◌else◌, List, Option, None, Some, find}
+use Rattle.std.specs.Prelude.{◌≡◌, ℕ, true, false, nat_lt, if◌then◌else◌, List, Option, None, Some, find}
 use Rattle.std.specs.List.{list_any}
-use Rattle.bk_num.specs.declared.ids.NodeId.{NodeId}
 use Rattle.sheets.specs.declared.check.Elements.{Elements}
 use Rattle.sheets.specs.declared.check.Elements.TheVariants as found
 use Rattle.sheets.specs.Sheets.{Sheet, has_many, has_rules}

@@ -1,5 +1,5 @@
 -- The style sheets of a document and of a file, and what their numbers of rules say.
-use Rattle.std.specs.Prelude.{◌≡◌, ℕ, zero, suc, ◌+◌, Bool, true, false, ◌&&◌, ◌==◌, nat_lt, if◌then◌else◌, List, [], ◌∷◌, ◌++◌, Option, None, Some, find, length, codes, unwrap_or}
+use Rattle.std.specs.Prelude.{◌≡◌, ℕ, zero, suc, ◌+◌, Bool, false, ◌&&◌, ◌==◌, nat_lt, if◌then◌else◌, List, [], ◌∷◌, ◌++◌, Option, None, Some, find, length, codes, unwrap_or}
 use Rattle.std.specs.List.{list_any}
 use Rattle.std.specs.Str.{bytes_eq}
 use Rattle.dom.specs.Nodes.{Node, parents_of, parent_at, name_at, text_at, attribute_at}
@@ -7,7 +7,6 @@ use Rattle.css_tok.specs.Tokens.{tokens_of}
 use Rattle.css_rules.specs.Media.{is_media_list}
 use Rattle.css_rules.specs.Sheet.{RuleOf, IsSheet, rule_count}
 use Rattle.css_rules.specs.Pages.{PageOf}
-use Rattle.bk_num.specs.declared.ids.NodeId.{NodeId}
 use Rattle.sheets.specs.declared.check.Verdict.{Verdict}
 use Rattle.sheets.specs.declared.check.Verdict.TheVariants as verdict
 
