@@ -3,5 +3,7 @@
 
 mod check;
 mod elements;
+#[cfg(test)]
+mod tests;
 
 pub use check::{Verdict, check_sheets, rules_are_counted};
