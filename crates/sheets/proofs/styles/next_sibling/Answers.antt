@@ -1,0 +1,10 @@
+use Rattle.std.proofs.Common.{◌≡◌, length, arith}
+use Rattle.std.proofs.lemmas.List.{length-map}
+use Rattle.dom.specs.Nodes.{Node, parents_of}
+use Rattle.sheets.proofs.WalkLemmas.{all_within, next_in}
+use Rattle.sheets.proofs.styles.next_sibling.Goals as goal
+
+pub returns-clause-within : goal.returns-clause-within
+returns-clause-within c =
+    let same : length (parents_of c.args.dom.now) ≡ length c.args.dom.now = length-map c.args.dom.now (λ (n : Node). n.parent) in
+    all_within c.next_sibling.result _ (length c.args.dom.now) c.next_sibling.ensures (λ m e. omega (arith, same, next_in (parents_of c.args.dom.now) c.args.node.0 m (omega (arith, same, c.requires)) e))
