@@ -91,3 +91,57 @@ fn product(a: i64, b: i64) -> i128
 {
     a as i128 * b as i128
 }
+
+#[cfg(test)]
+mod tests {
+    use super::{Len, Unit, part_of, px_of};
+    use crate::decimal::Decimal;
+    use crate::px::{Px, scale_floor};
+
+    fn number(units: i64, places: u8) -> Decimal
+        requires few { places ≤ 6 }
+        requires small { unsigned_abs units < 10 ^ 15 }
+    {
+        Decimal { units, places }
+    }
+
+    /// Page sizes in millimetres, the CSS inch in each of its units, halves and the clamp.
+    #[test]
+    fn lengths_are_rounded_to_the_nearest_unit(rt: HostRuntime) {
+        for (length, unit, want) in [
+            (number(148, 0), Unit::Mm, 35800),
+            (number(210, 0), Unit::Mm, 50797),
+            (number(297, 0), Unit::Mm, 71841),
+            (number(75, 2), Unit::In, 4608),
+            (number(254, 2), Unit::Cm, 6144),
+            (number(72, 0), Unit::Pt, 6144),
+            (number(6, 0), Unit::Pc, 6144),
+            (number(7812, 6), Unit::Px, 0),
+            (number(7813, 6), Unit::Px, 1),
+            (number(-7812, 6), Unit::Px, 0),
+            (number(-7813, 6), Unit::Px, -1),
+            (number(2097152, 0), Unit::Px, 134217728),
+            (number(2097153, 0), Unit::Px, 134217728),
+            (number(-2097153, 0), Unit::Px, -134217728),
+        ] {
+            assert_eq!(rt; px_of(length, unit).units(), want);
+        }
+    }
+
+    /// Halves go up, also below 0.
+    #[tactic(auto, unfolding(crate::specs::Units::clamped))]
+    #[test]
+    fn parts_of_a_base(rt: HostRuntime) {
+        let half = number(5, 1);
+        for (base, den, want) in [(5, 1, 3), (-5, 1, -2), (7, 2, 2), (0, 1, 0)] {
+            assert_eq!(rt; part_of(half, base, den).units(), want, "{base} {den}");
+        }
+        assert_eq!(rt; Len::Percent(half).used(1000).map(|p| p.units()), Some(5));
+        assert_eq!(rt;
+            Len::Px(Px::from_units(9)).used(1000).map(|p| p.units()),
+            Some(9)
+        );
+        assert!(rt; Len::Auto.used(1000).is_none());
+        assert_eq!(rt; scale_floor(9, Px::from_units(1000), 16).units(), 562);
+    }
+}

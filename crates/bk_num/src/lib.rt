@@ -3,6 +3,7 @@
 
 pub mod decimal;
 pub mod ids;
+pub mod laws;
 pub mod length;
 pub mod name;
 pub mod px;

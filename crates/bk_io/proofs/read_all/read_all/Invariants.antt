@@ -1,0 +1,15 @@
+use Rattle.std.proofs.Common.{◌≡◌, ℕ, ◌≤◌, ◌<◌, IfOk, ◌+◌, ◌-◌, ◌*◌, length, List, take, vec_len}
+use Rattle.bk_io.specs.Shelf.{Told, absent, holds}
+use Rattle.bk_io.proofs.read_all.read_all.Given as goal
+
+abbrev pub invariant-loop-bytes : goal.invariant-loop-bytes
+invariant-loop-bytes g l = record {
+  within : vec_len l.bytes ≤ l.limit;
+  told : g.S.Shelf.told l.shelf ≡ g.S.Shelf.told l.fn.shelf;
+  bytes : (file : List ℕ) → g.S.Shelf.told l.fn.shelf l.name ≡ holds file → l.bytes.items ≡ take (vec_len l.bytes) file;
+  later : g.S.Shelf.faults l.fn.shelf ≤ g.S.Shelf.faults l.shelf;
+  absent : g.S.Shelf.told l.fn.shelf l.name ≡ absent → g.S.Shelf.faults l.shelf ≡ g.S.Shelf.faults l.fn.shelf;
+}
+
+abbrev pub decreases-loop-bytes : goal.decreases-loop-bytes
+decreases-loop-bytes g l = l.limit - vec_len l.bytes

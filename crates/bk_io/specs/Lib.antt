@@ -1,0 +1,5 @@
+pub mod Causes
+pub mod MemShelfFields
+pub mod Memory
+pub mod Shelf
+pub mod Sink

@@ -1,0 +1,15 @@
+//! Named files to read and streams to write, with a written meaning, and their real and in-memory forms.
+#![tactic(auto)]
+
+pub mod dir_shelf;
+pub mod mem_shelf;
+pub mod mem_sink;
+pub mod put_all;
+pub mod read_all;
+pub mod shelf;
+pub mod sink;
+pub mod std_sink;
+pub mod still_shelf;
+pub mod still_sink;
+#[cfg(test)]
+mod tests;

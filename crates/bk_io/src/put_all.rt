@@ -1,0 +1,15 @@
+ghost use Rattle.bk_io.specs.Sink.{AppendsAllOrPrefix, HasCause};
+
+use crate::sink::{Failed, Sink};
+
+/// Puts all of the bytes, or a part of them from their start.
+pub fn put_all<S: Sink>(sink: &mut S, bytes: &[u8]) -> Result<(), Failed>
+    ensures bytes { AppendsAllOrPrefix (S.taken sink.old) (S.taken sink.new) bytes.now result }
+    ensures cause { HasCause (S.faults sink.old) (S.faults sink.new) result }
+{
+    let mut at = 0;
+    while at < bytes.len() {
+        at += sink.put(&bytes[at..])?;
+    }
+    Ok(())
+}

@@ -1,0 +1,4 @@
+pub mod PutLemmas
+pub mod RequestLemmas
+pub mod Stopping
+pub mod TableLemmas

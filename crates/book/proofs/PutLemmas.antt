@@ -1,0 +1,24 @@
+-- Texts that are put one after the other.
+use Rattle.std.proofs.Common.{◌≡◌, ℕ, suc, ◌+◌, ◌<◌, ◌≤◌, min, List, ◌∷◌, ◌++◌, length, take, drop, get_or, refl, sym, ap, ◌∙◌, arith, Option, Result, Err}
+use Rattle.std.specs.List.{flat_map}
+use Rattle.std.specs.Io.KnownBytes.{Appends}
+use Rattle.std.proofs.Math.Seq.{take-append-add, drop-cons}
+use Rattle.std.proofs.lemmas.List.{take-append-drop, take-append-le, take_min}
+use Rattle.std.proofs.lemmas.List.Concat.{flat_map-cons}
+use Rattle.std.proofs.lemmas.Grind.{flat_map-append}
+use Rattle.bk_io.specs.Sink.{AppendsAllOrPrefix}
+use Rattle.bk_io.proofs.Bytes.{Appends-more}
+
+parts : {X : Type 0} (f : X → List ℕ) (xs : List X) (i : ℕ) (d : X) → i < length xs → flat_map f xs ≡ flat_map f (take i xs) ++ (f (get_or xs i d) ++ flat_map f (drop (suc i) xs))
+parts f xs i d h = ap (flat_map f) (sym (take-append-drop i xs)) ∙ flat_map-append f (take i xs) (drop i xs) ∙ ap (λ r. flat_map f (take i xs) ++ flat_map f r) (drop-cons xs i d h) ∙ ap (λ r. flat_map f (take i xs) ++ r) (flat_map-cons f (get_or xs i d) (drop (suc i) xs))
+
+-- the first texts and a front of the next one are a front of all
+front : {X : Type 0} (f : X → List ℕ) (xs : List X) (i n : ℕ) (d : X) → i < length xs → take (length (flat_map f (take i xs)) + min n (length (f (get_or xs i d)))) (flat_map f xs) ≡ flat_map f (take i xs) ++ take n (f (get_or xs i d))
+front f xs i n d h =
+    let k : ℕ = min n (length (f (get_or xs i d))) in
+    let low : min n (length (f (get_or xs i d))) ≤ length (f (get_or xs i d)) = omega arith in
+    rw (parts f xs i d h, take-append-add) (ap (λ r. flat_map f (take i xs) ++ r) (take-append-le (min n (length (f (get_or xs i d)))) (f (get_or xs i d)) (flat_map f (drop (suc i) xs)) low ∙ take_min n (f (get_or xs i d))))
+
+-- where the next text was put in part, a front of all was put
+pub put_in_part : {X E : Type 0} (f : X → List ℕ) (xs : List X) (i n : ℕ) (d : X) (e : E) (old mid new : Option (List ℕ)) → i < length xs → Appends old mid (flat_map f (take i xs)) → Appends mid new (take n (f (get_or xs i d))) → AppendsAllOrPrefix old new (flat_map f xs) (Err e)
+put_in_part f xs i n d e old mid new h a b = (length (flat_map f (take i xs)) + min n (length (f (get_or xs i d))), Appends-more old mid new (flat_map f (take i xs)) (take n (f (get_or xs i d))) _ a b (sym (front f xs i n d h)))

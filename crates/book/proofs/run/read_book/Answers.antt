@@ -1,0 +1,10 @@
+use Rattle.std.proofs.Common.{◌≡◌, map, string_bytes}
+use Rattle.std.proofs.lemmas.Result.{err_from_is_err_and}
+use Rattle.book.specs.Run.{texts_expected}
+use Rattle.book.proofs.Stopping.{texts_stop, document_stops, book_for, texts_fault}
+use Rattle.book.proofs.run.read_book.Goals as goal
+
+pub returns-in_err-files-clause-book : goal.returns-in_err-files-clause-book
+returns-in_err-files-clause-book g c =
+    let p = err_from_is_err_and c.from_residual.result c.from_residual.ensures.1 in
+    rw (p.1, p.2) (texts_stop (texts_expected (map (λ w. string_bytes w) c.args.words.now) (g.F.Shelf.told c.args.shelf.now)) c.in_err-files.field-0.0 c.in_err-files.ensures.texts)

@@ -1,0 +1,9 @@
+pub mod Answer
+pub mod Document
+pub mod DocumentView
+pub mod Expect
+pub mod FilesView
+pub mod Message
+pub mod Printer
+pub mod Request
+pub mod Run

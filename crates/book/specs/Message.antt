@@ -1,0 +1,62 @@
+-- The line that a run puts on its second sink, and the status that the program ends with.
+use Rattle.std.specs.Prelude.{ℕ, List, [], ◌∷◌, codes, ℤ, pos}
+use Rattle.std.specs.Fmt.{signed_decimal}
+use Rattle.std.specs.List.{flat_map}
+use Rattle.metrics.specs.declared.fault.MetricsWhy.{MetricsWhy}
+use Rattle.metrics.specs.declared.fault.MetricsWhy.TheVariants as why
+use Rattle.book.specs.declared.outcome.Outcome.{Outcome}
+use Rattle.book.specs.declared.outcome.Outcome.TheVariants as out
+use Rattle.book.specs.declared.outcome.FileOf.{FileOf}
+use Rattle.book.specs.declared.outcome.FileOf.TheVariants as file
+use Rattle.book.specs.declared.outcome.WordsFault.{WordsFault}
+use Rattle.book.specs.declared.outcome.WordsFault.TheVariants as words
+
+unfoldable pub decimal : ℕ → List ℕ
+decimal n = signed_decimal (pos n)
+
+-- the word for a file, and the number of a sheet
+unfoldable pub file_words : FileOf → List ℕ × List ℕ
+file_words file.Metrics = (codes "metrics", [])
+file_words file.Html = (codes "html", [])
+file_words (file.Sheet n) = (codes "sheet ", decimal n)
+
+unfoldable pub why_text : MetricsWhy → List ℕ
+why_text why.Header = codes "header"
+why_text why.Word = codes "word"
+why_text why.Number = codes "number"
+why_text why.Range = codes "range"
+why_text why.Order = codes "order"
+why_text why.Twice = codes "twice"
+why_text why.Many = codes "many"
+why_text why.NoFace = codes "noface"
+
+-- the texts of an answer's line, one after the other
+unfoldable pub texts_of : Outcome → List (List ℕ)
+texts_of (out.Done pages passes) = codes "bookfmt: " ∷ decimal pages ∷ codes " pages, " ∷ decimal passes ∷ codes " passes\n" ∷ []
+texts_of (out.NotRead kind) = codes "bookfmt: usage: bookfmt format [--passes N] METRICS HTML [CSS ...] or bookfmt sample N\n" ∷ []
+texts_of (out.ReadFault f) = codes "bookfmt: cannot read " ∷ (file_words f).0 ∷ (file_words f).1 ∷ codes "\n" ∷ []
+texts_of (out.TooLarge f) = codes "bookfmt: " ∷ (file_words f).0 ∷ (file_words f).1 ∷ codes " has more than 16777216 bytes\n" ∷ []
+texts_of (out.NotUtf8 f at) = codes "bookfmt: " ∷ (file_words f).0 ∷ (file_words f).1 ∷ codes " is not UTF-8 at " ∷ decimal at ∷ codes "\n" ∷ []
+texts_of (out.BadMetrics line reason) = codes "bookfmt: metrics line " ∷ decimal line ∷ codes ": " ∷ why_text reason ∷ codes "\n" ∷ []
+texts_of (out.NotBuilt f at) = codes "bookfmt: not built: " ∷ (file_words f).0 ∷ (file_words f).1 ∷ codes " at " ∷ decimal at ∷ codes "\n" ∷ []
+texts_of out.WriteFault = codes "bookfmt: cannot write\n" ∷ []
+texts_of out.NoMemory = codes "bookfmt: no memory\n" ∷ []
+
+-- the line of an answer
+abbrev pub message : Outcome → List ℕ
+message o = flat_map (λ t. t) (texts_of o)
+
+-- the status of an answer: 0 where all went well or help was asked for
+abbrev pub status_of : Outcome → ℕ
+status_of (out.Done pages passes) = 0
+status_of (out.NotRead words.Help) = 0
+status_of (out.NotRead words.NoCommand) = 2
+status_of (out.NotRead words.UnknownCommand) = 2
+status_of (out.NotRead words.Refused) = 2
+status_of (out.ReadFault f) = 1
+status_of (out.TooLarge f) = 8
+status_of (out.NotUtf8 f at) = 3
+status_of (out.BadMetrics line reason) = 5
+status_of (out.NotBuilt f at) = 10
+status_of out.WriteFault = 7
+status_of out.NoMemory = 9

@@ -1,0 +1,146 @@
+-- What the words and the files ask for, and what a run answers.
+use Rattle.std.specs.Prelude.{◌≡◌, ℕ, ◌+◌, ◌≤◌, List, length, take, nat_lt, if◌then◌else◌, Option, ◌⊎◌}
+use Rattle.std.specs.Io.KnownBytes.{Appends, Keeps}
+use Rattle.std.specs.Str.{is_utf8}
+use Rattle.std.specs.Str.Lossy.{utf8_valid_len}
+use Rattle.bk_text.specs.Texts.{unmarked}
+use Rattle.bk_io.specs.Shelf.{Told, untold, absent, holds, Faulted}
+use Rattle.bk_io.specs.Causes.{Rose}
+use Rattle.book.specs.Expect.{Expect, free, refused, given, ◌>>=◌, IsRefused}
+use Rattle.book.specs.Request.{Names, name_of, asked}
+use Rattle.book.specs.Document.{Texts, Document, document_of}
+use Rattle.book.specs.Answer.{Book, IsBookOf}
+use Rattle.book.specs.declared.outcome.Outcome.{Outcome}
+use Rattle.book.specs.declared.outcome.Outcome.TheVariants as out
+use Rattle.book.specs.declared.outcome.FileOf.{FileOf}
+use Rattle.book.specs.declared.outcome.FileOf.TheVariants as file
+
+-- the text of a file that has at most 16,777,216 bytes
+abbrev pub text_of : FileOf → Told → Expect (List ℕ)
+text_of f untold = free
+text_of f absent = refused (out.ReadFault f)
+text_of f (holds bytes) = if nat_lt 16777216 (length bytes) then refused (out.TooLarge f) else
+    if is_utf8 bytes then given (unmarked bytes) else refused (out.NotUtf8 f (utf8_valid_len bytes))
+
+-- the texts of the files that the words name, or the first refusal in the order of the steps
+abbrev pub texts_expected : List (List ℕ) → (List ℕ → Told) → Expect Texts
+texts_expected ws told = asked ws >>= λ names.
+    text_of file.Metrics (told names.metrics) >>= λ metrics.
+    text_of file.Html (told names.html) >>= λ html.
+    text_of (file.Sheet 1) (told names.sheet) >>= λ sheet.
+    given (record { metrics = metrics; html = html; sheet = sheet })
+
+-- what is expected of these words over this shelf: the document, or the first refusal in the order of the steps
+abbrev pub expected : List (List ℕ) → (List ℕ → Told) → Expect Document
+expected ws told = texts_expected ws told >>= document_of
+
+-- the order of the files
+abbrev pub file_stage : FileOf → ℕ
+file_stage file.Metrics = 1
+file_stage file.Html = 2
+file_stage (file.Sheet n) = 2 + n
+
+-- a file is read before this refusal comes
+abbrev pub IsReadBefore : FileOf → Outcome → Type 0
+IsReadBefore f (out.NotRead k) = ⊥
+IsReadBefore f (out.ReadFault g) = file_stage f ≤ file_stage g
+IsReadBefore f (out.TooLarge g) = file_stage f ≤ file_stage g
+IsReadBefore f (out.NotUtf8 g n) = file_stage f ≤ file_stage g
+IsReadBefore f o = Unit {0}
+
+-- an outcome that no input explains comes in the place of a refusal only before it
+abbrev pub ComesBefore : Outcome → Outcome → Type 0
+ComesBefore (out.ReadFault f) o = IsReadBefore f o
+ComesBefore out.NoMemory o = Unit {0}
+ComesBefore p o = ⊥
+
+-- no input explains it, and nothing is put
+abbrev pub IsUnforeseen : Outcome → Type 0
+IsUnforeseen (out.ReadFault f) = Unit {0}
+IsUnforeseen out.NoMemory = Unit {0}
+IsUnforeseen o = ⊥
+
+-- the outcome of a run that puts nothing is the refusal that is expected, or one that no input explains
+abbrev pub Stops : {A : Type 0} → Expect A → Outcome → Type 0
+Stops free o = Unit {0}
+Stops (refused p) o = (o ≡ p) ⊎ ComesBefore o p
+Stops (given b) o = IsUnforeseen o
+
+-- what a run over a document answers, by the bytes taken: Done wrote the document's book, and a write fault a front of it
+abbrev pub Writes : Document → Option (List ℕ) → Option (List ℕ) → Outcome → Type 0
+Writes d old new (out.Done pages passes) = (b : Book) × IsBookOf d b × (pages ≡ b.pages) × (passes ≡ 1) × Appends old new b.bytes
+Writes d old new out.WriteFault = (b : Book) × IsBookOf d b × ((n : ℕ) × Appends old new (take n b.bytes))
+Writes d old new o = IsUnforeseen o
+
+-- what a run answers, by what is expected and the bytes taken
+abbrev pub Meets : Expect Document → Option (List ℕ) → Option (List ℕ) → Outcome → Type 0
+Meets (given d) old new o = Writes d old new o
+Meets e old new o = Stops e o
+
+-- a book of the document, where one is expected
+abbrev pub IsBookFor : Expect Document → Book → Type 0
+IsBookFor free b = Unit {0}
+IsBookFor (refused o) b = ⊥
+IsBookFor (given d) b = IsBookOf d b
+
+-- with any answer but Done and a write fault nothing was put
+abbrev pub PutsOnlyABook : Option (List ℕ) → Option (List ℕ) → Outcome → Type 0
+PutsOnlyABook old new (out.Done pages passes) = Unit {0}
+PutsOnlyABook old new out.WriteFault = Unit {0}
+PutsOnlyABook old new o = Keeps old new
+
+-- a file was not read only for a cause: it is absent, or the count of faults rose, last for its name where that is told
+abbrev pub HasReadCause : Expect Names → (List ℕ → Told) → ℕ → ℕ → Option (List ℕ) → Outcome → Type 0
+HasReadCause (given names) told before now last (out.ReadFault f) = Faulted (told (name_of names f)) (name_of names f) before now last
+HasReadCause (refused o) told before now last (out.ReadFault f) = ⊥
+HasReadCause names told before now last o = Unit {0}
+
+-- nothing was put
+abbrev pub IsNoPut : Outcome → Type 0
+IsNoPut (out.Done pages passes) = ⊥
+IsNoPut out.WriteFault = ⊥
+IsNoPut o = Unit {0}
+
+-- the read of a file stops with the refusal that is expected, or as no input explains
+abbrev pub StopsAt : FileOf → Expect (List ℕ) → Outcome → Type 0
+StopsAt f e o = IsRefused e o ⊎ ((o ≡ out.ReadFault f) ⊎ (o ≡ out.NoMemory))
+
+-- what stops the read of a file is no put, and a read fault only of this file, with its cause
+abbrev pub HasCauseAt : FileOf → Told → List ℕ → ℕ → ℕ → Option (List ℕ) → Outcome → Type 0
+HasCauseAt f told name before now last (out.ReadFault g) = (g ≡ f) × Faulted told name before now last
+HasCauseAt f told name before now last (out.NotRead k) = ⊥
+HasCauseAt f told name before now last (out.Done pages passes) = ⊥
+HasCauseAt f told name before now last out.WriteFault = ⊥
+HasCauseAt f told name before now last o = Unit {0}
+
+-- words are refused only for their own fault
+abbrev pub HasWordsCause : Expect Names → Outcome → Type 0
+HasWordsCause e (out.NotRead k) = e ≡ refused (out.NotRead k)
+HasWordsCause e o = Unit {0}
+
+-- a line was put: all of it, or, where the count of faults rose, a front of it
+abbrev pub IsTold : Option (List ℕ) → Option (List ℕ) → ℕ → ℕ → List ℕ → Type 0
+IsTold old new before now line = (before ≤ now) × (Appends old new line ⊎ (Rose before now × ((n : ℕ) × Appends old new (take n line))))
+
+-- the answer is neither a refusal of words or of files nor one of a run that put something
+abbrev pub IsOfTexts : Outcome → Type 0
+IsOfTexts (out.Done pages passes) = ⊥
+IsOfTexts (out.NotRead k) = ⊥
+IsOfTexts (out.ReadFault f) = ⊥
+IsOfTexts out.WriteFault = ⊥
+IsOfTexts o = Unit {0}
+
+-- the answer is a refusal of words
+abbrev pub IsOfWords : Outcome → Type 0
+IsOfWords (out.NotRead k) = Unit {0}
+IsOfWords o = ⊥
+
+abbrev pub IsDoneOrNoMemory : Outcome → Type 0
+IsDoneOrNoMemory (out.Done pages passes) = Unit {0}
+IsDoneOrNoMemory out.NoMemory = Unit {0}
+IsDoneOrNoMemory o = ⊥
+
+-- where a document is expected and neither count of faults rose, the answer is Done, but for want of memory
+abbrev pub IsComplete : Expect Document → Type 0 → Type 0 → Outcome → Type 0
+IsComplete (given d) shelf_rose out_rose o = ¬ shelf_rose → ¬ out_rose → IsDoneOrNoMemory o
+IsComplete e shelf_rose out_rose o = Unit {0}

@@ -1,0 +1,165 @@
+//! Puts the line of an answer.
+
+ghost use Rattle.std.specs.Prelude.{◌≡◌, ◌∷◌, [], codes};
+ghost use Rattle.std.specs.List.{flat_map};
+ghost use Rattle.bk_io.specs.Sink.{AppendsAllOrPrefix, HasCause};
+ghost use Rattle.book.specs.Message.{message, texts_of, file_words, why_text, decimal};
+
+use crate::outcome::{FileOf, Outcome};
+use bk_io::put_all::put_all;
+use bk_io::sink::{Failed, Sink};
+use itoa::Buffer;
+use metrics::MetricsWhy;
+
+/// How the program is called.
+const USAGE: &str =
+    "bookfmt: usage: bookfmt format [--passes N] METRICS HTML [CSS ...] or bookfmt sample N\n";
+
+/// Puts some texts one after the other.
+fn put_texts<E: Sink>(sink: &mut E, texts: &[&str]) -> Result<(), Failed>
+    ensures bytes { AppendsAllOrPrefix (E.taken sink.old) (E.taken sink.new) (flat_map (λ t. t.now) texts.now) result }
+    ensures cause { HasCause (E.faults sink.old) (E.faults sink.new) result }
+{
+    for text in texts {
+        put_all(sink, text.as_bytes())?;
+    }
+    Ok(())
+}
+
+/// The word for a file, and the number of a sheet.
+#[tactic(auto, unfolding(crate::specs::Message::file_words, crate::specs::Message::decimal))]
+fn file_words(file: FileOf, buffer: &mut Buffer) -> (&'static str, &str)
+    ensures word { result.0.now ≡ (file_words file).0 }
+    ensures number { result.1.now ≡ (file_words file).1 }
+{
+    match file {
+        FileOf::Metrics => ("metrics", ""),
+        FileOf::Html => ("html", ""),
+        FileOf::Sheet(number) => ("sheet ", buffer.format(number)),
+    }
+}
+
+#[tactic(auto, unfolding(crate::specs::Message::why_text))]
+fn why_text(why: MetricsWhy) -> &'static str
+    ensures { result.now ≡ why_text why }
+{
+    match why {
+        MetricsWhy::Header => "header",
+        MetricsWhy::Word => "word",
+        MetricsWhy::Number => "number",
+        MetricsWhy::Range => "range",
+        MetricsWhy::Order => "order",
+        MetricsWhy::Twice => "twice",
+        MetricsWhy::Many => "many",
+        MetricsWhy::NoFace => "noface",
+    }
+}
+
+/// Puts a line that tells of a file.
+fn put_file_line<E: Sink>(
+    err: &mut E,
+    before: &'static str,
+    file: FileOf,
+    after: &'static str,
+) -> Result<(), Failed>
+    ensures bytes { AppendsAllOrPrefix (E.taken err.old) (E.taken err.new) (flat_map (λ t. t) (before.now ∷ (file_words file).0 ∷ (file_words file).1 ∷ after.now ∷ [])) result }
+    ensures cause { HasCause (E.faults err.old) (E.faults err.new) result }
+{
+    let mut buffer = Buffer::new();
+    let (word, number) = file_words(file, &mut buffer);
+    put_texts(err, &[before, word, number, after])
+}
+
+/// Puts a line that tells of a place in a file.
+#[tactic(auto, unfolding(crate::specs::Message::decimal))]
+fn put_place_line<E: Sink>(
+    err: &mut E,
+    before: &'static str,
+    file: FileOf,
+    between: &'static str,
+    at: u64,
+) -> Result<(), Failed>
+    ensures bytes { AppendsAllOrPrefix (E.taken err.old) (E.taken err.new) (flat_map (λ t. t) (before.now ∷ (file_words file).0 ∷ (file_words file).1 ∷ between.now ∷ decimal at ∷ codes "\n" ∷ [])) result }
+    ensures cause { HasCause (E.faults err.old) (E.faults err.new) result }
+{
+    let (mut first, mut second) = (Buffer::new(), Buffer::new());
+    let (word, number) = file_words(file, &mut first);
+    put_texts(
+        err,
+        &[before, word, number, between, second.format(at), "\n"],
+    )
+}
+
+/// Puts the line that tells what is wrong in a metrics text.
+#[tactic(auto, unfolding(crate::specs::Message::decimal))]
+fn put_metrics_line<E: Sink>(err: &mut E, line: u32, why: MetricsWhy) -> Result<(), Failed>
+    ensures bytes { AppendsAllOrPrefix (E.taken err.old) (E.taken err.new) (flat_map (λ t. t) (codes "bookfmt: metrics line " ∷ decimal line ∷ codes ": " ∷ why_text why ∷ codes "\n" ∷ [])) result }
+    ensures cause { HasCause (E.faults err.old) (E.faults err.new) result }
+{
+    let mut buffer = Buffer::new();
+    put_texts(
+        err,
+        &[
+            "bookfmt: metrics line ",
+            buffer.format(line),
+            ": ",
+            why_text(why),
+            "\n",
+        ],
+    )
+}
+
+/// Puts the line that tells how many pages there are.
+#[tactic(auto, unfolding(crate::specs::Message::decimal))]
+fn put_pages_line<E: Sink>(err: &mut E, pages: u32, passes: u32) -> Result<(), Failed>
+    ensures bytes { AppendsAllOrPrefix (E.taken err.old) (E.taken err.new) (flat_map (λ t. t) (codes "bookfmt: " ∷ decimal pages ∷ codes " pages, " ∷ decimal passes ∷ codes " passes\n" ∷ [])) result }
+    ensures cause { HasCause (E.faults err.old) (E.faults err.new) result }
+{
+    let (mut first, mut second) = (Buffer::new(), Buffer::new());
+    put_texts(
+        err,
+        &[
+            "bookfmt: ",
+            first.format(pages),
+            " pages, ",
+            second.format(passes),
+            " passes\n",
+        ],
+    )
+}
+
+/// Puts the line of an answer. It takes no memory but what the sink takes.
+#[tactic(auto, unfolding(crate::specs::Message::texts_of))]
+pub fn put_message<E: Sink>(err: &mut E, outcome: &Outcome) -> Result<(), Failed>
+    ensures bytes { AppendsAllOrPrefix (E.taken err.old) (E.taken err.new) (message outcome.now) result }
+    ensures cause { HasCause (E.faults err.old) (E.faults err.new) result }
+{
+    match *outcome {
+        Outcome::Done { pages, passes } => put_pages_line(err, pages, passes),
+        Outcome::NotRead { .. } => put_texts(err, &[USAGE]),
+        Outcome::ReadFault { file } => put_file_line(err, "bookfmt: cannot read ", file, "\n"),
+        Outcome::TooLarge { file } => put_file_line(
+            err,
+            "bookfmt: ",
+            file,
+            " has more than 16777216 bytes\n",
+        ),
+        Outcome::NotUtf8 { file, at } => put_place_line(
+            err,
+            "bookfmt: ",
+            file,
+            " is not UTF-8 at ",
+            at,
+        ),
+        Outcome::BadMetrics { line, why } => put_metrics_line(err, line, why),
+        Outcome::NotBuilt { file, at } => put_place_line(
+            err,
+            "bookfmt: not built: ",
+            file,
+            " at ",
+            at,
+        ),
+        Outcome::WriteFault => put_texts(err, &["bookfmt: cannot write\n"]),
+        Outcome::NoMemory => put_texts(err, &["bookfmt: no memory\n"]),
+    }
+}

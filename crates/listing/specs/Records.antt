@@ -1,0 +1,73 @@
+-- The bytes of a listing's records: each is one line, its fields parted by one space, its numbers in decimal.
+use Rattle.std.specs.Prelude.{ℕ, Bool, ◌/◌, ◌%◌, List, [], ◌∷◌, ◌++◌, nat_lt, ◌==◌, ◌||◌, if◌then◌else◌, codes, ℤ, pos}
+use Rattle.std.specs.Fmt.{signed_decimal}
+use Rattle.std.specs.List.{flat_map}
+use Rattle.std.specs.Char.{digit_char}
+use Rattle.bk_num.specs.declared.values.Color.{Color}
+use Rattle.bk_num.specs.declared.values.Side.{Side}
+use Rattle.bk_num.specs.declared.values.Side.TheVariants as side
+use Rattle.listing.specs.declared.records.Kind.{Kind}
+use Rattle.listing.specs.declared.records.Kind.TheVariants as kind
+
+-- a byte of a string: `"` and `\` have a `\` before them, LF is `\n`, other controls are `\x` and two digits; other characters stand as they are
+unfoldable pub escape : ℕ → List ℕ
+escape b = if b == 34 || b == 92 then 92 ∷ b ∷ [] else
+    if b == 10 then codes "\\n" else
+    if nat_lt b 32 || b == 127 then 92 ∷ 120 ∷ digit_char (b / 16) ∷ digit_char (b % 16) ∷ [] else b ∷ []
+
+unfoldable pub quoted : List ℕ → List ℕ
+quoted bs = 34 ∷ [] ++ flat_map escape bs ++ 34 ∷ []
+
+-- a space and a number; a space and a word; a space and a string
+unfoldable pub field : ℤ → List ℕ
+field n = codes " " ++ signed_decimal n
+
+unfoldable pub word : List ℕ → List ℕ
+word bs = codes " " ++ bs
+
+unfoldable pub string_field : List ℕ → List ℕ
+string_field bs = codes " " ++ quoted bs
+
+-- two lower-case hexadecimal digits
+unfoldable pub hex_pair : ℕ → List ℕ
+hex_pair b = digit_char (b / 16) ∷ digit_char (b % 16) ∷ []
+
+-- a space and a colour, `#rrggbb`
+unfoldable pub color_field : Color → List ℕ
+color_field c = codes " #" ++ hex_pair c.red ++ hex_pair c.green ++ hex_pair c.blue
+
+abbrev pub side_name : Side → List ℕ
+side_name side.Left = codes "left"
+side_name side.Right = codes "right"
+
+abbrev pub kind_name : Kind → List ℕ
+kind_name kind.Flow = codes "flow"
+kind_name kind.Blank = codes "blank"
+kind_name kind.Notes = codes "notes"
+
+-- `book PAGES PASSES`
+unfoldable pub book_record : ℕ → ℕ → List ℕ
+book_record pages passes = codes "book" ++ field (pos pages) ++ field (pos passes) ++ codes "\n"
+
+-- `page INDEX NUMBER SIDE KIND NAME WIDTH HEIGHT`
+unfoldable pub page_record : ℕ → ℤ → Side → Kind → List ℕ → ℤ → ℤ → List ℕ
+page_record index number side kind name width height = codes "page" ++ field (pos index) ++ field number ++ word (side_name side) ++ word (kind_name kind) ++ string_field name ++ field width ++ field height ++ codes "\n"
+
+-- `line X Y W H`
+unfoldable pub line_record : ℤ → ℤ → ℤ → ℤ → List ℕ
+line_record x y w h = codes "line" ++ field x ++ field y ++ field w ++ field h ++ codes "\n"
+
+-- a space and `NAME/STYLE/WEIGHT`
+unfoldable pub style_name : Bool → List ℕ
+style_name italic = if italic then codes "/italic/" else codes "/normal/"
+
+unfoldable pub face_field : List ℕ → Bool → ℕ → List ℕ
+face_field name italic weight = codes " " ++ name ++ style_name italic ++ signed_decimal (pos weight)
+
+-- `text X Y FACE SIZE COLOR STRING`, with the face by its name, style and weight
+unfoldable pub text_record : ℤ → ℤ → List ℕ → ℤ → Color → List ℕ → List ℕ
+text_record x y face size color text = codes "text" ++ field x ++ field y ++ face ++ field size ++ color_field color ++ string_field text ++ codes "\n"
+
+-- `end`
+unfoldable pub end_record : List ℕ
+end_record = codes "end\n"

@@ -1,0 +1,4 @@
+pub mod ChoiceLemmas
+pub mod RangeLemmas
+pub mod ScaleLemmas
+pub mod TextLemmas

@@ -1,0 +1,4 @@
+pub mod FlowLemmas
+pub mod LineLemmas
+pub mod PageLemmas
+pub mod PlainLemmas

@@ -1,0 +1,5 @@
+pub mod Flow
+pub mod LineEnd
+pub mod Pages
+pub mod Plain
+pub mod Widths

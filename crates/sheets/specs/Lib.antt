@@ -1,2 +1,0 @@
-pub mod Styles
-pub mod Verdict
