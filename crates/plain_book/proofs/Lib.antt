@@ -1,4 +1,3 @@
 pub mod FlowLemmas
 pub mod LineLemmas
 pub mod PageLemmas
-pub mod PlainLemmas

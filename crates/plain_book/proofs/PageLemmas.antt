@@ -73,3 +73,7 @@ no_lines height lines pages e p = subst (λ ls. IsPageList height ls pages) (sym
 -- one more line of a page
 pub placed_step : (first : ℕ) (lines : List FlowLine) (at top : ℕ) (line : FlowLine) (items more : List PlacedLine) → slice_get lines at ≡ Some line → items ≡ placed first lines at → top ≡ bottom_of first lines at + gap_above first lines at → more ≡ items ++ record { line = line; top = top } ∷ [] → more ≡ placed first lines (suc at)
 placed_step first lines at top line items more l i t m = rw (m, i, t, l) refl
+
+pub none-left : {X : Type 0} (xs : List X) → length xs ≡ 0 → xs ≡ []
+none-left [] h = refl
+none-left (x ∷ xs) h = absurd (omega arith)

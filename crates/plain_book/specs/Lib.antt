@@ -1,5 +1,4 @@
 pub mod Flow
 pub mod LineEnd
 pub mod Pages
-pub mod Plain
 pub mod Widths

@@ -1,8 +1,7 @@
-//! Books of the plain form: paragraphs alone, filled and cut into pages.
+//! Lines and pages of paragraphs that stand alone.
 #![tactic(auto)]
 
 pub mod fill;
 pub mod laws;
 pub mod lines;
 pub mod pages;
-pub mod paragraphs;

@@ -4,7 +4,7 @@ use Rattle.std.proofs.lemmas.Grind.{common_steps}
 use Rattle.plain_book.specs.Pages.{ArePages, IsPageList, some, placed}
 use Rattle.plain_book.specs.declared.lines.PlacedLine.{PlacedLine}
 use Rattle.plain_book.proofs.PageLemmas.{no_lines}
-use Rattle.plain_book.proofs.PlainLemmas.{none-left}
+use Rattle.plain_book.proofs.PageLemmas.{none-left}
 use Rattle.plain_book.proofs.pages.paginate.Goals as goal
 
 pub returns-then-is_empty-clause-pages : goal.returns-then-is_empty-clause-pages
