@@ -75,14 +75,23 @@ fn texts_of_an_element_are_joined(rt: HostRuntime) -> Result<(), Fail> {
     Ok(())
 }
 
+/// Adds a `style` to the root.
+fn add_style(alloc: Global, dom: &mut Dom) -> Result<(), DomErr> {
+    if dom.len() == 0 || dom.name(NodeId(0)).is_none() {
+        return Err(DomErr::NoMemory);
+    }
+    dom.add_element(alloc, NodeId(0), "style")?;
+    Ok(())
+}
+
 #[test]
 fn more_than_sixteen_sheets_come_first(rt: HostRuntime) -> Result<(), Fail> {
     let mut dom = Dom::new(rt.alloc())?;
     for _ in 0..15 {
-        dom.add_element(rt.alloc(), NodeId(0), "style")?;
+        add_style(rt.alloc(), &mut dom)?;
     }
     assert_eq!(rt; check_sheets(rt.alloc(), &dom, "")?, Verdict::Built);
-    dom.add_element(rt.alloc(), NodeId(0), "style")?;
+    add_style(rt.alloc(), &mut dom)?;
     assert_eq!(rt;
         check_sheets(rt.alloc(), &dom, "p{}")?,
         Verdict::TooManySheets
