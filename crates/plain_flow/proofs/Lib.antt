@@ -1,0 +1,6 @@
+pub mod BoxLemmas
+pub mod EventLemmas
+pub mod LeafLemmas
+pub mod PlaceLemmas
+mod Rows
+pub mod TreeLemmas

@@ -1,0 +1,29 @@
+-- The boxes of the root and of a paragraph (CSS 2.1, 8; initial values but for a paragraph's margins, widows and orphans).
+use Rattle.std.specs.Prelude.{pos, [], ◌∷◌, None, false}
+use Rattle.bk_num.specs.declared.length.Len.TheVariants.{Px, Auto}
+use Rattle.bk_num.specs.declared.values.BreakAt.TheVariants as break_at
+use Rattle.boxes.specs.declared.props.BoxProps.{BoxProps}
+use Rattle.plain_flow.specs.declared.style.ParagraphStyle.{ParagraphStyle}
+use Rattle.plain_flow.specs.Leaves.{black}
+
+-- no margins, borders and paddings, and no break values
+abbrev pub root_props : BoxProps
+root_props = record {
+  margin = Px (pos 0) ∷ Px (pos 0) ∷ Px (pos 0) ∷ Px (pos 0) ∷ [];
+  border = pos 0 ∷ pos 0 ∷ pos 0 ∷ pos 0 ∷ [];
+  padding = Px (pos 0) ∷ Px (pos 0) ∷ Px (pos 0) ∷ Px (pos 0) ∷ [];
+  width = Auto;
+  before = break_at.Auto;
+  after = break_at.Auto;
+  avoid_inside = false;
+  widows = 2;
+  orphans = 2;
+  name = record { 0 = 0 };
+  background = None;
+  colors = black ∷ black ∷ black ∷ black ∷ [];
+  node = None;
+}
+
+-- the same with the style's margin at the top and at the bottom, and its widows and orphans
+abbrev pub paragraph_props : ParagraphStyle → BoxProps
+paragraph_props style = record root_props { margin = Px style.margin ∷ Px (pos 0) ∷ Px style.margin ∷ Px (pos 0) ∷ []; widows = style.widows; orphans = style.orphans }

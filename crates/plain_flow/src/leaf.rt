@@ -1,0 +1,50 @@
+//! The leaf of a text.
+
+ghost use Rattle.std.specs.Prelude.{◌≡◌, ◌<◌, ◌^◌, IfOk, string_bytes, string_len};
+ghost use Rattle.plain_flow.specs.Leaves.{leaf_of, span_of};
+
+use crate::places::places_of;
+use crate::style::{ParagraphStyle, black};
+use bk_num::length::Len;
+use bk_num::name::NoMem;
+use bk_num::px::Px;
+use bk_num::values::Align;
+use boxes::items::{Items, Text};
+use boxes::leaf::{Leaf, Span};
+use std::alloc::Global;
+
+/// A span over so many bytes.
+fn span_of(style: &ParagraphStyle, len: u32) -> Span
+    ensures { result ≡ span_of style.now len }
+{
+    Span {
+        from: 0,
+        to: len,
+        face: style.face,
+        size: style.size,
+        line_height: style.line_height,
+        color: black(),
+        wrap: true,
+        anywhere: false,
+    }
+}
+
+/// The leaf of a text.
+pub(crate) fn leaf_of(alloc: Global, style: &ParagraphStyle, text: String) -> Result<Leaf, NoMem>
+    requires { string_len text < 2 ^ 32 }
+    ensures { IfOk result (λ leaf. leaf ≡ leaf_of style.now (string_bytes text)) }
+{
+    let span = span_of(style, text.len() as u32);
+    let places = places_of(alloc, text.as_bytes())?;
+    let spans = Vec::from_slice(alloc, &[span])?;
+    Ok(Leaf {
+        text: Text::of(text),
+        spans: Items::of(spans),
+        places: Items::of(places),
+        graphemes: Items::of(Vec::new(alloc)),
+        leads: Items::of(Vec::new(alloc)),
+        indent: Len::Px(Px::from_units(0)),
+        align: Align::Left,
+        strut: span,
+    })
+}

@@ -1,0 +1,10 @@
+//! The flow of a list of paragraphs, which keeps all that the cutting of pages asks.
+#![tactic(auto)]
+
+pub mod flow;
+mod leaf;
+mod places;
+pub mod style;
+#[cfg(test)]
+mod tests;
+pub mod text;

@@ -1,0 +1,213 @@
+//! Worked flows, and the pages that they are cut into.
+
+ghost use Rattle.std.specs.Prelude.{◌≡◌, ◌*◌, ◌<◌, ◌≤◌, ◌≤ℤ◌, ◌^◌, pos, [], length, string_bytes, string_len, IfSome};
+ghost use Rattle.std.specs.List.{All, sum_by};
+ghost use Rattle.boxes.specs.Frames.{IsGoodFrame};
+ghost use Rattle.plain_flow.specs.Texts.{IsParagraphText};
+
+use crate::flow::flow_of;
+use crate::style::ParagraphStyle;
+use crate::text::is_paragraph_text;
+use bk_num::ids::FaceId;
+use bk_num::length::Len;
+use bk_num::px::Px;
+use bk_num::steps::Steps;
+use boxes::flow::Flow;
+use boxes::frames::{Frame, OneFrame};
+use boxes::leaf::Leaf;
+use boxes::place::Event;
+use fragment::paginate::paginate;
+use metrics::read_metrics;
+use std::alloc::Global;
+use std::marker::Brand;
+use std::sync::ledger::{Blank, Ledger};
+
+/// A face of 16 units to the em, whose characters have 8 each.
+const FACES: &str = "bookmetrics 1\nface test normal 400 16 12 4 8\nglyph 0300 036F 0\n";
+
+/// Characters of 512 units, on lines of 1280.
+fn style(margin: i64, widows: u32, orphans: u32) -> ParagraphStyle
+    ensures face { result.face.0 ≡ 0 }
+    ensures size { pos 0 ≤ℤ result.size }
+    ensures line_height { pos 0 ≤ℤ result.line_height }
+{
+    ParagraphStyle {
+        face: FaceId(0),
+        size: Px::from_units(1024),
+        line_height: Px::from_units(1280),
+        margin: Px::from_units(margin),
+        widows,
+        orphans,
+    }
+}
+
+/// Texts of a paragraph each.
+fn texts_of(alloc: Global, list: &[&str]) -> Option<Vec<String>>
+    requires { length list.now ≤ 100 }
+    ensures texts { IfSome result (λ v. All (λ t. IsParagraphText (string_bytes t)) v.items) }
+    ensures count { IfSome result (λ v. length v.items ≡ length list.now) }
+    ensures bytes { IfSome result (λ v. sum_by (λ t. string_len t) v.items ≤ 100000) }
+{
+    let mut texts = Vec::new(alloc);
+    for &text in list {
+        if !is_paragraph_text(text) || text.len() > 1000 {
+            return None;
+        }
+        texts.push(String::from_str(alloc, text).ok()?).ok()?;
+    }
+    Some(texts)
+}
+
+/// A flow of two texts.
+fn two_paragraphs(alloc: Global) -> Option<Flow>
+    ensures events { IfSome result (λ f. length f.main.events ≡ 8) }
+    ensures boxes { IfSome result (λ f. length f.main.boxes ≡ 3) }
+    ensures leaves { IfSome result (λ f. length f.main.leaves ≡ 2) }
+{
+    let texts = texts_of(alloc, &["a-b c", "d"])?;
+    flow_of(alloc, &style(640, 3, 4), texts).ok()
+}
+
+fn units(len: Len) -> Option<i32> {
+    match len {
+        Len::Px(px) => Some(px.units()),
+        _ => None,
+    }
+}
+
+#[test]
+fn each_paragraph_is_a_block_under_the_root(rt: HostRuntime) {
+    let Some(flow) = two_paragraphs(rt.alloc()) else {
+        assert!(rt; false);
+        return;
+    };
+    let tree = &flow.main;
+    assert!(rt; tree.is_whole() && tree.count() == 8 && tree.depth() == 2);
+    let events = [
+        Event::Opens(0),
+        Event::Opens(1),
+        Event::Leaf(0),
+        Event::Closes(1),
+        Event::Opens(2),
+        Event::Leaf(1),
+        Event::Closes(2),
+        Event::Closes(0),
+    ];
+    for at in 0..8 {
+        assert_eq!(rt; tree.event(at), events[at as usize]);
+    }
+    let boxes = [(0, 2, 2), (640, 3, 4), (640, 3, 4)];
+    for index in 0..3 {
+        let (margin, widows, orphans) = boxes[index as usize];
+        let props = tree.props(index);
+        let margins = props.margin.map(units);
+        assert_eq!(rt; margins, [Some(margin), Some(0), Some(margin), Some(0)]);
+        assert_eq!(rt; (props.widows, props.orphans), (widows, orphans));
+    }
+}
+
+/// Whether a leaf has a text in one span of the style, and these places.
+fn is_set(leaf: &Leaf, text: &str, places: &[u32]) -> bool {
+    let [span] = leaf.spans.as_slice() else {
+        return false;
+    };
+    leaf.text.as_str() == text
+        && leaf.places.as_slice() == places
+        && leaf.graphemes.as_slice().is_empty()
+        && leaf.leads.as_slice().is_empty()
+        && span.from == 0
+        && span.to as usize == text.len()
+        && span.size.units() == 1024
+        && span.line_height.units() == 1280
+        && span.wrap
+        && !span.anywhere
+}
+
+#[test]
+fn a_line_may_end_behind_a_hyphen_or_a_space(rt: HostRuntime) {
+    let Some(flow) = two_paragraphs(rt.alloc()) else {
+        assert!(rt; false);
+        return;
+    };
+    assert!(rt; is_set(flow.main.leaf(0), "a-b c", &[2, 4]));
+    assert!(rt; is_set(flow.main.leaf(1), "d", &[]));
+}
+
+/// How many lines each page has, and the level of its end.
+type Pages = Vec<(usize, u8)>;
+
+/// The pages of a flow of lines of ten characters, in frames of a height.
+fn counted<L: Ledger>(
+    alloc: Global,
+    style: &ParagraphStyle,
+    list: &[&str],
+    height: i64,
+    token: Blank,
+) -> Option<Pages>
+    requires face { style.now.face.0 ≡ 0 }
+    requires size { pos 0 ≤ℤ style.now.size }
+    requires line_height { pos 0 ≤ℤ style.now.line_height }
+    requires name { token.name ≡ L.name }
+    requires parts { token.parts ≡ L.parts }
+    requires some { 0 < L.parts }
+{
+    let faces = read_metrics(alloc, FACES).ok()?;
+    if faces.len() == 0 || list.len() > 100 || height < 0 || height > 1 << 40 {
+        return None;
+    }
+    let flow = flow_of(alloc, style, texts_of(alloc, list)?).ok()?;
+    let frames = OneFrame {
+        frame: Frame {
+            left: 0,
+            top: 0,
+            width: 5120,
+            height,
+        },
+    };
+    let mut steps = Steps::<L>::zero(token);
+    let list = paginate(alloc, &flow, &faces, &frames, &mut steps).ok()?;
+    let mut pages = Vec::new(alloc);
+    for page in list.pages.as_slice() {
+        pages.push((page.solids.as_slice().len(), page.level)).ok()?;
+    }
+    Some(pages)
+}
+
+fn pages_of(alloc: Global, margin: i64, list: &[&str], height: i64) -> Option<Pages> {
+    counted::<Brand>(alloc, &style(margin, 2, 2), list, height, Blank::new(1))
+}
+
+#[test]
+fn pages_end_where_widows_orphans_and_gaps_allow(rt: HostRuntime) {
+    let cases: [(i64, &[&str], i64, &[(usize, u8)]); 7] = [
+        (
+            0,
+            &["aaaaaaaaaa bbbbbbbbbb cccccccccc dddddddddd"],
+            3840,
+            &[(2, 0), (2, 0)],
+        ),
+        (
+            0,
+            &["a", "bbbbbbbbbb cccccccccc dddddddddd"],
+            3840,
+            &[(1, 0), (3, 0)],
+        ),
+        (
+            0,
+            &["aaaaaaaaaa bbbbbbbbbb cccccccccc"],
+            2560,
+            &[(2, 2), (1, 0)],
+        ),
+        (0, &["aaaa bbbb-cccc dddd"], 2560, &[(2, 0)]),
+        (640, &["a", "b", "c"], 3840, &[(2, 0), (1, 0)]),
+        (640, &["a", "b", "c"], 3839, &[(1, 0), (2, 0)]),
+        (-640, &["a", "b", "c"], 1920, &[(3, 0)]),
+    ];
+    for (margin, texts, height, want) in cases {
+        let pages = pages_of(rt.alloc(), margin, texts, height);
+        assert!(rt;
+            pages.is_some_and(|pages| pages.as_slice() == want),
+            "{texts:?} in {height}"
+        );
+    }
+}
