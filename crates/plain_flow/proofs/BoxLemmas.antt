@@ -1,6 +1,7 @@
 -- The boxes of the root and of paragraphs are ones that a tree takes, and have no edges.
-use Rattle.std.proofs.Common.{◌≡◌, ℕ, zero, suc, ◌≤ℤ◌, pos, Bool, false, List, [], ◌∷◌, Some, None, map, slice_get, refl, sym, ap, ◌∙◌, subst, ◌⊎◌, inl, inr, arith}
+use Rattle.std.proofs.Common.{◌≡◌, ℕ, zero, suc, ◌≤ℤ◌, pos, Bool, false, eqb, List, [], ◌∷◌, Some, None, map, slice_get, refl, sym, ap, ◌∙◌, subst, ◌⊎◌, inl, inr, arith}
 use Rattle.std.specs.List.{AllByRecursion}
+use Rattle.std.proofs.lemmas.Bool.Decides.{nat_tests}
 use Rattle.bk_num.specs.declared.values.BreakAt.TheVariants as break_at
 use Rattle.boxes.specs.Contents.{IsGoodBox}
 use Rattle.boxes.specs.declared.props.BoxProps.{BoxProps}
@@ -35,16 +36,15 @@ each_box style [] P root paragraph (suc b) p e = absurd (cc)
 each_box style (text ∷ texts) P root paragraph (suc zero) p e = let same : paragraph_props style ≡ p = cc in subst P same paragraph
 each_box style (text ∷ texts) P root paragraph (suc (suc b)) p e = each_box style texts P root paragraph (suc b) p e
 
-root_edges : (b : ℕ) → (has_edge 0 b (Some root_props) ≡ false) × (has_edge 2 b (Some root_props) ≡ false)
-root_edges zero = (refl, refl)
-root_edges (suc b) = (refl, refl)
-
 -- no box has an edge
 pub no_edge : (style : ParagraphStyle) (texts : List (List ℕ)) (b : ℕ) → (has_edge 0 b (slice_get (root_props ∷ map (λ text. paragraph_props style) texts) b) ≡ false) × (has_edge 2 b (slice_get (root_props ∷ map (λ text. paragraph_props style) texts) b) ≡ false)
 no_edge style texts zero = (refl, refl)
 no_edge style texts (suc b) = inner texts b
   where
+    other : eqb (suc b) 0 ≡ false
+    other = grind (arith, nat_tests)
+
     inner : (texts : List (List ℕ)) (k : ℕ) → (has_edge 0 (suc b) (slice_get (map (λ text. paragraph_props style) texts) k) ≡ false) × (has_edge 2 (suc b) (slice_get (map (λ text. paragraph_props style) texts) k) ≡ false)
     inner [] k = (refl, refl)
-    inner (text ∷ texts) zero = (refl, refl)
+    inner (text ∷ texts) zero = (rw other refl, rw other refl)
     inner (text ∷ texts) (suc k) = inner texts k

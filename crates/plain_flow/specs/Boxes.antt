@@ -1,29 +1,31 @@
--- The boxes of the root and of a paragraph (CSS 2.1, 8; initial values but for a paragraph's margins, widows and orphans).
-use Rattle.std.specs.Prelude.{pos, [], ◌∷◌, None, false}
+-- The boxes of the root and of a paragraph: initial values, but for vertical margins, widows and orphans (CSS 2.1, 8 and 13.3).
+use Rattle.std.specs.Prelude.{ℕ, ℤ, pos, [], ◌∷◌, None, false}
 use Rattle.bk_num.specs.declared.length.Len.TheVariants.{Px, Auto}
 use Rattle.bk_num.specs.declared.values.BreakAt.TheVariants as break_at
 use Rattle.boxes.specs.declared.props.BoxProps.{BoxProps}
 use Rattle.plain_flow.specs.declared.style.ParagraphStyle.{ParagraphStyle}
 use Rattle.plain_flow.specs.Leaves.{black}
 
--- no margins, borders and paddings, and no break values
-abbrev pub root_props : BoxProps
-root_props = record {
-  margin = Px (pos 0) ∷ Px (pos 0) ∷ Px (pos 0) ∷ Px (pos 0) ∷ [];
+-- a block with a margin above and below it, and so many lines at least after and before a break in it
+abbrev pub block_props : ℤ → ℕ → ℕ → BoxProps
+block_props margin widows orphans = record {
+  margin = Px margin ∷ Px (pos 0) ∷ Px margin ∷ Px (pos 0) ∷ [];
   border = pos 0 ∷ pos 0 ∷ pos 0 ∷ pos 0 ∷ [];
   padding = Px (pos 0) ∷ Px (pos 0) ∷ Px (pos 0) ∷ Px (pos 0) ∷ [];
   width = Auto;
   before = break_at.Auto;
   after = break_at.Auto;
   avoid_inside = false;
-  widows = 2;
-  orphans = 2;
+  widows = widows;
+  orphans = orphans;
   name = record { 0 = 0 };
   background = None;
   colors = black ∷ black ∷ black ∷ black ∷ [];
   node = None;
 }
 
--- the same with the style's margin at the top and at the bottom, and its widows and orphans
+abbrev pub root_props : BoxProps
+root_props = block_props (pos 0) 2 2
+
 abbrev pub paragraph_props : ParagraphStyle → BoxProps
-paragraph_props style = record root_props { margin = Px style.margin ∷ Px (pos 0) ∷ Px style.margin ∷ Px (pos 0) ∷ []; widows = style.widows; orphans = style.orphans }
+paragraph_props style = block_props style.margin style.widows style.orphans

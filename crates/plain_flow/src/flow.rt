@@ -41,6 +41,24 @@ fn add_paragraph(
     tree.close_box()
 }
 
+/// The tree of some texts.
+fn tree_of(alloc: Global, style: &ParagraphStyle, texts: Vec<String>) -> Result<BoxTree, NoMem>
+    requires size { pos 0 ≤ℤ style.now.size }
+    requires line_height { pos 0 ≤ℤ style.now.line_height }
+    requires texts { All (λ t. IsParagraphText (string_bytes t)) texts.items }
+    requires count { length texts.items ≤ 400000 }
+    requires bytes { sum_by (λ t. string_len t) texts.items ≤ 33554432 }
+    ensures { IfOk result (λ tree. tree ≡ tree_of style.now (map (λ t. string_bytes t) texts.items)) }
+{
+    let mut tree = BoxTree::new(alloc);
+    tree.add_box(root_props())?;
+    for text in texts {
+        add_paragraph(alloc, &mut tree, style, text)?;
+    }
+    tree.close_box()?;
+    Ok(tree)
+}
+
 /// The flow of paragraphs: a root without margins, and in it a block for each text, in their order. It keeps what
 /// `fragment::paginate::paginate` asks of a flow, over faces that have the style's.
 pub fn flow_of(alloc: Global, style: &ParagraphStyle, texts: Vec<String>) -> Result<Flow, NoMem>
@@ -60,14 +78,8 @@ pub fn flow_of(alloc: Global, style: &ParagraphStyle, texts: Vec<String>) -> Res
     ensures plain { IfOk result (λ f. IsPlain f.main) }
     ensures leaves { IfOk result (λ f. (faces : List FontFace) → style.now.face.0 < length faces → HasPlainLeaves faces f.main) }
 {
-    let mut main = BoxTree::new(alloc);
-    main.add_box(root_props())?;
-    for text in texts {
-        add_paragraph(alloc, &mut main, style, text)?;
-    }
-    main.close_box()?;
     Ok(Flow {
-        main,
+        main: tree_of(alloc, style, texts)?,
         notes: Items::of(Vec::new(alloc)),
         starts: Items::of(Vec::new(alloc)),
         strings: Items::of(Vec::new(alloc)),

@@ -34,9 +34,10 @@ pub(crate) fn leaf_of(alloc: Global, style: &ParagraphStyle, text: String) -> Re
     requires { string_len text < 2 ^ 32 }
     ensures { IfOk result (λ leaf. leaf ≡ leaf_of style.now (string_bytes text)) }
 {
-    let span = span_of(style, text.len() as u32);
+    let len = text.len() as u32;
     let places = places_of(alloc, text.as_bytes())?;
-    let spans = Vec::from_slice(alloc, &[span])?;
+    let mut spans = Vec::new(alloc);
+    spans.push(span_of(style, len))?;
     Ok(Leaf {
         text: Text::of(text),
         spans: Items::of(spans),
@@ -45,6 +46,6 @@ pub(crate) fn leaf_of(alloc: Global, style: &ParagraphStyle, text: String) -> Re
         leads: Items::of(Vec::new(alloc)),
         indent: Len::Px(Px::from_units(0)),
         align: Align::Left,
-        strut: span,
+        strut: span_of(style, len),
     })
 }

@@ -1,7 +1,7 @@
 //! How paragraphs are set.
 
 ghost use Rattle.std.specs.Prelude.{◌≡◌};
-ghost use Rattle.plain_flow.specs.Boxes.{root_props, paragraph_props};
+ghost use Rattle.plain_flow.specs.Boxes.{block_props, root_props, paragraph_props};
 ghost use Rattle.plain_flow.specs.Leaves.{black};
 
 use bk_num::ids::{FaceId, NameId};
@@ -33,21 +33,26 @@ pub(crate) fn black() -> Color
     }
 }
 
-/// The box of the root.
-pub(crate) fn root_props() -> BoxProps
-    ensures { result ≡ root_props }
+/// A block with a margin above and below it.
+fn block_props(margin: Px, widows: u32, orphans: u32) -> BoxProps
+    ensures { result ≡ block_props margin widows orphans }
 {
-    let zero = Px::from_units(0);
+    let none = Px::from_units(0);
     BoxProps {
-        margin: [Len::Px(zero); 4],
-        border: [zero; 4],
-        padding: [Len::Px(zero); 4],
+        margin: [
+            Len::Px(margin),
+            Len::Px(none),
+            Len::Px(margin),
+            Len::Px(none),
+        ],
+        border: [none; 4],
+        padding: [Len::Px(none); 4],
         width: Len::Auto,
         before: BreakAt::Auto,
         after: BreakAt::Auto,
         avoid_inside: false,
-        widows: 2,
-        orphans: 2,
+        widows,
+        orphans,
         name: NameId(0),
         background: None,
         colors: [black(); 4],
@@ -55,16 +60,16 @@ pub(crate) fn root_props() -> BoxProps
     }
 }
 
+/// The box of the root.
+pub(crate) fn root_props() -> BoxProps
+    ensures { result ≡ root_props }
+{
+    block_props(Px::from_units(0), 2, 2)
+}
+
 /// The box of a paragraph.
 pub(crate) fn paragraph_props(style: &ParagraphStyle) -> BoxProps
     ensures { result ≡ paragraph_props style.now }
 {
-    let side = Len::Px(Px::from_units(0));
-    let end = Len::Px(style.margin);
-    BoxProps {
-        margin: [end, side, end, side],
-        widows: style.widows,
-        orphans: style.orphans,
-        ..root_props()
-    }
+    block_props(style.margin, style.widows, style.orphans)
 }
