@@ -2,3 +2,5 @@ pub mod CutLemmas
 pub mod FlowLemmas
 pub mod FrontLemmas
 pub mod PageLemmas
+pub mod PartLemmas
+pub mod TextLemmas

@@ -27,8 +27,8 @@ slice_bounds-place_all-end c =
     let high : c.cut_rows-cut.result.count ≤ length c.args.solids.now = simp length-map at (rw is at within.1) in
     sym (length-take-le c.cut_rows-cut.result.count c.args.solids.now high)
 
-pub returns : goal.returns
-returns c =
+pub returns-clause-cut : goal.returns-clause-cut
+returns-clause-cut c =
     let t : Tree = c.args.tree.now in
     let solids : List Solid = c.args.solids.now in
     let views : List SolidView = map solid_view solids in
@@ -51,7 +51,7 @@ returns c =
         to_is = c.place_after.ensures;
         ended_is = ap (λ (n : ℕ). count == n) (sym size);
         forced_is = c.forced_after.ensures;
-        solids_is = c.in_ok-placed.ensures ∙ ap (λ (z : ℤ). placed_from z (map solid_view (take count solids))) first ∙ ap (placed_from (first_gap c.args.kept views)) (sym (take-map solid_view count solids));
+        solids_is = c.in_ok-placed.ensures.placed ∙ ap (λ (z : ℤ). placed_from z (map solid_view (take count solids))) first ∙ ap (placed_from (first_gap c.args.kept views)) (sym (take-map solid_view count solids));
         notes_is = c.of.ensures ∙ c.new.ensures.items;
         carried_is = c.of-2.ensures ∙ c.new-2.ensures.items;
       },
