@@ -6,7 +6,7 @@ use Rattle.std.proofs.lemmas.Option.{slice_get_within, slice_get-get_or, slice_g
 use Rattle.std.proofs.Math.ListN.{get_or-map}
 use Rattle.std.proofs.lemmas.List.{length-map}
 use Rattle.boxes.specs.Steps.{IsRun}
-use Rattle.std.proofs.lemmas.List.Elements.{All-map, All-push}
+use Rattle.std.proofs.lemmas.List.Elements.{All-map}
 use Rattle.std.proofs.Math.Seq.{drop-nil}
 use Rattle.metrics.specs.Face.{FontFace}
 use Rattle.boxes.specs.Tree.{Tree, IsTree, Holds}
@@ -37,7 +37,7 @@ use Rattle.boxes.specs.declared.page.Placed.{Placed}
 use Rattle.boxes.specs.declared.frames.PageKind.TheVariants as kind
 use Rattle.boxes.proofs.RunLemmas.{run_unique}
 use Rattle.fragment.specs.Cuts.IsCut.{at_level, at_loose, at_first}
-use Rattle.fragment.specs.Pages.{State, PageFrames, IsStep, IsEnded, IsPaged, IsNear, HasOnePageList, HaveNearTops, LeavesNothing, CutsAt, CutsSolids, IsFlowCut, start_of, start_place, name_at, flow_page_of, flow_page, after_flow, is_forced, first_gap, placed_from, row_of, rows_of, place_after, forced_after, text_size, size_of}
+use Rattle.fragment.specs.Pages.{State, PageFrames, IsStep, IsEnded, IsPaged, HasOnePageList, LeavesNothing, CutsAt, CutsSolids, IsFlowCut, start_of, start_place, name_at, flow_page_of, flow_page, after_flow, is_forced, first_gap, placed_from, row_of, rows_of, place_after, forced_after, text_size, size_of}
 use Rattle.fragment.specs.declared.next_cut.Cut.{Cut}
 use Rattle.boxes.specs.declared.frames.Frame.{Frame}
 use Rattle.seams.specs.declared.seam_info.SeamInfo.{SeamInfo}
@@ -326,10 +326,6 @@ leaves_nothing one faces t frames pages n paged few (front, size, s, run) = go (
     go u (p ∷ ps) (q ∷ qs) r r' low =
         let same = step_unique one faces t frames u p q r.0 r'.0 r.1 r'.1 in
         go r'.0 ps qs (subst (λ (v : State). IsRun (IsStep faces t frames) IsEnded v ps) same.1 r.2) r'.2 (omega arith)
-
--- the bounds of one more page
-pub near_more : (pages : List Page) (p : Page) → HaveNearTops pages → All IsNear p.solids → HaveNearTops (pages ++ p ∷ [])
-near_more pages p = All-push (λ (q : Page). All IsNear q.solids) pages p
 
 -- the page that a pass of the code makes is the flow page of its state
 pub page_is : (t : Tree) (frames : PageFrames) (at : Position) (kept : Bool) (index : ℕ) (cut : Cut) (name : NameId) (frame : Frame) → name ≡ name_at t at → frame ≡ frames.frame_of index name kind.Flow →

@@ -118,8 +118,7 @@ fn place_all(alloc: Global, solids: &[Solid<'_>], first: i64) -> Result<Items<Pl
     requires small { All (λ s. IsSmallSolid (solid_view s)) solids.now }
     requires first_low { neg_ℤ (pos (2 ^ 32)) ≤ℤ first }
     requires first_high { first ≤ℤ pos (2 ^ 32) }
-    ensures placed { IfOk result (λ items. items ≡ placed_from first (map solid_view solids.now)) }
-    ensures near { IfOk result (λ items. All IsNear items) }
+    ensures { IfOk result (λ items. items ≡ placed_from first (map solid_view solids.now)) }
 {
     let mut items = Vec::new(alloc);
     if items.push(place(&solids[0], first)).is_err() {

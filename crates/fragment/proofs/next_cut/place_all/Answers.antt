@@ -1,14 +1,13 @@
-use Rattle.std.proofs.Common.{◌≡◌, ◌<◌, ℕ, suc, ℤ, ◌+ℤ◌, List, [], ◌∷◌, ◌++◌, Some, length, map, drop, slice_get, sym, ap, ◌∙◌, subst, refl, arith, add-one, append_assoc, to_z, of_z}
+use Rattle.std.proofs.Common.{◌≡◌, ◌<◌, ℕ, suc, ℤ, ◌+ℤ◌, List, [], ◌∷◌, ◌++◌, Some, length, map, drop, slice_get, sym, ap, ◌∙◌, refl, arith, add-one, append_assoc, to_z, of_z}
 use Rattle.std.proofs.lemmas.Int.{ints}
-use Rattle.std.proofs.lemmas.List.Elements.{All-push}
 use Rattle.std.proofs.lemmas.Grind.{common_steps}
 use Rattle.std.proofs.lemmas.Option.{slice_get_read}
 use mir.Syntax.{w64}
 use Rattle.boxes.specs.declared.page.Placed.{Placed}
 use Rattle.cursor.specs.declared.solid.Solid.{Solid}
 use Rattle.cursor.specs.Fields.{solid_view}
-use Rattle.cursor.specs.Remainder.{SolidView, IsSmallSolid}
-use Rattle.fragment.specs.Pages.{IsNear, placed_from, placed_below, placed_at}
+use Rattle.cursor.specs.Remainder.{SolidView}
+use Rattle.fragment.specs.Pages.{placed_from, placed_below, placed_at}
 use Rattle.fragment.proofs.PageLemmas.{drop_get, view_at}
 use Rattle.fragment.proofs.next_cut.place_all.Goals as goal
 
@@ -32,12 +31,7 @@ loop-at-preserved c =
     let all : placed_from first views ≡ c.loop-at.items.items ++ p ∷ tail = c.loop-at.invariant.placed ∙ ap (λ (xs : List SolidView). c.loop-at.items.items ++ placed_below bottom xs) rest in
     let joined : c.loop-at.items.items ++ p ∷ tail ≡ (c.loop-at.items.items ++ c.place-in-loop-at.result ∷ []) ++ tail =
     ap (λ (x : Placed). c.loop-at.items.items ++ x ∷ tail) (sym placed) ∙ sym (append_assoc c.loop-at.items.items (c.place-in-loop-at.result ∷ []) tail) in
-    let small : IsSmallSolid (solid_view s) = subst (λ (x : Solid). IsSmallSolid (solid_view x)) (sym c.index-solids-at.is) (c.requires.small at s less) in
-    let gap_low = small.whole_low in
-    let gap_high = small.whole_high in
-    let near : IsNear p = record { top_low = omega (arith, ints); top_high = omega (arith, ints); height_low = small.height_low; height_high = small.height_high } in
     record {
-      near = rw now (All-push IsNear c.loop-at.items.items c.place-in-loop-at.result c.loop-at.invariant.near (subst IsNear (sym placed) near));
       placed = rw (now, add-one, under) (all ∙ joined);
       low = omega (arith, ints);
       high = omega (arith, ints);

@@ -1,13 +1,11 @@
 use Rattle.std.proofs.Common.{◌≡◌, ◌*◌, ◌^◌, ◌++◌, pos, neg_ℤ, ◌≤ℤ◌, map, drop}
-use Rattle.std.specs.List.{All}
 use Rattle.cursor.specs.Fields.{solid_view}
-use Rattle.fragment.specs.Pages.{IsNear, placed_from, placed_below}
+use Rattle.fragment.specs.Pages.{placed_from, placed_below}
 use Rattle.fragment.proofs.next_cut.place_all.Given as goal
 
 abbrev pub invariant-loop-at : goal.invariant-loop-at
 invariant-loop-at l = record {
   placed : placed_from l.fn.first (map solid_view l.solids) ≡ l.items.items ++ placed_below l.bottom (drop l.at (map solid_view l.solids));
-  near : All IsNear l.items.items;
   low : neg_ℤ (pos (2 ^ 34 * l.at)) ≤ℤ l.bottom;
   high : l.bottom ≤ℤ pos (2 ^ 34 * l.at);
 }
