@@ -1,10 +1,9 @@
 -- The tops and heights of the solids of a page keep their bounds.
-use Rattle.std.proofs.Common.{◌≡◌, ◌<◌, ◌≤◌, ◌+◌, ◌*◌, ◌^◌, ℕ, suc, ℤ, pos, neg_ℤ, ◌≤ℤ◌, ◌+ℤ◌, All, List, [], ◌∷◌, ◌++◌, length, take, map, arith}
+use Rattle.std.proofs.Common.{◌≤◌, ◌+◌, ◌*◌, ◌^◌, ℕ, suc, ℤ, pos, neg_ℤ, ◌≤ℤ◌, ◌+ℤ◌, All, List, [], ◌∷◌, ◌++◌, length, take, map, arith}
 use Rattle.std.proofs.lemmas.Int.{ints}
 use Rattle.std.proofs.lemmas.List.{length-map}
 use Rattle.std.proofs.lemmas.List.Elements.{All-nil, All-cons, All-map, All-push, All-take}
 use Rattle.boxes.specs.declared.page.Page.{Page}
-use Rattle.boxes.specs.declared.page.Placed.{Placed}
 use Rattle.cursor.specs.declared.solid.Solid.{Solid}
 use Rattle.cursor.specs.Fields.{solid_view}
 use Rattle.cursor.specs.Remainder.{SolidView, IsSmallSolid}

@@ -1,5 +1,5 @@
 -- The lines on the pages of a flow part its text.
-use Rattle.std.proofs.Common.{◌≡◌, ◌==◌, ◌≤◌, ℕ, zero, suc, ℤ, ◌+ℤ◌, Bool, true, false, cond, eqb, List, [], ◌∷◌, ◌++◌, Option, None, Some, length, take, slice_get, refl, sym, ap, ◌∙◌, subst, arith}
+use Rattle.std.proofs.Common.{◌≡◌, ◌==◌, ℕ, zero, suc, ℤ, ◌+ℤ◌, Bool, true, cond, eqb, List, [], ◌∷◌, ◌++◌, None, Some, length, take, slice_get, refl, sym, ap, ◌∙◌, subst, arith}
 use Rattle.std.proofs.lemmas.Bool.Decides.{nat_tests}
 use Rattle.std.proofs.lemmas.Bool.{eq-eqb}
 use Rattle.metrics.specs.Face.{FontFace}
@@ -18,7 +18,7 @@ use Rattle.cursor.specs.Remainder.{SolidView, IsSolid, IsRemainder, leaf_measure
 use Rattle.cursor.proofs.RemLemmas.{Stands, solid_stands, begins_inside}
 use Rattle.fragment.specs.declared.next_cut.Cut.{Cut}
 use Rattle.fragment.specs.Pages.IsStep.{blank, flow}
-use Rattle.fragment.specs.Pages.{State, PageFrames, IsStep, IsEnded, IsPaged, IsFlowCut, CutsAt, CutsSolids, end_cut, start_of, start_place, name_at, flow_page, after_flow, first_gap, placed_at, placed_below, placed_from, place_after}
+use Rattle.fragment.specs.Pages.{State, PageFrames, IsStep, IsEnded, IsPaged, IsFlowCut, CutsSolids, start_of, start_place, name_at, first_gap, placed_at, placed_below, placed_from, place_after}
 use Rattle.fragment.specs.Parted.{IsNextLine, AreNextLines, PartsText, solids_of}
 use Rattle.fragment.proofs.PageLemmas.{drop_get}
 

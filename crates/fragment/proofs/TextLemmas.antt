@@ -1,5 +1,5 @@
 -- The texts on lines that part a tree's text, joined, are the tree's text.
-use Rattle.std.proofs.Common.{◌≡◌, ◌≢◌, ◌≤◌, ◌<◌, ◌+◌, ◌-◌, ℕ, zero, suc, Bool, true, false, cond, eqb, List, [], ◌∷◌, ◌++◌, Option, None, Some, length, take, drop, slice_get, append-nil, append_assoc, take-append-drop, add-one, refl, sym, ap, ◌∙◌, subst, arith, ◌⊎◌, ⊎_elim, inl, inr}
+use Rattle.std.proofs.Common.{◌≡◌, ◌≢◌, ◌≤◌, ◌<◌, ◌+◌, ◌-◌, ℕ, suc, Bool, true, false, cond, eqb, List, [], ◌∷◌, ◌++◌, Option, None, Some, length, drop, slice_get, append-nil, append_assoc, take-append-drop, add-one, refl, sym, ap, ◌∙◌, subst, arith, ◌⊎◌, ⊎_elim, inl, inr}
 use Rattle.std.specs.Prelude.{slice_range}
 use Rattle.std.specs.List.{flat_map}
 use Rattle.std.proofs.lemmas.Bool.{cases_lt, eq-eqb}
@@ -15,11 +15,9 @@ use Rattle.boxes.specs.declared.page.Placed.{Placed}
 use Rattle.boxes.specs.declared.place.Event.{Event}
 use Rattle.boxes.specs.declared.place.Event.TheVariants.{Opens, Closes, Leaf}
 use Rattle.boxes.specs.declared.place.Position.{Position}
-use Rattle.boxes.specs.declared.props.BoxProps.{BoxProps}
 use Rattle.boxes.proofs.ListLemmas.{get-before, get-end}
 use Rattle.boxes.proofs.TreeFacts.{leaf_there}
-use Rattle.seams.specs.Runs.{solid_after, solid_from, is_solid}
-use Rattle.cursor.specs.Remainder.{end_of}
+use Rattle.seams.specs.Runs.{solid_from, is_solid}
 use Rattle.cursor.proofs.RemLemmas.{Stands, place}
 use Rattle.fragment.specs.Parted.{IsNextLine, AreNextLines, PartsText, HoldsText, text_of, text_by, text_at, text_on}
 use Rattle.fragment.proofs.PageLemmas.{drop_get}
