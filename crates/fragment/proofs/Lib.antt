@@ -1,4 +1,7 @@
 pub mod CutLemmas
 pub mod FlowLemmas
 pub mod FrontLemmas
+pub mod NearLemmas
 pub mod PageLemmas
+pub mod PartLemmas
+pub mod TextLemmas

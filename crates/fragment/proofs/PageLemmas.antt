@@ -37,7 +37,7 @@ use Rattle.boxes.specs.declared.page.Placed.{Placed}
 use Rattle.boxes.specs.declared.frames.PageKind.TheVariants as kind
 use Rattle.boxes.proofs.RunLemmas.{run_unique}
 use Rattle.fragment.specs.Cuts.IsCut.{at_level, at_loose, at_first}
-use Rattle.fragment.specs.Pages.{State, PageFrames, IsStep, IsEnded, IsPaged, HasOnePageList, CutsAt, CutsSolids, IsFlowCut, start_of, start_place, name_at, flow_page_of, flow_page, after_flow, is_forced, first_gap, placed_from, row_of, rows_of, place_after, forced_after, text_size, size_of}
+use Rattle.fragment.specs.Pages.{State, PageFrames, IsStep, IsEnded, IsPaged, HasOnePageList, LeavesNothing, CutsAt, CutsSolids, IsFlowCut, start_of, start_place, name_at, flow_page_of, flow_page, after_flow, is_forced, first_gap, placed_from, row_of, rows_of, place_after, forced_after, text_size, size_of}
 use Rattle.fragment.specs.declared.next_cut.Cut.{Cut}
 use Rattle.boxes.specs.declared.frames.Frame.{Frame}
 use Rattle.seams.specs.declared.seam_info.SeamInfo.{SeamInfo}
@@ -298,20 +298,34 @@ flow_cut_unique one faces t frame from kept c d p q = go p.solids q.solids (one 
     go (v ∷ vs) [] e a b = absurd (cc)
     go (v ∷ vs) (w ∷ ws) e a b = both (w ∷ ws) a.0 b.0 (subst (λ (xs : List SolidView). CutsAt t frame.height kept xs c a.0) e a.1) b.1
 
-pub paged_unique : HaveOneRemainder → HasOnePageList
-paged_unique one faces t frames ps qs = run_unique (IsStep faces t frames) IsEnded steps stops (start_of t) ps qs
-  where
-    steps : (s : State) (x y : Page) (u v : State) → IsStep faces t frames s x u → IsStep faces t frames s y v → (x ≡ y) × (u ≡ v)
-    steps s x y u v (blank g n p a) (blank g' n' p' a') = (p ∙ sym p', a ∙ sym a')
-    steps s x y u v (blank g n p a) (flow g' m cut is p' a') = absurd (let e : false ≡ true = sym n ∙ m in cc)
-    steps s x y u v (flow g m cut is p a) (blank g' n p' a') = absurd (let e : false ≡ true = sym n ∙ m in cc)
-    steps s x y u v (flow g m cut is p a) (flow g' m' cut' is' p' a') =
-        let same = flow_cut_unique one faces t (frames.frame_of s.index (name_at t s.at) kind.Flow) s.at s.kept cut cut' is is' in
-        (p ∙ ap (flow_page frames t s) same ∙ sym p', a ∙ ap (after_flow s) same ∙ sym a')
+-- a step from a state is one, and where the flow has ended there is none
+module _ (one : HaveOneRemainder) (faces : List FontFace) (t : Tree) (frames : PageFrames) where
+  step_unique : (s : State) (x y : Page) (u v : State) → IsStep faces t frames s x u → IsStep faces t frames s y v → (x ≡ y) × (u ≡ v)
+  step_unique s x y u v (blank g n p a) (blank g' n' p' a') = (p ∙ sym p', a ∙ sym a')
+  step_unique s x y u v (blank g n p a) (flow g' m cut is p' a') = absurd (let e : false ≡ true = sym n ∙ m in cc)
+  step_unique s x y u v (flow g m cut is p a) (blank g' n' p' a') = absurd (let e : false ≡ true = sym n' ∙ m in cc)
+  step_unique s x y u v (flow g m cut is p a) (flow g' m' cut' is' p' a') =
+      let same = flow_cut_unique one faces t (frames.frame_of s.index (name_at t s.at) kind.Flow) s.at s.kept cut cut' is is' in
+      (p ∙ ap (flow_page frames t s) same ∙ sym p', a ∙ ap (after_flow s) same ∙ sym a')
 
-    stops : (s : State) (x : Page) (u : State) → s.done ≡ true → IsStep faces t frames s x u → ⊥
-    stops s x u e (blank g n p a) = let f : true ≡ false = sym e ∙ g in cc
-    stops s x u e (flow g m cut is p a) = let f : true ≡ false = sym e ∙ g in cc
+  step_stops : (s : State) (x : Page) (u : State) → s.done ≡ true → IsStep faces t frames s x u → ⊥
+  step_stops s x u e (blank g n p a) = let f : true ≡ false = sym e ∙ g in cc
+  step_stops s x u e (flow g m cut is p a) = let f : true ≡ false = sym e ∙ g in cc
+
+pub paged_unique : HaveOneRemainder → HasOnePageList
+paged_unique one faces t frames ps qs = run_unique (IsStep faces t frames) IsEnded (step_unique one faces t frames) (step_stops one faces t frames) (start_of t) ps qs
+
+-- a run that ends is no longer than one that goes on
+pub leaves_nothing : HaveOneRemainder → LeavesNothing
+leaves_nothing one faces t frames pages n paged few (front, size, s, run) = go (start_of t) pages front paged run (omega arith)
+  where
+    go : (u : State) (ps qs : List Page) → IsRun (IsStep faces t frames) IsEnded u ps → IsRun (IsStep faces t frames) (IsAt s) u qs → length ps ≤ length qs → ⊥
+    go u [] [] ended at low = let f : true ≡ false = sym ended ∙ at.1 in cc
+    go u [] (q ∷ qs) ended r low = step_stops one faces t frames u q r.0 ended r.1
+    go u (p ∷ ps) [] r at low = absurd (omega arith)
+    go u (p ∷ ps) (q ∷ qs) r r' low =
+        let same = step_unique one faces t frames u p q r.0 r'.0 r.1 r'.1 in
+        go r'.0 ps qs (subst (λ (v : State). IsRun (IsStep faces t frames) IsEnded v ps) same.1 r.2) r'.2 (omega arith)
 
 -- the page that a pass of the code makes is the flow page of its state
 pub page_is : (t : Tree) (frames : PageFrames) (at : Position) (kept : Bool) (index : ℕ) (cut : Cut) (name : NameId) (frame : Frame) → name ≡ name_at t at → frame ≡ frames.frame_of index name kind.Flow →

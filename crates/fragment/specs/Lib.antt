@@ -2,4 +2,5 @@ pub mod Cuts
 pub mod Fronts
 pub mod Notes
 pub mod Pages
+pub mod Parted
 pub mod Rows

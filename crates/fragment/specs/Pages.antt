@@ -1,5 +1,6 @@
 -- The one page list of a flow, as steps from a state to the next (css-break-3, 4; css-page-3, 3).
-use Rattle.std.specs.Prelude.{◌≡◌, ℕ, suc, ℤ, pos, ◌+◌, ◌<◌, ◌⊎◌, ◌+ℤ◌, ◌==◌, List, [], ◌∷◌, ◌++◌, Option, Some, None, Bool, true, false, length, map, take, slice_get}
+use Rattle.std.specs.Prelude.{◌≡◌, ℕ, suc, ℤ, pos, neg_ℤ, ◌+◌, ◌<◌, ◌≤◌, ◌^◌, ◌≤ℤ◌, ◌⊎◌, ◌+ℤ◌, ◌==◌, List, [], ◌∷◌, ◌++◌, Option, Some, None, Bool, true, false, length, map, take, slice_get}
+use Rattle.std.specs.List.{All}
 use Rattle.bk_num.specs.declared.ids.NameId.{NameId}
 use Rattle.metrics.specs.Face.{FontFace}
 use Rattle.boxes.specs.Steps.{IsRun}
@@ -169,3 +170,18 @@ HasOnePageList = (faces : List FontFace) (t : Tree) (frames : PageFrames) (ps qs
 -- so many pages leave something unplaced
 abbrev pub LeavesSome : List FontFace → Tree → PageFrames → ℕ → Type 0
 LeavesSome faces t frames n = (pages : List Page) × (length pages ≡ n) × (s : State) × IsRun (IsStep faces t frames) (λ u. (u ≡ s) × (u.done ≡ false)) (start_of t) pages
+
+-- a flow with a page list has nothing unplaced after as many pages, or after more
+abbrev pub LeavesNothing : Type 0
+LeavesNothing = (faces : List FontFace) (t : Tree) (frames : PageFrames) (pages : List Page) (n : ℕ) → IsPaged faces t frames pages → length pages ≤ n → ¬ (LeavesSome faces t frames n)
+
+-- a solid's top is within 2^60 units, and its height from 0 to 2^32
+pub record IsNear (s : Placed) : Type 0 where
+  pub top_low : neg_ℤ (pos (2 ^ 60)) ≤ℤ s.top
+  pub top_high : s.top ≤ℤ pos (2 ^ 60)
+  pub height_low : pos 0 ≤ℤ s.height
+  pub height_high : s.height ≤ℤ pos (2 ^ 32)
+
+-- all tops and heights of pages keep these bounds
+abbrev pub HaveNearTops : List Page → Type 0
+HaveNearTops pages = All (λ p. All IsNear p.solids) pages

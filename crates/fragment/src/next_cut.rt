@@ -7,7 +7,7 @@ ghost use Rattle.cursor.specs.Plain.{HasPlainLeaves};
 ghost use Rattle.seams.specs.Plain.{IsPlain};
 ghost use Rattle.cursor.specs.Fields.{solid_view};
 ghost use Rattle.cursor.specs.Remainder.{SolidView, IsSmallSolid};
-ghost use Rattle.fragment.specs.Pages.{CutsAt, IsFlowCut, IsFront, text_size, row_of, rows_of, placed_at, placed_from, first_gap, place_after, forced_after, end_cut};
+ghost use Rattle.fragment.specs.Pages.{CutsAt, IsFlowCut, IsFront, IsNear, text_size, row_of, rows_of, placed_at, placed_from, first_gap, place_after, forced_after, end_cut};
 ghost use Rattle.fragment.specs.Rows.{AreForcedBetween};
 ghost use Rattle.seams.specs.Levels.{block_at, widows_in, orphans_in};
 
@@ -278,7 +278,8 @@ fn cut_solids(
     requires within { All (λ s. s.placed_at.event ≤ length tree.now.events) solids.now }
     requires small { All (λ s. IsSmallSolid (solid_view s)) solids.now }
     requires between { AreForcedBetween (rows_of tree.now (map solid_view solids.now)) }
-    ensures { IfOk result (λ cut. (count : ℕ) × CutsAt tree.now height kept (map solid_view solids.now) cut count) }
+    ensures cut { IfOk result (λ cut. (count : ℕ) × CutsAt tree.now height kept (map solid_view solids.now) cut count) }
+    ensures near { IfOk result (λ cut. All IsNear cut.solids) }
 {
     let rows = rows_of(alloc, tree, solids)?;
     let first = first_gap(&solids[0], kept);
@@ -314,6 +315,7 @@ pub(crate) fn cut_tree<L: Ledger>(
     ensures cut { IfOk result (λ cut. IsFlowCut faces.now tree.now frame from.at from.kept cut) }
     ensures holds { IfOk result (λ cut. Holds tree.now cut.to) }
     ensures free { IfOk result (λ cut. cut.forced ≡ None) }
+    ensures near { IfOk result (λ cut. All IsNear cut.solids) }
 {
     let _count = tree.count();
     let solids = front(alloc, tree, faces, from, frame, steps)?;
@@ -343,7 +345,8 @@ pub fn next_cut<L: Ledger>(
     requires carried { carried.now ≡ [] }
     requires plain { IsPlain flow.now.main }
     requires leaves { HasPlainLeaves faces.now flow.now.main }
-    ensures { IfOk result (λ cut. IsFlowCut faces.now flow.now.main frame from.at from.kept cut) }
+    ensures cut { IfOk result (λ cut. IsFlowCut faces.now flow.now.main frame from.at from.kept cut) }
+    ensures near { IfOk result (λ cut. All IsNear cut.solids) }
 {
     cut_tree(alloc, &flow.main, faces, from, frame, steps)
 }

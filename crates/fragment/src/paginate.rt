@@ -3,7 +3,8 @@
 ghost use Rattle.std.specs.Prelude.{◌≡◌, ℕ, ◌<◌, ◌≤◌, ◌^◌, [], length, IfOk, IfErr};
 ghost use Rattle.boxes.specs.Tree.{IsWhole, depth_of};
 ghost use Rattle.cursor.specs.Plain.{HasPlainLeaves};
-ghost use Rattle.fragment.specs.Pages.{HasOnePageList, IsPaged, LeavesSome, text_size, flow_page_of};
+ghost use Rattle.fragment.specs.Pages.{HasOnePageList, HaveNearTops, IsPaged, LeavesNothing, LeavesSome, text_size, flow_page_of};
+ghost use Rattle.fragment.specs.Parted.{HoldsText, PartsText, solids_of};
 ghost use Rattle.seams.specs.Plain.{IsPlain};
 
 use crate::cut::one_cut;
@@ -57,6 +58,14 @@ pub fn one_page_list()
     one_cut();
 }
 
+/// A flow with a page list of at most some pages has nothing unplaced after so many.
+pub fn a_page_list_leaves_nothing()
+    ensures { LeavesNothing }
+{
+    remainder_is_one();
+    one_cut();
+}
+
 /// The pages of a flow without notes, each ended by its best cut. `Pages` comes exactly where 100,000 pages leave
 /// something unplaced.
 pub fn paginate<Fr: Frames, L: Ledger>(
@@ -73,6 +82,9 @@ pub fn paginate<Fr: Frames, L: Ledger>(
     requires plain { IsPlain flow.now.main }
     requires leaves { HasPlainLeaves faces.now flow.now.main }
     ensures pages { IfOk result (λ list. IsPaged faces.now flow.now.main (record { meets = Fr.meets frames.now; frame_of = Fr.frame_of frames.now }) list.pages) }
+    ensures parted { IfOk result (λ list. PartsText flow.now.main (solids_of list.pages)) }
+    ensures text { IfOk result (λ list. HoldsText flow.now.main (solids_of list.pages)) }
+    ensures tops { IfOk result (λ list. HaveNearTops list.pages) }
     ensures few { IfOk result (λ list. length list.pages ≤ 100000) }
     ensures many { IfErr result (λ err. err ≡ PageErr.Pages → LeavesSome faces.now flow.now.main (record { meets = Fr.meets frames.now; frame_of = Fr.frame_of frames.now }) 100000) }
 {

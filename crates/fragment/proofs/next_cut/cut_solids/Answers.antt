@@ -1,6 +1,6 @@
-use Rattle.std.proofs.Common.{◌≡◌, ◌≤◌, ◌==◌, ℕ, ℤ, List, ◌∷◌, Some, rules, All, length, map, take, drop, slice_get, sym, ap, ◌∙◌, subst, refl, to_z, of_z}
+use Rattle.std.proofs.Common.{◌≡◌, ◌≤◌, ◌==◌, ℕ, ℤ, arith, List, ◌∷◌, Some, rules, All, length, map, take, drop, slice_get, sym, ap, ◌∙◌, subst, refl, to_z, of_z}
 use Rattle.std.proofs.lemmas.Int.{to_z-of_z}
-use Rattle.std.proofs.lemmas.List.{length-map, length-take-le, take-map}
+use Rattle.std.proofs.lemmas.List.{length-map, length-take, length-take-le, take-map}
 use Rattle.std.proofs.lemmas.Option.{slice_get_read}
 use mir.Val.{SFits}
 use mir.Syntax.{w64}
@@ -13,6 +13,7 @@ use Rattle.fragment.specs.Rows.{IsSmall}
 use Rattle.fragment.specs.Cuts.{IsRowCut}
 use Rattle.fragment.specs.Pages.{rows_of, first_gap, placed_from}
 use Rattle.fragment.proofs.PageLemmas.{drop_get, view_at, small_rows, cut_within}
+use Rattle.fragment.proofs.NearLemmas.{near_taken}
 use Rattle.fragment.proofs.next_cut.cut_solids.Goals as goal
 
 pub cut_rows-cut-requires-clause-small : goal.cut_rows-cut-requires-clause-small
@@ -27,8 +28,8 @@ slice_bounds-place_all-end c =
     let high : c.cut_rows-cut.result.count ≤ length c.args.solids.now = simp length-map at (rw is at within.1) in
     sym (length-take-le c.cut_rows-cut.result.count c.args.solids.now high)
 
-pub returns : goal.returns
-returns c =
+pub returns-clause-cut : goal.returns-clause-cut
+returns-clause-cut c =
     let t : Tree = c.args.tree.now in
     let solids : List Solid = c.args.solids.now in
     let views : List SolidView = map solid_view solids in
@@ -56,3 +57,13 @@ returns c =
         carried_is = c.of-2.ensures ∙ c.new-2.ensures.items;
       },
     )
+
+pub returns-clause-near : goal.returns-clause-near
+returns-clause-near c =
+    let f : SFits w64 c.first_gap-first.result = search rules in
+    let first : to_z w64 (of_z w64 c.first_gap-first.result) ≡ c.first_gap-first.result = to_z-of_z w64 c.first_gap-first.result f in
+    let low = c.first_gap-first.ensures.low in
+    let high = c.first_gap-first.ensures.high in
+    let few = c.requires.few in
+    let size = length-take c.cut_rows-cut.result.count c.args.solids.now in
+    rw (c.in_ok-placed.ensures, first) (near_taken c.first_gap-first.result c.args.solids.now c.cut_rows-cut.result.count (omega arith) low high c.requires.small)

@@ -52,7 +52,7 @@ cut_is g c =
     let all : 0 < length (views ++ f.behind) = rw length-append (omega arith) in
     let cuts : IfOk c.cut_solids.result (λ cut. (count : ℕ) × CutsAt t frame.height c.args.from.kept views cut count) =
     subst (λ (ys : List Solid). IfOk c.cut_solids.result (λ cut. (count : ℕ) × CutsAt t frame.height c.args.from.kept (map solid_view ys) cut count)) c.as_slice.ensures.value
-    (subst (λ (z : ℤ). IfOk c.cut_solids.result (λ cut. (count : ℕ) × CutsAt t z c.args.from.kept (map solid_view c.as_slice.result.now) cut count)) (to_z-of_z w64 frame.height h) c.cut_solids.ensures) in
+    (subst (λ (z : ℤ). IfOk c.cut_solids.result (λ cut. (count : ℕ) × CutsAt t z c.args.from.kept (map solid_view c.as_slice.result.now) cut count)) (to_z-of_z w64 frame.height h) c.cut_solids.ensures.cut) in
     if_ok (λ (cut : Cut). (count : ℕ) × CutsAt t frame.height c.args.from.kept views cut count) (λ (cut : Cut). IsFlowCut c.args.faces.now t frame c.args.from.at c.args.from.kept cut × Holds t cut.to × (cut.forced ≡ None)) c.cut_solids.result
     (λ cut is. flow_cut c.args.faces.now t frame.width c.args.from.at c.count-count.ensures.tree c.requires.plain c.requires.leaves c.requires.holds frame c.args.from.kept (views ++ f.behind) cut refl f.rest all
     (front_cut c.args.faces.now t frame c.args.from.at c.args.from.kept c.count-count.ensures.tree c.requires.plain c.requires.leaves c.requires.holds views f cut some is)) cuts
