@@ -7,4 +7,4 @@ use Rattle.book.proofs.run.read_book.Goals as goal
 pub returns-in_err-files-clause-book : goal.returns-in_err-files-clause-book
 returns-in_err-files-clause-book g c =
     let p = err_from_is_err_and c.from_residual.result c.from_residual.ensures.1 in
-    rw (p.1, p.2) (texts_stop (texts_expected (map (λ w. string_bytes w) c.args.words.now) (g.F.Shelf.told c.args.shelf.now)) c.in_err-files.field-0.0 c.in_err-files.ensures.texts)
+    λ count h. rw (p.1, p.2) (texts_stop count (texts_expected (map (λ w. string_bytes w) c.args.words.now) (g.F.Shelf.told c.args.shelf.now)) c.in_err-files.field-0.0 c.in_err-files.ensures.texts)
