@@ -1,28 +1,48 @@
 -- The book of a document: its pages, and the bytes of its listing.
-use Rattle.std.specs.Prelude.{◌≡◌, ℕ, suc, ◌+◌, ◌-◌, ◌%◌, ◌<◌, ◌≤◌, Bool, false, List, [], ◌∷◌, ◌++◌, length, take, drop, nat_lt, nat_le, ◌==◌, ◌&&◌, if◌then◌else◌, codes, ℤ, pos, ◌+ℤ◌, ◌-ℤ◌, unsigned_abs, slice_index_or}
+use Rattle.std.specs.Prelude.{◌≡◌, ℕ, ◌+◌, ◌%◌, ◌≤◌, Bool, false, List, [], ◌∷◌, ◌++◌, length, ◌==◌, if◌then◌else◌, codes, ℤ, pos, ◌+ℤ◌, ◌-ℤ◌}
 use Rattle.std.specs.List.{flat_map}
 use Rattle.bk_num.specs.Units.{floor_div}
 use Rattle.bk_num.specs.declared.ids.FaceId.{FaceId}
 use Rattle.bk_num.specs.declared.values.Color.{Color}
 use Rattle.bk_num.specs.declared.values.Side.{Side}
 use Rattle.bk_num.specs.declared.values.Side.TheVariants as side
-use Rattle.metrics.specs.Face.{FontFace, advance_of, ascent_of, descent_of, face_at}
+use Rattle.metrics.specs.Face.{FontFace, ascent_of, descent_of, face_at}
 use Rattle.metrics.specs.Choice.{Chooses}
+use Rattle.boxes.specs.Frames.{meets_by_parity}
+use Rattle.boxes.specs.Tree.{Tree}
+use Rattle.boxes.specs.declared.frames.Frame.{Frame}
+use Rattle.boxes.specs.declared.frames.PageKind.{PageKind}
+use Rattle.boxes.specs.declared.frames.PageKind.TheVariants as page_kind
+use Rattle.boxes.specs.declared.page.Page.{Page}
+use Rattle.boxes.specs.declared.page.Placed.{Placed}
+use Rattle.fragment.specs.Pages.{PageFrames, IsPaged, LeavesSome}
+use Rattle.fragment.specs.Parted.{text_on}
 use Rattle.listing.specs.Records.{book_record, page_record, line_record, text_record, end_record, face_field}
+use Rattle.listing.specs.declared.records.Kind.{Kind}
 use Rattle.listing.specs.declared.records.Kind.TheVariants as kind
-use Rattle.plain_book.specs.Flow.{AreLines}
-use Rattle.plain_book.specs.Pages.{IsPageList}
-use Rattle.plain_book.specs.declared.lines.FlowLine.{FlowLine}
-use Rattle.plain_book.specs.declared.lines.PlacedLine.{PlacedLine}
+use Rattle.plain_flow.specs.Tree.{tree_of}
+use Rattle.plain_flow.specs.declared.style.ParagraphStyle.{ParagraphStyle}
 use Rattle.book.specs.Document.{Document}
 
 -- the size of a paragraph's text: 16 px
 abbrev pub text_size : ℤ
 text_size = pos 1024
 
--- the advance of a character of a paragraph, in units; a newline has none
-unfoldable pub paragraph_advance : List FontFace → FaceId → ℕ → ℕ
-paragraph_advance faces face c = if c == 10 then 0 else unsigned_abs (advance_of faces face text_size c)
+-- how paragraphs are set in a face: 16 px on lines of 20 px, with margins of 16 px, and at least two lines before and after a break
+abbrev pub style_of : FaceId → ParagraphStyle
+style_of face = record { face = face; size = text_size; line_height = pos 1280; margin = pos 1024; widows = 2; orphans = 2 }
+
+-- the frame of each page: of size A5, less margins of 72 px
+abbrev pub page_frame : Frame
+page_frame = record { left = pos 4608; top = pos 4608; width = pos 26584; height = pos 41581 }
+
+-- all pages have this frame, page 1 is a right page, and sides alternate
+abbrev pub page_frames : PageFrames
+page_frames = record { meets = meets_by_parity; frame_of = λ index name kind. page_frame }
+
+-- the tree of a document's paragraphs in a face
+abbrev pub book_tree : Document → FaceId → Tree
+book_tree d face = tree_of (style_of face) d.texts
 
 -- how far below a line's top its baseline is (CSS 2.1, 10.8.1): half of the leading, which may be negative, and the ascent
 unfoldable pub baseline_of : List FontFace → FaceId → ℤ
@@ -31,44 +51,36 @@ baseline_of faces face = floor_div (pos 1280 -ℤ (ascent_of faces face text_siz
 abbrev pub black : Color
 black = record { red = 0; green = 0; blue = 0 }
 
--- page 1 is a right page, and sides alternate
 abbrev pub side_of : ℕ → Side
 side_of index = if index % 2 == 0 then side.Left else side.Right
 
--- whether a line stands in its text
-unfoldable pub is_line_in : List (List ℕ) → FlowLine → Bool
-is_line_in texts line = nat_lt line.paragraph (length texts) && nat_le line.from line.to && nat_le line.to (length (slice_index_or texts line.paragraph []))
+abbrev pub kind_of : PageKind → Kind
+kind_of page_kind.Flow = kind.Flow
+kind_of page_kind.Blank = kind.Blank
+kind_of page_kind.Notes = kind.Notes
 
--- the text of a line: the part of its paragraph's text between its offsets
-unfoldable pub line_text : List (List ℕ) → FlowLine → List ℕ
-line_text texts line = if is_line_in texts line then take (line.to - line.from) (drop line.from (slice_index_or texts line.paragraph [])) else []
-
--- how the lines of a book are printed: the name, style and weight of the face, how far a baseline is below its line's top, and the texts
+-- how the lines of a book are printed: the name, style and weight of the face, how far a baseline is below its line's top, and the tree whose lines they are
 pub record Print : Type 0 where
   pub name : List ℕ
   pub italic : Bool
   pub weight : ℕ
   pub baseline : ℤ
-  pub texts : List (List ℕ)
+  pub tree : Tree
 
-abbrev pub print_of : List FontFace → FaceId → List (List ℕ) → Print
-print_of faces face texts = record { name = (face_at faces face).name; italic = (face_at faces face).italic; weight = (face_at faces face).weight; baseline = baseline_of faces face; texts = texts }
+abbrev pub print_of : List FontFace → FaceId → Tree → Print
+print_of faces face tree = record { name = (face_at faces face).name; italic = (face_at faces face).italic; weight = (face_at faces face).weight; baseline = baseline_of faces face; tree = tree }
 
--- a line and its text, on a page whose margins are 72 px: the frame is 26584 units wide
-unfoldable pub placed_bytes : Print → PlacedLine → List ℕ
-placed_bytes p placed = line_record (pos 4608) (pos 4608 +ℤ pos placed.top) (pos 26584) (pos 1280) ++ text_record (pos 4608) ((pos 4608 +ℤ pos placed.top) +ℤ p.baseline) (face_field p.name p.italic p.weight) text_size black (line_text p.texts placed.line)
+-- a line and its text; tops count from the frame's top, and blocks are as wide as the frame
+unfoldable pub line_bytes : Print → Placed → List ℕ
+line_bytes p line = line_record (pos 4608) (pos 4608 +ℤ line.top) (pos 26584) line.height ++ text_record (pos 4608) ((pos 4608 +ℤ line.top) +ℤ p.baseline) (face_field p.name p.italic p.weight) text_size black (text_on p.tree line)
 
--- a page of size A5, its index and number, and its lines
-unfoldable pub page_bytes : Print → ℕ → List PlacedLine → List ℕ
-page_bytes p index lines = page_record index (pos index) (side_of index) kind.Flow [] (pos 35800) (pos 50797) ++ flat_map (placed_bytes p) lines
-
-abbrev pub pages_bytes : Print → ℕ → List (List PlacedLine) → List ℕ
-pages_bytes p index [] = []
-pages_bytes p index (page ∷ pages) = page_bytes p index page ++ pages_bytes p (index + 1) pages
+-- a page of size A5, whose number is its index, and its lines
+unfoldable pub page_bytes : Print → Page → List ℕ
+page_bytes p page = page_record page.index (pos page.index) (side_of page.index) (kind_of page.kind) [] (pos 35800) (pos 50797) ++ flat_map (line_bytes p) page.solids
 
 -- the listing of a page list that settled in the first pass
-unfoldable pub listing_of : Print → List (List PlacedLine) → List ℕ
-listing_of p pages = book_record (length pages) 1 ++ pages_bytes p 1 pages ++ end_record
+unfoldable pub listing_of : Print → List Page → List ℕ
+listing_of p pages = book_record (length pages) 1 ++ flat_map (page_bytes p) pages ++ end_record
 
 -- a book, by the number of its pages and the bytes of its listing
 pub record Book : Type 0 where
@@ -79,26 +91,18 @@ pub record Book : Type 0 where
 abbrev pub paragraph_families : List (List ℕ)
 paragraph_families = codes "serif" ∷ []
 
--- the pages of a document in a face: its lines are those of the paragraphs in a frame 26584 units wide, and its pages are the page list of these lines in frames 41581 units high
-pub record IsPagesOf (d : Document) (face : FaceId) (pages : List (List PlacedLine)) : Type 0 where
-  pub lines : List FlowLine
-  pub filled : AreLines (paragraph_advance d.faces face) 26584 0 d.texts lines
-  pub cut : IsPageList 41581 lines pages
-
--- the book of a document: its face is the one that `serif`, upright, 400 chooses, and its bytes are the listing of its pages
+-- the book of a document: its face is the one that `serif`, upright, 400 chooses, its pages are the page list of its paragraphs' tree, and its bytes are their listing
 pub record IsBookOf (d : Document) (b : Book) : Type 0 where
   pub face : FaceId
-  pub pages : List (List PlacedLine)
+  pub pages : List Page
   pub chosen : Chooses d.faces paragraph_families false 400 face
-  pub paged : IsPagesOf d face pages
+  pub paged : IsPaged d.faces (book_tree d face) page_frames pages
   pub few : length pages ≤ 100000
   pub count : b.pages ≡ length pages
-  pub listed : b.bytes ≡ listing_of (print_of d.faces face d.texts) pages
+  pub listed : b.bytes ≡ listing_of (print_of d.faces face (book_tree d face)) pages
 
--- a document that takes more than 100,000 pages
+-- 100,000 pages of a document leave something unplaced
 pub record HasTooManyPages (d : Document) : Type 0 where
   pub face : FaceId
-  pub pages : List (List PlacedLine)
   pub chosen : Chooses d.faces paragraph_families false 400 face
-  pub paged : IsPagesOf d face pages
-  pub many : 100000 < length pages
+  pub left : LeavesSome d.faces (book_tree d face) page_frames 100000

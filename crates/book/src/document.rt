@@ -1,9 +1,9 @@
 //! Reads the texts of the files as a document.
 
 ghost use Rattle.std.specs.Prelude.{◌≡◌, ℕ, ◌<◌, ◌≤◌, List, MatchBool, MatchResult, IfErr, IfOk, length, map, option_map, sum_by, All, string_bytes, string_len};
-ghost use Rattle.std.specs.Str.{IsAscii};
 ghost use Rattle.metrics.specs.Text.{faces_of};
 ghost use Rattle.html_tree.specs.Tree.{tree_of};
+ghost use Rattle.plain_flow.specs.Texts.{IsParagraphText};
 ghost use Rattle.sheets.specs.Sheets.{IsRuleCount, sheets_of, verdict_of};
 ghost use Rattle.book.specs.Expect.{IsRefusedUnlessMemory, IsGiven};
 ghost use Rattle.book.specs.Document.{document_of, faces_expected, nodes_expected, verdict_expected, ruled_element, paragraphs_expected, file_expected, room_expected};
@@ -128,10 +128,10 @@ fn ruled_element(verdict: Verdict) -> Option<NodeId>
 
 /// The texts of the paragraphs, or the first node that isn't built: one of another form, or a `style` element whose sheet has
 /// a rule.
-#[tactic(auto, using(crate::proofs::PlainTexts::texts_ascii))]
+#[tactic(auto, using(crate::proofs::PlainTexts::texts_set))]
 fn read_texts(alloc: Global, dom: &Dom, verdict: Verdict) -> Result<Vec<String>, Outcome>
     ensures texts { MatchResult result (λ v. IsGiven (paragraphs_expected verdict dom.now) (map (λ t. string_bytes t) v.items)) (λ o. IsRefusedUnlessMemory (paragraphs_expected verdict dom.now) o) }
-    ensures ascii { IfOk result (λ v. All (λ t. IsAscii (string_bytes t)) v.items) }
+    ensures plain { IfOk result (λ v. All (λ t. IsParagraphText (string_bytes t)) v.items) }
     ensures count { IfOk result (λ v. length v.items ≤ 400000) }
     ensures of_texts { IfErr result IsOfTexts }
 {
@@ -191,7 +191,7 @@ pub(crate) fn read_document(alloc: Global, texts: Texts<'_>) -> Result<Document,
     requires { length texts.metrics.now ≤ 33554432 }
     ensures document { (count : List ℕ → ℕ) → IsRuleCount count → let document = document_of count (record { metrics = texts.entry.metrics.now; html = texts.entry.html.now; sheet = texts.entry.sheet.now }) in
         MatchResult result (λ d. IsGiven document (document_in d)) (λ o. IsRefusedUnlessMemory document o) }
-    ensures ascii { IfOk result (λ d. All (λ t. IsAscii (string_bytes t)) d.texts.items) }
+    ensures plain { IfOk result (λ d. All (λ t. IsParagraphText (string_bytes t)) d.texts.items) }
     ensures count { IfOk result (λ d. length d.texts.items ≤ 400000) }
     ensures few { IfOk result (λ d. sum_by (λ t. string_len t) d.texts.items ≤ 33554432) }
     ensures of_texts { IfErr result IsOfTexts }

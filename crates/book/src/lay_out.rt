@@ -1,10 +1,15 @@
 //! Lays a document out.
 
-ghost use Rattle.std.specs.Prelude.{◌≡◌, ℕ, ◌<◌, ◌≤◌, false, length, map, sum_by, All, IfOk, IfErr, pos, slice_index, string_bytes, string_len, unsigned_abs, ◌^◌};
-ghost use Rattle.std.specs.Str.{IsAscii};
+ghost use Rattle.std.specs.Prelude.{◌≡◌, ℕ, ◌<◌, ◌≤◌, ◌⊎◌, ◌^◌, [], false, length, map, sum_by, All, IfOk, IfErr, MatchResult, string_bytes, string_len, unsigned_abs};
 ghost use Rattle.metrics.specs.Choice.{Chooses};
+ghost use Rattle.boxes.specs.Tree.{IsWhole, depth_of};
+ghost use Rattle.cursor.specs.Plain.{HasPlainLeaves};
+ghost use Rattle.fragment.specs.Pages.{IsPaged, LeavesSome, HaveNearTops, text_size as bytes_of};
+ghost use Rattle.plain_flow.specs.Texts.{IsParagraphText};
+ghost use Rattle.seams.specs.Plain.{IsPlain};
 ghost use Rattle.book.specs.DocumentView.{document_in};
-ghost use Rattle.book.specs.Answer.{paragraph_advance, paragraph_families, baseline_of, text_size, listing_of, print_of, IsBookOf, IsPagesOf};
+ghost use Rattle.book.specs.Answer.{paragraph_families, baseline_of, text_size, style_of, page_frame, page_frames, listing_of, print_of, IsBookOf};
+ghost use Rattle.book.specs.Printer.{HasAsciiLeaves};
 ghost use Rattle.book.specs.Run.{Ends, IsOfTexts};
 
 use crate::document::Document;
@@ -13,12 +18,18 @@ use crate::print::{Printer, print};
 use bk_num::ids::FaceId;
 use bk_num::name::{Name, NoMem};
 use bk_num::px::Px;
+use bk_num::steps::Steps;
+use boxes::flow::Flow;
+use boxes::frames::{Frame, OneFrame};
+use boxes::page::{Page, PageList};
+use boxes::tree::BoxTree;
+use fragment::paginate::{PageErr, paginate};
 use listing::records::FaceLabel;
 use metrics::Faces;
-use plain_book::fill::fill;
-use plain_book::lines::PlacedLine;
-use plain_book::pages::paginate;
+use plain_flow::flow::flow_of;
+use plain_flow::style::ParagraphStyle;
 use std::alloc::Global;
+use std::sync::ledger::Ledger;
 
 /// A book: how many pages, and the bytes of its listing.
 #[derive(Drop)]
@@ -26,15 +37,6 @@ pub(crate) struct Book {
     pub(crate) pages: u32,
     pub(crate) bytes: Vec<u8>,
 }
-
-/// The width of a frame, in units: an A5 page less margins of 72 px.
-const FRAME_WIDTH: u64 = 26584;
-
-/// The most pages.
-const MOST_PAGES: usize = 100000;
-
-/// The height of a frame, in units.
-const FRAME_HEIGHT: u64 = 41581;
 
 /// The size of a paragraph's text: 16 px.
 #[tactic(auto, unfolding(bk_num::specs::Units::clamped))]
@@ -44,6 +46,33 @@ fn text_size() -> Px
     Px::from_units(1024)
 }
 
+/// How paragraphs are set in a face: 16 px on lines of 20 px, with margins of 16 px.
+#[tactic(auto, unfolding(bk_num::specs::Units::clamped))]
+fn style_of(face: FaceId) -> ParagraphStyle
+    ensures { result ≡ style_of face }
+{
+    ParagraphStyle {
+        face,
+        size: text_size(),
+        line_height: Px::from_units(1280),
+        margin: Px::from_units(1024),
+        widows: 2,
+        orphans: 2,
+    }
+}
+
+/// The frame of each page: of size A5, less margins of 72 px.
+fn page_frame() -> Frame
+    ensures { result ≡ page_frame }
+{
+    Frame {
+        left: 4608,
+        top: 4608,
+        width: 26584,
+        height: 41581,
+    }
+}
+
 /// The face of a paragraph's text.
 fn paragraph_face(alloc: Global, faces: &Faces) -> Result<FaceId, NoMem>
     ensures choice { IfOk result (λ f. Chooses faces.now paragraph_families false 400 f) }
@@ -51,33 +80,6 @@ fn paragraph_face(alloc: Global, faces: &Faces) -> Result<FaceId, NoMem>
 {
     let families = [Name::new(alloc, "serif")?];
     Ok(faces.choose(&families, false, 400))
-}
-
-/// The advance of a character of a paragraph, in units.
-#[tactic(auto, unfolding(crate::specs::Answer::paragraph_advance))]
-fn advance(faces: &Faces, face: FaceId, c: u8) -> u32
-    requires { face.0 < length faces.now }
-    ensures { result ≡ paragraph_advance faces.now face c }
-{
-    if c == b'\n' {
-        return 0;
-    }
-    faces
-        .advance(face, text_size(), char::from(c))
-        .units()
-        .unsigned_abs()
-}
-
-/// The advances of the ASCII characters, in units.
-fn advances(faces: &Faces, face: FaceId) -> [u32; 128]
-    requires { face.0 < length faces.now }
-    ensures { (c : ℕ) → c < 128 → slice_index result c ≡ paragraph_advance faces.now face c }
-{
-    let mut table = [0; 128];
-    for c in 0..128u8 {
-        table[c as usize] = advance(faces, face, c);
-    }
-    table
 }
 
 /// How far below a line's top its baseline is, in units.
@@ -92,73 +94,83 @@ fn baseline(faces: &Faces, face: FaceId) -> i64
     (1280 - (ascent + descent)).div_euclid(2) + ascent
 }
 
-/// The pages of a document.
-fn pages_of(alloc: Global, document: &Document, face: FaceId) -> Result<Vec<Vec<PlacedLine>>, NoMem>
-    requires face { face.0 < length document.now.faces }
-    requires ascii { All (λ t. IsAscii (string_bytes t)) document.now.texts.items }
-    requires count { length document.now.texts.items ≤ 400000 }
-    requires few { sum_by (λ t. string_len t) document.now.texts.items ≤ 33554432 }
-    ensures pages { IfOk result (λ v. IsPagesOf (document_in document.now) face (map (λ p. p.items) v.items)) }
-    ensures few { IfOk result (λ v. length v.items ≤ 33554432) }
+/// The pages of a flow.
+fn pages_of<L: Ledger>(
+    alloc: Global,
+    flow: &Flow,
+    faces: &Faces,
+    steps: &mut Steps<L>,
+) -> Result<PageList, Outcome>
+    requires whole { IsWhole flow.now.main.events }
+    requires depth { depth_of flow.now.main.events ≤ 2048 }
+    requires bytes { bytes_of flow.now.main.leaves flow.now.main.events ≤ 2 ^ 25 }
+    requires notes { flow.now.notes ≡ [] }
+    requires plain { IsPlain flow.now.main }
+    requires leaves { HasPlainLeaves faces.now flow.now.main }
+    ensures pages { IfOk result (λ list. IsPaged faces.now flow.now.main page_frames list.pages) }
+    ensures few { IfOk result (λ list. length list.pages ≤ 100000) }
+    ensures near { IfOk result (λ list. HaveNearTops list.pages) }
+    ensures err { IfErr result (λ o. (o ≡ Outcome.NoMemory) ⊎ ((o ≡ Outcome.Limit LimitOf.Pages) × LeavesSome faces.now flow.now.main page_frames 100000)) }
 {
-    let advances = advances(&document.faces, face);
-    let lines = fill(alloc, &advances, document.texts.as_slice(), FRAME_WIDTH)?;
-    let pages = paginate(alloc, lines.as_slice(), FRAME_HEIGHT)?;
-    Ok(pages)
-}
-
-/// The pages, where they are not too many.
-fn check_pages(pages: &[Vec<PlacedLine>]) -> Result<(), Outcome>
-    ensures ok { IfOk result (λ u. length pages.now ≤ 100000) }
-    ensures err { IfErr result (λ o. (o ≡ Outcome.Limit LimitOf.Pages) × (100000 < length pages.now)) }
-{
-    if pages.len() > MOST_PAGES {
-        return Err(Outcome::Limit {
+    let frames = OneFrame {
+        frame: page_frame(),
+    };
+    match paginate(alloc, flow, faces, &frames, steps) {
+        Ok(list) => Ok(list),
+        Err(PageErr::Pages) => Err(Outcome::Limit {
             what: LimitOf::Pages,
-        });
+        }),
+        Err(PageErr::NoMemory) => Err(Outcome::NoMemory),
     }
-    Ok(())
 }
 
 /// The listing of the pages.
 fn list(
     alloc: Global,
-    document: &Document,
+    faces: &Faces,
     face: FaceId,
-    pages: &[Vec<PlacedLine>],
+    tree: &BoxTree,
+    pages: &[Page],
 ) -> Result<Vec<u8>, NoMem>
-    requires face { face.0 < length document.now.faces }
-    requires ascii { All (λ t. IsAscii (string_bytes t)) document.now.texts.items }
+    requires face { face.0 < length faces.now }
+    requires ascii { HasAsciiLeaves tree.now }
     requires few { length pages.now ≤ 100000 }
-    ensures { IfOk result (λ v. v.items ≡ listing_of (print_of document.now.faces face (map (λ t. string_bytes t) document.now.texts.items)) (map (λ p. p.items) pages.now)) }
+    requires near { HaveNearTops pages.now }
+    ensures { IfOk result (λ v. v.items ≡ listing_of (print_of faces.now face tree.now) pages.now) }
 {
-    let (name, italic, weight) = document.faces.label(face);
+    let (name, italic, weight) = faces.label(face);
     let printer = Printer {
         label: FaceLabel {
             name,
             italic,
             weight,
         },
-        baseline: baseline(&document.faces, face),
-        texts: document.texts.as_slice(),
+        baseline: baseline(faces, face),
+        tree,
     };
     let bytes = print(alloc, &printer, pages)?;
     Ok(bytes)
 }
 
 /// The book of a document.
-pub(crate) fn lay_out(alloc: Global, document: &Document) -> Result<Book, Outcome>
-    requires ascii { All (λ t. IsAscii (string_bytes t)) document.now.texts.items }
-    requires count { length document.now.texts.items ≤ 400000 }
-    requires few { sum_by (λ t. string_len t) document.now.texts.items ≤ 33554432 }
-    ensures book { IfOk result (λ b. IsBookOf (document_in document.now) (record { pages = b.pages; bytes = b.bytes.items })) }
-    ensures ends { IfErr result (λ o. Ends (document_in document.now) o) }
+pub(crate) fn lay_out<L: Ledger>(
+    alloc: Global,
+    document: Document,
+    steps: &mut Steps<L>,
+) -> Result<Book, Outcome>
+    requires plain { All (λ t. IsParagraphText (string_bytes t)) document.texts.items }
+    requires count { length document.texts.items ≤ 400000 }
+    requires few { sum_by (λ t. string_len t) document.texts.items ≤ 33554432 }
+    ensures book { IfOk result (λ b. IsBookOf (document_in document) (record { pages = b.pages; bytes = b.bytes.items })) }
+    ensures ends { IfErr result (λ o. Ends (document_in document) o) }
     ensures of_texts { IfErr result IsOfTexts }
 {
-    let face = paragraph_face(alloc, &document.faces)?;
-    let pages = pages_of(alloc, document, face)?;
-    check_pages(pages.as_slice())?;
-    let bytes = list(alloc, document, face, pages.as_slice())?;
+    let Document { faces, texts } = document;
+    let face = paragraph_face(alloc, &faces)?;
+    let flow = flow_of(alloc, &style_of(face), texts)?;
+    let list_of_pages = pages_of(alloc, &flow, &faces, steps)?;
+    let pages = list_of_pages.pages.as_slice();
+    let bytes = list(alloc, &faces, face, &flow.main, pages)?;
     Ok(Book {
         pages: pages.len() as u32,
         bytes,

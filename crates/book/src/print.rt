@@ -1,23 +1,29 @@
 //! Prints a page list.
 
-ghost use Rattle.std.specs.Prelude.{◌≡◌, ℕ, ◌+◌, ◌<◌, ◌≤◌, ◌^◌, ◌++◌, length, map, All, IfOk, OnOk, unsigned_abs, string_bytes};
-ghost use Rattle.std.specs.Str.{IsAscii};
-ghost use Rattle.book.specs.Answer.{side_of, line_text, placed_bytes, page_bytes, listing_of, is_line_in};
-ghost use Rattle.book.specs.Printer.{view_of};
+ghost use Rattle.std.specs.Prelude.{◌≡◌, pos, neg_ℤ, ◌+ℤ◌, ◌≤ℤ◌, ◌<◌, ◌≤◌, ◌^◌, ◌++◌, length, All, IfOk, OnOk, unsigned_abs};
+ghost use Rattle.fragment.specs.Pages.{IsNear, HaveNearTops};
+ghost use Rattle.fragment.specs.Parted.{text_at, text_on};
+ghost use Rattle.listing.specs.Records.{line_record, text_record, face_field};
+ghost use Rattle.book.specs.Answer.{side_of, kind_of, text_size, black, line_bytes, page_bytes, listing_of};
+ghost use Rattle.book.specs.Printer.{view_of, HasAsciiLeaves};
 
 use bk_num::values::{Color, Side};
+use boxes::frames::PageKind;
+use boxes::page::{Page, Placed};
+use boxes::place::Event;
+use boxes::tree::BoxTree;
 use listing::records::{
     Area, FaceLabel, Kind, PageHead, Style, push_book, push_end, push_line, push_page, push_text,
 };
-use plain_book::lines::{FlowLine, PlacedLine};
 use std::alloc::{AllocError, Global};
 
-/// How the lines of a book are printed: their face, how far in units a baseline is below its line's top, and their texts.
-#[derive(Clone, Copy, Debug)]
+/// How the lines of a book are printed: their face, how far in units a baseline is below its line's top, and the tree
+/// whose lines they are.
+#[derive(Clone, Copy)]
 pub(crate) struct Printer<'a> {
     pub(crate) label: FaceLabel<'a>,
     pub(crate) baseline: i64,
-    pub(crate) texts: &'a [String],
+    pub(crate) tree: &'a BoxTree,
 }
 
 /// The margins of a page, in units: 72 px.
@@ -40,75 +46,126 @@ fn side_of(index: u32) -> Side
     }
 }
 
-/// The text of a line.
-#[tactic(auto, unfolding(crate::specs::Answer::line_text, crate::specs::Answer::is_line_in))]
-fn line_text<'a>(texts: &'a [String], line: FlowLine) -> &'a str
-    requires { All (λ t. IsAscii (string_bytes t)) texts.now }
-    ensures { result.now ≡ line_text (map (λ t. string_bytes t) texts.entry.now) line }
+fn kind_of(kind: PageKind) -> Kind
+    ensures { result ≡ kind_of kind }
 {
-    let Some(text) = texts.get(line.paragraph as usize) else {
-        return "";
-    };
-    let (from, to) = (line.from as usize, line.to as usize);
-    if from > to || to > text.len() {
-        return "";
+    match kind {
+        PageKind::Flow => Kind::Flow,
+        PageKind::Blank => Kind::Blank,
+        PageKind::Notes => Kind::Notes,
     }
-    &text.as_str()[from..to]
 }
 
-/// Appends a line and its text.
-#[tactic(auto, unfolding(crate::specs::Answer::placed_bytes))]
-fn push_placed(
-    out: &mut Vec<u8>,
-    printer: &Printer<'_>,
-    placed: &PlacedLine,
-) -> Result<(), AllocError>
-    requires ascii { All (λ t. IsAscii (string_bytes t)) printer.now.texts.now }
-    requires near { unsigned_abs printer.now.baseline ≤ 2 ^ 40 }
-    ensures { OnOk result (out.new.items ≡ out.old.items ++ placed_bytes (view_of printer.now) placed.now) }
+/// The text of the leaf that an event is.
+fn text_at(tree: &BoxTree, at: u32) -> &str
+    ensures { result.now ≡ text_at tree.now at }
 {
-    let y = MARGIN + placed.top as i64;
+    if at >= tree.count() {
+        return "";
+    }
+    match tree.event(at) {
+        Event::Leaf(number) => tree.leaf(number).text.as_str(),
+        Event::Opens(_) => "",
+        Event::Closes(_) => "",
+    }
+}
+
+/// The text on a line.
+fn text_on<'a>(tree: &'a BoxTree, line: &Placed) -> &'a str
+    requires { HasAsciiLeaves tree.now }
+    ensures { result.now ≡ text_on tree.now line.now }
+{
+    let text = text_at(tree, line.at.event);
+    let end = if line.end.event == line.at.event {
+        text.len().min(line.end.offset as usize)
+    } else {
+        text.len()
+    };
+    let begin = end.min(line.at.offset as usize);
+    &text[begin..end]
+}
+
+/// How far below its page's top a line is.
+fn y_of(line: &Placed) -> i64
+    requires { IsNear line.now }
+    ensures value { result ≡ pos 4608 +ℤ line.now.top }
+    ensures low { neg_ℤ (pos (2 ^ 61)) ≤ℤ result }
+    ensures high { result ≤ℤ pos (2 ^ 61) }
+{
+    MARGIN + line.top
+}
+
+/// Appends a line.
+fn push_area(out: &mut Vec<u8>, line: &Placed) -> Result<(), AllocError>
+    requires { IsNear line.now }
+    ensures { OnOk result (out.new.items ≡ out.old.items ++ line_record (pos 4608) (pos 4608 +ℤ line.now.top) (pos 26584) line.now.height) }
+{
     let area = Area {
         x: MARGIN,
-        y,
+        y: y_of(line),
         width: 26584,
-        height: 1280,
+        height: line.height,
     };
-    push_line(out, &area)?;
+    push_line(out, &area)
+}
+
+/// Appends the text of a line.
+fn push_words(
+    out: &mut Vec<u8>,
+    printer: &Printer<'_>,
+    line: &Placed,
+) -> Result<(), AllocError>
+    requires ascii { HasAsciiLeaves printer.now.tree.now }
+    requires baseline { unsigned_abs printer.now.baseline ≤ 2 ^ 40 }
+    requires near { IsNear line.now }
+    ensures { let p = view_of printer.now in OnOk result (out.new.items ≡ out.old.items ++ text_record (pos 4608) ((pos 4608 +ℤ line.now.top) +ℤ p.baseline) (face_field p.name p.italic p.weight) text_size black (text_on p.tree line.now)) }
+{
     let style = Style {
         x: MARGIN,
-        y: y + printer.baseline,
+        y: y_of(line) + printer.baseline,
         face: printer.label,
         size: 1024,
         color: BLACK,
     };
-    push_text(out, &style, line_text(printer.texts, placed.line))
+    push_text(out, &style, text_on(printer.tree, line))
+}
+
+/// Appends a line and its text.
+#[tactic(auto, unfolding(crate::specs::Answer::line_bytes))]
+fn push_placed(
+    out: &mut Vec<u8>,
+    printer: &Printer<'_>,
+    line: &Placed,
+) -> Result<(), AllocError>
+    requires ascii { HasAsciiLeaves printer.now.tree.now }
+    requires baseline { unsigned_abs printer.now.baseline ≤ 2 ^ 40 }
+    requires near { IsNear line.now }
+    ensures { OnOk result (out.new.items ≡ out.old.items ++ line_bytes (view_of printer.now) line.now) }
+{
+    push_area(out, line)?;
+    push_words(out, printer, line)
 }
 
 /// Appends a page.
 #[tactic(auto, unfolding(crate::specs::Answer::page_bytes))]
-fn push_lines(
-    out: &mut Vec<u8>,
-    printer: &Printer<'_>,
-    index: u32,
-    lines: &[PlacedLine],
-) -> Result<(), AllocError>
-    requires ascii { All (λ t. IsAscii (string_bytes t)) printer.now.texts.now }
-    requires near { unsigned_abs printer.now.baseline ≤ 2 ^ 40 }
-    ensures { OnOk result (out.new.items ≡ out.old.items ++ page_bytes (view_of printer.now) index lines.now) }
+fn push_lines(out: &mut Vec<u8>, printer: &Printer<'_>, page: &Page) -> Result<(), AllocError>
+    requires ascii { HasAsciiLeaves printer.now.tree.now }
+    requires baseline { unsigned_abs printer.now.baseline ≤ 2 ^ 40 }
+    requires near { All IsNear page.now.solids }
+    ensures { OnOk result (out.new.items ≡ out.old.items ++ page_bytes (view_of printer.now) page.now) }
 {
     let head = PageHead {
-        index,
-        number: index as i64,
-        side: side_of(index),
-        kind: Kind::Flow,
+        index: page.index,
+        number: page.index as i64,
+        side: side_of(page.index),
+        kind: kind_of(page.kind),
         name: "",
         width: 35800,
         height: 50797,
     };
     push_page(out, &head)?;
-    for placed in lines {
-        push_placed(out, printer, placed)?;
+    for line in page.solids.as_slice() {
+        push_placed(out, printer, line)?;
     }
     Ok(())
 }
@@ -118,17 +175,18 @@ fn push_lines(
 pub(crate) fn print(
     alloc: Global,
     printer: &Printer<'_>,
-    pages: &[Vec<PlacedLine>],
+    pages: &[Page],
 ) -> Result<Vec<u8>, AllocError>
     requires few { length pages.now < 2 ^ 31 }
-    requires ascii { All (λ t. IsAscii (string_bytes t)) printer.now.texts.now }
-    requires near { unsigned_abs printer.now.baseline ≤ 2 ^ 40 }
-    ensures { IfOk result (λ v. v.items ≡ listing_of (view_of printer.now) (map (λ p. p.items) pages.now)) }
+    requires ascii { HasAsciiLeaves printer.now.tree.now }
+    requires baseline { unsigned_abs printer.now.baseline ≤ 2 ^ 40 }
+    requires near { HaveNearTops pages.now }
+    ensures { IfOk result (λ v. v.items ≡ listing_of (view_of printer.now) pages.now) }
 {
     let mut out = Vec::new(alloc);
     push_book(&mut out, pages.len() as u32, 1)?;
-    for (before, page) in pages.iter().enumerate() {
-        push_lines(&mut out, printer, before as u32 + 1, page)?;
+    for page in pages {
+        push_lines(&mut out, printer, page)?;
     }
     push_end(&mut out)?;
     Ok(out)

@@ -23,7 +23,11 @@ use std::alloc::Global;
 use std::sync::ledger::Ledger;
 
 /// The book of the texts.
-fn build(alloc: Global, files: &FileTexts) -> Result<Book, Outcome>
+fn build<L: Ledger>(
+    alloc: Global,
+    files: &FileTexts,
+    steps: &mut Steps<L>,
+) -> Result<Book, Outcome>
     requires { string_len files.now.metrics ≤ 16777216 }
     ensures book { (count : List ℕ → ℕ) → IsRuleCount count → let document = document_of count (texts_in files.now) in
         MatchResult result (λ b. IsBookFor document (record { pages = b.pages; bytes = b.bytes.items })) (λ o. HaltsAt document o) }
@@ -35,12 +39,16 @@ fn build(alloc: Global, files: &FileTexts) -> Result<Book, Outcome>
         sheet: without_mark(files.sheet.as_str()),
     };
     let document = read_document(alloc, texts)?;
-    let book = lay_out(alloc, &document)?;
-    Ok(book)
+    lay_out(alloc, document, steps)
 }
 
 /// The book that the words ask for.
-fn read_book<F: Shelf>(alloc: Global, words: &[String], shelf: &mut F) -> Result<Book, Outcome>
+fn read_book<F: Shelf, L: Ledger>(
+    alloc: Global,
+    words: &[String],
+    shelf: &mut F,
+    steps: &mut Steps<L>,
+) -> Result<Book, Outcome>
     ensures book { (count : List ℕ → ℕ) → IsRuleCount count → let document = expected count (map (λ w. string_bytes w) words.now) (F.told shelf.old) in
         MatchResult result (λ b. IsBookFor document (record { pages = b.pages; bytes = b.bytes.items })) (λ o. Halts document o) }
     ensures fault { IfErr result (λ o. HasReadCause (asked (map (λ w. string_bytes w) words.now)) (F.told shelf.old) (F.faults shelf.old) (F.faults shelf.new) (F.last_fault shelf.new) o) }
@@ -48,18 +56,24 @@ fn read_book<F: Shelf>(alloc: Global, words: &[String], shelf: &mut F) -> Result
     ensures no_put { IfErr result IsNoPut }
 {
     let files = read_files(alloc, words, shelf)?;
-    build(alloc, &files)
+    build(alloc, &files, steps)
 }
 
 /// Reads what the words ask for, and puts it on `out`.
-fn answer<F: Shelf, O: Sink>(alloc: Global, words: &[String], shelf: &mut F, out: &mut O) -> Outcome
+fn answer<F: Shelf, O: Sink, L: Ledger>(
+    alloc: Global,
+    words: &[String],
+    shelf: &mut F,
+    out: &mut O,
+    steps: &mut Steps<L>,
+) -> Outcome
     ensures answers { (count : List ℕ → ℕ) → IsRuleCount count → Meets (expected count (map (λ w. string_bytes w) words.now) (F.told shelf.old)) (O.taken out.old) (O.taken out.new) result }
     ensures put { PutsOnlyABook (O.taken out.old) (O.taken out.new) result }
     ensures words { HasWordsCause (asked (map (λ w. string_bytes w) words.now)) result }
     ensures read_fault { HasReadCause (asked (map (λ w. string_bytes w) words.now)) (F.told shelf.old) (F.faults shelf.old) (F.faults shelf.new) (F.last_fault shelf.new) result }
     ensures write_fault { result ≡ Outcome.WriteFault → Rose (O.faults out.old) (O.faults out.new) }
 {
-    match read_book(alloc, words, shelf) {
+    match read_book(alloc, words, shelf, steps) {
         Err(outcome) => outcome,
         Ok(book) => match put_all(out, &book.bytes) {
             Ok(()) => Outcome::Done {
@@ -74,7 +88,7 @@ fn answer<F: Shelf, O: Sink>(alloc: Global, words: &[String], shelf: &mut F, out
 /// Reads what the words ask for, lays it out, puts its listing on `out`, and puts the answer's line on `err`.
 ///
 /// The words are those behind the program's name. A document without page references settles in its first pass, so
-/// `passes` is 1 here, and laying it out takes no counted step.
+/// `passes` is 1 here. `steps` counts the lines that are filled.
 pub fn run<F: Shelf, O: Sink, E: Sink, L: Ledger>(
     alloc: Global,
     words: &[String],
@@ -102,10 +116,8 @@ pub fn run<F: Shelf, O: Sink, E: Sink, L: Ledger>(
 
     // the line of the answer is put on `err`, whose faults change nothing of it
     ensures line { IsTold (E.taken err.old) (E.taken err.new) (E.faults err.old) (E.faults err.new) (message result) }
-
-    ensures steps { steps.new ≡ steps.old }
 {
-    let outcome = answer(alloc, words, shelf, out);
+    let outcome = answer(alloc, words, shelf, out, steps);
     let _ = put_message(err, &outcome);
     outcome
 }

@@ -4,6 +4,8 @@
 pub mod flow;
 mod leaf;
 mod places;
+#[cfg(test)]
+mod slow;
 pub mod style;
 #[cfg(test)]
 mod tests;

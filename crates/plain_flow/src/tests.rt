@@ -23,10 +23,10 @@ use std::marker::Brand;
 use std::sync::ledger::{Blank, Ledger};
 
 /// A face of 16 units to the em, whose characters have 8 each.
-const FACES: &str = "bookmetrics 1\nface test normal 400 16 12 4 8\nglyph 0300 036F 0\n";
+pub(crate) const FACES: &str = "bookmetrics 1\nface test normal 400 16 12 4 8\nglyph 0300 036F 0\n";
 
 /// Characters of 512 units, on lines of 1280.
-fn style(margin: i64, widows: u32, orphans: u32) -> ParagraphStyle
+pub(crate) fn style(margin: i64, widows: u32, orphans: u32) -> ParagraphStyle
     ensures face { result.face.0 ≡ 0 }
     ensures size { pos 0 ≤ℤ result.size }
     ensures line_height { pos 0 ≤ℤ result.line_height }
@@ -42,7 +42,7 @@ fn style(margin: i64, widows: u32, orphans: u32) -> ParagraphStyle
 }
 
 /// Texts of a paragraph each.
-fn texts_of(alloc: Global, list: &[&str]) -> Option<Vec<String>>
+pub(crate) fn texts_of(alloc: Global, list: &[&str]) -> Option<Vec<String>>
     requires { length list.now ≤ 100 }
     ensures texts { IfSome result (λ v. All (λ t. IsParagraphText (string_bytes t)) v.items) }
     ensures count { IfSome result (λ v. length v.items ≡ length list.now) }

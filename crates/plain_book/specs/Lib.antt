@@ -1,4 +1,0 @@
-pub mod Flow
-pub mod LineEnd
-pub mod Pages
-pub mod Widths
