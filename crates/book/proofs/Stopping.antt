@@ -259,6 +259,22 @@ memory_bind e k (out.NotBuilt f at) r = refused_bind e k _ r
 memory_bind e k (out.Limit what) r = refused_bind e k _ r
 memory_bind e k out.WriteFault r = refused_bind e k _ r
 
+nothing_told : (A : Type 0) (o : Outcome) → IsRefusedUnlessMemory {A = A} free o
+nothing_told A out.NoMemory = tt
+nothing_told A (out.ReadFault f) = tt
+nothing_told A (out.Done pages passes) = tt
+nothing_told A (out.NotRead w) = tt
+nothing_told A (out.TooLarge f) = tt
+nothing_told A (out.NotUtf8 f at) = tt
+nothing_told A (out.BadMetrics line why) = tt
+nothing_told A (out.NotBuilt f at) = tt
+nothing_told A (out.Limit what) = tt
+nothing_told A out.WriteFault = tt
+
+-- a refusal after a step that gave a value
+pub refused_after : {A B : Type 0} (e : Expect A) (x : A) (k : A → Expect B) (o : Outcome) → IsGiven e x → IsRefusedUnlessMemory (k x) o → IsRefusedUnlessMemory (e >>= k) o
+refused_after {A} {B} e x k o g r = after_given e x k (λ z. IsRefusedUnlessMemory z o) (nothing_told B o) g r
+
 -- a refusal of the texts is one of the book
 pub texts_halt : (e : Expect Document) (o : Outcome) → IsRefusedUnlessMemory e o → HaltsAt e o
 texts_halt free o r = tt

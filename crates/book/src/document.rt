@@ -187,6 +187,7 @@ fn check_room(texts: &[String]) -> Result<(), Outcome>
 }
 
 /// The document of the texts.
+#[tactic(auto, using(crate::proofs::Stopping::refused_after, crate::proofs::Stopping::memory_bind))]
 pub(crate) fn read_document(alloc: Global, texts: Texts<'_>) -> Result<Document, Outcome>
     requires { length texts.metrics.now ≤ 33554432 }
     ensures document { (count : List ℕ → ℕ) → IsRuleCount count → let document = document_of count (record { metrics = texts.entry.metrics.now; html = texts.entry.html.now; sheet = texts.entry.sheet.now }) in
