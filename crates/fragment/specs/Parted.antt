@@ -14,7 +14,8 @@ use Rattle.cursor.specs.Remainder.{end_of}
 use Rattle.seams.specs.Runs.{solid_after}
 use Rattle.fragment.specs.Pages.{start_place}
 
--- a line that begins at a place of its leaf, or at the start of the first leaf behind it, and ends after it begins and within its leaf
+-- the line that stands next at a place: it begins there, or at the start of the first leaf from there on, and ends after
+-- it begins and within its leaf
 pub record IsNextLine (t : Tree) (at : Position) (p : Placed) : Type 0 where
   pub number : ℕ
   pub leaf : LeafData

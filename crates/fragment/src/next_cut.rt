@@ -326,7 +326,7 @@ pub(crate) fn cut_tree<L: Ledger>(
 }
 
 /// The cut of the next page of a flow without notes, whose page has a frame: where it ends, at which level, and what
-/// it places.
+/// it places, with tops within 2^60 units and heights from 0 to 2^32.
 pub fn next_cut<L: Ledger>(
     alloc: Global,
     flow: &Flow,

@@ -58,7 +58,8 @@ pub fn one_page_list()
     one_cut();
 }
 
-/// A flow with a page list of at most some pages has nothing unplaced after so many.
+/// A flow with a page list has nothing unplaced after as many pages, or after more. So `paginate` answers `Pages` for no
+/// flow that has a page list of at most 100,000 pages.
 pub fn a_page_list_leaves_nothing()
     ensures { LeavesNothing }
 {
@@ -66,8 +67,9 @@ pub fn a_page_list_leaves_nothing()
     one_cut();
 }
 
-/// The pages of a flow without notes, each ended by its best cut. `Pages` comes exactly where 100,000 pages leave
-/// something unplaced.
+/// The pages of a flow without notes, each ended by its best cut. Their lines part the text of each leaf in order, so
+/// no character is lost or stands twice. Tops are within 2^60 units, and heights from 0 to 2^32. `Pages` comes exactly
+/// where 100,000 pages leave something unplaced.
 pub fn paginate<Fr: Frames, L: Ledger>(
     alloc: Global,
     flow: &Flow,
