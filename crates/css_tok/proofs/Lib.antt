@@ -3,3 +3,4 @@ pub mod TokenLemmas
 pub mod Boundaries
 pub mod PlainLemmas
 pub mod WordLemmas
+pub mod ReadingLemmas
