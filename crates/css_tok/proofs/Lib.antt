@@ -4,3 +4,4 @@ pub mod Boundaries
 pub mod PlainLemmas
 pub mod WordLemmas
 pub mod ReadingLemmas
+pub mod LongestLemmas

@@ -11,7 +11,7 @@ use Rattle.html_tree.specs.Tree.{State, number_of, name_in, kept, after_rule, is
 
 -- ---- what closes among the open elements
 
--- one of the first n open elements is of `closes` and has none of `unless` inside it (HTML, 13.2.4.2 "have a particular element in a specific scope")
+-- the open element at place k is of `closes` and has none of `unless` inside it, among the first n (HTML, 13.2.4.2 "have a particular element in a specific scope")
 pub record IsInScope (closes unless : List ℕ → Bool) (nodes : List Node) (opened : List NodeId) (n k : ℕ) : Type 0 where
   pub within : k < n
   pub closed : closes (name_in nodes (slice_get opened k)) ≡ true
@@ -22,7 +22,7 @@ pub record IsInnermost (closes unless : List ℕ → Bool) (nodes : List Node) (
   pub scope : IsInScope closes unless nodes opened n k
   pub last : (j : ℕ) → IsInScope closes unless nodes opened n j → j ≤ k
 
--- it closes with all inside it
+-- an open element closes where it is that one or stands inside it
 pub record ClosesInnermost (closes unless : List ℕ → Bool) (nodes : List Node) (opened : List NodeId) (o : NodeId) : Type 0 where
   pub innermost : ℕ
   pub place : ℕ
@@ -48,12 +48,13 @@ KindCloses (start name attrs) bytes s o = (bytes_eq (name_of name) (codes "html"
 KindCloses (close name) bytes s o = ClosesInnermost (has_name (name_of name ∷ [])) (has_name []) s.nodes s.opened o
 KindCloses skip bytes s o = ⊥
 
--- a start tag other than `html` opens an element with the next number, unless it is void
+-- a start tag other than `html` opens the element that it adds, unless that is void
 pub record StartOpens (name : List ℕ) (s : State) (o : NodeId) : Type 0 where
   pub other : bytes_eq name (codes "html") ≡ false
   pub filled : has_name void_names name ≡ false
   pub next : o.0 ≡ length s.nodes
 
+-- only start tags open elements
 abbrev pub KindOpens : KindView → State → NodeId → Type 0
 KindOpens text s o = ⊥
 KindOpens raw s o = ⊥
@@ -103,6 +104,11 @@ pub record StaysSince (tokens : List TokenView) (u t : ℕ) (o : NodeId) : Type 
   pub since : IsOpenSince tokens u t o
   pub stays : Closes tokens t o → ⊥
 
+-- the element right outside of the open one at a place, or node 0
+abbrev pub outside : List NodeId → ℕ → ℕ
+outside opened zero = 0
+outside opened (suc i) = number_of (slice_get opened i)
+
 -- of those that stay open it is the last that was opened
 pub record IsLastOpened (tokens : List TokenView) (t : ℕ) (o : NodeId) : Type 0 where
   pub opener : ℕ
@@ -130,11 +136,7 @@ abbrev pub OpenIsOpened : Type 0
 OpenIsOpened = (tokens : List TokenView) (t : ℕ) (s : State) (o : NodeId) → IsStateAt tokens t s →
     Contains s.opened o ↔ ((u : ℕ) × IsOpenSince tokens u t o)
 
--- the parent of the open element at a place is the one before it, or node 0: so what stands further in is inside it
-abbrev pub outside : List NodeId → ℕ → ℕ
-outside opened zero = 0
-outside opened (suc i) = number_of (slice_get opened i)
-
+-- each open element is a child of the one outside of it: what stands further in lies inside it
 abbrev pub OpenIsPath : Type 0
 OpenIsPath = (tokens : List TokenView) (t : ℕ) (s : State) (i : ℕ) (o : NodeId) → IsStateAt tokens t s → slice_get s.opened i ≡ Some o →
     parent_at (parents_of s.nodes) o.0 ≡ Some (outside s.opened i)

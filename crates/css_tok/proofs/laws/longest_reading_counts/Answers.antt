@@ -1,4 +1,5 @@
-use Rattle.css_tok.proofs.ReadingLemmas.{none_longer, token_reading, only_delim}
+use Rattle.css_tok.proofs.ReadingLemmas.{token_reading}
+use Rattle.css_tok.proofs.LongestLemmas.{none_longer, only_delim}
 use Rattle.css_tok.proofs.laws.longest_reading_counts.Goals as goal
 
 pub returns-clause-longest : goal.returns-clause-longest
