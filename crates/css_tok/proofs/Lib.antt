@@ -3,3 +3,5 @@ pub mod TokenLemmas
 pub mod Boundaries
 pub mod PlainLemmas
 pub mod WordLemmas
+pub mod ReadingLemmas
+pub mod LongestLemmas

@@ -3,3 +3,4 @@ pub mod Front
 pub mod Tokens
 pub mod Plain
 pub mod Value
+pub mod Readings

@@ -2,6 +2,7 @@
 #![tactic(auto)]
 
 pub mod front;
+pub mod laws;
 pub mod lengths;
 pub mod plain;
 #[cfg(test)]

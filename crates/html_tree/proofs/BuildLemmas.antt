@@ -14,7 +14,7 @@ use Rattle.html_tree.specs.Tree.{State, name_in, kept, closed_by, after_rule, cu
 use Rattle.html_tree.specs.Built.{waiting, AreElements, Answers}
 use Rattle.html_tree.proofs.OpenedLemmas.{elements-take}
 
-get-keep : {A : Type 0} (xs ys : List A) (k : ℕ) (x : A) → slice_get xs k ≡ Some x → slice_get (xs ++ ys) k ≡ Some x
+pub get-keep : {A : Type 0} (xs ys : List A) (k : ℕ) (x : A) → slice_get xs k ≡ Some x → slice_get (xs ++ ys) k ≡ Some x
 get-keep [] ys k x h = cc
 get-keep (a ∷ xs) ys zero x h = h
 get-keep (a ∷ xs) ys (suc k) x h = get-keep xs ys k x h

@@ -4,3 +4,6 @@ pub mod NumberLemmas
 pub mod OpenedLemmas
 pub mod OrderLemmas
 pub mod ReadLemmas
+pub mod ScopeLemmas
+pub mod StateLemmas
+pub mod TokenLemmas

@@ -1,10 +1,9 @@
 -- A tree that is read has its numbers in tree order.
-use Rattle.std.proofs.Common.{◌≡◌, ◌⊎◌, inl, inr, ℕ, suc, zero, ◌+◌, ◌-◌, ◌<◌, ◌≤◌, Bool, true, false, not, cond, nat_le, ◌&&◌, List, [], ◌∷◌, ◌++◌, Option, None, Some, Result, Ok, Err, IfOk, IfErr, fold, map, option_map, is_some, unwrap_or, length, length-append, take, slice_get, slice_set, if◌then◌else◌, refl, sym, ◌∙◌, ap, subst, arith, codes}
-use Rattle.std.proofs.lemmas.Bool.{cases_Bool, cases_lt}
+use Rattle.std.proofs.Common.{◌≡◌, ◌⊎◌, inl, inr, ℕ, suc, zero, ◌+◌, ◌-◌, ◌<◌, ◌≤◌, Bool, true, false, nat_le, List, [], ◌∷◌, ◌++◌, Option, None, Some, Result, Ok, Err, IfOk, fold, map, option_map, is_some, length, length-append, take, slice_get, slice_set, if◌then◌else◌, refl, sym, ◌∙◌, ap, subst, arith, codes}
 use Rattle.std.proofs.lemmas.Option.{slice_get_within, slice_get-map}
 use Rattle.std.specs.Str.{bytes_eq}
 use Rattle.bk_num.specs.declared.ids.NodeId.{NodeId}
-use Rattle.dom.specs.Nodes.{Node, root, child_of, depth_at, depth_of, is_element, attribute_at, attributed, changed_at, with_attribute}
+use Rattle.dom.specs.Nodes.{Node, root, child_of, depth_at, depth_of, attribute_at, attributed, changed_at, with_attribute}
 use Rattle.dom.specs.Answers.{is_below_all}
 use Rattle.dom.specs.declared.dom.DomErr.{DomErr}
 use Rattle.dom.specs.declared.dom.DomErr.TheVariants.{Nodes, Depth}
@@ -15,7 +14,7 @@ use Rattle.html_tok.specs.Pieces.{KindView, text, raw, start, close, skip}
 use Rattle.html_tok.specs.Tags.{attributes_of}
 use Rattle.html_tree.specs.Rules.{Rule, rules, has_name, names_tag, void_names}
 use Rattle.html_tree.specs.Texts.{name_of, text_of}
-use Rattle.html_tree.specs.Tree.{State, closed_by, after_rule, without, current, number_of, is_text_under, last_of, longer, appended, new_text, add_text, put, put_all, opened_after, add_element, after_start, after_text, after_kind, after_result, after_tokens, nodes_in, begun, tree_of, is_blank, is_escapable, current_name}
+use Rattle.html_tree.specs.Tree.{State, closed_by, after_rule, without, current, number_of, is_text_under, last_of, longer, appended, add_text, put, put_all, add_element, after_start, after_text, after_kind, after_result, after_tokens, nodes_in, begun, tree_of, is_blank, is_escapable, current_name}
 use Rattle.html_tree.specs.Order.{AreInOrder}
 use Rattle.html_tree.specs.Built.{Answers}
 use Rattle.html_tree.proofs.OpenedLemmas.{get-take}
@@ -39,7 +38,7 @@ pub record Shape : Type 0 where
   pub parent : Option ℕ
   pub depth : ℕ
 
-abbrev shape : Node → Shape
+abbrev pub shape : Node → Shape
 shape n = record { parent = n.parent; depth = n.depth }
 
 module _ (xs ys : List Node) (same : map shape xs ≡ map shape ys) where
@@ -91,7 +90,7 @@ shape-set [] i a y h e = refl
 shape-set (x ∷ nodes) zero a y h e = let s : x ≡ a = cc in ap (λ n. n ∷ map shape nodes) (ap shape s ∙ sym e)
 shape-set (x ∷ nodes) (suc i) a y h e = ap (λ l. shape x ∷ l) (shape-set nodes i a y h e)
 
-shape-change : (f : Node → Node) (nodes : List Node) (i : ℕ) → ((n : Node) → shape (f n) ≡ shape n) → map shape nodes ≡ map shape (changed_at f nodes i (slice_get nodes i))
+pub shape-change : (f : Node → Node) (nodes : List Node) (i : ℕ) → ((n : Node) → shape (f n) ≡ shape n) → map shape nodes ≡ map shape (changed_at f nodes i (slice_get nodes i))
 shape-change f nodes i same = by (slice_get nodes i) refl
   where
     by : (o : Option Node) → slice_get nodes i ≡ o → map shape nodes ≡ map shape (changed_at f nodes i o)
@@ -105,13 +104,13 @@ shape-put n nodes a = by (is_some (attribute_at nodes n (name_of a.0)))
     by true = refl
     by false = shape-change (λ y. record y { what = attributed (name_of a.0) (text_of true a.1) y.what }) nodes n (λ y. refl)
 
-shape-put_all : (n : ℕ) (attrs : List (List ℕ × List ℕ)) (nodes : List Node) → map shape nodes ≡ map shape (put_all n attrs nodes)
+pub shape-put_all : (n : ℕ) (attrs : List (List ℕ × List ℕ)) (nodes : List Node) → map shape nodes ≡ map shape (put_all n attrs nodes)
 shape-put_all n [] nodes = refl
 shape-put_all n (a ∷ attrs) nodes = shape-put n nodes a ∙ shape-put_all n attrs (put n nodes a)
 
 -- ---- a new child of the current element
 
-get-push : {A : Type 0} (xs : List A) (y x : A) (k : ℕ) → slice_get (xs ++ y ∷ []) k ≡ Some x → ((k ≡ length xs) × (x ≡ y)) ⊎ (slice_get xs k ≡ Some x)
+pub get-push : {A : Type 0} (xs : List A) (y x : A) (k : ℕ) → slice_get (xs ++ y ∷ []) k ≡ Some x → ((k ≡ length xs) × (x ≡ y)) ⊎ (slice_get xs k ≡ Some x)
 get-push [] y x zero h = inl (refl, cc)
 get-push [] y x (suc k) h = cc
 get-push (a ∷ xs) y x zero h = inr h
@@ -126,11 +125,11 @@ get-before [] y k h = absurd (omega arith)
 get-before (a ∷ xs) y zero h = refl
 get-before (a ∷ xs) y (suc k) h = get-before xs y k (omega arith)
 
-get-last : {A : Type 0} (xs : List A) (y : A) → slice_get (xs ++ y ∷ []) (length xs) ≡ Some y
+pub get-last : {A : Type 0} (xs : List A) (y : A) → slice_get (xs ++ y ∷ []) (length xs) ≡ Some y
 get-last [] y = refl
 get-last (a ∷ xs) y = get-last xs y
 
-get-none : {A : Type 0} (xs : List A) (k : ℕ) → slice_get xs k ≡ None → length xs ≤ k
+pub get-none : {A : Type 0} (xs : List A) (k : ℕ) → slice_get xs k ≡ None → length xs ≤ k
 get-none [] k h = omega arith
 get-none (a ∷ xs) zero h = cc
 get-none (a ∷ xs) (suc k) h = let l = get-none xs k h in omega arith
@@ -215,7 +214,7 @@ module _ (s : State) (what : NodeData) (h : IsOrdered s) where
 
 -- ---- tokens
 
-abbrev Keeps : Result State DomErr → Type 0
+abbrev pub Keeps : Result State DomErr → Type 0
 Keeps (Ok s) = IsOrdered s
 Keeps (Err e) = Unit {0}
 
@@ -276,7 +275,7 @@ keeps-kind (start name attrs) bytes s h = keeps-start (name_of name) attrs s h
 keeps-kind (close name) bytes s h = keeps-taken s _ h
 keeps-kind skip bytes s h = h
 
-keeps-tokens : (tokens : List TokenView) (s : State) → IsOrdered s → Keeps (after_tokens tokens s)
+pub keeps-tokens : (tokens : List TokenView) (s : State) → IsOrdered s → Keeps (after_tokens tokens s)
 unfolding after_tokens
 keeps-tokens [] s h = h
 keeps-tokens (t ∷ ts) s h = by (after_kind t.kind t.slice s) (keeps-kind t.kind t.slice s h) (keeps-tokens ts)
@@ -285,7 +284,7 @@ keeps-tokens (t ∷ ts) s h = by (after_kind t.kind t.slice s) (keeps-kind t.kin
     by (Ok x) k rest = rest x k
     by (Err e) k rest = tt
 
-begun-ordered : IsOrdered begun
+pub begun-ordered : IsOrdered begun
 begun-ordered = record {
   order = record { between = λ k j p n m a e l q b. absurd (none k n p a e) };
   some = omega arith;

@@ -3,3 +3,4 @@ pub mod Rules
 pub mod Tree
 pub mod Order
 pub mod Built
+pub mod Open

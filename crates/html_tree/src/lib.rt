@@ -2,6 +2,7 @@
 #![tactic(auto)]
 
 mod cook;
+pub mod laws;
 mod opened;
 mod references;
 mod rules;
