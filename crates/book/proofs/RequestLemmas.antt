@@ -1,7 +1,7 @@
 -- Words always ask for something or are refused.
-use Rattle.std.proofs.Common.{◌≡◌, ◌≢◌, ℕ, List, [], ◌∷◌, Bool, true, false, cond, ◌||◌}
-use Rattle.book.specs.Expect.{Expect, free, refused, given}
-use Rattle.book.specs.Request.{Names, asked, names_in, is_format, is_sample, is_dashed}
+use Rattle.std.proofs.Common.{◌≢◌, ℕ, List, [], ◌∷◌, Bool, true, false, cond, ◌||◌}
+use Rattle.book.specs.Expect.{Expect, free, refused}
+use Rattle.book.specs.Request.{asked, names_in, is_format, is_sample, is_dashed}
 use Rattle.book.specs.declared.outcome.Outcome.{Outcome}
 
 refused_or : {A : Type 0} (b : Bool) (o : Outcome) (e : Expect A) → e ≢ free → cond b (refused o) e ≢ free

@@ -1,5 +1,5 @@
 -- The book of a document: its pages, and the bytes of its listing.
-use Rattle.std.specs.Prelude.{◌≡◌, ℕ, ◌+◌, ◌%◌, ◌≤◌, Bool, false, List, [], ◌∷◌, ◌++◌, length, ◌==◌, if◌then◌else◌, codes, ℤ, pos, ◌+ℤ◌, ◌-ℤ◌}
+use Rattle.std.specs.Prelude.{◌≡◌, ℕ, ◌%◌, ◌≤◌, Bool, false, List, [], ◌∷◌, ◌++◌, length, ◌==◌, if◌then◌else◌, codes, ℤ, pos, ◌+ℤ◌, ◌-ℤ◌}
 use Rattle.std.specs.List.{flat_map}
 use Rattle.bk_num.specs.Units.{floor_div}
 use Rattle.bk_num.specs.declared.ids.FaceId.{FaceId}

@@ -1,5 +1,5 @@
 -- What is expected of a run: nothing, where the shelf doesn't tell; a refusal; or a value.
-use Rattle.std.specs.Prelude.{◌≡◌, ℕ, Result, Ok, Err}
+use Rattle.std.specs.Prelude.{◌≡◌}
 use Rattle.book.specs.declared.outcome.Outcome.{Outcome}
 use Rattle.book.specs.declared.outcome.Outcome.TheVariants.{NoMemory}
 

@@ -1,5 +1,5 @@
 -- The line that a run puts on its second sink, and the status that the program ends with.
-use Rattle.std.specs.Prelude.{ℕ, List, [], ◌∷◌, codes, ℤ, pos}
+use Rattle.std.specs.Prelude.{ℕ, List, [], ◌∷◌, codes, pos}
 use Rattle.std.specs.Fmt.{signed_decimal}
 use Rattle.std.specs.List.{flat_map}
 use Rattle.metrics.specs.declared.fault.MetricsWhy.{MetricsWhy}
@@ -10,7 +10,6 @@ use Rattle.book.specs.declared.outcome.FileOf.{FileOf}
 use Rattle.book.specs.declared.outcome.FileOf.TheVariants as file
 use Rattle.book.specs.declared.outcome.LimitOf.{LimitOf}
 use Rattle.book.specs.declared.outcome.LimitOf.TheVariants as limit
-use Rattle.book.specs.declared.outcome.WordsFault.{WordsFault}
 use Rattle.book.specs.declared.outcome.WordsFault.TheVariants as words
 
 unfoldable pub decimal : ℕ → List ℕ

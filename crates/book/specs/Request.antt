@@ -1,8 +1,7 @@
 -- What the words of the command line ask for.
-use Rattle.std.specs.Prelude.{◌≡◌, ℕ, Bool, List, [], ◌∷◌, nat_eq, ◌==◌, ◌||◌, if◌then◌else◌, codes, slice_index}
+use Rattle.std.specs.Prelude.{ℕ, Bool, List, [], ◌∷◌, ◌==◌, ◌||◌, if◌then◌else◌, codes, slice_index}
 use Rattle.std.specs.Str.{bytes_eq}
-use Rattle.book.specs.Expect.{Expect, free, refused, given}
-use Rattle.book.specs.declared.outcome.Outcome.{Outcome}
+use Rattle.book.specs.Expect.{Expect, refused, given}
 use Rattle.book.specs.declared.outcome.Outcome.TheVariants as out
 use Rattle.book.specs.declared.outcome.FileOf.{FileOf}
 use Rattle.book.specs.declared.outcome.FileOf.TheVariants as file

@@ -110,11 +110,7 @@ fn push_area(out: &mut Vec<u8>, line: &Placed) -> Result<(), AllocError>
 }
 
 /// Appends the text of a line.
-fn push_words(
-    out: &mut Vec<u8>,
-    printer: &Printer<'_>,
-    line: &Placed,
-) -> Result<(), AllocError>
+fn push_words(out: &mut Vec<u8>, printer: &Printer<'_>, line: &Placed) -> Result<(), AllocError>
     requires ascii { HasAsciiLeaves printer.now.tree.now }
     requires baseline { unsigned_abs printer.now.baseline ≤ 2 ^ 40 }
     requires near { IsNear line.now }
@@ -132,11 +128,7 @@ fn push_words(
 
 /// Appends a line and its text.
 #[tactic(auto, unfolding(crate::specs::Answer::line_bytes))]
-fn push_placed(
-    out: &mut Vec<u8>,
-    printer: &Printer<'_>,
-    line: &Placed,
-) -> Result<(), AllocError>
+fn push_placed(out: &mut Vec<u8>, printer: &Printer<'_>, line: &Placed) -> Result<(), AllocError>
     requires ascii { HasAsciiLeaves printer.now.tree.now }
     requires baseline { unsigned_abs printer.now.baseline ≤ 2 ^ 40 }
     requires near { IsNear line.now }

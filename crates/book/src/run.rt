@@ -23,11 +23,7 @@ use std::alloc::Global;
 use std::sync::ledger::Ledger;
 
 /// The book of the texts.
-fn build<L: Ledger>(
-    alloc: Global,
-    files: &FileTexts,
-    steps: &mut Steps<L>,
-) -> Result<Book, Outcome>
+fn build<L: Ledger>(alloc: Global, files: &FileTexts, steps: &mut Steps<L>) -> Result<Book, Outcome>
     requires { string_len files.now.metrics ≤ 16777216 }
     ensures book { (count : List ℕ → ℕ) → IsRuleCount count → let document = document_of count (texts_in files.now) in
         MatchResult result (λ b. IsBookFor document (record { pages = b.pages; bytes = b.bytes.items })) (λ o. HaltsAt document o) }

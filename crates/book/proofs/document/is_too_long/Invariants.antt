@@ -1,4 +1,4 @@
-use Rattle.std.proofs.Common.{◌≡◌, ℕ, ◌+◌, take, sum_by, string_len}
+use Rattle.std.proofs.Common.{◌≡◌, ◌+◌, take, sum_by, string_len}
 use Rattle.book.proofs.document.is_too_long.Given as goal
 
 abbrev pub invariant-loop-text : goal.invariant-loop-text

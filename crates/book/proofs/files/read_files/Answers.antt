@@ -1,9 +1,8 @@
-use Rattle.std.proofs.Common.{rules, ◌≡◌, string_bytes, ℕ, map, List, ap, ◌∙◌, sym, arith}
+use Rattle.std.proofs.Common.{string_bytes, map, arith}
 use Rattle.std.proofs.lemmas.Result.{err_from_is_err_and}
 use Rattle.book.specs.declared.outcome.FileOf.TheVariants as file
 use Rattle.bk_text.specs.Texts.{unmarked}
 use Rattle.book.specs.Request.{asked}
-use Rattle.book.specs.Run.{Stops, StopsAt, text_of}
 use Rattle.book.proofs.Stopping.{stops_at_metrics, stops_at_html, stops_at_sheet, has_cause}
 use Rattle.book.proofs.files.read_files.Goals as goal
 

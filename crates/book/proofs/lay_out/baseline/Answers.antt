@@ -1,10 +1,10 @@
-use Rattle.std.proofs.Common.{◌≡◌, ℤ, pos, ◌+ℤ◌, ◌-ℤ◌, arith, rules, ap, ◌∙◌}
+use Rattle.std.proofs.Common.{◌≡◌, ℤ, pos, ◌+ℤ◌, ◌-ℤ◌, arith, ap, ◌∙◌}
 use Rattle.std.specs.Int.{int_div_euclid}
 use Rattle.std.proofs.lemmas.Int.{ints}
 use Rattle.bk_num.specs.Units.{floor_div}
 use Rattle.metrics.specs.Face.{ascent_of, descent_of}
 use Rattle.book.specs.Answer.{baseline_of, text_size}
-use Rattle.book.proofs.TableLemmas.{half_small}
+use Rattle.book.proofs.NumberLemmas.{half_small}
 use Rattle.book.proofs.lay_out.baseline.Goals as goal
 
 pub returns-clause-value : goal.returns-clause-value

@@ -1,4 +1,4 @@
-use Rattle.std.proofs.Common.{◌≡◌, ℕ, rules, arith, take, get_or, List, [], Bor}
+use Rattle.std.proofs.Common.{ℕ, List, [], Bor}
 use Rattle.std.proofs.lemmas.Result.{err_from_is_err_and}
 use Rattle.book.proofs.PutLemmas.{put_in_part}
 use Rattle.book.proofs.message.put_texts.Goals as goal
