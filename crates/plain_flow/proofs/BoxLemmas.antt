@@ -1,8 +1,6 @@
 -- The boxes of the root and of paragraphs are ones that a tree takes, and have no edges.
-use Rattle.std.proofs.Common.{◌≡◌, ℕ, zero, suc, ◌≤ℤ◌, pos, Bool, false, eqb, List, [], ◌∷◌, Some, None, map, slice_get, refl, sym, ap, ◌∙◌, subst, ◌⊎◌, inl, inr, arith}
-use Rattle.std.specs.List.{AllByRecursion}
+use Rattle.std.proofs.Common.{◌≡◌, ℕ, zero, suc, ◌≤ℤ◌, pos, false, eqb, List, [], ◌∷◌, Some, map, slice_get, refl, subst, arith}
 use Rattle.std.proofs.lemmas.Bool.Decides.{nat_tests}
-use Rattle.bk_num.specs.declared.values.BreakAt.TheVariants as break_at
 use Rattle.boxes.specs.Contents.{IsGoodBox}
 use Rattle.boxes.specs.declared.props.BoxProps.{BoxProps}
 use Rattle.seams.specs.Runs.{has_edge}

@@ -1,12 +1,9 @@
 -- The leaf of a text is one that a tree takes, and a plain one.
-use Rattle.std.proofs.Common.{◌≡◌, ℕ, ◌<◌, ◌≤◌, ◌≤ℤ◌, pos, List, [], ◌∷◌, length, refl, arith}
-use Rattle.std.specs.List.{All}
-use Rattle.std.specs.List.Sorted.{IsStrictlyIncreasing}
+use Rattle.std.proofs.Common.{ℕ, ◌≤ℤ◌, pos, List, [], length, refl, arith}
 use Rattle.std.specs.Str.{IsCharBoundary}
 use Rattle.std.proofs.lemmas.List.Elements.{All-nil, All-cons}
-use Rattle.boxes.specs.Contents.{IsGoodLeaf, IsGoodSpan, AreOffsets}
+use Rattle.boxes.specs.Contents.{IsGoodLeaf, IsGoodSpan}
 use Rattle.boxes.specs.declared.leaf.Lead.{Lead}
-use Rattle.boxes.specs.declared.leaf.Span.{Span}
 use Rattle.line_fill.specs.Plain.{IsPlainSpan, IsPlainLeaf}
 use Rattle.plain_flow.specs.declared.style.ParagraphStyle.{ParagraphStyle}
 use Rattle.plain_flow.specs.Leaves.{leaf_of, span_of}

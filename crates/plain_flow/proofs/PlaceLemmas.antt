@@ -37,9 +37,6 @@ rises : (p : ℕ → Bool) (a n : ℕ) → IsStrictlyIncreasing (filter p (range
 rises p a zero = λ k h. absurd (omega (arith, h))
 rises p a (suc n) = by (p a) (rises p (a + 1) n)
   where
-    rest : List ℕ
-    rest = filter p (range_with_len (a + 1) n)
-
     above : All (λ k. a < k) (filter p (range_with_len (a + 1) n))
     above = All-filter p (λ k. a < k) (range_with_len (a + 1) n)
         (All-weaker (λ k. (a + 1 ≤ k) × (k < a + 1 + n)) (λ k. a < k) (λ k h. omega (arith, h.0)) (range_with_len (a + 1) n) (in_range (a + 1) n))

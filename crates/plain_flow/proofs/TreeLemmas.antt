@@ -5,7 +5,6 @@ use Rattle.std.proofs.lemmas.List.{length-map, map-append}
 use Rattle.std.proofs.lemmas.List.Sums.{sum_by-cons}
 use Rattle.std.proofs.lemmas.List.Elements.{All-head, All-tail}
 use Rattle.metrics.specs.Face.{FontFace}
-use Rattle.bk_num.specs.declared.ids.NameId.{NameId}
 use Rattle.bk_num.specs.declared.values.BreakAt.TheVariants as break_at
 use Rattle.boxes.specs.Tree.{Tree, IsWhole, no_tree, takes_box, with_box, with_leaf, with_close, innermost_of, first_of, rest_of, depth_of, last_event, is_leaf}
 use Rattle.boxes.specs.declared.leaf.Leaf.{Leaf as LeafData}
@@ -21,7 +20,7 @@ use Rattle.plain_flow.specs.declared.style.ParagraphStyle.{ParagraphStyle}
 use Rattle.plain_flow.specs.Boxes.{root_props, paragraph_props}
 use Rattle.plain_flow.specs.Leaves.{leaf_of}
 use Rattle.plain_flow.specs.Texts.{IsParagraphText}
-use Rattle.plain_flow.specs.Tree.{paragraph_events, events_of, open_tree, tree_of}
+use Rattle.plain_flow.specs.Tree.{events_of, open_tree, tree_of}
 use Rattle.plain_flow.proofs.BoxLemmas.{each_box, no_edge}
 use Rattle.plain_flow.proofs.EventLemmas.{events-more, push-three, open_behind, most_among, ends_closed, length-events, size-events}
 use Rattle.plain_flow.proofs.LeafLemmas.{plain_leaf}
@@ -71,6 +70,15 @@ open_takes style texts =
 pub open_innermost : (style : ParagraphStyle) (texts : List (List ℕ)) → innermost_of (open_tree style texts).events ≡ Some 0
 unfolding open_tree
 open_innermost style texts = ap first_of (open_behind (0 ∷ []) (range_with_len 0 (length texts)))
+
+-- how many events, boxes and leaves there are
+pub tree_counts : (style : ParagraphStyle) (texts : List (List ℕ)) → (length (tree_of style texts).events ≡ 3 * length texts + 2) × (length (tree_of style texts).boxes ≡ length texts + 1) × (length (tree_of style texts).leaves ≡ length texts)
+unfolding tree_of
+tree_counts style texts =
+    let events = length-append (events_of (length texts)) (Closes 0 ∷ []) in
+    let some = length-events (length texts) in
+    let boxes : length (map (λ (t : List ℕ). paragraph_props style) texts) ≡ length texts = rw length-map refl in
+    (omega arith, omega arith, rw length-map refl)
 
 pub tree_whole : (style : ParagraphStyle) (texts : List (List ℕ)) → IsWhole (tree_of style texts).events
 unfolding tree_of

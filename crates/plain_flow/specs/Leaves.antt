@@ -8,7 +8,7 @@ use Rattle.boxes.specs.declared.leaf.Span.{Span}
 use Rattle.plain_flow.specs.declared.style.ParagraphStyle.{ParagraphStyle}
 use Rattle.plain_flow.specs.Places.{places_of}
 
--- the initial colour of text (CSS 2.1, 14.1, as browsers have it)
+-- the initial colour, as browsers have it (CSS 2.1, 14.1)
 abbrev pub black : Color
 black = record { red = 0; green = 0; blue = 0 }
 

@@ -1,6 +1,6 @@
 //! The flow of paragraphs.
 
-ghost use Rattle.std.specs.Prelude.{◌≡◌, ◌+◌, ◌<◌, ◌≤◌, ◌≤ℤ◌, ◌^◌, pos, [], List, length, map, string_bytes, string_len, IfOk, OnOk, IsTrue};
+ghost use Rattle.std.specs.Prelude.{◌≡◌, ◌<◌, ◌≤◌, ◌≤ℤ◌, ◌^◌, pos, [], List, length, map, string_bytes, string_len, IfOk, OnOk, IsTrue};
 ghost use Rattle.std.specs.List.{All, sum_by};
 ghost use Rattle.metrics.specs.Face.{FontFace};
 ghost use Rattle.boxes.specs.Tree.{IsWhole, takes_box, with_box, with_leaf, with_close, depth_of};
@@ -47,7 +47,7 @@ fn tree_of(alloc: Global, style: &ParagraphStyle, texts: Vec<String>) -> Result<
     requires line_height { pos 0 ≤ℤ style.now.line_height }
     requires texts { All (λ t. IsParagraphText (string_bytes t)) texts.items }
     requires count { length texts.items ≤ 400000 }
-    requires bytes { sum_by (λ t. string_len t) texts.items ≤ 33554432 }
+    requires bytes { sum_by (λ t. string_len t) texts.items ≤ 2 ^ 25 }
     ensures { IfOk result (λ tree. tree ≡ tree_of style.now (map (λ t. string_bytes t) texts.items)) }
 {
     let mut tree = BoxTree::new(alloc);
@@ -60,13 +60,14 @@ fn tree_of(alloc: Global, style: &ParagraphStyle, texts: Vec<String>) -> Result<
 }
 
 /// The flow of paragraphs: a root without margins, and in it a block for each text, in their order. It keeps what
-/// `fragment::paginate::paginate` asks of a flow, over faces that have the style's.
+/// `fragment::paginate::paginate` asks of a flow, over faces among which is the style's. A text moves into its leaf
+/// and is read once. Want of memory is the one error.
 pub fn flow_of(alloc: Global, style: &ParagraphStyle, texts: Vec<String>) -> Result<Flow, NoMem>
     requires size { pos 0 ≤ℤ style.now.size }
     requires line_height { pos 0 ≤ℤ style.now.line_height }
     requires texts { All (λ t. IsParagraphText (string_bytes t)) texts.items }
     requires count { length texts.items ≤ 400000 }
-    requires bytes { sum_by (λ t. string_len t) texts.items ≤ 33554432 }
+    requires bytes { sum_by (λ t. string_len t) texts.items ≤ 2 ^ 25 }
     ensures main { IfOk result (λ f. f.main ≡ tree_of style.now (map (λ t. string_bytes t) texts.items)) }
     ensures notes { IfOk result (λ f. f.notes ≡ []) }
     ensures starts { IfOk result (λ f. f.starts ≡ []) }

@@ -4,10 +4,8 @@ ghost use Rattle.std.specs.Prelude.{◌≡◌, ◌<◌, ◌^◌, IfOk, string_by
 ghost use Rattle.plain_flow.specs.Leaves.{leaf_of, span_of};
 
 use crate::places::places_of;
-use crate::style::{ParagraphStyle, black};
-use bk_num::length::Len;
+use crate::style::{ParagraphStyle, black, zero};
 use bk_num::name::NoMem;
-use bk_num::px::Px;
 use bk_num::values::Align;
 use boxes::items::{Items, Text};
 use boxes::leaf::{Leaf, Span};
@@ -44,7 +42,7 @@ pub(crate) fn leaf_of(alloc: Global, style: &ParagraphStyle, text: String) -> Re
         places: Items::of(places),
         graphemes: Items::of(Vec::new(alloc)),
         leads: Items::of(Vec::new(alloc)),
-        indent: Len::Px(Px::from_units(0)),
+        indent: zero(),
         align: Align::Left,
         strut: span_of(style, len),
     })

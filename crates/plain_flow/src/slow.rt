@@ -310,7 +310,7 @@ fn counted<L: Ledger>(alloc: Global, setting: Setting<'_>, token: Blank) -> Opti
         return None;
     }
     let style = style(setting.margin, setting.widows, setting.orphans);
-    let flow = flow_of(alloc, style, texts_of(alloc, setting.texts)?).ok()?;
+    let flow = flow_of(alloc, &style, texts_of(alloc, setting.texts)?).ok()?;
     let frames = OneFrame {
         frame: Frame {
             left: 0,

@@ -1,6 +1,6 @@
 //! How paragraphs are set.
 
-ghost use Rattle.std.specs.Prelude.{◌≡◌};
+ghost use Rattle.std.specs.Prelude.{◌≡◌, pos};
 ghost use Rattle.plain_flow.specs.Boxes.{block_props, root_props, paragraph_props};
 ghost use Rattle.plain_flow.specs.Leaves.{black};
 
@@ -10,9 +10,10 @@ use bk_num::px::Px;
 use bk_num::values::{BreakAt, Color};
 use boxes::props::BoxProps;
 
-/// How the paragraphs of a flow are set, all alike: lengths in units of 1/64 px, the margin above and below each
-/// paragraph, and the least numbers of lines after and before a break (CSS 2.1, 8.3, 10.8 and 13.3.2).
-#[derive(Clone, Copy, Debug)]
+/// How the paragraphs of a flow are set, all alike. Lengths are in units of 1/64 px; `margin` stands above and below
+/// each paragraph, and may be negative; `widows` and `orphans` are the least numbers of lines after and before a
+/// break (CSS 2.1, 8.3, 10.8, 13.3.2 and 15.7).
+#[derive(Clone, Copy, Debug, PartialEq, Eq)]
 pub struct ParagraphStyle {
     pub face: FaceId,
     pub size: Px,
@@ -33,20 +34,22 @@ pub(crate) fn black() -> Color
     }
 }
 
+/// A length of 0.
+#[tactic(auto, unfolding(bk_num::specs::Units::clamped))]
+pub(crate) fn zero() -> Len
+    ensures { result ≡ Len.Px (pos 0) }
+{
+    Len::Px(Px::from_units(0))
+}
+
 /// A block with a margin above and below it.
 fn block_props(margin: Px, widows: u32, orphans: u32) -> BoxProps
     ensures { result ≡ block_props margin widows orphans }
 {
-    let none = Px::from_units(0);
     BoxProps {
-        margin: [
-            Len::Px(margin),
-            Len::Px(none),
-            Len::Px(margin),
-            Len::Px(none),
-        ],
-        border: [none; 4],
-        padding: [Len::Px(none); 4],
+        margin: [Len::Px(margin), zero(), Len::Px(margin), zero()],
+        border: [Px::from_units(0); 4],
+        padding: [zero(); 4],
         width: Len::Auto,
         before: BreakAt::Auto,
         after: BreakAt::Auto,

@@ -1,8 +1,7 @@
 //! Worked flows, and the pages that they are cut into.
 
-ghost use Rattle.std.specs.Prelude.{◌≡◌, ◌*◌, ◌<◌, ◌≤◌, ◌≤ℤ◌, ◌^◌, pos, [], length, string_bytes, string_len, IfSome};
+ghost use Rattle.std.specs.Prelude.{◌≡◌, ◌<◌, ◌≤◌, ◌≤ℤ◌, pos, length, string_bytes, string_len, IfSome};
 ghost use Rattle.std.specs.List.{All, sum_by};
-ghost use Rattle.boxes.specs.Frames.{IsGoodFrame};
 ghost use Rattle.plain_flow.specs.Texts.{IsParagraphText};
 
 use crate::flow::flow_of;
@@ -16,6 +15,7 @@ use boxes::flow::Flow;
 use boxes::frames::{Frame, OneFrame};
 use boxes::leaf::Leaf;
 use boxes::place::Event;
+use boxes::props::BoxProps;
 use fragment::paginate::paginate;
 use metrics::read_metrics;
 use std::alloc::Global;
@@ -26,6 +26,7 @@ use std::sync::ledger::{Blank, Ledger};
 pub(crate) const FACES: &str = "bookmetrics 1\nface test normal 400 16 12 4 8\nglyph 0300 036F 0\n";
 
 /// Characters of 512 units, on lines of 1280.
+#[tactic(auto, unfolding(bk_num::specs::Units::clamped))]
 pub(crate) fn style(margin: i64, widows: u32, orphans: u32) -> ParagraphStyle
     ensures face { result.face.0 ≡ 0 }
     ensures size { pos 0 ≤ℤ result.size }
@@ -41,7 +42,18 @@ pub(crate) fn style(margin: i64, widows: u32, orphans: u32) -> ParagraphStyle
     }
 }
 
-/// Texts of a paragraph each.
+/// The text of a paragraph.
+fn text_of(alloc: Global, text: &str) -> Option<String>
+    ensures text { IfSome result (λ t. IsParagraphText (string_bytes t)) }
+    ensures short { IfSome result (λ t. string_len t ≤ 1000) }
+{
+    if !is_paragraph_text(text) || text.len() > 1000 {
+        return None;
+    }
+    String::from_str(alloc, text).ok()
+}
+
+/// The texts of paragraphs.
 pub(crate) fn texts_of(alloc: Global, list: &[&str]) -> Option<Vec<String>>
     requires { length list.now ≤ 100 }
     ensures texts { IfSome result (λ v. All (λ t. IsParagraphText (string_bytes t)) v.items) }
@@ -50,12 +62,26 @@ pub(crate) fn texts_of(alloc: Global, list: &[&str]) -> Option<Vec<String>>
 {
     let mut texts = Vec::new(alloc);
     for &text in list {
-        if !is_paragraph_text(text) || text.len() > 1000 {
+        let text = text_of(alloc, text)?;
+        if texts.push(text).is_err() {
             return None;
         }
-        texts.push(String::from_str(alloc, text).ok()?).ok()?;
     }
     Some(texts)
+}
+
+#[test]
+fn paragraphs_are_printable_ascii_and_newlines(rt: HostRuntime) {
+    for (text, want) in [
+        ("a", true),
+        (" ~\n", true),
+        ("", false),
+        ("a\tb", false),
+        ("\u{7F}", false),
+        ("é", false),
+    ] {
+        assert_eq!(rt; is_paragraph_text(text), want, "{text:?}");
+    }
 }
 
 /// A flow of two texts.
@@ -65,14 +91,24 @@ fn two_paragraphs(alloc: Global) -> Option<Flow>
     ensures leaves { IfSome result (λ f. length f.main.leaves ≡ 2) }
 {
     let texts = texts_of(alloc, &["a-b c", "d"])?;
-    flow_of(alloc, &style(640, 3, 4), texts).ok()
+    let Ok(flow) = flow_of(alloc, &style(640, 3, 4), texts) else {
+        return None;
+    };
+    Some(flow)
 }
 
-fn units(len: Len) -> Option<i32> {
+/// A length, in units.
+fn units(len: &Len) -> Option<i32> {
     match len {
         Len::Px(px) => Some(px.units()),
         _ => None,
     }
+}
+
+/// The margins of a box, in units.
+fn margins(props: &BoxProps) -> [Option<i32>; 4] {
+    let [top, right, bottom, left] = &props.margin;
+    [units(top), units(right), units(bottom), units(left)]
 }
 
 #[test]
@@ -100,8 +136,10 @@ fn each_paragraph_is_a_block_under_the_root(rt: HostRuntime) {
     for index in 0..3 {
         let (margin, widows, orphans) = boxes[index as usize];
         let props = tree.props(index);
-        let margins = props.margin.map(units);
-        assert_eq!(rt; margins, [Some(margin), Some(0), Some(margin), Some(0)]);
+        assert_eq!(rt;
+            margins(props),
+            [Some(margin), Some(0), Some(margin), Some(0)]
+        );
         assert_eq!(rt; (props.widows, props.orphans), (widows, orphans));
     }
 }
@@ -155,7 +193,9 @@ fn counted<L: Ledger>(
     if faces.len() == 0 || list.len() > 100 || height < 0 || height > 1 << 40 {
         return None;
     }
-    let flow = flow_of(alloc, style, texts_of(alloc, list)?).ok()?;
+    let Ok(flow) = flow_of(alloc, style, texts_of(alloc, list)?) else {
+        return None;
+    };
     let frames = OneFrame {
         frame: Frame {
             left: 0,
@@ -179,7 +219,8 @@ fn pages_of(alloc: Global, margin: i64, list: &[&str], height: i64) -> Option<Pa
 
 #[test]
 fn pages_end_where_widows_orphans_and_gaps_allow(rt: HostRuntime) {
-    let cases: [(i64, &[&str], i64, &[(usize, u8)]); 7] = [
+    let cases: [(i64, &[&str], i64, &[(usize, u8)]); 8] = [
+        (0, &[], 3840, &[(0, 0)]),
         (
             0,
             &["aaaaaaaaaa bbbbbbbbbb cccccccccc dddddddddd"],

@@ -1,4 +1,4 @@
-use Rattle.std.proofs.Common.{◌≡◌, ◌∙◌, ℕ, Option, Some, is_some, [], ◌∷◌, ◌++◌, length, string_bytes, refl, sym, ap, subst}
+use Rattle.std.proofs.Common.{◌≡◌, ◌∙◌, ℕ, Option, Some, is_some, length, string_bytes, sym, ap, subst}
 use Rattle.std.proofs.lemmas.Result.{on_ok_weaker}
 use Rattle.boxes.specs.Contents.{IsGoodLeaf}
 use Rattle.boxes.specs.Tree.{Tree, innermost_of, with_box, with_leaf, with_close}

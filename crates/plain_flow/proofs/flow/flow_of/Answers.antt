@@ -1,7 +1,6 @@
-use Rattle.std.proofs.Common.{◌≡◌, ◌∙◌, ◌<◌, ◌≤◌, ℕ, String, Global, List, length, map, string_bytes, string_len, sum_by, sym, ap, subst, arith}
+use Rattle.std.proofs.Common.{◌∙◌, ◌≤◌, ℕ, String, Global, List, map, string_bytes, sym, ap, subst, arith}
 use Rattle.std.specs.List.{All}
 use Rattle.std.proofs.lemmas.List.Elements.{All-map}
-use Rattle.metrics.specs.Face.{FontFace}
 use Rattle.boxes.specs.Tree.{Tree, IsWhole, depth_of}
 use Rattle.cursor.specs.Plain.{HasPlainLeaves}
 use Rattle.fragment.specs.Pages.{text_size}

@@ -1,10 +1,9 @@
-use Rattle.std.proofs.Common.{◌≡◌, ◌∙◌, ◌+◌, ◌*◌, ◌<◌, ◌≤◌, ℕ, suc, Option, Some, is_some, IsTrue, String, Global, List, [], ◌∷◌, ◌++◌, length, map, string_bytes, refl, sym, ap, subst, arith}
+use Rattle.std.proofs.Common.{◌≡◌, ◌∙◌, ◌*◌, ℕ, suc, Option, Some, is_some, IsTrue, String, Global, List, [], ◌∷◌, length, map, string_bytes, refl, sym, ap, subst, arith}
 use Rattle.std.proofs.lemmas.Iterator.Adapters.{YieldsList-from_vec}
 use Rattle.std.proofs.lemmas.Iterator.Consumers.{YieldsList-turn, YieldsList-end}
 use Rattle.std.proofs.lemmas.List.{length-map, map-append}
 use Rattle.boxes.specs.Tree.{Tree, innermost_of, takes_box, with_box, with_leaf, with_close}
-use Rattle.boxes.specs.declared.props.BoxProps.{BoxProps}
-use Rattle.plain_flow.specs.Boxes.{root_props, paragraph_props}
+use Rattle.plain_flow.specs.Boxes.{paragraph_props}
 use Rattle.plain_flow.specs.Leaves.{leaf_of}
 use Rattle.plain_flow.specs.Tree.{open_tree, tree_of}
 use Rattle.plain_flow.proofs.TreeLemmas.{open-none, open-more, open_events, open_takes, open_innermost, closed-open}

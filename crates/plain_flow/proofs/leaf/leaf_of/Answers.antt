@@ -1,14 +1,12 @@
-use Rattle.std.proofs.Common.{◌≡◌, ◌∙◌, ℕ, pos, List, [], ◌∷◌, ◌++◌, length, string_bytes, string_len, refl, sym, ap}
-use Rattle.bk_num.specs.Units.{clamped}
+use Rattle.std.proofs.Common.{◌≡◌, ◌∙◌, List, [], ◌∷◌, ◌++◌, length, string_bytes, refl, ap}
 use Rattle.boxes.specs.declared.leaf.Span.{Span}
-use Rattle.plain_flow.specs.Leaves.{span_of, leaf_of}
+use Rattle.plain_flow.specs.Leaves.{span_of}
 use Rattle.plain_flow.specs.Places.{places_of}
 use Rattle.plain_flow.proofs.leaf.leaf_of.Goals as goal
 
 pub returns : goal.returns
-unfolding clamped
 returns c =
-    let indent : c.from_units.result ≡ pos 0 = c.from_units.ensures in
+    let indent = c.zero.ensures in
     let len : c.len-len.result ≡ length (string_bytes c.args.text) = c.len-len.ensures ∙ c.args.text.bytes.ok.0 in
     let span : c.span_of.result ≡ span_of c.args.style.now (length (string_bytes c.args.text)) = c.span_of.ensures ∙ ap (span_of c.args.style.now) len in
     let strut : c.span_of-2.result ≡ span_of c.args.style.now (length (string_bytes c.args.text)) = c.span_of-2.ensures ∙ ap (span_of c.args.style.now) len in

@@ -1,4 +1,4 @@
-use Rattle.std.proofs.Common.{◌≡◌, ◌∙◌, ◌+◌, ◌-◌, ◌<◌, ℕ, Bool, true, false, cond, Vec, Global, List, [], ◌∷◌, ◌++◌, length, sym, ap, arith, append-nil}
+use Rattle.std.proofs.Common.{◌≡◌, ◌∙◌, ◌+◌, ◌-◌, ◌<◌, ℕ, Bool, cond, Vec, Global, List, [], ◌∷◌, ◌++◌, length, sym, ap, arith, append-nil}
 use Rattle.std.specs.List.{filter, range_with_len}
 use Rattle.plain_flow.specs.Places.{is_opportunity, places_of}
 use Rattle.plain_flow.proofs.PlaceLemmas.{filter-more}

@@ -4,4 +4,4 @@ use Rattle.plain_flow.proofs.style.block_props.Goals as goal
 
 pub returns : goal.returns
 unfolding clamped
-returns c = let none : c.from_units-none.result ≡ pos 0 = c.from_units-none.ensures in rw (none, c.black.ensures) refl
+returns c = let none : c.from_units.result ≡ pos 0 = c.from_units.ensures in rw (c.zero.ensures, c.zero-2.ensures, c.zero-3.ensures, none, c.black.ensures) refl
