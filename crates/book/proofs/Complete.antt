@@ -1,11 +1,11 @@
 -- Where a document is expected and no count of faults rose, a run answers Done or the limit of pages, but for want of memory.
-use Rattle.std.proofs.Common.{◌≡◌, ℕ, List, Option, ◌⊎◌, inl, inr, refl}
-use Rattle.bk_io.specs.Shelf.{Told, absent, Faulted}
+use Rattle.std.proofs.Common.{◌≡◌, ℕ, List, Option, inl, inr, refl}
+use Rattle.bk_io.specs.Shelf.{Told, absent}
 use Rattle.bk_io.specs.Causes.{Rose}
 use Rattle.book.specs.Expect.{Expect, free, refused, given, ◌>>=◌}
 use Rattle.book.specs.Request.{Names, name_of, asked}
 use Rattle.book.specs.Document.{Texts, Document, document_of}
-use Rattle.book.specs.Run.{text_of, texts_expected, expected, Writes, Meets, HasReadCause, IsComplete, IsDoneOrTooLong}
+use Rattle.book.specs.Run.{text_of, expected, Writes, Meets, HasReadCause, IsComplete, IsDoneOrTooLong}
 use Rattle.book.specs.declared.outcome.Outcome.{Outcome}
 use Rattle.book.specs.declared.outcome.Outcome.TheVariants as out
 use Rattle.book.specs.declared.outcome.FileOf.{FileOf}

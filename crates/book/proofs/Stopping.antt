@@ -1,10 +1,9 @@
 -- How a run stops at a file, and goes on after one.
-use Rattle.std.proofs.Common.{◌≡◌, ◌≢◌, ap, ◌⊎◌, ℕ, ◌≤◌, List, length, sum_by, nat_lt, nat_eq, true, false, cond, inl, inr, refl, sym, arith, rules, subst, Option, Some, None, Result, Ok, Err, Bool, ◌==◌}
+use Rattle.std.proofs.Common.{◌≡◌, ◌≢◌, ap, ◌⊎◌, ℕ, ◌≤◌, List, length, sum_by, nat_lt, true, false, cond, inl, inr, refl, sym, arith, subst, Option, Some, None, Result, Ok, Err, Bool}
 use Rattle.std.specs.Str.{is_utf8}
 use Rattle.bk_io.proofs.Reading.{Rose-since}
-use Rattle.bk_io.specs.Shelf.{Told, untold, absent, holds, Faulted}
+use Rattle.bk_io.specs.Shelf.{Told, untold, absent, holds}
 use Rattle.book.specs.Expect.{Expect, free, refused, given, IsGiven, IsRefused, IsRefusedUnlessMemory, ◌>>=◌}
-use Rattle.bk_text.specs.Texts.{unmarked}
 use Rattle.metrics.specs.Text.{faces_of}
 use Rattle.metrics.specs.Face.{FontFace}
 use Rattle.metrics.specs.declared.fault.MetricsWhy.{MetricsWhy}
@@ -12,7 +11,6 @@ use Rattle.dom.specs.Nodes.{Node}
 use Rattle.dom.specs.declared.dom.DomErr.{DomErr}
 use Rattle.dom.specs.declared.dom.DomErr.TheVariants as dom_err
 use Rattle.html_tree.specs.Tree.{tree_of}
-use Rattle.plain_html.specs.Form.{first_unbuilt}
 use Rattle.plain_html.specs.Texts.{paragraph_texts}
 use Rattle.sheets.specs.Sheets.{sheets_of, verdict_of}
 use Rattle.sheets.specs.declared.check.Verdict.{Verdict}

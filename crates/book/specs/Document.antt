@@ -12,7 +12,7 @@ use Rattle.plain_html.specs.Texts.{paragraph_texts}
 use Rattle.sheets.specs.Sheets.{sheets_of, verdict_of}
 use Rattle.sheets.specs.declared.check.Verdict.{Verdict}
 use Rattle.sheets.specs.declared.check.Verdict.TheVariants as verdict
-use Rattle.book.specs.Expect.{Expect, free, refused, given, ◌>>=◌}
+use Rattle.book.specs.Expect.{Expect, refused, given, ◌>>=◌}
 use Rattle.book.specs.declared.outcome.Outcome.TheVariants as out
 use Rattle.book.specs.declared.outcome.FileOf.TheVariants as file
 use Rattle.book.specs.declared.outcome.LimitOf.TheVariants as limit

@@ -1,8 +1,8 @@
-use Rattle.std.proofs.Common.{◌≡◌, map, string_bytes}
+use Rattle.std.proofs.Common.{map, string_bytes}
 use Rattle.std.proofs.lemmas.Result.{err_from_is_err_and, MatchResult-weaker}
 use Rattle.book.specs.FilesView.{texts_in}
 use Rattle.book.specs.Run.{texts_expected}
-use Rattle.book.proofs.Stopping.{texts_stop, document_stops, book_for, texts_fault}
+use Rattle.book.proofs.Stopping.{texts_stop, document_stops, book_for}
 use Rattle.book.proofs.run.read_book.Goals as goal
 
 pub returns-in_err-files-clause-book : goal.returns-in_err-files-clause-book
