@@ -40,7 +40,7 @@ nodes_expected (Err dom_err.Nodes) = refused (out.Limit limit.Nodes)
 nodes_expected (Err dom_err.Depth) = refused (out.Limit limit.Depth)
 nodes_expected (Err dom_err.NoMemory) = refused out.NoMemory
 
--- the verdict on the sheets, or the limit that they pass: 16 sheets, and of each 20,000 rules
+-- the verdict on the sheets, or the limit that they pass: there are more than 16, or one has more than 20,000 rules
 abbrev pub verdict_expected : Verdict → Expect Verdict
 verdict_expected verdict.TooManySheets = refused (out.Limit limit.Sheets)
 verdict_expected verdict.TooManyRules = refused (out.Limit limit.Rules)
@@ -69,7 +69,7 @@ form_expected None texts = given texts
 abbrev pub paragraphs_expected : Verdict → List Node → Expect (List (List ℕ))
 paragraphs_expected v nodes = form_expected (unbuilt_node v nodes) (paragraph_texts nodes)
 
--- the file's sheet isn't built where it has a rule
+-- the file's sheet isn't built where it has a rule; the sheets of elements were judged before
 abbrev pub file_expected : Verdict → Expect (Unit {0})
 file_expected verdict.FileHasRules = refused (out.NotBuilt (file.Sheet 1) 1)
 file_expected other = given tt
@@ -78,7 +78,7 @@ file_expected other = given tt
 abbrev pub room_expected : List (List ℕ) → Expect (Unit {0})
 room_expected texts = if nat_lt 33554432 (sum_by length texts) then refused (out.Limit limit.Text) else given tt
 
--- the document of the texts, or the first refusal; `count` numbers the rules of each sheet
+-- the document of the texts, or the first refusal; `count` gives the number of rules of each sheet's text
 abbrev pub document_of : (List ℕ → ℕ) → Texts → Expect Document
 document_of count t = faces_expected (faces_of t.metrics) >>= λ faces.
     nodes_expected (tree_of t.html) >>= λ nodes.

@@ -95,8 +95,8 @@ pub fn run<F: Shelf, O: Sink, E: Sink, L: Ledger>(
 ) -> Outcome
     // what the words and the told files ask for decides the answer: Done wrote the listing of the document's one page
     // list, a refusal is the first in the order of the steps, and only a fault of the shelf, a fault of `out` or want of
-    // memory stands in the place of either; `count` numbers the rules of each text as a sheet, and there is such a function:
-    // `sheets::rules_are_counted`
+    // memory stands in the place of either; `count` gives the number of rules of each text as a sheet, and there is such a
+    // function, by `sheets::rules_are_counted`
     ensures answers { (count : List ℕ → ℕ) → IsRuleCount count → Meets (expected count (map (λ w. string_bytes w) words.now) (F.told shelf.old)) (O.taken out.old) (O.taken out.new) result }
 
     // nothing is put but a book or a front of one
