@@ -174,6 +174,7 @@ fn line_counts(alloc: Global, listing: &[u8]) -> Option<Vec<usize>> {
 fn lines_fill_pages(rt: HostRuntime) {
     for (words, counts) in [
         (31, [31].as_slice()),
+        (32, [30, 2].as_slice()),
         (40, [31, 9].as_slice()),
         (65, [31, 32, 2].as_slice()),
     ] {
