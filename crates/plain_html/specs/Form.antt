@@ -1,4 +1,4 @@
--- The trees that are built: paragraphs under `html` or `body`, beside a `head` with titles and metas.
+-- The trees that are built: paragraphs under `html` or `body`, beside a `head` with titles, metas and styles.
 use Rattle.std.specs.Prelude.{ℕ, zero, suc, ◌+◌, Bool, true, false, not, List, Option, None, Some, is_some, length, nat_le, ◌==◌, ◌&&◌, ◌||◌, if◌then◌else◌, codes}
 use Rattle.std.specs.List.{list_all}
 use Rattle.std.specs.Str.{bytes_eq}
@@ -33,7 +33,7 @@ abbrev pub is_top_name : List ℕ → Bool
 is_top_name name = bytes_eq name (codes "head") || bytes_eq name (codes "body") || bytes_eq name (codes "p")
 
 abbrev pub is_head_name : List ℕ → Bool
-is_head_name name = bytes_eq name (codes "title") || bytes_eq name (codes "meta")
+is_head_name name = bytes_eq name (codes "title") || bytes_eq name (codes "meta") || bytes_eq name (codes "style")
 
 abbrev pub is_inner_name : List Node → List ℕ → ℕ → Bool
 is_inner_name nodes name k = is_named nodes (codes "head") (Some k) && is_head_name name || is_named nodes (codes "body") (Some k) && bytes_eq name (codes "p")
@@ -46,10 +46,10 @@ abbrev pub is_allowed : List Node → List ℕ → Option ℕ → Bool
 is_allowed nodes name None = true
 is_allowed nodes name (Some k) = if k == 0 then is_top_name name else is_inner_allowed nodes name k
 
--- whether any text may stand under this parent: a `title`
+-- whether any text may stand under this parent: a `title` or a `style`
 abbrev pub is_free : List Node → Option ℕ → Bool
 is_free nodes None = false
-is_free nodes (Some k) = is_named nodes (codes "title") (Some k)
+is_free nodes (Some k) = is_named nodes (codes "title") (Some k) || is_named nodes (codes "style") (Some k)
 
 -- whether this text may stand under this parent
 abbrev pub is_fit : List Node → Option ℕ → List ℕ → Bool

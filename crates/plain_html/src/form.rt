@@ -78,7 +78,7 @@ fn is_top_name(name: &str) -> bool
 fn is_head_name(name: &str) -> bool
     ensures { result ≡ is_head_name name.now }
 {
-    name == "title" || name == "meta"
+    name == "title" || name == "meta" || name == "style"
 }
 
 /// Whether an element of this name may stand under a parent other than node 0.
@@ -116,7 +116,9 @@ fn is_free(dom: &Dom, parent: Option<NodeId>) -> bool
 {
     match parent {
         None => false,
-        Some(parent) => is_named(dom, "title", Some(parent)),
+        Some(parent) => {
+            is_named(dom, "title", Some(parent)) || is_named(dom, "style", Some(parent))
+        }
     }
 }
 
