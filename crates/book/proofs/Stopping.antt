@@ -1,10 +1,9 @@
 -- How a run stops at a file, and goes on after one.
-use Rattle.std.proofs.Common.{◌≡◌, ◌≢◌, ap, ◌⊎◌, ℕ, ◌≤◌, List, length, sum_by, nat_lt, nat_eq, true, false, cond, inl, inr, refl, sym, arith, rules, subst, Option, Some, None, Result, Ok, Err, Bool, ◌==◌}
+use Rattle.std.proofs.Common.{◌≡◌, ◌≢◌, ap, ◌⊎◌, ℕ, ◌≤◌, List, length, sum_by, nat_lt, true, false, cond, inl, inr, refl, sym, arith, subst, Option, Some, None, Result, Ok, Err, Bool}
 use Rattle.std.specs.Str.{is_utf8}
 use Rattle.bk_io.proofs.Reading.{Rose-since}
-use Rattle.bk_io.specs.Shelf.{Told, untold, absent, holds, Faulted}
+use Rattle.bk_io.specs.Shelf.{Told, untold, absent, holds}
 use Rattle.book.specs.Expect.{Expect, free, refused, given, IsGiven, IsRefused, IsRefusedUnlessMemory, ◌>>=◌}
-use Rattle.bk_text.specs.Texts.{unmarked}
 use Rattle.metrics.specs.Text.{faces_of}
 use Rattle.metrics.specs.Face.{FontFace}
 use Rattle.metrics.specs.declared.fault.MetricsWhy.{MetricsWhy}
@@ -12,10 +11,12 @@ use Rattle.dom.specs.Nodes.{Node}
 use Rattle.dom.specs.declared.dom.DomErr.{DomErr}
 use Rattle.dom.specs.declared.dom.DomErr.TheVariants as dom_err
 use Rattle.html_tree.specs.Tree.{tree_of}
-use Rattle.plain_html.specs.Form.{first_unbuilt}
 use Rattle.plain_html.specs.Texts.{paragraph_texts}
+use Rattle.sheets.specs.Sheets.{sheets_of, verdict_of}
+use Rattle.sheets.specs.declared.check.Verdict.{Verdict}
+use Rattle.sheets.specs.declared.check.Verdict.TheVariants as verdict
 use Rattle.book.specs.Request.{Names, name_of, asked}
-use Rattle.book.specs.Document.{Texts, Document, document_of, faces_expected, nodes_expected, form_expected}
+use Rattle.book.specs.Document.{Texts, Document, document_of, faces_expected, nodes_expected, verdict_expected, unbuilt_node, form_expected, file_expected}
 use Rattle.book.specs.Run.{text_of, StopsAt, Stops, Ends, Halts, HaltsAt, ComesBefore, IsReadBefore, IsUnforeseen, file_stage, texts_expected, HasReadCause, HasCauseAt, HasWordsCause, IsBookFor, IsOfTexts, IsNoPut}
 use Rattle.book.specs.Answer.{Book}
 use Rattle.book.specs.declared.outcome.WordsFault.{WordsFault}
@@ -70,13 +71,28 @@ later_form : (f : FileOf) (first : Option ℕ) (texts : List (List ℕ)) → Lat
 later_form f None texts = tt
 later_form f (Some n) texts = tt
 
-later_book : (f : FileOf) (t : Texts) → Later f (document_of t)
-later_book f t =
+later_verdict : (f : FileOf) (v : Verdict) → Later f (verdict_expected v)
+later_verdict f verdict.TooManySheets = tt
+later_verdict f verdict.TooManyRules = tt
+later_verdict f (verdict.ElementHasRules node) = tt
+later_verdict f verdict.FileHasRules = tt
+later_verdict f verdict.Built = tt
+
+later_file : (f : FileOf) (v : Verdict) → Later f (file_expected v)
+later_file f verdict.TooManySheets = tt
+later_file f verdict.TooManyRules = tt
+later_file f (verdict.ElementHasRules node) = tt
+later_file f verdict.FileHasRules = tt
+later_file f verdict.Built = tt
+
+later_book : (count : List ℕ → ℕ) (f : FileOf) (t : Texts) → Later f (document_of count t)
+later_book count f t =
     later_bind f _ _ (later_faces f (faces_of t.metrics)) (λ faces.
     later_bind f _ _ (later_nodes f (tree_of t.html)) (λ nodes.
-    later_bind f _ _ (later_form f (first_unbuilt nodes) (paragraph_texts nodes)) (λ texts.
-    later_bind f _ _ (later_cond f (length t.sheet == 0) _ _ tt tt) (λ sheet.
-    later_bind f _ _ (later_cond f (nat_lt 33554432 (sum_by length texts)) _ _ tt tt) (λ room. tt)))))
+    later_bind f _ _ (later_verdict f (verdict_of count (sheets_of nodes t.sheet))) (λ v.
+    later_bind f _ _ (later_form f (unbuilt_node v nodes) (paragraph_texts nodes)) (λ texts.
+    later_bind f _ _ (later_file f v) (λ unruled.
+    later_bind f _ _ (later_cond f (nat_lt 33554432 (sum_by length texts)) _ _ tt tt) (λ room. tt))))))
 
 unforeseen_before : (f : FileOf) (p o : Outcome) → IsReadBefore f p → (o ≡ out.ReadFault f) ⊎ (o ≡ out.NoMemory) → ComesBefore o p
 unforeseen_before f p o l u = elim u [ inl e ↦ rw e l | inr e ↦ rw e tt ]
@@ -146,10 +162,10 @@ unforeseen_halts (refused p) (out.Limit what) l u = absurd u
 unforeseen_halts (refused p) out.WriteFault l u = absurd u
 unforeseen_halts (given d) o l u = ends_unforeseen d o u
 
-pub texts_stop : (e : Expect Texts) (o : Outcome) → Stops e o → Halts (e >>= document_of) o
-texts_stop free o s = tt
-texts_stop (refused p) o s = s
-texts_stop (given t) o s = unforeseen_halts (document_of t) o (λ f. later_book f t) s
+pub texts_stop : (count : List ℕ → ℕ) (e : Expect Texts) (o : Outcome) → Stops e o → Halts (e >>= document_of count) o
+texts_stop count free o s = tt
+texts_stop count (refused p) o s = s
+texts_stop count (given t) o s = unforeseen_halts (document_of count t) o (λ f. later_book count f t) s
 
 -- a refusal of the texts stops the document
 refused_halts : (e : Expect Document) (o : Outcome) → HaltsAt e o → Halts e o
@@ -166,15 +182,15 @@ refused_halts (refused p) (out.Limit what) r = inl r
 refused_halts (refused p) out.WriteFault r = inl r
 refused_halts (given d) o r = r
 
-pub document_stops : (e : Expect Texts) (t : Texts) (o : Outcome) → IsGiven e t → HaltsAt (document_of t) o → Halts (e >>= document_of) o
-document_stops free t o g r = tt
-document_stops (refused p) t o g r = absurd g
-document_stops (given u) t o g r = subst (λ v. Halts (document_of v) o) g (refused_halts (document_of t) o r)
+pub document_stops : (count : List ℕ → ℕ) (e : Expect Texts) (t : Texts) (o : Outcome) → IsGiven e t → HaltsAt (document_of count t) o → Halts (e >>= document_of count) o
+document_stops count free t o g r = tt
+document_stops count (refused p) t o g r = absurd g
+document_stops count (given u) t o g r = subst (λ v. Halts (document_of count v) o) g (refused_halts (document_of count t) o r)
 
-pub book_for : (e : Expect Texts) (t : Texts) (b : Book) → IsGiven e t → IsBookFor (document_of t) b → IsBookFor (e >>= document_of) b
-book_for free t b g r = tt
-book_for (refused p) t b g r = absurd g
-book_for (given u) t b g r = subst (λ v. IsBookFor (document_of v) b) g r
+pub book_for : (count : List ℕ → ℕ) (e : Expect Texts) (t : Texts) (b : Book) → IsGiven e t → IsBookFor (document_of count t) b → IsBookFor (e >>= document_of count) b
+book_for count free t b g r = tt
+book_for count (refused p) t b g r = absurd g
+book_for count (given u) t b g r = subst (λ v. IsBookFor (document_of count v) b) g r
 
 -- a refusal of a file is none of the words, and no put
 pub cause_words : (f : FileOf) (told : Told) (name : List ℕ) (before now : ℕ) (last : Option (List ℕ)) (e : Expect Names) (o : Outcome) → HasCauseAt f told name before now last o → HasWordsCause e o
@@ -240,6 +256,22 @@ memory_bind e k (out.BadMetrics line why) r = refused_bind e k _ r
 memory_bind e k (out.NotBuilt f at) r = refused_bind e k _ r
 memory_bind e k (out.Limit what) r = refused_bind e k _ r
 memory_bind e k out.WriteFault r = refused_bind e k _ r
+
+nothing_told : (A : Type 0) (o : Outcome) → IsRefusedUnlessMemory {A = A} free o
+nothing_told A out.NoMemory = tt
+nothing_told A (out.ReadFault f) = tt
+nothing_told A (out.Done pages passes) = tt
+nothing_told A (out.NotRead w) = tt
+nothing_told A (out.TooLarge f) = tt
+nothing_told A (out.NotUtf8 f at) = tt
+nothing_told A (out.BadMetrics line why) = tt
+nothing_told A (out.NotBuilt f at) = tt
+nothing_told A (out.Limit what) = tt
+nothing_told A out.WriteFault = tt
+
+-- a refusal after a step that gave a value
+pub refused_after : {A B : Type 0} (e : Expect A) (x : A) (k : A → Expect B) (o : Outcome) → IsGiven e x → IsRefusedUnlessMemory (k x) o → IsRefusedUnlessMemory (e >>= k) o
+refused_after {A} {B} e x k o g r = after_given e x k (λ z. IsRefusedUnlessMemory z o) (nothing_told B o) g r
 
 -- a refusal of the texts is one of the book
 pub texts_halt : (e : Expect Document) (o : Outcome) → IsRefusedUnlessMemory e o → HaltsAt e o

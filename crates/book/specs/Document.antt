@@ -1,5 +1,5 @@
 -- What the texts of the files are read as, or the refusal that they give.
-use Rattle.std.specs.Prelude.{◌≡◌, ℕ, Bool, List, length, sum_by, nat_lt, ◌==◌, if◌then◌else◌, Option, Some, None, Result, Ok, Err}
+use Rattle.std.specs.Prelude.{ℕ, List, length, sum_by, min, nat_lt, if◌then◌else◌, Option, Some, None, Result, Ok, Err}
 use Rattle.metrics.specs.Face.{FontFace}
 use Rattle.metrics.specs.Text.{faces_of}
 use Rattle.metrics.specs.declared.fault.MetricsWhy.{MetricsWhy}
@@ -9,7 +9,10 @@ use Rattle.dom.specs.declared.dom.DomErr.TheVariants as dom_err
 use Rattle.html_tree.specs.Tree.{tree_of}
 use Rattle.plain_html.specs.Form.{first_unbuilt}
 use Rattle.plain_html.specs.Texts.{paragraph_texts}
-use Rattle.book.specs.Expect.{Expect, free, refused, given, ◌>>=◌}
+use Rattle.sheets.specs.Sheets.{sheets_of, verdict_of}
+use Rattle.sheets.specs.declared.check.Verdict.{Verdict}
+use Rattle.sheets.specs.declared.check.Verdict.TheVariants as verdict
+use Rattle.book.specs.Expect.{Expect, refused, given, ◌>>=◌}
 use Rattle.book.specs.declared.outcome.Outcome.TheVariants as out
 use Rattle.book.specs.declared.outcome.FileOf.TheVariants as file
 use Rattle.book.specs.declared.outcome.LimitOf.TheVariants as limit
@@ -37,27 +40,50 @@ nodes_expected (Err dom_err.Nodes) = refused (out.Limit limit.Nodes)
 nodes_expected (Err dom_err.Depth) = refused (out.Limit limit.Depth)
 nodes_expected (Err dom_err.NoMemory) = refused out.NoMemory
 
+-- the verdict on the sheets, or the limit that they pass: there are more than 16, or one has more than 20,000 rules
+abbrev pub verdict_expected : Verdict → Expect Verdict
+verdict_expected verdict.TooManySheets = refused (out.Limit limit.Sheets)
+verdict_expected verdict.TooManyRules = refused (out.Limit limit.Rules)
+verdict_expected other = given other
+
+-- the first `style` element whose sheet has a rule, by its node number
+abbrev pub ruled_element : Verdict → Option ℕ
+ruled_element (verdict.ElementHasRules node) = Some node.0
+ruled_element other = None
+
+-- the lesser of two node numbers, or the one that is there
+abbrev pub lesser_of : Option ℕ → Option ℕ → Option ℕ
+lesser_of None other = other
+lesser_of (Some n) None = Some n
+lesser_of (Some n) (Some m) = Some (min n m)
+
+-- the first node that isn't built: one of another form, or a `style` element whose sheet has a rule
+abbrev pub unbuilt_node : Verdict → List Node → Option ℕ
+unbuilt_node v nodes = lesser_of (first_unbuilt nodes) (ruled_element v)
+
 abbrev pub form_expected : Option ℕ → List (List ℕ) → Expect (List (List ℕ))
 form_expected (Some n) texts = refused (out.NotBuilt file.Html n)
 form_expected None texts = given texts
 
 -- the texts of the paragraphs, or the first node that isn't built
-abbrev pub paragraphs_expected : List Node → Expect (List (List ℕ))
-paragraphs_expected nodes = form_expected (first_unbuilt nodes) (paragraph_texts nodes)
+abbrev pub paragraphs_expected : Verdict → List Node → Expect (List (List ℕ))
+paragraphs_expected v nodes = form_expected (unbuilt_node v nodes) (paragraph_texts nodes)
 
--- the sheet that is built is the empty one
-abbrev pub sheet_expected : List ℕ → Expect (Unit {0})
-sheet_expected sheet = if length sheet == 0 then given tt else refused (out.NotBuilt (file.Sheet 1) 0)
+-- the file's sheet isn't built where it has a rule; the sheets of elements were judged before
+abbrev pub file_expected : Verdict → Expect (Unit {0})
+file_expected verdict.FileHasRules = refused (out.NotBuilt (file.Sheet 1) 1)
+file_expected other = given tt
 
 -- at most 33,554,432 bytes of text are laid out
 abbrev pub room_expected : List (List ℕ) → Expect (Unit {0})
 room_expected texts = if nat_lt 33554432 (sum_by length texts) then refused (out.Limit limit.Text) else given tt
 
--- the document of the texts, or the first refusal
-abbrev pub document_of : Texts → Expect Document
-document_of t = faces_expected (faces_of t.metrics) >>= λ faces.
+-- the document of the texts, or the first refusal; `count` gives the number of rules of each sheet's text
+abbrev pub document_of : (List ℕ → ℕ) → Texts → Expect Document
+document_of count t = faces_expected (faces_of t.metrics) >>= λ faces.
     nodes_expected (tree_of t.html) >>= λ nodes.
-    paragraphs_expected nodes >>= λ texts.
-    sheet_expected t.sheet >>= λ sheet.
+    verdict_expected (verdict_of count (sheets_of nodes t.sheet)) >>= λ found.
+    paragraphs_expected found nodes >>= λ texts.
+    file_expected found >>= λ unruled.
     room_expected texts >>= λ room.
     given (record { faces = faces; texts = texts })

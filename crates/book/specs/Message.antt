@@ -35,6 +35,8 @@ why_text why.NoFace = codes "noface"
 unfoldable pub limit_text : LimitOf → List ℕ
 limit_text limit.Nodes = codes "nodes"
 limit_text limit.Depth = codes "depth"
+limit_text limit.Sheets = codes "sheets"
+limit_text limit.Rules = codes "rules"
 limit_text limit.Text = codes "text"
 limit_text limit.Pages = codes "pages"
 

@@ -1,20 +1,23 @@
 //! Reads the texts of the files as a document.
 
-ghost use Rattle.std.specs.Prelude.{◌≡◌, ℕ, ◌<◌, ◌≤◌, MatchBool, MatchResult, IfErr, IfOk, length, map, sum_by, All, string_bytes, string_len};
+ghost use Rattle.std.specs.Prelude.{◌≡◌, ℕ, ◌<◌, ◌≤◌, List, MatchBool, MatchResult, IfErr, IfOk, length, map, option_map, sum_by, All, string_bytes, string_len};
 ghost use Rattle.std.specs.Str.{IsAscii};
 ghost use Rattle.metrics.specs.Text.{faces_of};
 ghost use Rattle.html_tree.specs.Tree.{tree_of};
+ghost use Rattle.sheets.specs.Sheets.{IsRuleCount, sheets_of, verdict_of};
 ghost use Rattle.book.specs.Expect.{IsRefusedUnlessMemory, IsGiven};
-ghost use Rattle.book.specs.Document.{document_of, faces_expected, nodes_expected, paragraphs_expected, sheet_expected, room_expected};
+ghost use Rattle.book.specs.Document.{document_of, faces_expected, nodes_expected, verdict_expected, ruled_element, paragraphs_expected, file_expected, room_expected};
 ghost use Rattle.book.specs.DocumentView.{document_in};
 ghost use Rattle.book.specs.Run.{IsOfTexts};
 
 use crate::outcome::{FileOf, LimitOf, Outcome};
+use bk_num::ids::NodeId;
 use bk_num::name::NoMem;
 use dom::{Dom, DomErr};
 use html_tree::read_html;
 use metrics::{Faces, MetricsErr, read_metrics};
 use plain_html::read_paragraphs;
+use sheets::{Verdict, check_sheets};
 use std::alloc::{AllocError, Global};
 
 /// The faces of the metrics text, and the texts of the paragraphs.
@@ -87,37 +90,72 @@ fn read_tree(alloc: Global, html: &str) -> Result<Dom, Outcome>
     }
 }
 
-/// The texts of the paragraphs.
+/// The verdict on the sheets of the HTML and of the file, within their limits.
+fn read_verdict(alloc: Global, dom: &Dom, sheet: &str) -> Result<Verdict, Outcome>
+    ensures verdict { (count : List ℕ → ℕ) → IsRuleCount count → let verdict = verdict_expected (verdict_of count (sheets_of dom.now sheet.now)) in
+        MatchResult result (λ v. IsGiven verdict v) (λ o. IsRefusedUnlessMemory verdict o) }
+    ensures of_texts { IfErr result IsOfTexts }
+{
+    match check_sheets(alloc, dom, sheet)? {
+        Verdict::TooManySheets => Err(Outcome::Limit {
+            what: LimitOf::Sheets,
+        }),
+        Verdict::TooManyRules => Err(Outcome::Limit {
+            what: LimitOf::Rules,
+        }),
+        verdict => Ok(verdict),
+    }
+}
+
+fn not_built(node: NodeId) -> Outcome
+    ensures { result ≡ Outcome.NotBuilt FileOf.Html node.0 }
+{
+    Outcome::NotBuilt {
+        file: FileOf::Html,
+        at: u64::from(node.0),
+    }
+}
+
+/// The first `style` element whose sheet has a rule.
+fn ruled_element(verdict: Verdict) -> Option<NodeId>
+    ensures { option_map (λ n. n.0) result ≡ ruled_element verdict }
+{
+    match verdict {
+        Verdict::ElementHasRules(node) => Some(node),
+        _ => None,
+    }
+}
+
+/// The texts of the paragraphs, or the first node that isn't built: one of another form, or a `style` element whose sheet has
+/// a rule.
 #[tactic(auto, using(crate::proofs::PlainTexts::texts_ascii))]
-fn read_texts(alloc: Global, dom: &Dom) -> Result<Vec<String>, Outcome>
-    ensures texts { MatchResult result (λ v. IsGiven (paragraphs_expected dom.now) (map (λ t. string_bytes t) v.items)) (λ o. IsRefusedUnlessMemory (paragraphs_expected dom.now) o) }
+fn read_texts(alloc: Global, dom: &Dom, verdict: Verdict) -> Result<Vec<String>, Outcome>
+    ensures texts { MatchResult result (λ v. IsGiven (paragraphs_expected verdict dom.now) (map (λ t. string_bytes t) v.items)) (λ o. IsRefusedUnlessMemory (paragraphs_expected verdict dom.now) o) }
     ensures ascii { IfOk result (λ v. All (λ t. IsAscii (string_bytes t)) v.items) }
     ensures count { IfOk result (λ v. length v.items ≤ 400000) }
     ensures of_texts { IfErr result IsOfTexts }
 {
     // a tree has at most 400,000 nodes
     let _count = dom.len();
-    match read_paragraphs(alloc, dom)? {
-        Ok(texts) => Ok(texts),
-        Err(node) => Err(Outcome::NotBuilt {
-            file: FileOf::Html,
-            at: u64::from(node.0),
-        }),
+    match (read_paragraphs(alloc, dom)?, ruled_element(verdict)) {
+        (Ok(texts), None) => Ok(texts),
+        (Ok(_), Some(node)) | (Err(node), None) => Err(not_built(node)),
+        (Err(node), Some(other)) => Err(not_built(NodeId(node.0.min(other.0)))),
     }
 }
 
-/// Whether the sheet is the empty one, which alone is built.
-fn check_sheet(sheet: &str) -> Result<(), Outcome>
-    ensures sheet { MatchResult result (λ u. IsGiven (sheet_expected sheet.now) u) (λ o. IsRefusedUnlessMemory (sheet_expected sheet.now) o) }
+/// Refuses a file's sheet that has a rule.
+fn check_file(verdict: Verdict) -> Result<(), Outcome>
+    ensures file { MatchResult result (λ u. IsGiven (file_expected verdict) u) (λ o. IsRefusedUnlessMemory (file_expected verdict) o) }
     ensures of_texts { IfErr result IsOfTexts }
 {
-    if sheet.is_empty() {
-        return Ok(());
+    match verdict {
+        Verdict::FileHasRules => Err(Outcome::NotBuilt {
+            file: FileOf::Sheet(1),
+            at: 1,
+        }),
+        _ => Ok(()),
     }
-    Err(Outcome::NotBuilt {
-        file: FileOf::Sheet(1),
-        at: 0,
-    })
 }
 
 /// Whether the texts have more bytes than are laid out.
@@ -149,9 +187,10 @@ fn check_room(texts: &[String]) -> Result<(), Outcome>
 }
 
 /// The document of the texts.
+#[tactic(auto, using(crate::proofs::Stopping::refused_after, crate::proofs::Stopping::memory_bind))]
 pub(crate) fn read_document(alloc: Global, texts: Texts<'_>) -> Result<Document, Outcome>
     requires { length texts.metrics.now ≤ 33554432 }
-    ensures document { let document = document_of (record { metrics = texts.entry.metrics.now; html = texts.entry.html.now; sheet = texts.entry.sheet.now }) in
+    ensures document { (count : List ℕ → ℕ) → IsRuleCount count → let document = document_of count (record { metrics = texts.entry.metrics.now; html = texts.entry.html.now; sheet = texts.entry.sheet.now }) in
         MatchResult result (λ d. IsGiven document (document_in d)) (λ o. IsRefusedUnlessMemory document o) }
     ensures ascii { IfOk result (λ d. All (λ t. IsAscii (string_bytes t)) d.texts.items) }
     ensures count { IfOk result (λ d. length d.texts.items ≤ 400000) }
@@ -160,8 +199,9 @@ pub(crate) fn read_document(alloc: Global, texts: Texts<'_>) -> Result<Document,
 {
     let faces = read_faces(alloc, texts.metrics)?;
     let dom = read_tree(alloc, texts.html)?;
-    let paragraphs = read_texts(alloc, &dom)?;
-    check_sheet(texts.sheet)?;
+    let verdict = read_verdict(alloc, &dom, texts.sheet)?;
+    let paragraphs = read_texts(alloc, &dom, verdict)?;
+    check_file(verdict)?;
     check_room(paragraphs.as_slice())?;
     Ok(Document {
         faces,

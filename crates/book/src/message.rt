@@ -62,6 +62,8 @@ fn limit_text(what: LimitOf) -> &'static str
     match what {
         LimitOf::Nodes => "nodes",
         LimitOf::Depth => "depth",
+        LimitOf::Sheets => "sheets",
+        LimitOf::Rules => "rules",
         LimitOf::Text => "text",
         LimitOf::Pages => "pages",
     }

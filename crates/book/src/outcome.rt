@@ -39,11 +39,14 @@ pub enum WordsFault {
     Refused,
 }
 
-/// What is limited: 400,000 nodes, elements 200 deep, 33,554,432 bytes of text, 100,000 pages.
+/// What is limited: 400,000 nodes, elements 200 deep, 16 sheets, 20,000 rules of a sheet, 33,554,432 bytes of text,
+/// 100,000 pages.
 #[derive(Clone, Copy, Debug, PartialEq, Eq)]
 pub enum LimitOf {
     Nodes,
     Depth,
+    Sheets,
+    Rules,
     Text,
     Pages,
 }

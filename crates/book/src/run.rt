@@ -2,6 +2,7 @@
 
 ghost use Rattle.std.specs.Prelude.{◌≡◌, ℕ, ◌≤◌, List, MatchResult, IfErr, map, string_bytes, string_len};
 ghost use Rattle.bk_io.specs.Causes.{Rose};
+ghost use Rattle.sheets.specs.Sheets.{IsRuleCount};
 ghost use Rattle.book.specs.FilesView.{texts_in};
 ghost use Rattle.book.specs.Document.{document_of};
 ghost use Rattle.book.specs.Request.{asked};
@@ -24,7 +25,8 @@ use std::sync::ledger::Ledger;
 /// The book of the texts.
 fn build(alloc: Global, files: &FileTexts) -> Result<Book, Outcome>
     requires { string_len files.now.metrics ≤ 16777216 }
-    ensures book { MatchResult result (λ b. IsBookFor (document_of (texts_in files.now)) (record { pages = b.pages; bytes = b.bytes.items })) (λ o. HaltsAt (document_of (texts_in files.now)) o) }
+    ensures book { (count : List ℕ → ℕ) → IsRuleCount count → let document = document_of count (texts_in files.now) in
+        MatchResult result (λ b. IsBookFor document (record { pages = b.pages; bytes = b.bytes.items })) (λ o. HaltsAt document o) }
     ensures of_texts { IfErr result IsOfTexts }
 {
     let texts = Texts {
@@ -39,7 +41,7 @@ fn build(alloc: Global, files: &FileTexts) -> Result<Book, Outcome>
 
 /// The book that the words ask for.
 fn read_book<F: Shelf>(alloc: Global, words: &[String], shelf: &mut F) -> Result<Book, Outcome>
-    ensures book { let document = expected (map (λ w. string_bytes w) words.now) (F.told shelf.old) in
+    ensures book { (count : List ℕ → ℕ) → IsRuleCount count → let document = expected count (map (λ w. string_bytes w) words.now) (F.told shelf.old) in
         MatchResult result (λ b. IsBookFor document (record { pages = b.pages; bytes = b.bytes.items })) (λ o. Halts document o) }
     ensures fault { IfErr result (λ o. HasReadCause (asked (map (λ w. string_bytes w) words.now)) (F.told shelf.old) (F.faults shelf.old) (F.faults shelf.new) (F.last_fault shelf.new) o) }
     ensures words { IfErr result (λ o. HasWordsCause (asked (map (λ w. string_bytes w) words.now)) o) }
@@ -51,7 +53,7 @@ fn read_book<F: Shelf>(alloc: Global, words: &[String], shelf: &mut F) -> Result
 
 /// Reads what the words ask for, and puts it on `out`.
 fn answer<F: Shelf, O: Sink>(alloc: Global, words: &[String], shelf: &mut F, out: &mut O) -> Outcome
-    ensures answers { Meets (expected (map (λ w. string_bytes w) words.now) (F.told shelf.old)) (O.taken out.old) (O.taken out.new) result }
+    ensures answers { (count : List ℕ → ℕ) → IsRuleCount count → Meets (expected count (map (λ w. string_bytes w) words.now) (F.told shelf.old)) (O.taken out.old) (O.taken out.new) result }
     ensures put { PutsOnlyABook (O.taken out.old) (O.taken out.new) result }
     ensures words { HasWordsCause (asked (map (λ w. string_bytes w) words.now)) result }
     ensures read_fault { HasReadCause (asked (map (λ w. string_bytes w) words.now)) (F.told shelf.old) (F.faults shelf.old) (F.faults shelf.new) (F.last_fault shelf.new) result }
@@ -83,8 +85,9 @@ pub fn run<F: Shelf, O: Sink, E: Sink, L: Ledger>(
 ) -> Outcome
     // what the words and the told files ask for decides the answer: Done wrote the listing of the document's one page
     // list, a refusal is the first in the order of the steps, and only a fault of the shelf, a fault of `out` or want of
-    // memory stands in the place of either
-    ensures answers { Meets (expected (map (λ w. string_bytes w) words.now) (F.told shelf.old)) (O.taken out.old) (O.taken out.new) result }
+    // memory stands in the place of either; `count` gives the number of rules of each text as a sheet, and there is such a
+    // function, by `sheets::rules_are_counted`
+    ensures answers { (count : List ℕ → ℕ) → IsRuleCount count → Meets (expected count (map (λ w. string_bytes w) words.now) (F.told shelf.old)) (O.taken out.old) (O.taken out.new) result }
 
     // nothing is put but a book or a front of one
     ensures put { PutsOnlyABook (O.taken out.old) (O.taken out.new) result }
@@ -95,7 +98,7 @@ pub fn run<F: Shelf, O: Sink, E: Sink, L: Ledger>(
     ensures write_fault { result ≡ Outcome.WriteFault → Rose (O.faults out.old) (O.faults out.new) }
 
     // with a document to be had and no fault, the answer is Done or the limit of pages, but for want of memory
-    ensures complete { IsComplete (expected (map (λ w. string_bytes w) words.now) (F.told shelf.old)) (Rose (F.faults shelf.old) (F.faults shelf.new)) (Rose (O.faults out.old) (O.faults out.new)) result }
+    ensures complete { (count : List ℕ → ℕ) → IsRuleCount count → IsComplete (expected count (map (λ w. string_bytes w) words.now) (F.told shelf.old)) (Rose (F.faults shelf.old) (F.faults shelf.new)) (Rose (O.faults out.old) (O.faults out.new)) result }
 
     // the line of the answer is put on `err`, whose faults change nothing of it
     ensures line { IsTold (E.taken err.old) (E.taken err.new) (E.faults err.old) (E.faults err.new) (message result) }

@@ -17,6 +17,8 @@ use std::alloc::Global;
 use std::marker::Brand;
 use std::sync::ledger::{Blank, Ledger};
 
+mod style_sheets;
+
 const METRICS: &str = "bookmetrics 1\nface test normal 400 16 12 4 8\nglyph 0300 036F 0\n";
 
 /// What a run left.
@@ -215,8 +217,8 @@ fn refusals_of_files(rt: HostRuntime) {
             good,
             b"<p>a</p>",
             b"p{}",
-            not_built(FileOf::Sheet(1), 0),
-            "bookfmt: not built: sheet 1 at 0\n",
+            not_built(FileOf::Sheet(1), 1),
+            "bookfmt: not built: sheet 1 at 1\n",
         ),
         (
             good,
@@ -280,27 +282,33 @@ fn refusals_of_files(rt: HostRuntime) {
 
 #[test]
 fn a_file_has_a_limit(rt: HostRuntime) {
-    for (len, outcome) in [
+    for (len, outcome, written) in [
         (
             16777217,
             Outcome::TooLarge {
                 file: FileOf::Sheet(1),
             },
+            "",
         ),
         (
             16777216,
-            Outcome::NotBuilt {
-                file: FileOf::Sheet(1),
-                at: 0,
+            Outcome::Done {
+                pages: 1,
+                passes: 1,
             },
+            "book 1 1\npage 1 1 right flow \"\" 35800 50797\nend\n",
         ),
     ] {
         let Ok(sheet) = vec![in rt.alloc(); b' '; len] else {
             assert!(rt; false);
             return;
         };
-        let left = formatted(rt.alloc(), METRICS.as_bytes(), b"", &sheet);
-        assert!(rt; left.is_some_and(|left| left.outcome == outcome && left.written.is_empty()));
+        let Some(left) = formatted(rt.alloc(), METRICS.as_bytes(), b"", &sheet) else {
+            assert!(rt; false);
+            return;
+        };
+        assert_eq!(rt; left.outcome, outcome);
+        assert!(rt; left.written.as_slice() == written.as_bytes());
     }
 }
 

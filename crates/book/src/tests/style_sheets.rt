@@ -1,0 +1,259 @@
+//! Runs over style sheets: what is built, what is refused, and which refusal comes first.
+
+use super::{METRICS, formatted};
+use crate::outcome::{FileOf, LimitOf, Outcome};
+use std::alloc::Global;
+
+const DONE: Outcome = Outcome::Done {
+    pages: 1,
+    passes: 1,
+};
+
+fn not_built(file: FileOf, at: u64) -> Outcome {
+    Outcome::NotBuilt { file, at }
+}
+
+#[test]
+fn a_file_without_rules_is_built(rt: HostRuntime) {
+    let line = "bookfmt: 1 pages, 1 passes\n";
+    for sheet in [
+        "/* */",
+        " \t\r\n",
+        "<!-- -->",
+        "@import \"x\";",
+        "@foo{x{y:z}}",
+        "@media screen{p{}@page{}}",
+        "\u{FEFF}",
+        "\u{FEFF}\u{FEFF}",
+        "p",
+    ] {
+        let Some(left) = formatted(rt.alloc(), METRICS.as_bytes(), b"<p>a", sheet.as_bytes()) else {
+            assert!(rt; false);
+            return;
+        };
+        assert_eq!(rt; left.outcome, DONE, "{sheet}");
+        assert!(rt; !left.written.is_empty() && left.line.as_slice() == line.as_bytes());
+    }
+}
+
+#[test]
+fn a_file_with_a_rule_is_not_built(rt: HostRuntime) {
+    let line = "bookfmt: not built: sheet 1 at 1\n";
+    for sheet in [
+        "p{}",
+        "p{",
+        "\u{FEFF}p{}",
+        "@import \"x\";p{}",
+        "@page{}",
+        "@page{@top-left{}}",
+        "@media print{p{}}",
+        "@media{@page{}}",
+    ] {
+        let Some(left) = formatted(rt.alloc(), METRICS.as_bytes(), b"<p>a", sheet.as_bytes()) else {
+            assert!(rt; false);
+            return;
+        };
+        assert_eq!(rt; left.outcome, not_built(FileOf::Sheet(1), 1), "{sheet}");
+        assert!(rt; left.written.is_empty() && left.line.as_slice() == line.as_bytes());
+    }
+}
+
+#[test]
+fn the_first_node_that_is_not_built_is_told_before_the_file(rt: HostRuntime) {
+    let element = |at| not_built(FileOf::Html, at);
+    for (html, sheet, outcome) in [
+        // sheets that aren't read, or have no rule
+        ("<head><style media=screen>p{}</style></head><p>a", "", DONE),
+        ("<head><style>/**/</style></head><p>a", "", DONE),
+        ("<head><style>\u{E9}</style></head><p>a", "", DONE),
+        ("<head><style>p{}</style></head><p>a", "", element(2)),
+        (
+            "<head><title>a</title><style media=\"tv, PRINT\">@page{}</style></head>",
+            "",
+            element(4),
+        ),
+        // a type says nothing, and a `style` attribute isn't built
+        (
+            "<head><style type=text/plain>p{}</style></head>",
+            "",
+            element(2),
+        ),
+        ("<head><style style>/**/</style></head>", "", element(2)),
+        // elsewhere a `style` isn't built, whatever it has
+        ("<style>p{}</style><p>a", "", element(1)),
+        ("<style media=screen></style><p>a", "", element(1)),
+        ("<body><style></style>", "", element(2)),
+        // another node before or behind the `style` whose sheet has a rule
+        (
+            "<head><script></script><style>p{}</style></head>",
+            "",
+            element(2),
+        ),
+        (
+            "<head><style></style><style>p{}</style></head><b>",
+            "",
+            element(3),
+        ),
+        ("<head><style></style></head><b>", "p{}", element(3)),
+        // the HTML goes before the file
+        ("<head><style>p{}</style></head>", "p{}", element(2)),
+        ("<p>a<b>", "p{}", element(3)),
+        (
+            "<head><style media=screen>p{}</style></head>",
+            "p{}",
+            not_built(FileOf::Sheet(1), 1),
+        ),
+    ] {
+        let left = formatted(
+            rt.alloc(),
+            METRICS.as_bytes(),
+            html.as_bytes(),
+            sheet.as_bytes(),
+        );
+        assert_eq!(rt; left.map(|left| left.outcome), Some(outcome), "{html}");
+    }
+}
+
+/// A text that has a piece a number of times after its front.
+fn repeated(alloc: Global, front: &str, piece: &str, count: usize) -> Option<String> {
+    let mut text = String::new(alloc);
+    text.push_str(front).ok()?;
+    for _ in 0..count {
+        text.push_str(piece).ok()?;
+    }
+    Some(text)
+}
+
+#[test]
+fn limits_come_before_what_is_not_built(rt: HostRuntime) {
+    let limit = |what| Outcome::Limit { what };
+    let style = "<style></style>";
+    for (front, piece, count, rules, outcome, status, line) in [
+        // fifteen elements and the file, and one more
+        (
+            "<head>",
+            style,
+            15,
+            0,
+            DONE,
+            0,
+            "bookfmt: 1 pages, 1 passes\n",
+        ),
+        (
+            "<head>",
+            style,
+            16,
+            0,
+            limit(LimitOf::Sheets),
+            8,
+            "bookfmt: limit: sheets\n",
+        ),
+        (
+            "<head>",
+            "<style media=tv></style>",
+            16,
+            0,
+            DONE,
+            0,
+            "bookfmt: 1 pages, 1 passes\n",
+        ),
+        (
+            "",
+            "",
+            0,
+            20000,
+            not_built(FileOf::Sheet(1), 1),
+            10,
+            "bookfmt: not built: sheet 1 at 1\n",
+        ),
+        (
+            "",
+            "",
+            0,
+            20001,
+            limit(LimitOf::Rules),
+            8,
+            "bookfmt: limit: rules\n",
+        ),
+        // sheets, then rules, then what isn't built
+        (
+            "<b><head>",
+            style,
+            16,
+            20001,
+            limit(LimitOf::Sheets),
+            8,
+            "bookfmt: limit: sheets\n",
+        ),
+        (
+            "<b><head><style>p{}</style>",
+            style,
+            14,
+            20001,
+            limit(LimitOf::Rules),
+            8,
+            "bookfmt: limit: rules\n",
+        ),
+        // the rules of an element
+        (
+            "<b><head><style>",
+            "p{}",
+            20001,
+            1,
+            limit(LimitOf::Rules),
+            8,
+            "bookfmt: limit: rules\n",
+        ),
+        // the limits of the tree go before those of the sheets
+        (
+            "<head><style></style></head>",
+            "<div>",
+            200,
+            20001,
+            limit(LimitOf::Depth),
+            8,
+            "bookfmt: limit: depth\n",
+        ),
+        (
+            "",
+            style,
+            400000,
+            20001,
+            limit(LimitOf::Nodes),
+            8,
+            "bookfmt: limit: nodes\n",
+        ),
+    ] {
+        let html = repeated(rt.alloc(), front, piece, count);
+        let sheet = repeated(rt.alloc(), "", "p{}", rules);
+        let (Some(html), Some(sheet)) = (html, sheet) else {
+            assert!(rt; false);
+            return;
+        };
+        let Some(left) = formatted(
+            rt.alloc(),
+            METRICS.as_bytes(),
+            html.as_bytes(),
+            sheet.as_bytes(),
+        ) else {
+            assert!(rt; false);
+            return;
+        };
+        assert_eq!(rt; left.outcome, outcome, "{front} {count} {rules}");
+        assert_eq!(rt; left.outcome.status(), status);
+        assert!(rt; left.line.as_slice() == line.as_bytes(), "{line}");
+    }
+}
+
+#[test]
+fn a_bad_metrics_text_comes_before_the_limits(rt: HostRuntime) {
+    let Some(html) = repeated(rt.alloc(), "", "<style></style>", 16) else {
+        assert!(rt; false);
+        return;
+    };
+    let left = formatted(rt.alloc(), b"", html.as_bytes(), b"");
+    assert!(rt;
+        left.is_some_and(|left| left.line.as_slice()
+            == b"bookfmt: metrics line 1: header\n".as_slice())
+    );
+}
