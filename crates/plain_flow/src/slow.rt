@@ -137,7 +137,7 @@ fn count_of(lines: &[Line], from: usize, to: usize, paragraph: usize) -> u32 {
 
 /// The level of the end of a page that begins at a line, and the next at another.
 fn level_of(lines: &[Line], begin: usize, end: usize, setting: Setting<'_>) -> u8 {
-    if !joins(lines, end) {
+    if end >= lines.len() || !joins(lines, end) {
         return 0;
     }
     let paragraph = lines[end].paragraph;
