@@ -212,12 +212,7 @@ struct Cut {
     level: u8,
 }
 
-fn push_page(
-    shown: &mut Vec<Shown>,
-    lines: &[Line],
-    cut: Cut,
-    setting: Setting<'_>,
-) -> Option<()> {
+fn push_page(shown: &mut Vec<Shown>, lines: &[Line], cut: Cut, setting: Setting<'_>) -> Option<()> {
     for at in cut.begin..cut.end.min(lines.len()) {
         let above = bottom_of(lines, cut.begin, at, setting);
         shown
@@ -310,7 +305,9 @@ fn counted<L: Ledger>(alloc: Global, setting: Setting<'_>, token: Blank) -> Opti
         return None;
     }
     let style = style(setting.margin, setting.widows, setting.orphans);
-    let flow = flow_of(alloc, &style, texts_of(alloc, setting.texts)?).ok()?;
+    let Ok(flow) = flow_of(alloc, &style, texts_of(alloc, setting.texts)?) else {
+        return None;
+    };
     let frames = OneFrame {
         frame: Frame {
             left: 0,
@@ -348,7 +345,7 @@ fn words(alloc: Global, count: usize) -> Option<String> {
 fn agree(alloc: Global, texts: &[&str]) -> bool {
     for number in 0..150u32 {
         let setting = Setting {
-            texts,
+            texts: &*texts,
             widows: number % 5 + 1,
             orphans: number / 5 % 5 + 1,
             margin: 0,
@@ -388,12 +385,54 @@ fn flows_are_cut_as_the_definition_says(rt: HostRuntime) {
         (&["a", "b", "c", "d"], 1, 1, -640, 5120, 1920),
         (&["a", "b", "c", "d"], 1, 1, -1280, 5120, 1280),
         (&["a", "b", "c", "d"], 1, 1, -2000, 5120, 1279),
-        (&["aaaa bbbb", "cccc dddd eeee", "ffff"], 2, 2, 0, 2560, 3840),
-        (&["aaaa bbbb", "cccc dddd eeee", "ffff"], 2, 2, 320, 2560, 4480),
-        (&["aaaa bbbb", "cccc dddd eeee", "ffff"], 1, 2, 0, 2560, 3840),
-        (&["aaaa bbbb", "cccc dddd eeee", "ffff"], 2, 1, 0, 2560, 3840),
-        (&["aaaa", "bbbb cccc dddd", "eeee ffff"], 3, 1, 0, 2560, 2560),
-        (&["aaaa", "bbbb cccc dddd", "eeee ffff"], 1, 3, 0, 2560, 2560),
+        (
+            &["aaaa bbbb", "cccc dddd eeee", "ffff"],
+            2,
+            2,
+            0,
+            2560,
+            3840,
+        ),
+        (
+            &["aaaa bbbb", "cccc dddd eeee", "ffff"],
+            2,
+            2,
+            320,
+            2560,
+            4480,
+        ),
+        (
+            &["aaaa bbbb", "cccc dddd eeee", "ffff"],
+            1,
+            2,
+            0,
+            2560,
+            3840,
+        ),
+        (
+            &["aaaa bbbb", "cccc dddd eeee", "ffff"],
+            2,
+            1,
+            0,
+            2560,
+            3840,
+        ),
+        (
+            &["aaaa", "bbbb cccc dddd", "eeee ffff"],
+            3,
+            1,
+            0,
+            2560,
+            2560,
+        ),
+        (
+            &["aaaa", "bbbb cccc dddd", "eeee ffff"],
+            1,
+            3,
+            0,
+            2560,
+            2560,
+        ),
         (&["aaaaaaaaaaaaaaaaaaaaaaaa"], 2, 2, 0, 5120, 3840),
         (&["aaaaaaaaaaaa bbbbbbbbbbbb cccc"], 2, 2, 0, 5120, 2560),
         (&["aa aaaaaaaaaaaa-bbbbbbbbbbbb c"], 2, 2, 0, 2560, 2560),
@@ -413,7 +452,7 @@ fn flows_are_cut_as_the_definition_says(rt: HostRuntime) {
     ];
     for (texts, widows, orphans, margin, width, height) in flows {
         let setting = Setting {
-            texts,
+            texts: &*texts,
             widows,
             orphans,
             margin,
