@@ -1,13 +1,16 @@
 -- Trees stay plain while they are built.
-use Rattle.std.proofs.Common.{◌≡◌, ◌++◌, ◌∷◌, [], ℕ, ℤ, pos, false, List, Option, None, Some, length, slice_get, refl, sym, ap, ◌∙◌, ◌⊎◌, inl, inr, ◌==◌, ◌&&◌, ◌||◌, not}
+use Rattle.std.proofs.Common.{◌≡◌, ◌<◌, ◌++◌, ◌∷◌, [], ℕ, ℤ, pos, Bool, true, false, List, Option, None, Some, length, slice_get, refl, sym, ap, ◌∙◌, arith, ◌⊎◌, inl, inr, ◌==◌, ◌&&◌, ◌||◌, not}
+use Rattle.std.proofs.lemmas.Bool.Decides.{nat_tests}
+use Rattle.std.proofs.lemmas.Option.{slice_get_within}
 use Rattle.bk_num.specs.declared.values.BreakAt.TheVariants.{Auto}
 use Rattle.bk_num.specs.declared.length.Len.{Len}
 use Rattle.bk_num.specs.declared.length.Len.TheVariants.{Px}
 use Rattle.std.specs.Ordering.{int_eq}
 use Rattle.boxes.specs.declared.props.BoxProps.{BoxProps}
-use Rattle.boxes.specs.Tree.{Tree, with_box}
+use Rattle.boxes.specs.Tree.{Tree, IsTree, with_box}
 use Rattle.boxes.specs.Spans.{units_at}
 use Rattle.boxes.proofs.ListLemmas.{get-push}
+use Rattle.boxes.proofs.TreeFacts.{few_boxes}
 use Rattle.seams.specs.Plain.{IsPlain}
 use Rattle.seams.specs.Runs.{has_edge, is_part, is_positive}
 
@@ -67,3 +70,45 @@ module _ (t : Tree) (p : BoxProps) (h : IsPlain t) (is : IsPlainBox (length t.bo
     where
       named : (b : ℕ) (q : BoxProps) → slice_get (t.boxes ++ p ∷ []) b ≡ Some q → q.name ≡ p.name
       named = each (λ b q. q.name ≡ p.name) name refl
+
+abbrev pub no_units : List ℤ
+no_units = pos 0 ∷ pos 0 ∷ pos 0 ∷ pos 0 ∷ []
+
+abbrev pub no_lengths : List Len
+no_lengths = Px (pos 0) ∷ Px (pos 0) ∷ Px (pos 0) ∷ Px (pos 0) ∷ []
+
+-- what tests and builders know of a box without edges, break values and `break-inside: avoid`
+pub record IsCalm (p : BoxProps) : Type 0 where
+  pub border : p.border ≡ no_units
+  pub padding : p.padding ≡ no_lengths
+  pub before : p.before ≡ Auto
+  pub after : p.after ≡ Auto
+  pub inside : p.avoid_inside ≡ false
+
+calm_box : (b : ℕ) (p : BoxProps) → IsCalm p → (b == 0 && is_positive (slice_get p.margin 0)) ≡ false → (b == 0 && is_positive (slice_get p.margin 2)) ≡ false → IsPlainBox b p
+calm_box b p calm top bottom = record {
+  top = no_edge 0 b p (ap (λ units. units_at units 0) calm.border) (ap (λ lengths. slice_get lengths 0) calm.padding) top;
+  bottom = no_edge 2 b p (ap (λ units. units_at units 2) calm.border) (ap (λ lengths. slice_get lengths 2) calm.padding) bottom;
+  before = calm.before;
+  after = calm.after;
+  inside = calm.inside;
+}
+
+-- a root whose vertical margins are not positive
+pub root_plain : (t : Tree) (p : BoxProps) → IsTree t → length t.events ≡ 0 → IsPlain t → IsCalm p → is_positive (slice_get p.margin 0) ≡ false → is_positive (slice_get p.margin 2) ≡ false → IsPlain (with_box t p)
+root_plain t p tree none h calm top bottom =
+    plain_push t p h (calm_box (length t.boxes) p calm (both (length t.boxes == 0) top) (both (length t.boxes == 0) bottom)) (λ b q e. absurd (let w = slice_get_within t.boxes b q e in let few = few_boxes t tree in omega arith))
+  where
+    both : (x : Bool) {y : Bool} → y ≡ false → (x && y) ≡ false
+    both true e = e
+    both false e = refl
+
+-- a box with the page name of another box of the tree
+pub inner_plain : (t : Tree) (p : BoxProps) (outer : ℕ) (q : BoxProps) → IsPlain t → slice_get t.boxes outer ≡ Some q → p.name ≡ q.name → IsCalm p → IsPlain (with_box t p)
+inner_plain t p outer q h there name calm =
+    let within = slice_get_within t.boxes outer q there in
+    let some : 0 < length t.boxes = omega arith in
+    plain_push t p h (calm_box (length t.boxes) p calm (later (length t.boxes) _ some) (later (length t.boxes) _ some)) (λ b r e. h.names b outer r q e there ∙ sym name)
+  where
+    later : (b : ℕ) (x : Bool) → 0 < b → (b == 0 && x) ≡ false
+    later b x some = let e : (b == 0) ≡ false = grind (arith, nat_tests) in ap (λ y. y && x) e

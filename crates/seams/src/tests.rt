@@ -3,7 +3,6 @@
 ghost use Rattle.std.specs.Prelude.{◌≡◌, ◌+◌, ◌<◌, ◌^◌, pos, length, IfOk, OnOk, [], ◌∷◌, false};
 ghost use Rattle.bk_num.specs.Units.{clamped};
 ghost use Rattle.boxes.specs.Contents.{IsGoodBox, IsGoodLeaf, IsGoodSpan};
-ghost use Rattle.boxes.specs.Tree.{with_box};
 ghost use Rattle.seams.specs.Plain.{IsPlain};
 
 use crate::level::{level, level_by};
