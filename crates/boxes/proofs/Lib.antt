@@ -1,3 +1,4 @@
+pub mod Building
 pub mod ListLemmas
 pub mod RunLemmas
 pub mod Sound

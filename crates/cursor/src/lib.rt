@@ -5,6 +5,8 @@ pub mod laws;
 mod leaves;
 mod next;
 pub mod solid;
+#[cfg(test)]
+mod tests;
 pub mod walk;
 
 pub use next::next_solid;

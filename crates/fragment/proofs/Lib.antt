@@ -4,4 +4,5 @@ pub mod FrontLemmas
 pub mod NearLemmas
 pub mod PageLemmas
 pub mod PartLemmas
+pub mod SizeLemmas
 pub mod TextLemmas

@@ -1,3 +1,4 @@
 pub mod MarginLemmas
 pub mod PlainLemmas
+pub mod PlainTrees
 pub mod RunLemmas

@@ -5,3 +5,5 @@ pub mod level;
 mod run;
 pub mod seam;
 pub mod seam_info;
+#[cfg(test)]
+mod tests;
