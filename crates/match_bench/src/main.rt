@@ -17,9 +17,12 @@ use std::io::{Error, ErrorKind};
 /// How many elements stand round the list.
 const DEPTH: u32 = 100;
 
-/// A list of items, each with one of seven classes and an element, deep inside of others.
+/// A list of items, each with one of seven classes and an element, deep inside of others. Without items there is no list.
 fn document(alloc: Global, items: u32) -> Result<String, AllocError> {
     let mut html = String::new(alloc);
+    if items == 0 {
+        return Ok(html);
+    }
     for _ in 0..DEPTH {
         html.push_str("<div>")?;
     }

@@ -93,8 +93,9 @@ fn wanted_prev(dom: &Dom, node: NodeId, wanted: u16) -> Option<NodeId>
 
 /// Whether a selector matches a node (Selectors 3, 8): nodes for all its compounds exist, the last is the
 /// node, each fits its compound, and neighbours stand in the relation of their combinator. It takes no
-/// memory and goes once from the node to the root, and along the siblings before a node of that way only
-/// where a `+` or `~` asks for them; on each node it tries at most sixteen compounds. So a `~` over a row
+/// memory and goes once from the node towards the root, as long as a compound is wanted there, and along the
+/// siblings before a node of that way only where a `+` or `~` asks for them; on each node it tries at most
+/// sixteen compounds. So a `~` over a row
 /// of n siblings costs at most n steps a node. `:nth-child` and its kin read places that the document
 /// keeps; `:first-of-type` and `:last-of-type` go to the nearest sibling of the type.
 pub fn matches(dom: &Dom, node: NodeId, selector: &Selector) -> bool
@@ -124,6 +125,9 @@ pub fn matches(dom: &Dom, node: NodeId, selector: &Selector) -> bool
             Some(parent) => at = parent,
         }
         here = union(child, inside);
+        if here == 0 {
+            return false;
+        }
         child = 0;
         later = 0;
     }

@@ -1,10 +1,11 @@
-use Rattle.std.proofs.Common.{◌≡◌, ◌&&◌, ◌||◌, ◌-◌, ℕ, suc, true, false, arith, ◌∙◌, ap, sym, refl, subst, length}
-use Rattle.std.proofs.lemmas.Bool.{true≢false}
+use Rattle.std.proofs.Common.{◌≡◌, ◌&&◌, ◌||◌, ◌-◌, ℕ, suc, true, false, arith, ◌∙◌, ap, sym, refl, subst, length, inl, inr}
+use Rattle.std.proofs.lemmas.Bool.{true≢false, or_right}
 use Rattle.selectors.specs.Sets.{has}
-use Rattle.selectors.specs.Match.{joins_by, Matches}
+use Rattle.selectors.specs.Match.{Tree, joins_by, Matches}
+use Rattle.selectors.specs.Selectors.{SelectorView}
 use Rattle.selectors.specs.declared.types.Join.{Join}
 use Rattle.selectors.specs.declared.types.Join.TheVariants.{Child, Inside, Next, Later}
-use Rattle.selectors.proofs.Pending.{Wanted, by_joins, nothing, looks, looked, hit, to_prev, from_prev, ends_at_root, to_parent, from_parent, starts, started}
+use Rattle.selectors.proofs.Pending.{Pending, Wanted, by_joins, nothing, looks, looked, hit, to_prev, from_prev, ends_at_root, to_parent, from_parent, starts, started}
 use Rattle.selectors.proofs.SetLemmas.{has_none}
 use Rattle.selectors.proofs.matching.matches.Goals.{After-wanted_prev}
 use Rattle.selectors.proofs.matching.matches.Goals as goal
@@ -57,6 +58,20 @@ pub returns-in-None : goal.returns-in-None
 returns-in-None c =
     let p : After-wanted_prev = (goal.at.returns-in-None c).After-wanted_prev in
     ((λ e. absurd (true≢false (sym e))), (λ m. absurd (ends_at_root c.args.dom.now c.args.selector.now (has c.union-child.result) (has c.union-inside.result) (has c.before-in-path-4.result) (has c.union-later.result) c.path.at.0 (λ k w. c.in_default.ensures.none k (c.union-here.ensures k ∙ w)) (sym c.in-None.ensures.value) (to_after p m))))
+
+-- nothing is wanted at a node or behind it
+empty : (dom : Tree) (s : SelectorView) (set child inside : ℕ) (x : ℕ) → set ≡ 0 → ((k : ℕ) → has set k ≡ (has child k || has inside k)) → Pending dom s (has set) (by_joins (has 0) (has inside) nothing (has 0)) x → ⊥
+empty dom s set child inside x e joined (inl h) = absurd (true≢false (sym h.1 ∙ subst (λ z. has z h.0 ≡ false) (sym e) (has_none h.0)))
+empty dom s set child inside x e joined (inr (Child, k, m, w, q, r)) = absurd (true≢false (sym w ∙ has_none k))
+empty dom s set child inside x e joined (inr (Inside, k, m, w, q, r)) = absurd (true≢false (sym (joined k ∙ or_right (has child k) (has inside k) w) ∙ subst (λ z. has z k ≡ false) (sym e) (has_none k)))
+empty dom s set child inside x e joined (inr (Next, k, m, w, q, r)) = absurd (true≢false (sym w))
+empty dom s set child inside x e joined (inr (Later, k, m, w, q, r)) = absurd (true≢false (sym w ∙ has_none k))
+
+pub returns-then-here-eq0 : goal.returns-then-here-eq0
+returns-then-here-eq0 c =
+    let p : After-wanted_prev = (goal.at.returns-then-here-eq0 c).After-wanted_prev in
+    ((λ e. absurd (true≢false (sym e))), (λ m. absurd (empty c.args.dom.now c.args.selector.now c.union-here-in-path.result c.union-child.result c.union-inside.result c.in-Some-parent.parent.0 (omega (arith, c.if-here-eq0.true)) c.union-here-in-path.ensures
+    (to_parent c.args.dom.now c.args.selector.now (has c.union-child.result) (has c.union-inside.result) (has c.before-in-path-4.result) (has c.union-later.result) c.path.at.0 (λ k w. c.in_default.ensures.none k (c.union-here.ensures k ∙ w)) (has c.union-here-in-path.result) (has 0) (has 0) c.in-Some-parent.parent.0 (sym c.in-Some-parent.ensures.value) c.union-here-in-path.ensures has_none has_none (to_after p m)))))
 
 pub path-preserved : goal.path-preserved
 path-preserved c =
