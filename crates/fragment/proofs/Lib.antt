@@ -1,4 +1,5 @@
 pub mod CutLemmas
+pub mod ExistLemmas
 pub mod FlowLemmas
 pub mod FrontLemmas
 pub mod NearLemmas

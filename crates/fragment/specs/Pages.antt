@@ -4,7 +4,7 @@ use Rattle.std.specs.List.{All}
 use Rattle.bk_num.specs.declared.ids.NameId.{NameId}
 use Rattle.metrics.specs.Face.{FontFace}
 use Rattle.boxes.specs.Steps.{IsRun}
-use Rattle.boxes.specs.Tree.{Tree}
+use Rattle.boxes.specs.Tree.{Tree, IsTree}
 use Rattle.boxes.specs.declared.frames.Frame.{Frame}
 use Rattle.boxes.specs.declared.frames.Demand.{Demand}
 use Rattle.boxes.specs.declared.frames.PageKind.{PageKind}
@@ -16,7 +16,9 @@ use Rattle.boxes.specs.declared.place.Event.{Event}
 use Rattle.boxes.specs.declared.place.Event.TheVariants.{Opens, Closes, Leaf}
 use Rattle.boxes.specs.declared.place.Position.{Position}
 use Rattle.seams.specs.Levels.{block_at, widows_in, orphans_in}
+use Rattle.seams.specs.Plain.{IsPlain}
 use Rattle.seams.specs.Seams.{seam_of}
+use Rattle.cursor.specs.Plain.{HasPlainLeaves}
 use Rattle.cursor.specs.Remainder.{SolidView, IsRemainder}
 use Rattle.fragment.specs.declared.row.Row.{Row}
 use Rattle.fragment.specs.declared.next_cut.Cut.{Cut}
@@ -166,6 +168,10 @@ IsPaged faces t frames pages = IsRun (IsStep faces t frames) IsEnded (start_of t
 -- a flow has one page list
 abbrev pub HasOnePageList : Type 0
 HasOnePageList = (faces : List FontFace) (t : Tree) (frames : PageFrames) (ps qs : List Page) → IsPaged faces t frames ps → IsPaged faces t frames qs → ps ≡ qs
+
+-- a flow without edges, break values and further page names, whose leaves are plain, has a page list, however long it is
+abbrev pub HasSomePageList : Type 0
+HasSomePageList = (faces : List FontFace) (t : Tree) (frames : PageFrames) → IsTree t → IsPlain t → HasPlainLeaves faces t → (pages : List Page) × IsPaged faces t frames pages
 
 -- so many pages leave something unplaced
 abbrev pub LeavesSome : List FontFace → Tree → PageFrames → ℕ → Type 0

@@ -4,7 +4,7 @@ ghost use Rattle.std.specs.Prelude.{◌≡◌, ℕ, ℤ, pos, neg_ℤ, ◌+◌, 
 ghost use Rattle.std.specs.Int.{int_max};
 ghost use Rattle.std.specs.Option.{ForSome};
 ghost use Rattle.fragment.specs.Rows.{IsSmall, AreForcedBetween, bottom_of, extent_of, gap_above, height_of, joins_of, is_joined, lines_before, lines_after, level_after, limit_of};
-ghost use Rattle.fragment.specs.Cuts.{IsRowCut, HasOneCut, MissesGoOn, recorded, picked};
+ghost use Rattle.fragment.specs.Cuts.{IsRowCut, HasOneCut, HasSomeCut, MissesGoOn, recorded, picked};
 
 use crate::row::Row;
 use seams::level::level_by;
@@ -227,6 +227,11 @@ pub fn cut_rows(rows: &[Row], first: i64, height: i64) -> RowCut
 /// Two cuts of one page are equal.
 pub fn one_cut()
     ensures { HasOneCut }
+{}
+
+/// A page of one solid or more, whose forced seams stand between blocks, has a cut.
+pub fn cut_is_there()
+    ensures { HasSomeCut }
 {}
 
 /// No later point of a page fits once one misses.

@@ -3,7 +3,7 @@
 ghost use Rattle.std.specs.Prelude.{◌≡◌, ℕ, ◌<◌, ◌≤◌, ◌^◌, [], length, IfOk, IfErr};
 ghost use Rattle.boxes.specs.Tree.{IsWhole, depth_of};
 ghost use Rattle.cursor.specs.Plain.{HasPlainLeaves};
-ghost use Rattle.fragment.specs.Pages.{HasOnePageList, HaveNearTops, IsPaged, LeavesNothing, LeavesSome, text_size, flow_page_of};
+ghost use Rattle.fragment.specs.Pages.{HasOnePageList, HasSomePageList, HaveNearTops, IsPaged, LeavesNothing, LeavesSome, text_size, flow_page_of};
 ghost use Rattle.fragment.specs.Parted.{HoldsText, PartsText, solids_of};
 ghost use Rattle.seams.specs.Plain.{IsPlain};
 
@@ -57,6 +57,12 @@ pub fn one_page_list()
     remainder_is_one();
     one_cut();
 }
+
+/// A flow without edges, break values and further page names, whose leaves are plain, has a page list, however long it
+/// is. By `one_page_list` it has no other.
+pub fn page_list_is_there()
+    ensures { HasSomePageList }
+{}
 
 /// A flow with a page list has nothing unplaced after as many pages, or after more. So `paginate` answers `Pages` for no
 /// flow that has a page list of at most 100,000 pages.
