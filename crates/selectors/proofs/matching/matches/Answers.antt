@@ -69,9 +69,11 @@ empty dom s set child inside x e joined (inr (Later, k, m, w, q, r)) = absurd (t
 
 pub returns-then-here-eq0 : goal.returns-then-here-eq0
 returns-then-here-eq0 c =
-    let p : After-wanted_prev = (goal.at.returns-then-here-eq0 c).After-wanted_prev in
-    ((λ e. absurd (true≢false (sym e))), (λ m. absurd (empty c.args.dom.now c.args.selector.now c.union-here-in-path.result c.union-child.result c.union-inside.result c.in-Some-parent.parent.0 (omega (arith, c.if-here-eq0.true)) c.union-here-in-path.ensures
-    (to_parent c.args.dom.now c.args.selector.now (has c.union-child.result) (has c.union-inside.result) (has c.before-in-path-4.result) (has c.union-later.result) c.path.at.0 (λ k w. c.in_default.ensures.none k (c.union-here.ensures k ∙ w)) (has c.union-here-in-path.result) (has 0) (has 0) c.in-Some-parent.parent.0 (sym c.in-Some-parent.ensures.value) c.union-here-in-path.ensures has_none has_none (to_after p m)))))
+    let p : After-wanted_prev = (goal.at.returns-then-here-eq0 c).After-wanted_prev in (
+      (λ e. absurd (true≢false (sym e))),
+      (λ m. absurd (empty c.args.dom.now c.args.selector.now c.union-here-in-path.result c.union-child.result c.union-inside.result c.in-Some-parent.parent.0 (omega (arith, c.if-here-eq0.true)) c.union-here-in-path.ensures
+          (to_parent c.args.dom.now c.args.selector.now (has c.union-child.result) (has c.union-inside.result) (has c.before-in-path-4.result) (has c.union-later.result) c.path.at.0 (λ k w. c.in_default.ensures.none k (c.union-here.ensures k ∙ w)) (has c.union-here-in-path.result) (has 0) (has 0) c.in-Some-parent.parent.0 (sym c.in-Some-parent.ensures.value) c.union-here-in-path.ensures has_none has_none (to_after p m)))),
+    )
 
 pub path-preserved : goal.path-preserved
 path-preserved c =
