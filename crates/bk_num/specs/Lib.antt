@@ -1,3 +1,6 @@
 pub mod Laws
 pub mod Lengths
+pub mod Limits
+pub mod Numbers
+pub mod Tables
 pub mod Units

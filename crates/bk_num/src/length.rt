@@ -46,8 +46,8 @@ pub fn part_of(d: Decimal, base: i64, den: u32) -> Px
     requires base { unsigned_abs base ≤ 2 ^ 40 }
     ensures { result ≡ part d base den }
 {
-    let bottom = 10u64.pow(d.places as u32) * den as u64;
-    clamp_wide(round_div(product(d.units, base), bottom))
+    let bottom = 10u64.pow(d.places() as u32) * den as u64;
+    clamp_wide(round_div(product(d.units(), base), bottom))
 }
 
 /// A number of this unit as a length: the nearest, halves up, clamped.
@@ -102,7 +102,7 @@ mod tests {
         requires few { places ≤ 6 }
         requires small { unsigned_abs units < 10 ^ 15 }
     {
-        Decimal { units, places }
+        Decimal::new(units, places)
     }
 
     /// Page sizes in millimetres, the CSS inch in each of its units, halves and the clamp.

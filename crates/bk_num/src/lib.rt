@@ -1,10 +1,12 @@
-//! Lengths, names, numbers of things and the counter of steps.
+//! Lengths, names, lists, the project's limits and the counter of steps.
 #![tactic(auto)]
 
 pub mod decimal;
 pub mod ids;
+pub mod items;
 pub mod laws;
 pub mod length;
+pub mod limits;
 pub mod name;
 pub mod px;
 pub mod steps;

@@ -1,0 +1,87 @@
+-- The limits of the program, and the sizes of the page that no sheet changes, in units of 1/64 px.
+use Rattle.std.specs.Prelude.{◌≡◌, ℕ, ◌*◌, ◌+◌, ℤ, pos}
+use Rattle.bk_num.specs.declared.limits.TheConstants.{MOST_NODES, MOST_DEPTH, MOST_FILE_BYTES, MOST_TEXT_BYTES, MOST_PAGES, MOST_SHEETS, MOST_RULES, MOST_EVENTS, MOST_OPEN, MOST_ENTRIES, PAGE_WIDTH, PAGE_HEIGHT, PAGE_MARGIN, FRAME_WIDTH, FRAME_HEIGHT, ROOT_SIZE}
+
+-- the most nodes of a document
+abbrev pub most_nodes : ℕ
+most_nodes = 400000
+
+-- the greatest depth of a node; the root has depth 0
+abbrev pub most_depth : ℕ
+most_depth = 200
+
+-- the most bytes of a file, 16 MB
+abbrev pub most_file_bytes : ℕ
+most_file_bytes = 16777216
+
+-- the most bytes of the texts of all leaves together
+abbrev pub most_text_bytes : ℕ
+most_text_bytes = 33554432
+
+-- the most pages of a book
+abbrev pub most_pages : ℕ
+most_pages = 100000
+
+-- the most style sheets of the command line
+abbrev pub most_sheets : ℕ
+most_sheets = 16
+
+-- the most rules of all sheets together
+abbrev pub most_rules : ℕ
+most_rules = 20000
+
+-- the most events of a tree of boxes
+abbrev pub most_events : ℕ
+most_events = 8000000
+
+-- the most boxes that are open at a place
+abbrev pub most_open : ℕ
+most_open = 2048
+
+-- the most entries of a table, 2^26
+abbrev pub most_entries : ℕ
+most_entries = 67108864
+
+-- the default page, 148 mm by 210 mm
+abbrev pub page_width : ℤ
+page_width = pos 35800
+
+abbrev pub page_height : ℤ
+page_height = pos 50797
+
+-- each of its margins, 0.75 in
+abbrev pub page_margin : ℤ
+page_margin = pos 4608
+
+-- its frame: what the margins leave
+abbrev pub frame_width : ℤ
+frame_width = pos 26584
+
+abbrev pub frame_height : ℤ
+frame_height = pos 41581
+
+-- the font size that the root begins with, 16 px (CSS 2.1, 'medium')
+abbrev pub root_size : ℤ
+root_size = pos 1024
+
+-- the code has these limits
+pub record LimitsAgree : Type 0 where
+  pub nodes : MOST_NODES ≡ most_nodes
+  pub depth : MOST_DEPTH ≡ most_depth
+  pub file_bytes : MOST_FILE_BYTES ≡ most_file_bytes
+  pub text_bytes : MOST_TEXT_BYTES ≡ most_text_bytes
+  pub pages : MOST_PAGES ≡ most_pages
+  pub sheets : MOST_SHEETS ≡ most_sheets
+  pub rules : MOST_RULES ≡ most_rules
+  pub events : MOST_EVENTS ≡ most_events
+  pub opened : MOST_OPEN ≡ most_open
+  pub entries : MOST_ENTRIES ≡ most_entries
+
+-- the code has this page
+pub record PageAgrees : Type 0 where
+  pub width : PAGE_WIDTH ≡ page_width
+  pub height : PAGE_HEIGHT ≡ page_height
+  pub margin : PAGE_MARGIN ≡ page_margin
+  pub inner_width : FRAME_WIDTH ≡ frame_width
+  pub inner_height : FRAME_HEIGHT ≡ frame_height
+  pub size : ROOT_SIZE ≡ root_size
