@@ -5,3 +5,4 @@ pub mod PlainLemmas
 pub mod WordLemmas
 pub mod ReadingLemmas
 pub mod LongestLemmas
+pub mod NumberLemmas

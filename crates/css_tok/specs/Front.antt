@@ -1,10 +1,10 @@
 -- The token at the front of a text: its kind, and its length in bytes.
-use Rattle.std.specs.Prelude.{ℕ, ◌+◌, ◌&&◌, ◌||◌, if◌then◌else◌, ◌==◌, nat_lt, List, drop, take, length, slice_index, codes}
+use Rattle.std.specs.Prelude.{ℕ, ◌+◌, ◌&&◌, if◌then◌else◌, ◌==◌, nat_lt, List, drop, take, length, slice_index, codes}
 use Rattle.std.specs.Str.{str_eq_ignore_ascii_case, bytes_eq}
 use Rattle.css_tok.specs.declared.front.CssKind.{CssKind}
 use Rattle.css_tok.specs.declared.front.CssKind.TheVariants as kind
 use Rattle.css_tok.specs.declared.lengths.Class.TheVariants as class
-use Rattle.css_tok.specs.Lengths.{is_newline, is_blank, run_len, ident_len, number_len, comment_len}
+use Rattle.css_tok.specs.Lengths.{is_newline, is_blank, is_quote, run_len, ident_len, number_len, comment_len}
 
 unfoldable pub string_at : List ℕ → CssKind × ℕ
 string_at bs =
@@ -38,6 +38,6 @@ sign_at bs =
 unfoldable pub token_at : List ℕ → CssKind × ℕ
 token_at bs =
     let b = slice_index bs 0 in
-    if is_blank b then (kind.Space, run_len class.Blank bs) else (if b == 34 || b == 39 then string_at bs
+    if is_blank b then (kind.Space, run_len class.Blank bs) else (if is_quote b then string_at bs
     else (if b == 47 && slice_index bs 1 == 42 then (kind.Comment, 2 + comment_len (drop 2 bs))
     else (if nat_lt 0 (number_len bs) then numeric_at bs else sign_at bs)))

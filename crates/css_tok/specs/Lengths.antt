@@ -11,6 +11,9 @@ is_newline b = b == 10 || b == 12 || b == 13
 abbrev pub is_blank : ℕ → Bool
 is_blank b = b == 32 || b == 9 || is_newline b
 
+abbrev pub is_quote : ℕ → Bool
+is_quote b = b == 34 || b == 39
+
 -- a byte of a name character that is no escape
 abbrev pub is_name : ℕ → Bool
 is_name b = is_ascii_alphanumeric b || b == 95 || b == 45 || nat_le 128 b

@@ -1,10 +1,10 @@
 -- How long a reading of each kind at the front of a text is, each by its own grammar, and 0 where none stands there (CSS 2.1, 4.1.1). Of these the longest counts.
-use Rattle.std.specs.Prelude.{◌≡◌, ◌⊎◌, ℕ, ◌+◌, ◌<◌, ◌≤◌, Bool, ◌&&◌, ◌||◌, if◌then◌else◌, ◌==◌, List, drop, take, length, slice_index, codes}
+use Rattle.std.specs.Prelude.{◌≡◌, ◌⊎◌, ℕ, ◌+◌, ◌<◌, ◌≤◌, ◌&&◌, ◌||◌, if◌then◌else◌, ◌==◌, List, drop, take, length, slice_index, codes}
 use Rattle.std.specs.Str.{bytes_eq}
 use Rattle.css_tok.specs.declared.front.CssKind.{CssKind}
 use Rattle.css_tok.specs.declared.front.CssKind.TheVariants as kind
 use Rattle.css_tok.specs.declared.lengths.Class.TheVariants as class
-use Rattle.css_tok.specs.Lengths.{is_newline, run_len, ident_len, number_len, comment_len}
+use Rattle.css_tok.specs.Lengths.{is_quote, is_newline, run_len, ident_len, number_len, comment_len}
 use Rattle.css_tok.specs.Front.{url_len, token_at}
 
 -- a part that isn't empty, and this byte behind it
@@ -22,9 +22,6 @@ two_parts n m = if n == 0 || m == 0 then 0 else n + m
 -- this text
 abbrev pub word_len : List ℕ → List ℕ → ℕ
 word_len word bs = if bytes_eq (take (length word) bs) word then length word else 0
-
-abbrev pub is_quote : ℕ → Bool
-is_quote b = b == 34 || b == 39
 
 -- what stands between a quote and its closing one, a bare newline or the end
 abbrev pub quoted_run : List ℕ → ℕ

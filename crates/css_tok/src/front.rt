@@ -5,7 +5,7 @@ ghost use Rattle.css_tok.specs.Front as spec;
 ghost use Rattle.css_tok.specs.Lengths.{number_len};
 
 use crate::lengths::{
-    Class, byte, comment_len, ident_len, is_blank, is_newline, number_len, run_len,
+    Class, byte, comment_len, ident_len, is_blank, is_newline, is_quote, number_len, run_len,
 };
 
 /// The kinds of token (CSS 2.1, 4.1.1). Of the readings of a text's front the longest counts.
@@ -149,7 +149,7 @@ pub(crate) fn token_at(text: &[u8]) -> (CssKind, usize)
     if is_blank(b) {
         return (CssKind::Space, run_len(Class::Blank, text));
     }
-    if b == b'"' || b == b'\'' {
+    if is_quote(b) {
         return string_at(text);
     }
     if b == b'/' && byte(text, 1) == b'*' {

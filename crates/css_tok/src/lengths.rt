@@ -17,22 +17,32 @@ pub enum Class {
     Quoted(u8),
 }
 
+/// The byte at a place, and 0 past the end.
 pub fn byte(text: &[u8], at: usize) -> u8
     ensures { result ≡ slice_index text.now at }
 {
     if at < text.len() { text[at] } else { 0 }
 }
 
-pub(crate) fn is_newline(b: u8) -> bool
+/// Whether a byte is a newline: LF, FF or CR.
+pub fn is_newline(b: u8) -> bool
     ensures { result ≡ spec.is_newline b }
 {
     b == b'\n' || b == 12 || b == b'\r'
 }
 
-pub(crate) fn is_blank(b: u8) -> bool
+/// Whether a byte is white space (CSS 2.1, 4.1.1).
+pub fn is_blank(b: u8) -> bool
     ensures { result ≡ spec.is_blank b }
 {
     b == b' ' || b == b'\t' || is_newline(b)
+}
+
+/// Whether a byte is a quotation mark, which opens a string.
+pub fn is_quote(b: u8) -> bool
+    ensures { result ≡ spec.is_quote b }
+{
+    b == b'"' || b == b'\''
 }
 
 fn is_name(b: u8) -> bool
@@ -214,8 +224,9 @@ pub(crate) fn ident_len(text: &[u8]) -> usize
     }
 }
 
+/// 1 where a text begins with a sign, else 0.
 #[tactic(auto, unfolding(crate::specs::Lengths::sign_len))]
-fn sign_len(text: &[u8]) -> usize
+pub fn sign_len(text: &[u8]) -> usize
     ensures value { result ≡ spec.sign_len text.now }
     ensures within { result ≤ length text.now }
 {
@@ -246,6 +257,7 @@ fn unsigned_len(text: &[u8]) -> usize
     whole + fraction_len(&text[whole..])
 }
 
+/// How long the number at the front of a text is; 0 where none stands there.
 #[tactic(auto, unfolding(crate::specs::Lengths::number_len))]
 pub fn number_len(text: &[u8]) -> usize
     ensures value { result ≡ spec.number_len text.now }

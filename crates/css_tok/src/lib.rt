@@ -4,6 +4,8 @@
 pub mod front;
 pub mod laws;
 pub mod lengths;
+pub mod marks;
+pub mod numbers;
 pub mod plain;
 #[cfg(test)]
 mod tests;

@@ -207,6 +207,88 @@ fn a_token_gives_the_part_of_its_value(rt: HostRuntime) {
     }
 }
 
+/// The number of the first token, as its units and places.
+fn number_of(text: &str) -> Option<(i64, u8)> {
+    let token = CssTokens::new(text).next()?;
+    match token.kind {
+        CssKind::Number | CssKind::Percent | CssKind::Dimension => {
+            let number = token.decimal();
+            Some((number.units(), number.places()))
+        }
+        _ => None,
+    }
+}
+
+#[test]
+fn a_number_keeps_the_places_that_it_is_written_with(rt: HostRuntime) {
+    for (text, want) in [
+        ("0", Some((0, 0))),
+        ("12", Some((12, 0))),
+        ("+3", Some((3, 0))),
+        ("-3px", Some((-3, 0))),
+        (".5", Some((5, 1))),
+        ("-.50em", Some((-50, 2))),
+        ("+1.50%", Some((150, 2))),
+        ("-0.0", Some((0, 1))),
+        ("0000012.25", Some((1225, 2))),
+        ("1.123456", Some((1123456, 6))),
+        ("1.1234567", Some((1123456, 6))),
+        ("-1.9999999in", Some((-1999999, 6))),
+        ("999999999", Some((999999999, 0))),
+        ("1000000000", Some((999999999, 0))),
+        ("123456789012345678901234567890", Some((999999999, 0))),
+        ("-1000000000.123456789", Some((-999999999123456, 6))),
+        ("1.", Some((1, 0))),
+        ("a1", None),
+        ("#1", None),
+    ] {
+        assert_eq!(rt; number_of(text), want, "of {text}");
+    }
+}
+
+#[test]
+fn a_unit_is_what_follows_the_number(rt: HostRuntime) {
+    for (text, want) in [
+        ("1px", "px"),
+        ("-.5e3", "e3"),
+        ("+1.50\\65m", "\\65m"),
+        ("1--a", "--a"),
+        ("2\u{e9}", "\u{e9}"),
+        ("3", ""),
+    ] {
+        let mut tokens = CssTokens::new(text);
+        assert_eq!(rt;
+            tokens.next().map(|token| token.unit()),
+            Some(want),
+            "of {text}"
+        );
+    }
+}
+
+/// Kinds by marks: opening brackets, gaps and names.
+#[test]
+fn a_token_tells_what_it_is(rt: HostRuntime) {
+    for (text, mark, closer, gap, ident) in [
+        ("(", b'(', Some(b')'), false, false),
+        ("f(", 0, Some(b')'), false, false),
+        ("[", b'[', Some(b']'), false, false),
+        ("{", b'{', Some(b'}'), false, false),
+        ("}", b'}', None, false, false),
+        ("/*(*/", 0, None, true, false),
+        (" ", 0, None, true, false),
+        ("a", 0, None, false, true),
+    ] {
+        let mut tokens = CssTokens::new(text);
+        let told = tokens.next().map(|token| (
+            token.mark(),
+            token.closer(),
+            token.is_gap(),
+            token.is_ident(),
+        ));
+        assert_eq!(rt; told, Some((mark, closer, gap, ident)), "of {text}");
+    }
+}
+
 #[test]
 fn places_count_bytes(rt: HostRuntime) {
     let mut tokens = CssTokens::new("\u{e9} a");

@@ -5,7 +5,7 @@ ghost use Rattle.css_tok.specs.Lengths.{run_len};
 ghost use Rattle.css_tok.specs.Value as spec;
 
 use crate::front::CssKind;
-use crate::lengths::{Class, byte, run_len};
+use crate::lengths::{Class, byte, is_quote, run_len};
 use crate::tokens::CssToken;
 
 fn without_first(slice: &str, first: u8) -> &str
@@ -42,7 +42,7 @@ fn in_quotes(slice: &str) -> &str
     ensures { result.now ≡ spec.in_quotes slice.now }
 {
     let quote = byte(slice.as_bytes(), 0);
-    if quote != b'"' && quote != b'\'' {
+    if !is_quote(quote) {
         return slice;
     }
     let inside = slice.split_at(1).1;
