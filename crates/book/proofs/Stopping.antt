@@ -127,12 +127,12 @@ module _ (ws : List (List ℕ)) (told : List ℕ → Told) (names : Names) (o : 
       stops_at (file.Sheet 1) _ o _ (later_text (file.Sheet 1) (file.Sheet 1) (told names.sheet) (omega arith)) (λ s. tt) s)))
 
 -- a read fault in the last of some reads has its cause in all of them
-pub has_cause : (e : Expect Names) (names : Names) (f : FileOf) (told : List ℕ → Told) (before mid now : ℕ) (last : Option (List ℕ)) (o : Outcome) → IsGiven e names → before ≤ mid → HasCauseAt f (told (name_of names f)) (name_of names f) mid now last o → HasReadCause e told before now last o
-has_cause free names f told before mid now last o g l h = tt
-has_cause (refused p) names f told before mid now last o g l h = absurd g
-has_cause (given n) names f told before mid now last (out.ReadFault k) g l h =
-    rw (h.0, ← g) (elim h.1 [ inl a ↦ inl a | inr r ↦ inr (Rose-since before mid now l r.0, r.1) ])
-has_cause (given n) names f told before mid now last o g l h = tt
+pub has_cause : (e : Expect Names) (names : Names) (f : FileOf) (name : List ℕ) (told : List ℕ → Told) (before mid now : ℕ) (last : Option (List ℕ)) (o : Outcome) → name_of names f ≡ Some name → IsGiven e names → before ≤ mid → HasCauseAt f (told name) name mid now last o → HasReadCause e told before now last o
+has_cause free names f name told before mid now last o m g l h = tt
+has_cause (refused p) names f name told before mid now last o m g l h = absurd g
+has_cause (given n) names f name told before mid now last (out.ReadFault k) m g l h =
+    rw (h.0, ← g, m) (elim h.1 [ inl a ↦ inl a | inr r ↦ inr (Rose-since before mid now l r.0, r.1) ])
+has_cause (given n) names f name told before mid now last o m g l h = tt
 
 -- what no input explains ends a run over any document
 ends_unforeseen : (d : Document) (o : Outcome) → IsUnforeseen o → Ends d o

@@ -1,5 +1,5 @@
 -- What the words of the command line ask for.
-use Rattle.std.specs.Prelude.{ℕ, Bool, List, [], ◌∷◌, ◌==◌, ◌||◌, if◌then◌else◌, codes, slice_index}
+use Rattle.std.specs.Prelude.{ℕ, Bool, Option, Some, None, List, [], ◌∷◌, ◌==◌, ◌||◌, if◌then◌else◌, codes, slice_index}
 use Rattle.std.specs.Str.{bytes_eq}
 use Rattle.book.specs.Expect.{Expect, refused, given}
 use Rattle.book.specs.declared.outcome.Outcome.TheVariants as out
@@ -13,10 +13,11 @@ pub record Names : Type 0 where
   pub html : List ℕ
   pub sheet : List ℕ
 
-abbrev pub name_of : Names → FileOf → List ℕ
-name_of names file.Metrics = names.metrics
-name_of names file.Html = names.html
-name_of names (file.Sheet n) = names.sheet
+-- the name that the words give a file; none for a sheet that they don't name
+abbrev pub name_of : Names → FileOf → Option (List ℕ)
+name_of names file.Metrics = Some names.metrics
+name_of names file.Html = Some names.html
+name_of names (file.Sheet n) = if n == 1 then Some names.sheet else None
 
 -- whether a word is this one
 unfoldable pub is_format : List ℕ → Bool
@@ -29,7 +30,7 @@ is_sample word = bytes_eq word (codes "sample")
 unfoldable pub is_dashed : List ℕ → Bool
 is_dashed word = slice_index word 0 == 45
 
--- the words behind `format`: the three names, none of which begins with `-`
+-- the words after `format`: the three names, none of which begins with `-`
 unfoldable pub names_in : List (List ℕ) → Expect Names
 names_in (metrics ∷ html ∷ sheet ∷ []) = if is_dashed metrics || is_dashed html || is_dashed sheet then refused (out.NotRead words.Refused) else given (record { metrics = metrics; html = html; sheet = sheet })
 names_in others = refused (out.NotRead words.Refused)

@@ -1,11 +1,12 @@
 -- What the words and the files ask for, and what a run answers.
-use Rattle.std.specs.Prelude.{◌≡◌, ℕ, ◌+◌, ◌≤◌, List, length, take, nat_lt, if◌then◌else◌, Option, ◌⊎◌}
+use Rattle.std.specs.Prelude.{◌≡◌, ℕ, ◌+◌, ◌≤◌, List, length, take, nat_lt, if◌then◌else◌, Option, None, Some, ◌⊎◌}
 use Rattle.std.specs.Io.KnownBytes.{Appends, Keeps}
 use Rattle.std.specs.Str.{is_utf8}
 use Rattle.std.specs.Str.Lossy.{utf8_valid_len}
 use Rattle.bk_text.specs.Texts.{unmarked}
 use Rattle.bk_io.specs.Shelf.{Told, untold, absent, holds, Faulted}
 use Rattle.bk_io.specs.Causes.{Rose}
+use Rattle.sheets.specs.Sheets.{IsRuleCount}
 use Rattle.book.specs.Expect.{Expect, free, refused, given, ◌>>=◌, IsRefused, IsRefusedUnlessMemory}
 use Rattle.book.specs.Request.{Names, name_of, asked}
 use Rattle.book.specs.Document.{Texts, Document, document_of}
@@ -34,6 +35,16 @@ texts_expected ws told = asked ws >>= λ names.
 -- what is expected of these words over this shelf: the document, or the first refusal in the order of the steps; `count` gives the number of rules of each sheet's text
 abbrev pub expected : (List ℕ → ℕ) → List (List ℕ) → (List ℕ → Told) → Expect Document
 expected count ws told = texts_expected ws told >>= document_of count
+
+-- this is expected of these words over this shelf: by a count of the rules of each text as a sheet, of which there is one
+pub record IsExpected (ws : List (List ℕ)) (told : List ℕ → Told) (e : Expect Document) : Type 0 where
+  pub count : List ℕ → ℕ
+  pub counts : IsRuleCount count
+  pub is : e ≡ expected count ws told
+
+-- one thing is expected of words over a shelf
+abbrev pub OneIsExpected : Type 0
+OneIsExpected = (ws : List (List ℕ)) (told : List ℕ → Told) (d e : Expect Document) → IsExpected ws told d → IsExpected ws told e → d ≡ e
 
 -- the order of the files
 abbrev pub file_stage : FileOf → ℕ
@@ -94,6 +105,10 @@ abbrev pub Meets : Expect Document → Option (List ℕ) → Option (List ℕ) �
 Meets (given d) old new o = Writes d old new o
 Meets e old new o = Stops e o
 
+-- what is expected of the words over the shelf is met
+abbrev pub Answers : List (List ℕ) → (List ℕ → Told) → Option (List ℕ) → Option (List ℕ) → Outcome → Type 0
+Answers ws told old new o = (e : Expect Document) × IsExpected ws told e × Meets e old new o
+
 -- a book of the document, where one is expected
 abbrev pub IsBookFor : Expect Document → Book → Type 0
 IsBookFor free b = Unit {0}
@@ -106,9 +121,14 @@ PutsOnlyABook old new (out.Done pages passes) = Unit {0}
 PutsOnlyABook old new out.WriteFault = Unit {0}
 PutsOnlyABook old new o = Keeps old new
 
--- a file was not read only for a cause: it is absent, or the count of faults rose, last for its name where that is told
+-- a file that the words name was not read for a cause: it is absent, or the count of faults rose, last for its name where that is reported
+abbrev pub IsFaultOf : Option (List ℕ) → (List ℕ → Told) → ℕ → ℕ → Option (List ℕ) → Type 0
+IsFaultOf None told before now last = ⊥
+IsFaultOf (Some name) told before now last = Faulted (told name) name before now last
+
+-- a read fault is of a file that the words name, with its cause
 abbrev pub HasReadCause : Expect Names → (List ℕ → Told) → ℕ → ℕ → Option (List ℕ) → Outcome → Type 0
-HasReadCause (given names) told before now last (out.ReadFault f) = Faulted (told (name_of names f)) (name_of names f) before now last
+HasReadCause (given names) told before now last (out.ReadFault f) = IsFaultOf (name_of names f) told before now last
 HasReadCause (refused o) told before now last (out.ReadFault f) = ⊥
 HasReadCause names told before now last o = Unit {0}
 
@@ -163,3 +183,6 @@ IsDoneOrTooLong o = ⊥
 abbrev pub IsComplete : Expect Document → Type 0 → Type 0 → Outcome → Type 0
 IsComplete (given d) shelf_rose out_rose o = ¬ shelf_rose → ¬ out_rose → IsDoneOrTooLong o
 IsComplete e shelf_rose out_rose o = Unit {0}
+
+abbrev pub Completes : List (List ℕ) → (List ℕ → Told) → Type 0 → Type 0 → Outcome → Type 0
+Completes ws told shelf_rose out_rose o = (e : Expect Document) × IsExpected ws told e × IsComplete e shelf_rose out_rose o

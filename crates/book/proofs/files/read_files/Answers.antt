@@ -1,4 +1,4 @@
-use Rattle.std.proofs.Common.{string_bytes, map, arith}
+use Rattle.std.proofs.Common.{string_bytes, map, arith, refl}
 use Rattle.std.proofs.lemmas.Result.{err_from_is_err_and}
 use Rattle.book.specs.declared.outcome.FileOf.TheVariants as file
 use Rattle.bk_text.specs.Texts.{unmarked}
@@ -27,14 +27,14 @@ returns-in_err-sheet-clause-texts g c =
 pub returns-in_err-metrics-clause-fault : goal.returns-in_err-metrics-clause-fault
 returns-in_err-metrics-clause-fault g c =
     let p = err_from_is_err_and c.from_residual-in_err-metrics.result c.from_residual-in_err-metrics.ensures.1 in
-    rw (p.1, p.2) (has_cause (asked (map (λ w. string_bytes w) c.args.words.now)) (record { metrics = c.in_ok-names.names.metrics.now; html = c.in_ok-names.names.html.now; sheet = c.in_ok-names.names.sheet.now }) file.Metrics (g.F.Shelf.told c.args.shelf.now) _ _ _ _ c.in_err-metrics.field-0.0 c.in_ok-names.ensures.names (omega arith) (c.in_err-metrics.ensures.cause))
+    rw (p.1, p.2) (has_cause (asked (map (λ w. string_bytes w) c.args.words.now)) (record { metrics = c.in_ok-names.names.metrics.now; html = c.in_ok-names.names.html.now; sheet = c.in_ok-names.names.sheet.now }) file.Metrics c.in_ok-names.names.metrics.now (g.F.Shelf.told c.args.shelf.now) _ _ _ _ c.in_err-metrics.field-0.0 refl c.in_ok-names.ensures.names (omega arith) (c.in_err-metrics.ensures.cause))
 
 pub returns-in_err-html-clause-fault : goal.returns-in_err-html-clause-fault
 returns-in_err-html-clause-fault g c =
     let p = err_from_is_err_and c.from_residual-in_err-html.result c.from_residual-in_err-html.ensures.1 in
-    rw (p.1, p.2) (has_cause (asked (map (λ w. string_bytes w) c.args.words.now)) (record { metrics = c.in_ok-names.names.metrics.now; html = c.in_ok-names.names.html.now; sheet = c.in_ok-names.names.sheet.now }) file.Html (g.F.Shelf.told c.args.shelf.now) _ _ _ _ c.in_err-html.field-0.0 c.in_ok-names.ensures.names (c.read_text.ensures.later) (rw c.read_text.ensures.told at c.in_err-html.ensures.cause))
+    rw (p.1, p.2) (has_cause (asked (map (λ w. string_bytes w) c.args.words.now)) (record { metrics = c.in_ok-names.names.metrics.now; html = c.in_ok-names.names.html.now; sheet = c.in_ok-names.names.sheet.now }) file.Html c.in_ok-names.names.html.now (g.F.Shelf.told c.args.shelf.now) _ _ _ _ c.in_err-html.field-0.0 refl c.in_ok-names.ensures.names (c.read_text.ensures.later) (rw c.read_text.ensures.told at c.in_err-html.ensures.cause))
 
 pub returns-in_err-sheet-clause-fault : goal.returns-in_err-sheet-clause-fault
 returns-in_err-sheet-clause-fault g c =
     let p = err_from_is_err_and c.from_residual-in_err-sheet.result c.from_residual-in_err-sheet.ensures.1 in
-    rw (p.1, p.2) (has_cause (asked (map (λ w. string_bytes w) c.args.words.now)) (record { metrics = c.in_ok-names.names.metrics.now; html = c.in_ok-names.names.html.now; sheet = c.in_ok-names.names.sheet.now }) (file.Sheet 1) (g.F.Shelf.told c.args.shelf.now) _ _ _ _ c.in_err-sheet.field-0.0 c.in_ok-names.ensures.names (omega (arith, c.read_text.ensures.later, c.read_text-2.ensures.later)) (rw (c.read_text-2.ensures.told, c.read_text.ensures.told) at c.in_err-sheet.ensures.cause))
+    rw (p.1, p.2) (has_cause (asked (map (λ w. string_bytes w) c.args.words.now)) (record { metrics = c.in_ok-names.names.metrics.now; html = c.in_ok-names.names.html.now; sheet = c.in_ok-names.names.sheet.now }) (file.Sheet 1) c.in_ok-names.names.sheet.now (g.F.Shelf.told c.args.shelf.now) _ _ _ _ c.in_err-sheet.field-0.0 refl c.in_ok-names.ensures.names (omega (arith, c.read_text.ensures.later, c.read_text-2.ensures.later)) (rw (c.read_text-2.ensures.told, c.read_text.ensures.told) at c.in_err-sheet.ensures.cause))
