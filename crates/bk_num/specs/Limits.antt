@@ -2,11 +2,11 @@
 use Rattle.std.specs.Prelude.{◌≡◌, ℕ, ◌*◌, ◌+◌, ℤ, pos}
 use Rattle.bk_num.specs.declared.limits.TheConstants.{MOST_NODES, MOST_DEPTH, MOST_FILE_BYTES, MOST_TEXT_BYTES, MOST_PAGES, MOST_SHEETS, MOST_RULES, MOST_EVENTS, MOST_OPEN, MOST_ENTRIES, PAGE_WIDTH, PAGE_HEIGHT, PAGE_MARGIN, FRAME_WIDTH, FRAME_HEIGHT, ROOT_SIZE}
 
--- the most nodes of a document
+-- the most nodes of a document, elements and texts
 abbrev pub most_nodes : ℕ
 most_nodes = 400000
 
--- the greatest depth of a node; the root has depth 0
+-- the greatest depth of an element; the root `html` has depth 1
 abbrev pub most_depth : ℕ
 most_depth = 200
 
@@ -14,7 +14,7 @@ most_depth = 200
 abbrev pub most_file_bytes : ℕ
 most_file_bytes = 16777216
 
--- the most bytes of the texts of all leaves together
+-- the most bytes of the texts of all leaves of a flow, those of its notes among them
 abbrev pub most_text_bytes : ℕ
 most_text_bytes = 33554432
 
@@ -22,11 +22,11 @@ most_text_bytes = 33554432
 abbrev pub most_pages : ℕ
 most_pages = 100000
 
--- the most style sheets of the command line
+-- the most style sheets of a run: those of the command line and those of `style` elements together
 abbrev pub most_sheets : ℕ
 most_sheets = 16
 
--- the most rules of all sheets together
+-- the most rules of one sheet: rulesets, page rules and margin boxes
 abbrev pub most_rules : ℕ
 most_rules = 20000
 
@@ -34,11 +34,11 @@ most_rules = 20000
 abbrev pub most_events : ℕ
 most_events = 8000000
 
--- the most boxes that are open at a place
+-- the most boxes of a tree that are open at once
 abbrev pub most_open : ℕ
 most_open = 2048
 
--- the most entries of a table, 2^26
+-- the most entries of a list of solids, nodes, pages or spans, 2^26
 abbrev pub most_entries : ℕ
 most_entries = 67108864
 

@@ -2,34 +2,34 @@
 
 ghost use Rattle.bk_num.specs.Limits.{LimitsAgree, PageAgrees};
 
-/// The most nodes of a document.
+/// The most nodes of a document, elements and texts.
 pub const MOST_NODES: u32 = 400000;
 
-/// The greatest depth of a node; the root has depth 0.
+/// The greatest depth of an element; the root `html` has depth 1.
 pub const MOST_DEPTH: u32 = 200;
 
 /// The most bytes of a file.
 pub const MOST_FILE_BYTES: u64 = 16777216;
 
-/// The most bytes of the texts of all leaves together.
+/// The most bytes of the texts of all leaves of a flow, those of its notes among them.
 pub const MOST_TEXT_BYTES: u64 = 33554432;
 
 /// The most pages of a book.
 pub const MOST_PAGES: u32 = 100000;
 
-/// The most style sheets of the command line.
+/// The most style sheets of a run: those of the command line and those of `style` elements together.
 pub const MOST_SHEETS: u32 = 16;
 
-/// The most rules of all sheets together.
+/// The most rules of one sheet: rulesets, page rules and margin boxes.
 pub const MOST_RULES: u32 = 20000;
 
 /// The most events of a tree of boxes.
 pub const MOST_EVENTS: u32 = 8000000;
 
-/// The most boxes that are open at a place.
+/// The most boxes of a tree that are open at once.
 pub const MOST_OPEN: u32 = 2048;
 
-/// The most entries of a table.
+/// The most entries of a list of solids, nodes, pages or spans, 2^26.
 pub const MOST_ENTRIES: u64 = 67108864;
 
 /// The width of the default page, in units: 148 mm.
