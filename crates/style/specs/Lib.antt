@@ -1,0 +1,4 @@
+pub mod Counters
+pub mod Longhands
+pub mod Longs
+pub mod Styles

@@ -1,0 +1,9 @@
+//! Styles: the longhands, declared values of them, and computed styles.
+#![tactic(auto)]
+
+pub mod content;
+pub mod lists;
+pub mod long;
+pub mod longhand;
+pub mod style;
+pub mod values;
