@@ -1,16 +1,11 @@
 -- One fetch after another: the causes, and the bytes that came.
-use Rattle.std.proofs.Common.{◌≡◌, ◌≢◌, ℕ, ◌+◌, ◌-◌, ◌^◌, ◌<◌, ◌≤◌, min, List, ◌++◌, take, drop, length, Option, IfSome, Ok, Err, Result, inl, inr, ⊎_elim, arith, rules, refl, ap, sym, ◌∙◌}
+use Rattle.std.proofs.Common.{◌≡◌, ℕ, ◌+◌, ◌≤◌, List, ◌++◌, take, drop, length, Option, Err, inl, inr, arith, refl, ap, ◌∙◌}
 use Rattle.std.proofs.Math.Seq.{take-add}
 use Rattle.std.proofs.lemmas.List.{take_all, length-take}
-use Rattle.std.specs.Prelude.{vec_len, Vec}
-use Rattle.std.specs.Global.{Global}
-use Rattle.std.specs.Result.{IsErrAnd}
-use Rattle.std.proofs.lemmas.Result.{err_from_is_err_and}
 use Rattle.bk_io.specs.Causes.{Rose}
-use Rattle.bk_io.specs.Shelf.{Told, absent, holds, Faulted, HasFault, ReadAnswers, read_err_of, Fetches, IfHolds}
+use Rattle.bk_io.specs.Shelf.{Told, absent, HasFault, ReadAnswers, read_err_of, Fetches}
 use Rattle.bk_io.specs.declared.shelf.FetchErr.{FetchErr}
 use Rattle.bk_io.specs.declared.shelf.FetchErr.TheVariants as fetching
-use Rattle.bk_io.specs.declared.read_all.ReadErr.{ReadErr}
 use Rattle.bk_io.specs.declared.read_all.ReadErr.TheVariants as reading
 
 -- a count that rose since a later moment rose since an earlier one

@@ -1,5 +1,5 @@
 -- What a shelf with calls that fail is seen as.
-use Rattle.std.specs.Prelude.{ℕ, List, Option, map, slice_get}
+use Rattle.std.specs.Prelude.{slice_get}
 use Rattle.std.specs.Option.{option_map, option_and_then}
 use Rattle.bk_io.specs.Memory.{Failing, files_in}
 use Rattle.bk_io.specs.declared.mem_shelf.MemShelf.TheInside.{Inside}

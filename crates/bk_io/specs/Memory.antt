@@ -1,8 +1,6 @@
 -- Shelves and sinks in memory: what they are seen as, and what their calls answer.
-use Rattle.std.specs.Prelude.{◌≡◌, ℕ, ◌+◌, ◌-◌, ◌<◌, List, [], ◌∷◌, ◌++◌, length, min, map, Vec, Bool, true, if◌then◌else◌, nat_eq, nat_lt, ◌&&◌, ◌||◌, not, Option, Some, None, Result, Ok, Err, slice_get, take}
+use Rattle.std.specs.Prelude.{◌≡◌, ℕ, ◌+◌, ◌-◌, ◌^◌, List, [], ◌∷◌, min, map, Vec, if◌then◌else◌, nat_eq, Option, Some, Result, Ok, Err}
 use Rattle.std.specs.Global.{Global}
-use Rattle.std.specs.List.{list_any}
-use Rattle.std.specs.Option.{option_map}
 use Rattle.std.specs.Cmp.Lexicographic.{pointwise}
 use Rattle.bk_io.specs.Shelf.{Told, absent, holds}
 
@@ -36,6 +34,21 @@ pub record Failing : Type 0 where
   pub calls : ℕ
   pub faults : ℕ
   pub last : Option (List ℕ)
+
+-- the count of faults rose by one, up to the greatest u64, last for this name
+pub record HasFaultMore (old new : Failing) (name : List ℕ) : Type 0 where
+  pub faults : new.faults ≡ min (old.faults + 1) (2 ^ 64 - 1)
+  pub last : new.last ≡ Some name
+
+-- the faults so far are those of before
+pub record HasSameFaults (old new : Failing) : Type 0 where
+  pub faults : new.faults ≡ old.faults
+  pub last : new.last ≡ old.last
+
+-- the count of faults after a put: one more, up to the greatest u64, exactly where it failed
+abbrev pub faults_after : {T E : Type 0} → ℕ → Result T E → ℕ
+faults_after before (Ok x) = before
+faults_after before (Err e) = min (before + 1) (2 ^ 64 - 1)
 
 -- a sink with calls that fail, and the most bytes of one call
 pub record FailingTaken : Type 0 where

@@ -1,5 +1,5 @@
 -- What a shelf of named files tells of its bytes, and what a fetch and a whole read answer.
-use Rattle.std.specs.Prelude.{◌≡◌, ℕ, ◌+◌, ◌≤◌, ◌<◌, List, length, take, drop, Ok, Err, IfSome, ◌⊎◌, Result, Option, vec_len, Vec}
+use Rattle.std.specs.Prelude.{◌≡◌, ℕ, ◌≤◌, ◌<◌, List, length, take, drop, Ok, Err, IfSome, ◌⊎◌, Result, Option, vec_len, Vec}
 use Rattle.std.specs.Global.{Global}
 use Rattle.bk_io.specs.Causes.{Rose}
 use Rattle.bk_io.specs.declared.shelf.FetchErr.{FetchErr}

@@ -1,6 +1,6 @@
 -- What a put does to the bytes taken, and its cause of failing.
-use Rattle.std.specs.Prelude.{◌≡◌, ℕ, ◌+◌, ◌≤◌, ◌<◌, List, length, take, drop, ⊤, Ok, Err, OnErr, IfOk, MatchResult, Result, Option}
-use Rattle.std.specs.Io.KnownBytes.{Appends, Keeps}
+use Rattle.std.specs.Prelude.{ℕ, ◌≤◌, ◌<◌, List, length, take, OnErr, IfOk, MatchResult, Result, Option}
+use Rattle.std.specs.Io.KnownBytes.{Appends}
 use Rattle.bk_io.specs.Causes.{Rose}
 
 -- at least one byte of a piece that isn't empty is taken, and at most all

@@ -1,7 +1,7 @@
 //! Files in memory that fail to be read at listed calls.
 
 ghost use Rattle.std.specs.Prelude.{◌≡◌, ℕ, ◌+◌, ◌-◌, ◌^◌, ◌<◌, ◌≤◌, length, take, min, IfOk, Contains, Ok, None};
-ghost use Rattle.bk_io.specs.Memory.{files_in, told_of, fetched};
+ghost use Rattle.bk_io.specs.Memory.{files_in, told_of, fetched, HasFaultMore, HasSameFaults};
 ghost use Rattle.bk_io.specs.Shelf.{Told, absent, holds, HasFault, IfHolds, Fetches};
 
 use crate::shelf::{FetchErr, Shelf};
@@ -63,6 +63,9 @@ impl Shelf for MemShelf {
         ensures calls { self.new.calls ≡ min (self.old.calls + 1) (2 ^ 64 - 1) }
         ensures given { (file : _) → told_of self.old.files name.now ≡ holds file → ¬ (Contains self.old.fail self.new.calls) → result ≡ Ok (fetched (length file) from (length into.old)) }
         ensures listed { (file : _) → told_of self.old.files name.now ≡ holds file → Contains self.old.fail self.new.calls → result ≡ Err FetchErr.Failed }
+        ensures counted { (file : _) → told_of self.old.files name.now ≡ holds file → Contains self.old.fail self.new.calls → HasFaultMore self.old self.new name.now }
+        ensures read { IfOk result (λ _. HasSameFaults self.old self.new) }
+        ensures absent { told_of self.old.files name.now ≡ absent → HasSameFaults self.old self.new }
     {
         self.calls = self.calls.saturating_add(1);
         let Some(i) = place_of(&self.files, name) else {

@@ -2,6 +2,7 @@
 
 ghost use Rattle.std.specs.Prelude.{◌≡◌, ℕ, ◌+◌, ◌-◌, ◌^◌, ◌<◌, ◌≤◌, ◌↔◌, [], length, IfOk, IsErr, min, Some, Contains, ◌⊎◌};
 ghost use Rattle.std.specs.Io.KnownBytes.{WriteAppends};
+ghost use Rattle.bk_io.specs.Memory.{faults_after};
 ghost use Rattle.bk_io.specs.Sink.{Takes, HasCause};
 
 use crate::sink::{Failed, Sink};
@@ -70,6 +71,7 @@ impl Sink for MemSink {
 
         ensures most { IfOk result (λ n. n ≡ min (min (length piece.now) (self.old.room - length self.old.bytes)) self.old.step) }
         ensures full { IsErr result ↔ (Contains self.old.fail self.new.calls ⊎ ((0 < length piece.now) × (length self.old.bytes ≡ self.old.room))) }
+        ensures faults { self.new.faults ≡ faults_after self.old.faults result }
         ensures calls { self.new.calls ≡ min (self.old.calls + 1) (2 ^ 64 - 1) }
         ensures room { (self.new.room ≡ self.old.room) × (self.new.step ≡ self.old.step) × (self.new.fail ≡ self.old.fail) }
     {

@@ -2,6 +2,7 @@
 
 ghost use Rattle.std.specs.Prelude.{◌≡◌, ℕ, ◌+◌, ◌-◌, ◌<◌, ◌≤◌, ◌↔◌, ◌++◌, [], length, take, IfOk, OnErr, IsErr, min, Some};
 ghost use Rattle.std.specs.Io.KnownBytes.{WriteAppends};
+ghost use Rattle.bk_io.specs.Memory.{faults_after};
 ghost use Rattle.bk_io.specs.Sink.{Takes, HasCause};
 
 use crate::sink::{Failed, Sink};
@@ -63,7 +64,7 @@ impl Sink for StillSink {
         ensures most { IfOk result (λ n. n ≡ min (length piece.now) (self.old.room - length self.old.bytes)) }
         ensures full { IsErr result ↔ ((0 < length piece.now) × (length self.old.bytes ≡ self.old.room)) }
         ensures room { self.new.room ≡ self.old.room }
-        ensures faults { IfOk result (λ _. self.new.faults ≡ self.old.faults) }
+        ensures faults { self.new.faults ≡ faults_after self.old.faults result }
     {
         let count = piece.len().min(self.room - self.bytes.len());
         if count == 0 && !piece.is_empty() {

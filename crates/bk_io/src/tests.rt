@@ -5,6 +5,7 @@ use crate::mem_shelf::MemShelf;
 use crate::mem_sink::MemSink;
 use crate::put_all::put_all;
 use crate::read_all::{ReadErr, read_all};
+use crate::shelf::Shelf;
 use crate::sink::Sink;
 use crate::std_sink::StdSink;
 use crate::still_shelf::StillShelf;
@@ -95,35 +96,58 @@ fn a_failed_put_leaves_a_prefix(rt: HostRuntime) {
 
 #[test]
 fn a_stream_takes_bytes_or_fails(rt: HostRuntime) {
-    let mut taken = StdSink::new(Vec::<u8>::new(rt.alloc()));
-    assert_eq!(rt; taken.put(b"abc").ok(), Some(3));
-    assert_eq!(rt; taken.put(b"").ok(), Some(0));
+    let mut taken = Vec::<u8>::new(rt.alloc());
+    let mut stream = StdSink::new(&mut taken);
+    for piece in ["abc", "", "de"] {
+        assert_eq!(rt; stream.put(piece.as_bytes()).ok(), Some(piece.len()));
+    }
+    drop(stream);
+    assert!(rt; taken.as_slice() == b"abcde".as_slice());
     let mut none = [0u8; 0];
     let mut full = StdSink::new(&mut none[..]);
     assert!(rt; full.put(b"abc").is_err() && full.put(b"").is_ok());
 }
 
+/// An empty file, then one of 70,000 bytes, whole and from a place inside it on.
 #[test]
-fn a_real_file_is_read_whole(rt: HostRuntime) {
+fn real_files_are_read_by_their_names(rt: HostRuntime) {
     let alloc = rt.alloc();
     let id = process::id(rt.process());
-    let Ok(path) = format!(in alloc; "/tmp/bk_io-{id}") else {
+    let (Ok(empty), Ok(long)) = (
+        format!(in alloc; "/tmp/bk_io-{id}-empty"),
+        format!(in alloc; "/tmp/bk_io-{id}-long"),
+    ) else {
         assert!(rt; false);
         return;
     };
-    let Ok(bytes) = vec![in alloc; 9u8; 70000] else {
+    let Ok(mut bytes) = vec![in alloc; 9u8; 70000] else {
         assert!(rt; false);
         return;
     };
-    assert!(rt; fs::write(&rt, path.as_str(), bytes.as_slice()).is_ok());
+    bytes[69998] = 7;
+    assert!(rt; fs::write(&rt, empty.as_str(), b"".as_slice()).is_ok());
+    assert!(rt; fs::write(&rt, long.as_str(), bytes.as_slice()).is_ok());
     let mut shelf = DirShelf::new(alloc, &rt);
     assert!(rt;
-        read_all(alloc, &mut shelf, path.as_str(), 70000).is_ok_and(|read| read.as_slice()
+        read_all(alloc, &mut shelf, empty.as_str(), 70000).is_ok_and(|read| read.is_empty())
+    );
+    assert!(rt;
+        read_all(alloc, &mut shelf, long.as_str(), 70000).is_ok_and(|read| read.as_slice()
             == bytes.as_slice())
     );
-    assert!(rt; fs::remove_file(&rt, path.as_str()).is_ok());
+    let mut piece = [0u8; 2];
+    for (from, count, want) in [(69997, 2, [9, 7]), (69999, 1, [9, 7]), (70000, 0, [9, 7])] {
+        assert_eq!(rt;
+            shelf.fetch(long.as_str(), from, &mut piece).ok(),
+            Some(count)
+        );
+        assert_eq!(rt; piece, want, "from {from}");
+    }
+    assert!(rt;
+        fs::remove_file(&rt, empty.as_str()).is_ok() && fs::remove_file(&rt, long.as_str()).is_ok()
+    );
     assert_eq!(rt;
-        read_all(alloc, &mut shelf, path.as_str(), 70000).err(),
+        read_all(alloc, &mut shelf, long.as_str(), 70000).err(),
         Some(ReadErr::Failed)
     );
 }

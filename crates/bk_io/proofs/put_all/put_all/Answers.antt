@@ -1,4 +1,4 @@
-use Rattle.std.proofs.Common.{rules, ◌≡◌, ℕ, ◌+◌, ◌≤◌, arith}
+use Rattle.std.proofs.Common.{arith}
 use Rattle.bk_io.proofs.Bytes.{Appends-more, take_next_piece}
 use Rattle.bk_io.proofs.put_all.put_all.Goals as goal
 

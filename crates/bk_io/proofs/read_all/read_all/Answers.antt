@@ -1,9 +1,6 @@
-use Rattle.std.proofs.Common.{rules, ◌≡◌, ℕ, ◌+◌, ◌-◌, ◌*◌, ◌<◌, ◌≤◌, length, arith, List, ◌++◌, take, Ok, Err, sym, ap, ◌∙◌, vec_len, refl}
+use Rattle.std.proofs.Common.{rules, ◌≡◌, arith, take, Err, ap, ◌∙◌, vec_len}
 use Rattle.std.proofs.lemmas.Result.{err_from_is_err_and}
-use Rattle.std.proofs.lemmas.List.{length-take-le}
-use Rattle.std.proofs.lemmas.Grind.{common_steps}
-use Rattle.bk_io.specs.Shelf.{Told, absent, holds, ReadAnswers, HasFault, read_err_of, Fetches}
-use Rattle.bk_io.specs.declared.shelf.FetchErr.TheVariants as fetching
+use Rattle.bk_io.specs.Shelf.{read_err_of}
 use Rattle.bk_io.specs.declared.read_all.ReadErr.TheVariants as reading
 use Rattle.bk_io.proofs.Reading.{HasFault-since, ReadAnswers-refused, failed_by_fetch, bytes_more, all_fetched, length-front}
 use Rattle.bk_io.proofs.read_all.read_all.Goals as goal

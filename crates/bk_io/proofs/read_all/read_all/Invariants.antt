@@ -1,5 +1,5 @@
-use Rattle.std.proofs.Common.{◌≡◌, ℕ, ◌≤◌, ◌<◌, IfOk, ◌+◌, ◌-◌, ◌*◌, length, List, take, vec_len}
-use Rattle.bk_io.specs.Shelf.{Told, absent, holds}
+use Rattle.std.proofs.Common.{◌≡◌, ℕ, ◌≤◌, ◌-◌, List, take, vec_len}
+use Rattle.bk_io.specs.Shelf.{absent, holds}
 use Rattle.bk_io.proofs.read_all.read_all.Given as goal
 
 abbrev pub invariant-loop-bytes : goal.invariant-loop-bytes
