@@ -1,0 +1,29 @@
+-- Readers in a row.
+use Rattle.std.specs.Prelude.{ℕ, zero, suc, if◌then◌else◌, nat_lt, List, [], ◌∷◌, ◌++◌, length, Option, Some, None}
+use Rattle.css_words.specs.Parser.{Input, Outcome, Parser, and_then, ◌>>=◌, pure, refuse}
+
+-- values before those of an outcome
+abbrev pub with_front : {A : Type 0} → List A → Outcome (List A) → Outcome (List A)
+with_front xs None = None
+with_front xs (Some r) = Some (xs ++ r.0, r.1)
+
+abbrev pub found_then : {A : Type 0} → Parser (List A) → Option A → Parser (List A)
+found_then more None = pure []
+found_then more (Some x) = λ i. with_front (x ∷ []) (more i)
+
+-- what a reader finds in a row until it finds none, and fewer than n of them: more have no reading
+unfoldable pub fewer_than : {A : Type 0} → ℕ → Parser (Option A) → Parser (List A)
+fewer_than zero p = refuse
+fewer_than (suc n) p = p >>= found_then (fewer_than n p)
+
+abbrev pub taken : {A : Type 0} → ℕ → Option A → Parser (Option A)
+taken n None = pure None
+taken n (Some x) = λ i. if nat_lt (length i) n then Some (Some x, i) else None
+
+-- a reader that takes a token at least of what it finds
+unfoldable pub taking : {A : Type 0} → Parser (Option A) → Parser (Option A)
+taking p = λ i. and_then (p i) (taken (length i))
+
+-- what a reader finds in a row, however many: each takes a token, so that there are at most as many as tokens
+unfoldable pub many : {A : Type 0} → Parser (Option A) → Parser (List A)
+many p = λ i. fewer_than (suc (length i)) (taking p) i

@@ -1,0 +1,9 @@
+//! Reads words of CSS: the tokens of a text one after another, tests on them, and tables of words.
+#![tactic(auto)]
+
+pub mod reader;
+pub mod table;
+#[cfg(test)]
+mod tests;
+pub mod unread;
+pub mod words;
