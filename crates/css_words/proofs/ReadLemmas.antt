@@ -1,12 +1,13 @@
 -- What a reader has ahead, a token at a time.
-use Rattle.std.proofs.Common.{◌≡◌, ℕ, suc, ◌≤◌, ◌<◌, ◌-◌, ◌+◌, true, false, List, [], ◌∷◌, length, drop, refl, ap, sym, ◌∙◌, arith, cond}
+use Rattle.std.proofs.Common.{◌≡◌, ℕ, suc, ◌≤◌, ◌<◌, ◌-◌, ◌+◌, true, false, List, [], ◌∷◌, length, refl, ap, sym, ◌∙◌, arith}
 use Rattle.std.specs.Prelude.{Option, Some, None, option_map, IfSome}
 use Rattle.std.specs.List.{prefix_len}
 use Rattle.css_words.specs.Ahead.{before, ahead, NoneEnds, IsFilled}
 use Rattle.css_tok.specs.declared.tokens.CssToken.{CssToken}
 use Rattle.css_tok.specs.Tokens.{Item, item_in, tokens_of}
 use Rattle.css_words.specs.declared.reader.Skipped.{Skipped}
-use Rattle.css_words.specs.Input.{kept, is_skipped, is_space, is_space_token, first_of, rest_of, past_spaces}
+use Rattle.css_words.specs.Input.{kept, is_skipped, is_space, past_spaces}
+use Rattle.css_tok.specs.Marks.{is_space_kind, first_of, rest_of}
 
 pub kept_keeps : (s : Skipped) (t : CssToken) (ts : List Item) → is_skipped s t.kind ≡ false → kept s (item_in t ∷ ts) ≡ item_in t ∷ kept s ts
 unfolding kept
@@ -70,14 +71,14 @@ unfolding rest_of
 rest_less [] some = absurd (omega arith)
 rest_less (t ∷ ts) some = omega arith
 
-pub space_goes : (ts : List Item) → is_space_token (first_of ts) ≡ true → past_spaces ts ≡ past_spaces (rest_of ts)
+pub space_goes : (ts : List Item) → is_space (first_of ts) ≡ true → past_spaces ts ≡ past_spaces (rest_of ts)
 unfolding first_of rest_of past_spaces
 space_goes [] e = refl
 space_goes (t ∷ ts) e =
-    let one : 1 + prefix_len (λ (u : Item). is_space u.kind) ts ≡ suc (prefix_len (λ (u : Item). is_space u.kind) ts) = omega arith in
+    let one : 1 + prefix_len (λ (u : Item). is_space_kind u.kind) ts ≡ suc (prefix_len (λ (u : Item). is_space_kind u.kind) ts) = omega arith in
     rw e (rw one refl)
 
-pub space_ends : (ts : List Item) → is_space_token (first_of ts) ≡ false → past_spaces ts ≡ ts
+pub space_ends : (ts : List Item) → is_space (first_of ts) ≡ false → past_spaces ts ≡ ts
 unfolding first_of past_spaces
 space_ends [] e = refl
 space_ends (t ∷ ts) e = rw e refl

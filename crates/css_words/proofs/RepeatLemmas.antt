@@ -1,9 +1,9 @@
 -- Readers in a row, a turn at a time.
-use Rattle.std.proofs.Common.{◌≡◌, ℕ, zero, suc, ◌<◌, ◌≤◌, Bool, true, false, List, [], ◌∷◌, ◌++◌, length, refl, ap, sym, ◌∙◌, arith, append_assoc, append-nil, cond}
+use Rattle.std.proofs.Common.{◌≡◌, ℕ, zero, suc, ◌<◌, Bool, true, false, List, [], ◌∷◌, ◌++◌, length, refl, ap, sym, ◌∙◌, arith, append_assoc, append-nil, cond}
 use Rattle.std.specs.Prelude.{Option, Some, None, nat_lt}
 use Rattle.std.proofs.lemmas.Bool.Decides.{nat_tests}
 use Rattle.css_words.specs.Parser.{Input, Outcome, Parser, and_then}
-use Rattle.css_words.specs.Repeat.{with_front, fewer_than, found_then, taking, taken, many}
+use Rattle.css_words.specs.Repeat.{with_front, fewer_than, taking, taken, many}
 
 pub fewer_more : {A : Type 0} (p : Parser (Option A)) (n : ℕ) (i j : Input) (x : A) → p i ≡ Some (Some x, j) → fewer_than (suc n) p i ≡ with_front (x ∷ []) (fewer_than n p j)
 unfolding fewer_than

@@ -1,7 +1,8 @@
 -- Readers as functions on the tokens that are left (css-values: the value definition syntax is met from left to right).
 use Rattle.std.specs.Prelude.{◌≡◌, List, Option, Some, None, Result, Ok, Err}
 use Rattle.css_tok.specs.Tokens.{Item}
-use Rattle.css_words.specs.Input.{first_of, rest_of, past_spaces}
+use Rattle.css_tok.specs.Marks.{first_of, rest_of}
+use Rattle.css_words.specs.Input.{past_spaces}
 use Rattle.css_words.specs.declared.unread.Unread.{Unread}
 use Rattle.css_words.specs.declared.unread.Unread.TheVariants.{NoReading, NoMemory}
 

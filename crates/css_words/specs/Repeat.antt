@@ -1,6 +1,6 @@
 -- Readers in a row.
 use Rattle.std.specs.Prelude.{ℕ, zero, suc, if◌then◌else◌, nat_lt, List, [], ◌∷◌, ◌++◌, length, Option, Some, None}
-use Rattle.css_words.specs.Parser.{Input, Outcome, Parser, and_then, ◌>>=◌, pure, refuse}
+use Rattle.css_words.specs.Parser.{Outcome, Parser, and_then, ◌>>=◌, pure, refuse}
 
 -- values before those of an outcome
 abbrev pub with_front : {A : Type 0} → List A → Outcome (List A) → Outcome (List A)

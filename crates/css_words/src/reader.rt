@@ -1,6 +1,7 @@
 //! A reader over the tokens of a text.
 
 ghost use Rattle.std.specs.Prelude.{◌≡◌, ◌<◌, ◌≤◌, length, option_map, IfSome};
+ghost use Rattle.css_tok.specs.Marks.{first_of, rest_of};
 ghost use Rattle.css_tok.specs.Tokens.{item_in, tokens_of};
 ghost use Rattle.css_words.specs.Ahead.{before, NoneEnds};
 ghost use Rattle.css_words.specs.Input as spec;
@@ -78,7 +79,7 @@ impl<'a> Reader<'a> {
 
     /// The next token, which stays; None exactly at the end.
     pub fn peek(&self) -> Option<CssToken<'a>>
-        ensures next { option_map item_in result ≡ spec.first_of self.now }
+        ensures next { option_map item_in result ≡ first_of self.now }
         ensures some { IfSome result (λ t. 0 < length self.now) }
     {
         self.next
@@ -86,14 +87,14 @@ impl<'a> Reader<'a> {
 
     /// The token after the next, which stays.
     pub fn second(&self) -> Option<CssToken<'a>>
-        ensures { option_map item_in result ≡ spec.first_of (spec.rest_of self.now) }
+        ensures { option_map item_in result ≡ first_of (rest_of self.now) }
     {
         self.later
     }
 
     /// Passes the next token.
     pub fn advance(&mut self)
-        ensures rest { self.new ≡ spec.rest_of self.old }
+        ensures rest { self.new ≡ rest_of self.old }
         ensures within { length self.new ≤ length self.old }
         ensures taken { 0 < length self.old → length self.new < length self.old }
     {
@@ -113,7 +114,7 @@ impl<'a> Reader<'a> {
 }
 
 fn is_space(token: Option<CssToken<'_>>) -> bool
-    ensures { result ≡ spec.is_space_token (option_map item_in token.entry) }
+    ensures { result ≡ spec.is_space (option_map item_in token.entry) }
 {
     match token {
         Some(token) => matches!(token.kind, CssKind::Space),

@@ -9,6 +9,6 @@ returns c = begun _ _ _ _ _ _ c.next_kept-next.ensures.kept c.next_kept-later.en
 
 pub invariant_of-result : goal.invariant_of-result
 invariant_of-result c = record {
-  after_next = no_later _ _ _ _ c.next_kept-next.ensures.end c.next_kept-later.ensures.kept;
+  after_next = no_later c.next_kept-next.result c.next_kept-later.result (kept c.args.skipped (tokens_of c.next_kept-next.new.tokens.rest.now)) (kept c.args.skipped (tokens_of c.next_kept-later.new.tokens.rest.now)) c.next_kept-next.ensures.end c.next_kept-later.ensures.kept;
   after_later = c.next_kept-later.ensures.end;
 }

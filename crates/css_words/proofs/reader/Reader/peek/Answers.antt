@@ -1,5 +1,5 @@
 use Rattle.std.proofs.Common.{◌∙◌, ap}
-use Rattle.css_words.specs.Input.{first_of}
+use Rattle.css_tok.specs.Marks.{first_of}
 use Rattle.css_words.proofs.ReadLemmas.{next_is, some_if}
 use Rattle.css_words.proofs.reader.Reader.peek.Goals as goal
 

@@ -1,5 +1,5 @@
 use Rattle.std.proofs.Common.{◌∙◌, ap}
-use Rattle.css_words.specs.Input.{first_of, rest_of}
+use Rattle.css_tok.specs.Marks.{first_of, rest_of}
 use Rattle.css_words.proofs.ReadLemmas.{later_is}
 use Rattle.css_words.proofs.reader.Reader.second.Goals as goal
 
