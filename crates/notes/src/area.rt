@@ -1,0 +1,137 @@
+//! The area of notes, and how many solids of a list stand on a page.
+
+ghost use Rattle.std.specs.Prelude.{◌≡◌, ℕ, pos, ◌+◌, ◌<◌, ◌≤◌, ◌^◌, ◌≤ℤ◌, ◌+ℤ◌, length, All, slice_get, Some, ◌⊎◌};
+ghost use Rattle.std.specs.Int.{int_max};
+ghost use Rattle.bk_num.specs.Limits.{most_entries};
+ghost use Rattle.bk_num.specs.Numbers.{IsWithin};
+ghost use Rattle.notes.specs.Notes.{IsSmallNote, separator, area_of, must_of, IsCarryCount, IsPlaced};
+
+use crate::solid::NoteSolid;
+
+/// The room of the separator above the notes, in units.
+const SEPARATOR: i64 = 512;
+
+/// The bottom of the solids so far, and the greatest bottom.
+#[derive(Clone, Copy, Debug)]
+struct Reach {
+    bottom: i64,
+    extent: i64,
+}
+
+impl Reach {
+    const START: Reach = Reach {
+        bottom: 0,
+        extent: 0,
+    };
+
+    /// Adds a solid below.
+    fn place(&mut self, solid: &NoteSolid)
+        requires bottom { IsWithin (2 ^ 60) self.old.bottom }
+        requires small { IsSmallNote solid.now }
+        ensures bottom { self.new.bottom ≡ (self.old.bottom +ℤ solid.now.gap) +ℤ solid.now.height }
+        ensures extent { self.new.extent ≡ int_max self.old.extent self.new.bottom }
+    {
+        self.bottom = self.bottom + solid.gap + solid.height;
+        self.extent = self.extent.max(self.bottom);
+    }
+}
+
+/// The area of solids that reach so far.
+fn area_under(reach: &Reach) -> i64
+    requires low { pos 0 ≤ℤ reach.now.extent }
+    requires high { reach.now.extent ≤ℤ pos (2 ^ 60) }
+    ensures area { result ≡ separator +ℤ reach.now.extent }
+    ensures low { pos 0 ≤ℤ result }
+    ensures high { result ≤ℤ pos (2 ^ 61) }
+{
+    SEPARATOR + reach.extent
+}
+
+/// The greater of two numbers of solids whose area is within the room, where the area of the greater one is given.
+fn number_after(number: usize, next: usize, area: i64, room: i64) -> usize
+    requires order { number ≤ next }
+    ensures one { (result ≡ next) ⊎ (result ≡ number) }
+    ensures fits { number < result → area ≤ℤ room }
+    ensures most { area ≤ℤ room → result ≡ next }
+{
+    if area <= room { next } else { number }
+}
+
+/// A solid of a list.
+fn solid_at(list: &[NoteSolid], at: usize) -> NoteSolid
+    requires at { at < length list.now }
+    requires small { All IsSmallNote list.now }
+    ensures solid { slice_get list.now at ≡ Some result }
+    ensures small { IsSmallNote result }
+{
+    list[at]
+}
+
+/// The area of the first `n` solids of a list, in units: the separator's room, and their greatest bottom, at least 0;
+/// 0 where there are none.
+pub fn area(list: &[NoteSolid], n: usize) -> i64
+    requires n { n ≤ length list.now }
+    requires few { length list.now ≤ most_entries }
+    requires small { All IsSmallNote list.now }
+    ensures area { result ≡ area_of list.now n }
+    ensures low { pos 0 ≤ℤ result }
+    ensures high { result ≤ℤ pos (2 ^ 60) }
+{
+    let mut reach = Reach::START;
+    for at in 0..n {
+        reach.place(&solid_at(list, at));
+    }
+    if n == 0 { 0 } else { SEPARATOR + reach.extent }
+}
+
+/// How many solids of the first `carried` a page whose frame has this height places at least: the greatest number whose
+/// area is at most half the height, at least 1, and 0 where nothing is carried.
+pub fn carry_count(list: &[NoteSolid], carried: usize, height: i64) -> usize
+    requires carried { carried ≤ length list.now }
+    requires few { length list.now ≤ most_entries }
+    requires small { All IsSmallNote list.now }
+    ensures { IsCarryCount list.now carried height result }
+{
+    if carried == 0 {
+        return 0;
+    }
+    let mut reach = Reach::START;
+    let mut count = 0;
+    for at in 0..carried {
+        reach.place(&solid_at(list, at));
+        let area = area_under(&reach);
+        count = number_after(count, at + 1, area + area, height);
+    }
+    count.max(1)
+}
+
+/// How many solids have to stand on a page: `c`, and up to the first one of the last note that is called on it.
+pub fn must(list: &[NoteSolid], c: usize) -> usize
+    requires { c ≤ length list.now }
+    ensures must { result ≡ must_of list.now c }
+    ensures within { result ≤ length list.now }
+{
+    let mut last = c;
+    for at in 0..list.len() {
+        if list[at].begins && at + 1 > last {
+            last = at + 1;
+        }
+    }
+    last
+}
+
+/// The greatest number of solids, from `least` on, whose area is within the room, and `least` where there is none.
+pub fn placed(list: &[NoteSolid], least: usize, room: i64) -> usize
+    requires least { least ≤ length list.now }
+    requires few { length list.now ≤ most_entries }
+    requires small { All IsSmallNote list.now }
+    ensures { IsPlaced list.now least room result }
+{
+    let mut reach = Reach::START;
+    let mut number = 0;
+    for at in 0..list.len() {
+        reach.place(&solid_at(list, at));
+        number = number_after(number, at + 1, area_under(&reach), room);
+    }
+    number.max(least)
+}
