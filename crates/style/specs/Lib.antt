@@ -2,3 +2,5 @@ pub mod Counters
 pub mod Longhands
 pub mod Longs
 pub mod Styles
+pub mod Nodes
+pub mod NodeFields

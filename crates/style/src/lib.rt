@@ -6,4 +6,5 @@ pub mod lists;
 pub mod long;
 pub mod longhand;
 pub mod style;
+pub mod styles;
 pub mod values;

@@ -1,0 +1,52 @@
+-- What the styles of nodes keep, and what is seen of them.
+use Rattle.std.specs.Prelude.{◌≡◌, ℕ, ◌<◌, List, Option, None, Some, length, map, slice_get}
+use Rattle.bk_num.specs.declared.values.Pseudo.{Pseudo}
+use Rattle.bk_num.specs.declared.values.Pseudo.TheVariants as pseudo
+use Rattle.style.specs.declared.style.Style.{Style}
+use Rattle.style.specs.declared.styles.Row.{Row}
+use Rattle.style.specs.declared.styles.Styles.TheInside.{Inside}
+use Rattle.style.specs.Nodes.{NodeStyles}
+
+abbrev pub numbered : List Style → Option ℕ → Option Style
+numbered styles None = None
+numbered styles (Some i) = slice_get styles i
+
+abbrev pub node_of : List Style → Row → NodeStyles
+node_of styles r = record { own = numbered styles r.own; before = numbered styles r.before; after = numbered styles r.after; call = numbered styles r.call; marker = numbered styles r.marker; shown = r.shown; note = r.note }
+
+abbrev pub nodes_of : Inside → List NodeStyles
+nodes_of a = map (node_of a.styles.items) a.rows.items
+
+abbrev pub number_in : Row → Pseudo → Option ℕ
+number_in r pseudo.Element = r.own
+number_in r pseudo.Before = r.before
+number_in r pseudo.After = r.after
+number_in r pseudo.Call = r.call
+number_in r pseudo.Marker = r.marker
+
+-- a row with a number more
+abbrev pub with_number : Pseudo → ℕ → Row → Row
+with_number pseudo.Element i r = record r { own = Some i }
+with_number pseudo.Before i r = record r { before = Some i }
+with_number pseudo.After i r = record r { after = Some i }
+with_number pseudo.Call i r = record r { call = Some i }
+with_number pseudo.Marker i r = record r { marker = Some i }
+
+-- a number is that of a style
+abbrev pub IsNumber : ℕ → Option ℕ → Type 0
+IsNumber count None = Unit {0}
+IsNumber count (Some i) = i < count
+
+pub record HasNumbers (count : ℕ) (r : Row) : Type 0 where
+  pub own : IsNumber count r.own
+  pub before : IsNumber count r.before
+  pub after : IsNumber count r.after
+  pub call : IsNumber count r.call
+  pub marker : IsNumber count r.marker
+
+-- each row's numbers are below a count
+abbrev pub AreNumbered : ℕ → List Row → Type 0
+AreNumbered count rows = (k : ℕ) (r : Row) → slice_get rows k ≡ Some r → HasNumbers count r
+
+abbrev pub IsSound : Inside → Type 0
+IsSound a = AreNumbered (length a.styles.items) a.rows.items

@@ -1,0 +1,60 @@
+-- The styles of a document's nodes.
+use Rattle.std.specs.Prelude.{ℕ, Bool, false, List, [], ◌∷◌, Option, None, Some, slice_get}
+use Rattle.bk_num.specs.declared.values.Pseudo.{Pseudo}
+use Rattle.bk_num.specs.declared.values.Pseudo.TheVariants as pseudo
+use Rattle.style.specs.declared.style.Style.{Style}
+
+-- what a node has: its own style, those of its pseudo-elements, whether it is shown, and whether it is a note element
+pub record NodeStyles : Type 0 where
+  pub own : Option Style
+  pub before : Option Style
+  pub after : Option Style
+  pub call : Option Style
+  pub marker : Option Style
+  pub shown : Bool
+  pub note : Bool
+
+-- what a text has
+abbrev pub no_styles : NodeStyles
+no_styles = record { own = None; before = None; after = None; call = None; marker = None; shown = false; note = false }
+
+-- what an element without pseudo-elements has
+abbrev pub own_style : Style → Bool → Bool → NodeStyles
+own_style style shown note = record { own = Some style; before = None; after = None; call = None; marker = None; shown = shown; note = note }
+
+abbrev pub style_in : NodeStyles → Pseudo → Option Style
+style_in n pseudo.Element = n.own
+style_in n pseudo.Before = n.before
+style_in n pseudo.After = n.after
+style_in n pseudo.Call = n.call
+style_in n pseudo.Marker = n.marker
+
+abbrev pub style_of : Option NodeStyles → Pseudo → Option Style
+style_of None p = None
+style_of (Some n) p = style_in n p
+
+-- the style of a node, or of a pseudo-element of it
+abbrev pub style_at : List NodeStyles → ℕ → Pseudo → Option Style
+style_at nodes n p = style_of (slice_get nodes n) p
+
+-- a node with a style more
+abbrev pub with_style : Pseudo → Style → NodeStyles → NodeStyles
+with_style pseudo.Element style n = record n { own = Some style }
+with_style pseudo.Before style n = record n { before = Some style }
+with_style pseudo.After style n = record n { after = Some style }
+with_style pseudo.Call style n = record n { call = Some style }
+with_style pseudo.Marker style n = record n { marker = Some style }
+
+-- a list with its last entry changed
+abbrev pub change_last : {A : Type 0} → (A → A) → List A → List A
+change_last f [] = []
+change_last f (x ∷ []) = f x ∷ []
+change_last f (x ∷ (y ∷ ys)) = x ∷ change_last f (y ∷ ys)
+
+abbrev pub is_shown_in : Option NodeStyles → Bool
+is_shown_in None = false
+is_shown_in (Some n) = n.shown
+
+abbrev pub is_note_in : Option NodeStyles → Bool
+is_note_in None = false
+is_note_in (Some n) = n.note

@@ -1,0 +1,190 @@
+//! The styles of a document's nodes and of their pseudo-elements.
+
+ghost use Rattle.std.specs.Prelude.{◌≡◌, ◌<◌, ◌+◌, [], ◌∷◌, ◌++◌, OnOk, OnErr, IfOk, None, Some, option_map, length, slice_get};
+ghost use Rattle.style.specs.NodeFields.{number_in, with_number};
+ghost use Rattle.style.specs.Nodes.{no_styles, own_style, style_at, with_style, change_last, is_shown_in, is_note_in};
+
+use crate::style::Style;
+use bk_num::ids::NodeId;
+use bk_num::name::NoMem;
+use bk_num::values::Pseudo;
+use std::alloc::Global;
+use std::marker::Model;
+
+/// A node's styles, by their numbers.
+#[derive(Clone, Copy)]
+pub(crate) struct Row {
+    own: Option<u32>,
+    before: Option<u32>,
+    after: Option<u32>,
+    call: Option<u32>,
+    marker: Option<u32>,
+    shown: bool,
+    note: bool,
+}
+
+/// The styles of nodes, by the numbers of the nodes. Contracts see the list of what each node has.
+#[derive(Drop)]
+pub struct Styles {
+    styles: Vec<Style>,
+    rows: Vec<Row>,
+}
+
+impl Model for Styles {
+    ghost use Rattle.std.specs.Prelude.{List};
+    ghost use Rattle.style.specs.Nodes.{NodeStyles};
+
+    ghost Value = { List NodeStyles };
+
+    ghost use Rattle.style.specs.NodeFields.{nodes_of, IsSound};
+
+    ghost view = { nodes_of };
+
+    ghost invariant = { IsSound };
+}
+
+impl Styles {
+    /// The styles of no nodes.
+    pub fn new(alloc: Global) -> Styles
+        ensures { result ≡ [] }
+    {
+        Styles {
+            styles: Vec::new(alloc),
+            rows: Vec::new(alloc),
+        }
+    }
+
+    /// The style of a node, or of a pseudo-element of it; None exactly where the list has none.
+    pub fn of(&self, node: NodeId, pseudo: Pseudo) -> Option<&Style>
+        ensures { option_map (λ s. s.now) result ≡ style_at self.now node.0 pseudo }
+    {
+        let number = self.rows.get(node.0 as usize)?.number(pseudo)?;
+        self.styles.get(number as usize)
+    }
+
+    /// Whether a node is an element that is shown.
+    pub fn is_shown(&self, node: NodeId) -> bool
+        ensures { result ≡ is_shown_in (slice_get self.now node.0) }
+    {
+        match self.rows.get(node.0 as usize) {
+            Some(row) => row.shown,
+            None => false,
+        }
+    }
+
+    /// Whether a node is a note element.
+    pub fn is_note(&self, node: NodeId) -> bool
+        ensures { result ≡ is_note_in (slice_get self.now node.0) }
+    {
+        match self.rows.get(node.0 as usize) {
+            Some(row) => row.note,
+            None => false,
+        }
+    }
+
+    /// Adds a text, which has no style.
+    pub fn add_text(&mut self) -> Result<(), NoMem>
+        ensures ok { OnOk result (self.new ≡ self.old ++ no_styles ∷ []) }
+        ensures err { OnErr result (self.new ≡ self.old) }
+    {
+        let row = Row {
+            own: None,
+            before: None,
+            after: None,
+            call: None,
+            marker: None,
+            shown: false,
+            note: false,
+        };
+        push_row(&mut self.rows, row)
+    }
+
+    /// Adds an element without pseudo-elements.
+    pub fn add_element(&mut self, style: Style, shown: bool, note: bool) -> Result<(), NoMem>
+        ensures ok { OnOk result (self.new ≡ self.old ++ own_style style shown note ∷ []) }
+        ensures err { OnErr result (self.new ≡ self.old) }
+    {
+        let number = push_style(&mut self.styles, style)?;
+        let row = Row {
+            own: Some(number),
+            before: None,
+            after: None,
+            call: None,
+            marker: None,
+            shown,
+            note,
+        };
+        push_row(&mut self.rows, row)
+    }
+
+    /// Gives the node that was added last a style, of a pseudo-element or its own.
+    pub fn put(&mut self, pseudo: Pseudo, style: Style) -> Result<(), NoMem>
+        requires { 0 < length self.old }
+        ensures ok { OnOk result (self.new ≡ change_last (with_style pseudo style) self.old) }
+        ensures err { OnErr result (self.new ≡ self.old) }
+    {
+        let number = push_style(&mut self.styles, style)?;
+        put_last(&mut self.rows, pseudo, number);
+        Ok(())
+    }
+}
+
+/// Adds a style at the end, and answers its number.
+fn push_style(styles: &mut Vec<Style>, style: Style) -> Result<u32, NoMem>
+    ensures number { IfOk result (λ n. n ≡ length styles.old.items) }
+    ensures ok { OnOk result (styles.new.items ≡ styles.old.items ++ style ∷ []) }
+    ensures err { OnErr result (styles.new.items ≡ styles.old.items) }
+{
+    let Ok(number) = u32::try_from(styles.len()) else {
+        return Err(NoMem);
+    };
+    match styles.push(style) {
+        Ok(_) => Ok(number),
+        Err(_) => Err(NoMem),
+    }
+}
+
+fn push_row(rows: &mut Vec<Row>, row: Row) -> Result<(), NoMem>
+    ensures ok { OnOk result (rows.new.items ≡ rows.old.items ++ row ∷ []) }
+    ensures err { OnErr result (rows.new.items ≡ rows.old.items) }
+{
+    match rows.push(row) {
+        Ok(_) => Ok(()),
+        Err(_) => Err(NoMem),
+    }
+}
+
+fn put_last(rows: &mut Vec<Row>, pseudo: Pseudo, number: u32)
+    requires { 0 < length rows.old.items }
+    ensures { rows.new.items ≡ change_last (with_number pseudo number) rows.old.items }
+{
+    let last = rows.len() - 1;
+    let row = &mut rows[last];
+    row.put(pseudo, number);
+}
+
+impl Row {
+    fn number(&self, pseudo: Pseudo) -> Option<u32>
+        ensures { result ≡ number_in self.now pseudo }
+    {
+        match pseudo {
+            Pseudo::Element => self.own,
+            Pseudo::Before => self.before,
+            Pseudo::After => self.after,
+            Pseudo::Call => self.call,
+            Pseudo::Marker => self.marker,
+        }
+    }
+
+    fn put(&mut self, pseudo: Pseudo, number: u32)
+        ensures { self.new ≡ with_number pseudo number self.old }
+    {
+        match pseudo {
+            Pseudo::Element => self.own = Some(number),
+            Pseudo::Before => self.before = Some(number),
+            Pseudo::After => self.after = Some(number),
+            Pseudo::Call => self.call = Some(number),
+            Pseudo::Marker => self.marker = Some(number),
+        }
+    }
+}
