@@ -4,8 +4,9 @@ use Rattle.std.specs.Prelude.{slice_get}
 use Rattle.std.proofs.lemmas.Bool.{cases_Bool}
 use Rattle.css_tok.specs.Tokens.{Item}
 use Rattle.css_rules.specs.declared.parts.Stop.{Stop}
+use Rattle.css_rules.specs.Brackets.{open_at}
 use Rattle.css_rules.specs.Brackets.{open_after}
-use Rattle.css_rules.specs.Parts.{ends, front_from, open_at, EndsFirst}
+use Rattle.css_rules.specs.Parts.{ends, front_from, EndsFirst}
 
 some_same : (a b : Item) → Some a ≡ Some b → a ≡ b
 some_same a b e = cc

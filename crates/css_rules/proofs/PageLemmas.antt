@@ -3,8 +3,8 @@ use Rattle.std.proofs.Common.{ℕ, Bor, Vec, Global, ◌≡◌, Bool, true, fals
 use Rattle.std.specs.Prelude.{Option, Some, None, is_some, option_map, option_to_list, MatchBool, IfSome, ◌==◌}
 use Rattle.std.proofs.lemmas.List.{map-append}
 use Rattle.css_tok.specs.Tokens.{Item}
+use Rattle.css_tok.specs.Marks.{first_mark, rest_of}
 use Rattle.css_rules.specs.Decls.{Decl, decl_of, decl_in}
-use Rattle.css_rules.specs.Parts.{first_mark, rest_of}
 use Rattle.css_rules.specs.declared.pages.Lead.TheVariants as lead
 use Rattle.css_rules.specs.declared.pages.PagePart.{PagePart}
 use Rattle.css_rules.specs.declared.decls.DeclSlice.{DeclSlice}
@@ -33,7 +33,7 @@ not_false true e = refl
 not_false false e = cc
 
 -- an at-rule, with or without a margin box
-part_at : (d : Option Decl) (b : Option BoxOf) (more : Bool) (ts us vs : List Item) (t : Item) → ts ≡ t ∷ us → page_lead t ≡ lead.At → d ≡ None → is_some b ≡ is_margin_box t (at_end us) → IfSome b (λ x. x ≡ box_of t (at_end us))
+part_at : (d : Option Decl) (b : Option BoxOf) (more : Bool) (ts us vs : List Item) (t : Item) → ts ≡ t ∷ us → page_lead t ≡ lead.At → d ≡ None → is_some b ≡ is_margin_box t us → IfSome b (λ x. x ≡ box_of t (at_end us))
     → more ≡ (is_some b || not (first_mark (at_end us) == 125)) → vs ≡ past_end (at_end us) → IsPart d b more ts vs
 part_at (Some d) b more ts us vs t is here none margin box goes rest = absurd (cc)
 part_at None (Some x) false ts us vs t is here none margin box goes rest = absurd (cc)

@@ -1,17 +1,18 @@
 -- Parts of a sheet, a token at a time.
-use Rattle.std.proofs.Common.{◌≡◌, ℕ, ◌+◌, Bool, true, false, ◌||◌, cond, eqb, List, [], ◌∷◌, ◌++◌, map, refl, ap, sym, inl, inr, append_assoc, append-nil}
+use Rattle.std.proofs.Common.{◌≡◌, ℕ, ◌+◌, Bool, true, false, ◌||◌, ◌&&◌, ◌∙◌, length, cond, eqb, List, [], ◌∷◌, ◌++◌, map, refl, ap, sym, inl, inr, append_assoc, append-nil}
 use Rattle.std.specs.Prelude.{if◌then◌else◌, ◌==◌}
-use Rattle.std.specs.List.{prefix_len, list_any}
+use Rattle.std.specs.List.{prefix_len, list_any, list_all}
 use Rattle.std.proofs.lemmas.List.{map-append}
-use Rattle.std.proofs.lemmas.Bool.{cases_Bool}
+use Rattle.std.proofs.lemmas.Bool.{cases_Bool, and_parts}
 use Rattle.css_tok.specs.declared.tokens.CssToken.{CssToken}
 use Rattle.css_tok.specs.Tokens.{Item, item_in}
 use Rattle.css_rules.specs.declared.parts.Stop.{Stop}
 use Rattle.css_rules.specs.declared.parts.Stop.TheVariants as stop
-use Rattle.css_rules.specs.Brackets.{open_after, mark}
-use Rattle.css_rules.specs.Decls.{is_gap, is_bad_kind}
+use Rattle.css_tok.specs.Marks.{mark, is_gap, is_gap_kind, first_mark, rest_of}
+use Rattle.css_rules.specs.Brackets.{open_after, open_at, is_outside, is_closed}
+use Rattle.css_rules.specs.Decls.{is_bad_kind}
 use Rattle.css_rules.specs.Views.{items_in}
-use Rattle.css_rules.specs.Parts.{ends, front_from, after_from, first_mark, rest_of, parts_from, past_from, separator}
+use Rattle.css_rules.specs.Parts.{ends, is_stop, front_from, after_from, parts_from, past_from, separator}
 
 -- nothing is parted by a token without a mark
 sep : (s : Stop) → eqb 0 (separator s) ≡ false
@@ -86,6 +87,28 @@ prefix_len-map p f (x ∷ xs) = ap (λ n. cond (p (f x)) (1 + n) 0) (prefix_len-
 
 pub gap_run_is : (ts : List CssToken) → prefix_len is_gap (items_in ts) ≡ prefix_len (λ t. is_gap (item_in t)) ts
 gap_run_is ts = prefix_len-map is_gap item_in ts
+
+pub gaps_are : (ts : List CssToken) → list_all is_gap (items_in ts) ≡ list_all (λ t. is_gap_kind t.kind) ts
+gaps_are [] = refl
+gaps_are (t ∷ ts) = ap (λ b. is_gap_kind t.kind && b) (gaps_are ts)
+
+-- the brackets that are open after one more token
+open_push : (open' : List ℕ) (ts : List Item) (t : Item) → open_at open' (ts ++ t ∷ []) (length (ts ++ t ∷ [])) ≡ open_after (open_at open' ts (length ts)) t
+unfolding open_at
+open_push open' [] t = refl
+open_push open' (u ∷ us) t = open_push (open_after open' u) us t
+
+pub opened_push : (found : List CssToken) (t : CssToken) → open_at [] (items_in (found ++ t ∷ [])) (length (items_in (found ++ t ∷ []))) ≡ open_after (open_at [] (items_in found) (length (items_in found))) (item_in t)
+opened_push found t = rw (map-append item_in found (t ∷ [])) (open_push [] (items_in found) (item_in t))
+
+-- a part that ends at a mark leaves no bracket open
+pub closed_stops : (s : Stop) (open' : List ℕ) (ts : List Item) (t : Item) → ends s open' t ≡ true → open' ≡ open_at [] ts (length ts) → true ≡ is_closed ts
+unfolding ends is_closed
+closed_stops s open' ts t stops is = sym (ap is_outside (sym is) ∙ (and_parts (is_outside open') (is_stop s (mark t)) stops).0)
+
+pub closed_ends : (open' : List ℕ) (ts : List Item) (b : Bool) → b ≡ is_outside open' → open' ≡ open_at [] ts (length ts) → b ≡ is_closed ts
+unfolding is_closed
+closed_ends open' ts b is same = is ∙ ap is_outside same
 
 pub bad_is : (ts : List CssToken) → list_any (λ t. is_bad_kind t.kind) (items_in ts) ≡ list_any (λ t. is_bad_kind t.kind) ts
 bad_is [] = refl

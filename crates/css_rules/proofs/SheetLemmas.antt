@@ -2,8 +2,9 @@
 use Rattle.std.proofs.Common.{◌≡◌, ℕ, Bool, true, false, not, ◌&&◌, List, [], ◌∷◌, ap, sym, ◌∙◌, subst}
 use Rattle.std.specs.Prelude.{◌==◌, if◌then◌else◌}
 use Rattle.css_tok.specs.Tokens.{Item}
+use Rattle.css_tok.specs.Marks.{first_mark, rest_of}
 use Rattle.css_rules.specs.Decls.{decls_of}
-use Rattle.css_rules.specs.Parts.{first_mark, rest_of, joined, front_from, after_from, past_block}
+use Rattle.css_rules.specs.Parts.{joined, front_from, after_from, past_block}
 use Rattle.css_rules.specs.Pages.{PageOf, IsPageBlock, past_end}
 use Rattle.css_rules.specs.declared.parts.Stop.TheVariants as stop
 use Rattle.css_rules.specs.declared.pages.Lead.TheVariants as lead

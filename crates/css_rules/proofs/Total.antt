@@ -3,9 +3,10 @@ use Rattle.std.proofs.Common.{◌≡◌, ℕ, zero, suc, ◌≤◌, Bool, true, 
 use Rattle.std.specs.Prelude.{option_to_list, ◌==◌}
 use Rattle.std.proofs.lemmas.Bool.{cases_Bool}
 use Rattle.css_tok.specs.Tokens.{Item}
+use Rattle.css_tok.specs.Marks.{mark, first_mark, rest_of}
 use Rattle.css_rules.specs.Decls.{Decl, decl_of}
-use Rattle.css_rules.specs.Brackets.{open_after, mark}
-use Rattle.css_rules.specs.Parts.{joined, ends, after_from, past_from, first_mark, rest_of, separator}
+use Rattle.css_rules.specs.Brackets.{open_after}
+use Rattle.css_rules.specs.Parts.{joined, ends, after_from, past_from, separator}
 use Rattle.css_rules.specs.Pages.{BoxOf, PageOf, IsPageBlock, cut, margin_box, at_rule, at_closer, piece, last, page_lead, is_margin_box, box_of, at_end, past_end, piece_at, piece_end}
 use Rattle.css_rules.specs.Pages as pages
 use Rattle.css_rules.specs.Sheet.{RuleOf, AreRules, none, media, page, other, styled, headless, rule_at, lead_of, at_kind, at_front, at_after, at_stop, stays, prelude_end, prelude_stop}
@@ -70,7 +71,7 @@ page_case : (n : ℕ) (t : Item) (ts : List Item) → length ts ≤ n → ((us :
 page_case n t ts h more lead.Closer here = ([], [], ts, pages.closer t ts here, omega arith)
 page_case n t ts h more lead.Between here = let p = more ts h in (p.0, p.1, p.2, pages.between t ts p.0 p.1 p.2 here p.3, omega (arith, p.4))
 page_case n t ts h more lead.At here =
-    elim (cases_Bool (is_margin_box t (at_end ts))) [
+    elim (cases_Bool (is_margin_box t ts)) [
       | inl box ↦ (let p = more (past_end (at_end ts)) (omega (arith, past_end_le (at_end ts), at_end_le ts)) in (p.0, box_of t (at_end ts) ∷ p.1, p.2, margin_box t ts p.0 p.1 p.2 here box p.3, omega (arith, p.4, past_end_le (at_end ts), at_end_le ts)))
       | inr lacks ↦ elim (cases_Bool (first_mark (at_end ts) == 125)) [
         | inl over ↦ ([], [], past_end (at_end ts), at_closer t ts here lacks over, omega (arith, past_end_le (at_end ts), at_end_le ts))

@@ -1,27 +1,7 @@
--- Which brackets are open. The closers that they wait for are listed, the innermost last.
-use Rattle.std.specs.Prelude.{ℕ, Bool, false, if◌then◌else◌, ◌==◌, List, [], ◌∷◌, ◌++◌, Option, Some, None, slice_index, slice_get, length, take, ◌-◌}
-use Rattle.css_tok.specs.declared.front.CssKind.{CssKind}
-use Rattle.css_tok.specs.declared.front.CssKind.TheVariants as kind
+-- Which brackets are open (css-syntax, 5.4.8). The closers that they wait for are listed, the innermost last.
+use Rattle.std.specs.Prelude.{ℕ, zero, suc, Bool, false, if◌then◌else◌, ◌==◌, List, [], ◌∷◌, ◌++◌, Option, Some, None, slice_get, length, take, ◌-◌}
+use Rattle.css_tok.specs.Marks.{mark, closer_of}
 use Rattle.css_tok.specs.Tokens.{Item}
-
-abbrev pub mark_in : CssKind → List ℕ → ℕ
-mark_in kind.Delim bs = slice_index bs 0
-mark_in _ bs = 0
-
--- the byte of a Delim, and 0 for every other token
-unfoldable pub mark : Item → ℕ
-mark t = mark_in t.kind t.slice
-
-abbrev pub closer_of_mark : ℕ → Option ℕ
-closer_of_mark b = if b == 40 then Some 41 else (if b == 91 then Some 93 else (if b == 123 then Some 125 else None))
-
-abbrev pub closer_in : CssKind → ℕ → Option ℕ
-closer_in kind.Func b = Some 41
-closer_in _ b = closer_of_mark b
-
--- what closes the bracket that a token opens
-unfoldable pub closer_of : Item → Option ℕ
-closer_of t = closer_in t.kind (mark t)
 
 abbrev pub is_mark : Option ℕ → ℕ → Bool
 is_mark None b = false
@@ -40,3 +20,13 @@ open_after open' t = opened (closer_of t) open' t
 
 unfoldable pub is_outside : List ℕ → Bool
 is_outside open' = length open' == 0
+
+-- the brackets that are open before the k-th token
+unfoldable pub open_at : List ℕ → List Item → ℕ → List ℕ
+open_at open' ts zero = open'
+open_at open' [] (suc k) = open'
+open_at open' (t ∷ ts) (suc k) = open_at (open_after open' t) ts k
+
+-- no bracket of these tokens is left open at their end
+unfoldable pub is_closed : List Item → Bool
+is_closed ts = is_outside (open_at [] ts (length ts))

@@ -6,7 +6,8 @@ use Rattle.css_tok.specs.Plain.{is_word}
 use Rattle.css_tok.specs.declared.front.CssKind.{CssKind}
 use Rattle.css_tok.specs.declared.front.CssKind.TheVariants as kind
 use Rattle.css_tok.specs.Tokens.{Item}
-use Rattle.css_rules.specs.Brackets.{mark}
+use Rattle.css_tok.specs.Marks.{mark, is_gap, is_ident_kind}
+use Rattle.css_rules.specs.Brackets.{is_closed}
 use Rattle.css_rules.specs.Parts.{Piece, joined, parts_from, separator}
 use Rattle.css_rules.specs.declared.parts.Stop.{Stop}
 use Rattle.css_rules.specs.declared.decls.DeclSlice.{DeclSlice}
@@ -19,22 +20,9 @@ pub record Decl : Type 0 where
 abbrev pub decl_in : DeclSlice → Decl
 decl_in d = record { name = d.name.now; value = d.value.now; important = d.important }
 
-abbrev pub is_gap_kind : CssKind → Bool
-is_gap_kind kind.Space = true
-is_gap_kind kind.Comment = true
-is_gap_kind _ = false
-
--- white space, or a comment
-abbrev pub is_gap : Item → Bool
-is_gap t = is_gap_kind t.kind
-
 abbrev pub is_bad_kind : CssKind → Bool
 is_bad_kind kind.BadStr = true
 is_bad_kind _ = false
-
-abbrev pub is_ident_kind : CssKind → Bool
-is_ident_kind kind.Ident = true
-is_ident_kind _ = false
 
 unfoldable pub is_bang_word : Item → Bool
 is_bang_word t = is_ident_kind t.kind && is_word t.slice (codes "important")
@@ -62,26 +50,32 @@ bang_place ts n =
     let bang = gapless_len ts (word - 1) in
     if before is_bang_word ts word && before is_bang ts bang then Some (bang - 1) else None
 
-unfoldable pub value_len : Piece → ℕ
-value_len ts = gapless_len ts (unwrap_or (bang_place ts (length ts)) (length ts))
+-- The same for the tokens of a value (css-syntax, 5.4.6). Where a bracket is left open, they stand inside it and
+-- are part of the value.
+unfoldable pub important_place : Bool → Piece → Option ℕ
+important_place closed ts = if closed then bang_place ts (length ts) else None
 
-unfoldable pub decl_from : List ℕ → Piece → Decl
-decl_from name ts = record { name = name; value = joined (take (value_len ts) ts); important = is_some (bang_place ts (length ts)) }
+unfoldable pub value_len : Bool → Piece → ℕ
+value_len closed ts = gapless_len ts (unwrap_or (important_place closed ts) (length ts))
+
+unfoldable pub decl_from : Bool → List ℕ → Piece → Decl
+decl_from closed name ts =
+    record { name = name; value = joined (take (value_len closed ts) ts); important = is_some (important_place closed ts) }
 
 unfoldable pub gaps_len : Piece → ℕ
 gaps_len ts = prefix_len is_gap ts
 
-unfoldable pub after_name : List ℕ → Piece → Option Decl
-after_name name [] = None
-after_name name (t ∷ ts) = if mark t == 58 then Some (decl_from name (drop (gaps_len ts) ts)) else None
+unfoldable pub after_name : Bool → List ℕ → Piece → Option Decl
+after_name closed name [] = None
+after_name closed name (t ∷ ts) = if mark t == 58 then Some (decl_from closed name (drop (gaps_len ts) ts)) else None
 
-unfoldable pub named : Piece → Option Decl
-named [] = None
-named (t ∷ ts) = if is_ident_kind t.kind then after_name t.slice (drop (gaps_len ts) ts) else None
+unfoldable pub named : Bool → Piece → Option Decl
+named closed [] = None
+named closed (t ∷ ts) = if is_ident_kind t.kind then after_name closed t.slice (drop (gaps_len ts) ts) else None
 
 -- an Ident, `:` and a value, with gaps between; none with a bad string
 unfoldable pub decl_of : Piece → Option Decl
-decl_of ts = if list_any (λ t. is_bad_kind t.kind) ts then None else named (drop (gaps_len ts) ts)
+decl_of ts = if list_any (λ t. is_bad_kind t.kind) ts then None else named (is_closed ts) (drop (gaps_len ts) ts)
 
 -- a text begins with what the tokens were cut from
 pub record Covers (text : List ℕ) (ts : Piece) : Type 0 where

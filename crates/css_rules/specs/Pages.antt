@@ -1,15 +1,15 @@
 -- The block of a page rule: its declarations, its margin boxes, and what follows it (css-page, 4 and 5).
 use Rattle.std.specs.Prelude.{◌≡◌, ℕ, Bool, true, false, ◌&&◌, ◌||◌, if◌then◌else◌, ◌==◌, List, [], ◌∷◌, ◌++◌, None, map, codes, not, option_to_list, option_map, is_some, Vec, MatchBool, IfSome}
 use Rattle.std.specs.Borrow.{Bor}
-use Rattle.std.specs.List.{list_any}
+use Rattle.std.specs.List.{list_any, list_all}
 use Rattle.css_tok.specs.declared.front.CssKind.{CssKind}
 use Rattle.css_tok.specs.declared.front.CssKind.TheVariants as kind
 use Rattle.css_tok.specs.Tokens.{Item}
 use Rattle.css_tok.specs.Plain.{is_word}
 use Rattle.css_tok.specs.Value.{value_slice}
-use Rattle.css_rules.specs.Brackets.{mark}
-use Rattle.css_rules.specs.Parts.{front_from, after_from, first_mark, rest_of, past_block}
-use Rattle.css_rules.specs.Decls.{Decl, decl_in, decl_of, decls_of, is_gap}
+use Rattle.css_tok.specs.Marks.{mark, first_mark, rest_of, is_gap}
+use Rattle.css_rules.specs.Parts.{front_from, after_from, past_block}
+use Rattle.css_rules.specs.Decls.{Decl, decl_in, decl_of, decls_of}
 use Rattle.css_rules.specs.declared.parts.Stop.TheVariants as stop
 use Rattle.css_rules.specs.declared.pages.Lead.{Lead}
 use Rattle.css_rules.specs.declared.pages.Lead.TheVariants as lead
@@ -53,9 +53,16 @@ is_at_kind _ = false
 unfoldable pub page_lead : Item → Lead
 page_lead t = if is_gap t then lead.Between else (if mark t == 125 then lead.Closer else (if is_at_kind t.kind then lead.At else lead.Content))
 
--- an At token with the name of a margin box, and its block
+-- what stands between an At and the end of its rule's prelude, and what follows from there on
+unfoldable pub at_prelude : List Item → List Item
+at_prelude ts = front_from stop.InnerAtRule [] ts
+
+unfoldable pub at_end : List Item → List Item
+at_end ts = after_from stop.InnerAtRule [] ts
+
+-- An At token with the name of a margin box, no prelude, and a block (css-page-3, 5)
 unfoldable pub is_margin_box : Item → List Item → Bool
-is_margin_box t after = is_margin_name (value_slice t.kind t.slice) && first_mark after == 123
+is_margin_box t ts = is_margin_name (value_slice t.kind t.slice) && list_all is_gap (at_prelude ts) && first_mark (at_end ts) == 123
 
 abbrev pub box_of : Item → List Item → BoxOf
 box_of t after = record { name = value_slice t.kind t.slice; decls = decls_of stop.BlockPiece (rest_of after) }
@@ -63,10 +70,6 @@ box_of t after = record { name = value_slice t.kind t.slice; decls = decls_of st
 -- what follows an at-rule whose At was passed: the `;` or the block that it runs to, or the `}` that ends it
 unfoldable pub past_end : List Item → List Item
 past_end after = if first_mark after == 123 then past_block (rest_of after) else rest_of after
-
--- the tokens behind an At, from the end of its prelude on
-unfoldable pub at_end : List Item → List Item
-at_end ts = after_from stop.InnerAtRule [] ts
 
 -- a piece of the block, and its end
 unfoldable pub piece_at : List Item → List Item
@@ -79,11 +82,11 @@ pub data IsPageBlock : List Item → List Decl → List BoxOf → List Item → 
   cut : IsPageBlock [] [] [] []
   closer : (t : Item) (ts : List Item) → page_lead t ≡ lead.Closer → IsPageBlock (t ∷ ts) [] [] ts
   between : (t : Item) (ts : List Item) (ds : List Decl) (bs : List BoxOf) (rest : List Item) → page_lead t ≡ lead.Between → IsPageBlock ts ds bs rest → IsPageBlock (t ∷ ts) ds bs rest
-  margin_box : (t : Item) (ts : List Item) (ds : List Decl) (bs : List BoxOf) (rest : List Item) → page_lead t ≡ lead.At → is_margin_box t (at_end ts) ≡ true
+  margin_box : (t : Item) (ts : List Item) (ds : List Decl) (bs : List BoxOf) (rest : List Item) → page_lead t ≡ lead.At → is_margin_box t ts ≡ true
       → IsPageBlock (past_end (at_end ts)) ds bs rest → IsPageBlock (t ∷ ts) ds (box_of t (at_end ts) ∷ bs) rest
-  at_rule : (t : Item) (ts : List Item) (ds : List Decl) (bs : List BoxOf) (rest : List Item) → page_lead t ≡ lead.At → is_margin_box t (at_end ts) ≡ false → (first_mark (at_end ts) == 125) ≡ false
+  at_rule : (t : Item) (ts : List Item) (ds : List Decl) (bs : List BoxOf) (rest : List Item) → page_lead t ≡ lead.At → is_margin_box t ts ≡ false → (first_mark (at_end ts) == 125) ≡ false
       → IsPageBlock (past_end (at_end ts)) ds bs rest → IsPageBlock (t ∷ ts) ds bs rest
-  at_closer : (t : Item) (ts : List Item) → page_lead t ≡ lead.At → is_margin_box t (at_end ts) ≡ false → (first_mark (at_end ts) == 125) ≡ true → IsPageBlock (t ∷ ts) [] [] (past_end (at_end ts))
+  at_closer : (t : Item) (ts : List Item) → page_lead t ≡ lead.At → is_margin_box t ts ≡ false → (first_mark (at_end ts) == 125) ≡ true → IsPageBlock (t ∷ ts) [] [] (past_end (at_end ts))
   piece : (t : Item) (ts : List Item) (ds : List Decl) (bs : List BoxOf) (rest : List Item) → page_lead t ≡ lead.Content → (first_mark (piece_end (t ∷ ts)) == 59) ≡ true
       → IsPageBlock (rest_of (piece_end (t ∷ ts))) ds bs rest → IsPageBlock (t ∷ ts) (option_to_list (decl_of (piece_at (t ∷ ts))) ++ ds) bs rest
   last : (t : Item) (ts : List Item) → page_lead t ≡ lead.Content → (first_mark (piece_end (t ∷ ts)) == 59) ≡ false → IsPageBlock (t ∷ ts) (option_to_list (decl_of (piece_at (t ∷ ts)))) [] (rest_of (piece_end (t ∷ ts)))
@@ -104,7 +107,7 @@ IsPartOfPage p ts us = MatchBool p.more
 -- an at-rule in the block, whose At was passed
 pub record IsPageAt (p : PagePart) (t : Item) (ts us : List Item) : Type 0 where
   pub decl : option_map decl_in p.decl ≡ None
-  pub margin : is_some (option_map box_in p.margin) ≡ is_margin_box t (at_end ts)
+  pub margin : is_some (option_map box_in p.margin) ≡ is_margin_box t ts
   pub is : IfSome (option_map box_in p.margin) (λ b. b ≡ box_of t (at_end ts))
   pub more : p.more ≡ (is_some (option_map box_in p.margin) || not (first_mark (at_end ts) == 125))
   pub rest : us ≡ past_end (at_end ts)

@@ -1,8 +1,9 @@
 -- Where a part of a sheet ends: at the first token outside brackets that stops it.
-use Rattle.std.specs.Prelude.{◌≡◌, ◌<◌, ◌++◌, ℕ, zero, suc, Bool, true, false, ◌&&◌, ◌||◌, if◌then◌else◌, ◌==◌, List, [], ◌∷◌, length, slice_get, Some}
+use Rattle.std.specs.Prelude.{◌≡◌, ◌<◌, ◌++◌, ℕ, Bool, true, false, ◌&&◌, ◌||◌, if◌then◌else◌, ◌==◌, List, [], ◌∷◌, length, slice_get, Some}
 use Rattle.std.specs.List.{flat_map}
 use Rattle.css_tok.specs.Tokens.{Item}
-use Rattle.css_rules.specs.Brackets.{mark, open_after, is_outside}
+use Rattle.css_tok.specs.Marks.{mark}
+use Rattle.css_rules.specs.Brackets.{open_after, open_at, is_outside}
 use Rattle.css_rules.specs.declared.parts.Stop.{Stop}
 use Rattle.css_rules.specs.declared.parts.Stop.TheVariants as stop
 
@@ -42,14 +43,6 @@ unfoldable pub after_from : Stop → List ℕ → List Item → List Item
 after_from s open' [] = []
 after_from s open' (t ∷ ts) = if ends s open' t then t ∷ ts else after_from s (open_after open' t) ts
 
-unfoldable pub first_mark : List Item → ℕ
-first_mark [] = 0
-first_mark (t ∷ ts) = mark t
-
-unfoldable pub rest_of : List Item → List Item
-rest_of [] = []
-rest_of (t ∷ ts) = ts
-
 abbrev pub with_tokens : Piece → List Piece → List Piece
 with_tokens ts [] = ts ∷ []
 with_tokens ts (p ∷ ps) = (ts ++ p) ∷ ps
@@ -68,12 +61,6 @@ past_from s open' (t ∷ ts) = if ends s open' t then (if mark t == separator s 
 -- what follows a block whose `{` was passed
 abbrev pub past_block : List Item → List Item
 past_block ts = past_from stop.BlockPiece [] ts
-
--- the brackets that are open before the k-th token
-unfoldable pub open_at : List ℕ → List Item → ℕ → List ℕ
-open_at open' ts zero = open'
-open_at open' [] (suc k) = open'
-open_at open' (t ∷ ts) (suc k) = open_at (open_after open' t) ts k
 
 -- the length of a part is the first place outside brackets whose token stops it
 pub record EndsFirst (s : Stop) (open' : List ℕ) (ts : List Item) : Type 0 where

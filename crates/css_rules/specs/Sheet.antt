@@ -5,8 +5,8 @@ use Rattle.css_tok.specs.declared.front.CssKind.TheVariants as kind
 use Rattle.css_tok.specs.Tokens.{Item}
 use Rattle.css_tok.specs.Plain.{is_word}
 use Rattle.css_tok.specs.Value.{value_slice}
-use Rattle.css_rules.specs.Brackets.{mark}
-use Rattle.css_rules.specs.Parts.{joined, front_from, after_from, first_mark, rest_of, past_block}
+use Rattle.css_tok.specs.Marks.{mark, first_mark, rest_of}
+use Rattle.css_rules.specs.Parts.{joined, front_from, after_from, past_block}
 use Rattle.css_rules.specs.Decls.{Decl, decl_in, decls_of}
 use Rattle.css_rules.specs.Media.{is_media_list}
 use Rattle.css_rules.specs.Pages.{BoxOf, PageOf, page_in, IsPageBlock, is_at_kind, past_end}

@@ -5,42 +5,9 @@ ghost use Rattle.css_tok.specs.Tokens.{item_in};
 ghost use Rattle.css_rules.specs.Brackets as spec;
 
 use bk_num::name::NoMem;
-use css_tok::front::CssKind;
-use css_tok::lengths::byte;
 use css_tok::tokens::CssToken;
 use std::alloc::Global;
 use std::marker::Model;
-
-#[tactic(auto, unfolding(crate::specs::Brackets::mark))]
-pub fn mark(token: &CssToken<'_>) -> u8
-    ensures { result ≡ spec.mark (item_in token.now) }
-{
-    match token.kind {
-        CssKind::Delim => byte(token.slice.as_bytes(), 0),
-        _ => 0,
-    }
-}
-
-fn closer_of_mark(mark: u8) -> Option<u8>
-    ensures { result ≡ spec.closer_of_mark mark }
-{
-    match mark {
-        b'(' => Some(b')'),
-        b'[' => Some(b']'),
-        b'{' => Some(b'}'),
-        _ => None,
-    }
-}
-
-#[tactic(auto, unfolding(crate::specs::Brackets::closer_of))]
-pub(crate) fn closer_of(token: &CssToken<'_>) -> Option<u8>
-    ensures { result ≡ spec.closer_of (item_in token.now) }
-{
-    match token.kind {
-        CssKind::Func => Some(b')'),
-        _ => closer_of_mark(mark(token)),
-    }
-}
 
 #[derive(Drop)]
 pub struct Open {
@@ -76,7 +43,7 @@ impl Open {
         ensures { result ≡ spec.closes self.now (item_in token.now) }
     {
         match self.closers.last() {
-            Some(closer) => *closer == mark(token),
+            Some(closer) => *closer == token.mark(),
             None => false,
         }
     }
@@ -85,7 +52,7 @@ impl Open {
     pub fn pass(&mut self, token: &CssToken<'_>) -> Result<(), NoMem>
         ensures { OnOk result (self.new ≡ spec.open_after self.old (item_in token.now)) }
     {
-        if let Some(closer) = closer_of(token) {
+        if let Some(closer) = token.closer() {
             self.closers.push(closer)?;
         } else if self.closes(token) {
             self.closers.pop();

@@ -3,12 +3,13 @@
 ghost use Rattle.std.specs.Prelude.{◌≡◌, ◌++◌, ◌≤◌, ◌<◌, ◌-◌, ℕ, List, [], length, take, drop, map, OnOk, IfOk, IfSome, IsSome, IsTrue, option_map};
 ghost use Rattle.std.specs.List.{filter_map, prefix_len, list_any};
 ghost use Rattle.css_tok.specs.Tokens.{tokens_of, item_in};
+ghost use Rattle.css_tok.specs.Marks.{is_gap};
+ghost use Rattle.css_rules.specs.Brackets.{is_closed};
 ghost use Rattle.css_rules.specs.Views.{items_in};
 ghost use Rattle.css_rules.specs.Parts.{joined, past_from};
 ghost use Rattle.css_rules.specs.Decls as spec;
 ghost use Rattle.css_rules.specs.Decls.{Covers};
 
-use crate::brackets::mark;
 use crate::parts::{Stop, next_part};
 use bk_num::name::NoMem;
 use css_tok::front::CssKind;
@@ -25,29 +26,17 @@ pub struct DeclSlice<'a> {
     pub important: bool,
 }
 
-pub(crate) fn is_gap(token: &CssToken<'_>) -> bool
-    ensures { result ≡ spec.is_gap (item_in token.now) }
-{
-    matches!(token.kind, CssKind::Space | CssKind::Comment)
-}
-
 fn is_bad(token: &CssToken<'_>) -> bool
     ensures { result ≡ spec.is_bad_kind token.now.kind }
 {
     matches!(token.kind, CssKind::BadStr)
 }
 
-pub(crate) fn is_ident(token: &CssToken<'_>) -> bool
-    ensures { result ≡ spec.is_ident_kind token.now.kind }
-{
-    matches!(token.kind, CssKind::Ident)
-}
-
 #[tactic(auto, unfolding(crate::specs::Decls::is_bang_word))]
 fn is_bang_word(token: &CssToken<'_>) -> bool
     ensures { result ≡ spec.is_bang_word (item_in token.now) }
 {
-    is_ident(token) && is_word(token.slice, "important")
+    token.is_ident() && is_word(token.slice, "important")
 }
 
 fn token_before<'a>(tokens: &[CssToken<'a>], at: usize) -> Option<CssToken<'a>>
@@ -75,18 +64,18 @@ fn bang_before(tokens: &[CssToken<'_>], at: usize) -> bool
     ensures some { IsTrue result → 0 < at }
 {
     match token_before(tokens, at) {
-        Some(token) => mark(&token) == b'!',
+        Some(token) => token.mark() == b'!',
         None => false,
     }
 }
 
 fn gap_before(tokens: &[CssToken<'_>], at: usize) -> bool
     requires { at ≤ length tokens.now }
-    ensures value { result ≡ spec.before spec.is_gap (items_in tokens.now) at }
+    ensures value { result ≡ spec.before is_gap (items_in tokens.now) at }
     ensures some { IsTrue result → 0 < at }
 {
     match token_before(tokens, at) {
-        Some(token) => is_gap(&token),
+        Some(token) => token.is_gap(),
         None => false,
     }
 }
@@ -123,11 +112,11 @@ fn bang_place(tokens: &[CssToken<'_>], len: usize) -> Option<usize>
 }
 
 fn gap_run(tokens: &[CssToken<'_>]) -> usize
-    ensures value { result ≡ prefix_len (λ t. spec.is_gap (item_in t)) tokens.now }
+    ensures value { result ≡ prefix_len (λ t. is_gap (item_in t)) tokens.now }
     ensures within { result ≤ length tokens.now }
 {
     let mut count = 0;
-    while count < tokens.len() && is_gap(&tokens[count]) {
+    while count < tokens.len() && tokens[count].is_gap() {
         count += 1;
     }
     count
@@ -168,12 +157,24 @@ fn skip<'t, 'a>(
     (split(text, &tokens[..count]).1, &tokens[count..])
 }
 
+#[tactic(auto, unfolding(crate::specs::Decls::important_place))]
+fn important_place(closed: bool, tokens: &[CssToken<'_>]) -> Option<usize>
+    ensures value { result ≡ spec.important_place closed (items_in tokens.now) }
+    ensures within { IfSome result (λ at. at ≤ length tokens.now) }
+{
+    if closed {
+        bang_place(tokens, tokens.len())
+    } else {
+        None
+    }
+}
+
 #[tactic(auto, unfolding(crate::specs::Decls::value_len))]
-fn value_len(tokens: &[CssToken<'_>]) -> usize
-    ensures value { result ≡ spec.value_len (items_in tokens.now) }
+fn value_len(closed: bool, tokens: &[CssToken<'_>]) -> usize
+    ensures value { result ≡ spec.value_len closed (items_in tokens.now) }
     ensures within { result ≤ length tokens.now }
 {
-    let end = match bang_place(tokens, tokens.len()) {
+    let end = match important_place(closed, tokens) {
         Some(at) => at,
         None => tokens.len(),
     };
@@ -181,12 +182,17 @@ fn value_len(tokens: &[CssToken<'_>]) -> usize
 }
 
 #[tactic(auto, unfolding(crate::specs::Decls::decl_from))]
-fn decl_from<'a>(name: &'a str, text: &'a str, tokens: &[CssToken<'a>]) -> DeclSlice<'a>
+fn decl_from<'a>(
+    closed: bool,
+    name: &'a str,
+    text: &'a str,
+    tokens: &[CssToken<'a>],
+) -> DeclSlice<'a>
     requires { Covers text.now (items_in tokens.now) }
-    ensures { spec.decl_in result ≡ spec.decl_from name.now (items_in tokens.now) }
+    ensures { spec.decl_in result ≡ spec.decl_from closed name.now (items_in tokens.now) }
 {
-    let value = split(text, &tokens[..value_len(tokens)]).0;
-    let important = bang_place(tokens, tokens.len()).is_some();
+    let value = split(text, &tokens[..value_len(closed, tokens)]).0;
+    let important = important_place(closed, tokens).is_some();
     DeclSlice {
         name,
         value,
@@ -195,35 +201,40 @@ fn decl_from<'a>(name: &'a str, text: &'a str, tokens: &[CssToken<'a>]) -> DeclS
 }
 
 #[tactic(auto, unfolding(crate::specs::Decls::after_name))]
-fn after_name<'a>(name: &'a str, text: &'a str, tokens: &[CssToken<'a>]) -> Option<DeclSlice<'a>>
+fn after_name<'a>(
+    closed: bool,
+    name: &'a str,
+    text: &'a str,
+    tokens: &[CssToken<'a>],
+) -> Option<DeclSlice<'a>>
     requires { Covers text.now (items_in tokens.now) }
-    ensures { spec.found result ≡ spec.after_name name.now (items_in tokens.now) }
+    ensures { spec.found result ≡ spec.after_name closed name.now (items_in tokens.now) }
 {
     let [colon, ..] = tokens else {
         return None;
     };
-    if mark(colon) != b':' {
+    if colon.mark() != b':' {
         return None;
     }
     let (text, tokens) = skip(text, tokens, 1);
     let (text, tokens) = skip(text, tokens, gaps_len(tokens));
-    Some(decl_from(name, text, tokens))
+    Some(decl_from(closed, name, text, tokens))
 }
 
 #[tactic(auto, unfolding(crate::specs::Decls::named))]
-fn named<'a>(text: &'a str, tokens: &[CssToken<'a>]) -> Option<DeclSlice<'a>>
+fn named<'a>(closed: bool, text: &'a str, tokens: &[CssToken<'a>]) -> Option<DeclSlice<'a>>
     requires { Covers text.now (items_in tokens.now) }
-    ensures { spec.found result ≡ spec.named (items_in tokens.now) }
+    ensures { spec.found result ≡ spec.named closed (items_in tokens.now) }
 {
     let [name, ..] = tokens else {
         return None;
     };
-    if !is_ident(name) {
+    if !name.is_ident() {
         return None;
     }
     let (text, tokens) = skip(text, tokens, 1);
     let (text, tokens) = skip(text, tokens, gaps_len(tokens));
-    after_name(name.slice, text, tokens)
+    after_name(closed, name.slice, text, tokens)
 }
 
 fn has_bad(tokens: &[CssToken<'_>]) -> bool
@@ -233,15 +244,20 @@ fn has_bad(tokens: &[CssToken<'_>]) -> bool
 }
 
 #[tactic(auto, using(crate::proofs::PartLemmas::bad_is), unfolding(crate::specs::Decls::decl_of))]
-pub(crate) fn decl_of<'a>(text: &'a str, tokens: &[CssToken<'a>]) -> Option<DeclSlice<'a>>
-    requires { Covers text.now (items_in tokens.now) }
+pub(crate) fn decl_of<'a>(
+    closed: bool,
+    text: &'a str,
+    tokens: &[CssToken<'a>],
+) -> Option<DeclSlice<'a>>
+    requires covers { Covers text.now (items_in tokens.now) }
+    requires closed { closed ≡ is_closed (items_in tokens.now) }
     ensures { spec.found result ≡ spec.decl_of (items_in tokens.now) }
 {
     if has_bad(tokens) {
         return None;
     }
     let (text, tokens) = skip(text, tokens, gaps_len(tokens));
-    named(text, tokens)
+    named(closed, text, tokens)
 }
 
 /// Reads the declarations up to the end of a block, or of a style attribute.
@@ -260,10 +276,10 @@ pub(crate) fn read_block<'a>(
     'parts: loop {
         let start = tokens.rest;
         let end = next_part(alloc, tokens, stop, &mut part)?;
-        if let Some(decl) = decl_of(start, &part) {
+        if let Some(decl) = decl_of(end.closed, start, &part) {
             decls.push(decl)?;
         }
-        if end != b';' {
+        if end.mark != b';' {
             return Ok(decls);
         }
     }

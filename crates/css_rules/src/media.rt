@@ -1,25 +1,28 @@
 //! Media lists, read without memory.
 
-ghost use Rattle.std.specs.Prelude.{◌≡◌, ◌<◌, ◌≤◌, ◌-◌, ◌==◌, ◌++◌, ◌&&◌, List, [], ◌∷◌, length, take, slice_get, true, false, IsTrue, MatchBool};
+ghost use Rattle.std.specs.Prelude.{◌≡◌, ◌<◌, ◌≤◌, ◌-◌, ◌==◌, ◌++◌, ◌&&◌, List, [], ◌∷◌, length, take, slice_get, true, false, IsTrue, MatchBool, MatchOption};
 ghost use Rattle.css_tok.specs.Tokens.{Item, tokens_of, item_in};
+ghost use Rattle.css_tok.specs.Marks.{is_gap};
 ghost use Rattle.css_rules.specs.Brackets.{open_after};
 ghost use Rattle.css_rules.specs.Brackets as brackets;
-ghost use Rattle.css_rules.specs.Decls.{is_gap};
 ghost use Rattle.css_rules.specs.Views.{items_in};
-ghost use Rattle.css_rules.specs.Media as spec;
+ghost use Rattle.css_rules.specs.Media.{most_brackets, is_media_list, is_medium};
+ghost use Rattle.css_rules.specs.MediaSteps.{is_medium_seen};
+ghost use Rattle.css_rules.specs.MediaSteps as spec;
 ghost use Rattle.css_rules.specs.Parts.{ends};
 
-use crate::brackets::{closer_of, mark};
-use crate::decls::{is_gap, is_ident};
 use crate::parts::Stop;
 use css_tok::tokens::{CssToken, CssTokens};
 use css_tok::words::is_word;
 use std::marker::Model;
 
-/// The open brackets of a media list, of which there are at most 1,024.
+/// The most brackets of a part of a media list that are open at a place.
+pub const MOST_BRACKETS: usize = 1024;
+
+/// The open brackets of a part of a media list.
 #[derive(Drop)]
 pub struct Shallow {
-    closers: [u8; 1024],
+    closers: [u8; MOST_BRACKETS],
     depth: usize,
 }
 
@@ -38,7 +41,7 @@ impl Shallow {
         ensures { result ≡ [] }
     {
         Shallow {
-            closers: [0; 1024],
+            closers: [0; MOST_BRACKETS],
             depth: 0,
         }
     }
@@ -61,9 +64,9 @@ impl Shallow {
 
     /// Appends a closer where there is room.
     fn push(&mut self, closer: u8) -> bool
-        ensures { MatchBool result (self.new ≡ self.old ++ closer ∷ []) (1024 ≤ length self.old) }
+        ensures { MatchBool result (self.new ≡ self.old ++ closer ∷ []) (most_brackets ≤ length self.old) }
     {
-        if self.depth == 1024 {
+        if self.depth == MOST_BRACKETS {
             return false;
         }
         self.closers[self.depth] = closer;
@@ -96,22 +99,22 @@ pub enum Seen {
 pub struct MediaReader {
     brackets: Shallow,
     seen: Seen,
+    /// Whether the list has white space and comments alone so far.
     blank: bool,
-    found: bool,
 }
 
 #[tactic(auto, unfolding(crate::specs::Media::is_medium))]
 fn is_medium(token: &CssToken<'_>) -> bool
-    ensures { result ≡ spec.is_medium (item_in token.now) }
+    ensures { result ≡ is_medium (item_in token.now) }
 {
-    is_ident(token) && (is_word(token.slice, "all") || is_word(token.slice, "print"))
+    token.is_ident() && (is_word(token.slice, "all") || is_word(token.slice, "print"))
 }
 
-#[tactic(auto, unfolding(crate::specs::Media::seen_after))]
+#[tactic(auto, unfolding(crate::specs::MediaSteps::seen_after))]
 fn seen_after(seen: Seen, token: &CssToken<'_>) -> Seen
     ensures { result ≡ spec.seen_after seen (item_in token.now) }
 {
-    if is_gap(token) {
+    if token.is_gap() {
         return seen;
     }
     match seen {
@@ -126,7 +129,7 @@ fn seen_after(seen: Seen, token: &CssToken<'_>) -> Seen
 }
 
 fn is_medium_seen(seen: Seen) -> bool
-    ensures { result ≡ spec.is_medium_seen seen }
+    ensures { result ≡ is_medium_seen seen }
 {
     matches!(seen, Seen::Medium)
 }
@@ -137,7 +140,7 @@ impl Shallow {
         ensures { result ≡ brackets.closes self.now (item_in token.now) }
     {
         match self.last() {
-            Some(closer) => closer == mark(token),
+            Some(closer) => closer == token.mark(),
             None => false,
         }
     }
@@ -145,9 +148,9 @@ impl Shallow {
     /// Passes a token; false where too many brackets would be open.
     #[tactic(auto, unfolding(crate::specs::Brackets::open_after))]
     fn pass(&mut self, token: &CssToken<'_>) -> bool
-        ensures open { MatchBool result (self.new ≡ open_after self.old (item_in token.now)) (1024 < length (open_after self.old (item_in token.now))) }
+        ensures open { MatchBool result (self.new ≡ open_after self.old (item_in token.now)) (most_brackets < length (open_after self.old (item_in token.now))) }
     {
-        if let Some(closer) = closer_of(token) {
+        if let Some(closer) = token.closer() {
             return self.push(closer);
         }
         if self.closes(token) {
@@ -158,7 +161,7 @@ impl Shallow {
 
     /// The most brackets that are open.
     fn within(&self)
-        ensures { length self.now ≤ 1024 }
+        ensures { length self.now ≤ most_brackets }
     {
         let _depth = self.depth;
     }
@@ -166,13 +169,12 @@ impl Shallow {
 
 impl MediaReader {
     fn new() -> MediaReader
-        ensures { (ts : List Item) → spec.reads (spec.state_in result) ts ≡ spec.is_media_list ts }
+        ensures { (ts : List Item) → spec.reads (spec.state_in result) ts ≡ is_media_list ts }
     {
         MediaReader {
             brackets: Shallow::new(),
             seen: Seen::Nothing,
             blank: true,
-            found: false,
         }
     }
 
@@ -180,35 +182,41 @@ impl MediaReader {
     fn ends_part(&self, token: &CssToken<'_>) -> bool
         ensures { result ≡ ends Stop.Comma self.now.brackets (item_in token.now) }
     {
-        self.brackets.is_outside() && mark(token) == b','
+        self.brackets.is_outside() && token.mark() == b','
     }
 
     fn is_blank_after(&self, token: &CssToken<'_>) -> bool
         ensures { result ≡ (self.now.blank && is_gap (item_in token.now)) }
     {
-        self.blank && is_gap(token)
+        self.blank && token.is_gap()
     }
 
-    /// Passes a token; false where the list isn't read whatever follows.
-    fn pass(&mut self, token: &CssToken<'_>) -> bool
-        ensures { MatchBool result ((ts : List Item) → spec.reads (spec.state_in self.old) (item_in token.now ∷ ts) ≡ spec.reads (spec.state_in self.new) ts) ((ts : List Item) → spec.reads (spec.state_in self.old) (item_in token.now ∷ ts) ≡ false) }
+    /// Passes a token. Answers whether the list is read, where that is settled whatever follows.
+    fn pass(&mut self, token: &CssToken<'_>) -> Option<bool>
+        ensures { MatchOption result (spec.GoesOn (spec.state_in self.old) (item_in token.now) (spec.state_in self.new)) (λ answer. spec.IsSettled (spec.state_in self.old) (item_in token.now) answer) }
     {
         if self.ends_part(token) {
-            self.end_part();
-            return true;
+            return self.end_part();
         }
         self.brackets.within();
         self.seen = seen_after(self.seen, token);
         self.blank = self.is_blank_after(token);
-        self.brackets.pass(token)
+        if self.brackets.pass(token) {
+            None
+        } else {
+            Some(false)
+        }
     }
 
-    fn end_part(&mut self)
-        ensures { spec.state_in self.new ≡ spec.next_part (spec.state_in self.old) }
+    fn end_part(&mut self) -> Option<bool>
+        ensures { MatchOption result ((is_medium_seen self.old.seen ≡ false) × (spec.state_in self.new ≡ spec.next_part (spec.state_in self.old))) (λ answer. (is_medium_seen self.old.seen ≡ true) × (answer ≡ true)) }
     {
-        self.found = self.found || is_medium_seen(self.seen);
+        if is_medium_seen(self.seen) {
+            return Some(true);
+        }
         self.seen = Seen::Nothing;
         self.blank = false;
+        None
     }
 
     #[tactic(auto, using(crate::proofs::MediaLemmas::reads_none))]
@@ -216,20 +224,21 @@ impl MediaReader {
         ensures { result ≡ spec.reads (spec.state_in self.now) [] }
     {
         self.brackets.within();
-        self.blank || self.found || is_medium_seen(self.seen)
+        self.blank || is_medium_seen(self.seen)
     }
 }
 
 /// Whether a media list is read (CSS 2.1, 7.2; HTML's `media`): it is empty, or a part of it is `all` or
-/// `print` alone, in any case. A list whose brackets nest deeper than 1,024 isn't read. It takes no memory.
+/// `print` alone, in any case. Of a list with a part whose brackets nest deeper than 1,024 the parts before
+/// that one count. It takes no memory.
 pub fn media_read(list: &str) -> bool
-    ensures { result ≡ spec.is_media_list (tokens_of list.now) }
+    ensures { result ≡ is_media_list (tokens_of list.now) }
 {
     let mut tokens = CssTokens::new(list);
     let mut reader = MediaReader::new();
     while let Some(token) = tokens.next() {
-        if !reader.pass(&token) {
-            return false;
+        if let Some(answer) = reader.pass(&token) {
+            return answer;
         }
     }
     reader.is_read()
@@ -237,13 +246,13 @@ pub fn media_read(list: &str) -> bool
 
 /// The same for a list whose tokens were taken.
 pub(crate) fn is_media_list(tokens: &[CssToken<'_>]) -> bool
-    ensures { result ≡ spec.is_media_list (items_in tokens.now) }
+    ensures { result ≡ is_media_list (items_in tokens.now) }
 {
     let mut reader = MediaReader::new();
     let mut left = tokens;
     while let [token, rest @ ..] = left {
-        if !reader.pass(token) {
-            return false;
+        if let Some(answer) = reader.pass(token) {
+            return answer;
         }
         left = rest;
     }

@@ -3,13 +3,13 @@
 ghost use Rattle.std.specs.Prelude.{◌≡◌, ◌≤◌, ◌<◌, ◌++◌, ◌==◌, List, ℕ, [], ◌∷◌, length, map, true, option_map, option_to_list, IsTrue, IfOk, OnOk};
 ghost use Rattle.css_tok.specs.Tokens.{tokens_of, item_in};
 ghost use Rattle.css_rules.specs.Brackets as brackets;
+ghost use Rattle.std.specs.List.{list_all};
+ghost use Rattle.css_tok.specs.Marks.{first_mark, rest_of, is_gap_kind};
 ghost use Rattle.css_rules.specs.Decls.{Decl, decl_in};
 ghost use Rattle.css_rules.specs.Decls as spec_decls;
 ghost use Rattle.css_rules.specs.Pages as spec;
-ghost use Rattle.css_rules.specs.Parts.{first_mark, rest_of};
 
-use crate::brackets::mark;
-use crate::decls::{DeclSlice, decl_of, is_gap, read_block};
+use crate::decls::{DeclSlice, decl_of, read_block};
 use crate::parts::{Stop, take_until};
 use bk_num::name::NoMem;
 use css_tok::front::CssKind;
@@ -72,9 +72,9 @@ pub(crate) fn is_at(token: &CssToken<'_>) -> bool
 fn page_lead(token: &CssToken<'_>) -> Lead
     ensures { result ≡ spec.page_lead (item_in token.now) }
 {
-    if is_gap(token) {
+    if token.is_gap() {
         Lead::Between
-    } else if mark(token) == b'}' {
+    } else if token.mark() == b'}' {
         Lead::Closer
     } else if is_at(token) {
         Lead::At
@@ -91,8 +91,14 @@ pub struct PagePart<'a> {
     more: bool,
 }
 
+fn are_gaps(tokens: &[CssToken<'_>]) -> bool
+    ensures { result ≡ list_all (λ t. is_gap_kind t.kind) tokens.now }
+{
+    tokens.iter().all(|token| token.is_gap())
+}
+
 /// Reads an at-rule in the block, whose At was taken: a margin box with its block, or nothing.
-#[tactic(auto, unfolding(crate::specs::Pages::is_margin_box, crate::specs::Pages::past_end, crate::specs::Pages::at_end))]
+#[tactic(auto, using(crate::proofs::PartLemmas::gaps_are), unfolding(crate::specs::Pages::is_margin_box, crate::specs::Pages::past_end, crate::specs::Pages::at_prelude, crate::specs::Pages::at_end))]
 fn read_page_at<'a>(
     alloc: Global,
     token: &CssToken<'a>,
@@ -103,18 +109,19 @@ fn read_page_at<'a>(
     ensures within { IfOk result (λ _. length tokens.new.rest.now ≤ length tokens.old.rest.now) }
 {
     let end = take_until(alloc, tokens, Stop::InnerAtRule, found)?;
-    if end != b'{' {
+    if end.mark != b'{' {
         return Ok(PagePart {
             decl: None,
             margin: None,
-            more: end != b'}',
+            more: end.mark != b'}',
         });
     }
+    let bare = are_gaps(found);
     let decls = read_block(alloc, tokens, Stop::BlockPiece)?;
     let name = token.value_slice();
     Ok(PagePart {
         decl: None,
-        margin: if is_margin_name(name) {
+        margin: if bare && is_margin_name(name) {
             Some((name, decls))
         } else {
             None
@@ -139,9 +146,9 @@ fn read_page_piece<'a>(
     let start = tokens.rest;
     let end = take_until(alloc, tokens, Stop::BlockPiece, found)?;
     Ok(PagePart {
-        decl: decl_of(start, found),
+        decl: decl_of(end.closed, start, found),
         margin: None,
-        more: end == b';',
+        more: end.mark == b';',
     })
 }
 

@@ -2,10 +2,12 @@
 
 ghost use Rattle.std.specs.Prelude.{◌≡◌, ◌≢◌, ◌++◌, ◌≤◌, ◌<◌, ◌||◌, ◌==◌, ℕ, List, [], ◌∷◌, if◌then◌else◌, length, IfOk};
 ghost use Rattle.css_tok.specs.Tokens.{tokens_of, item_in};
+ghost use Rattle.css_tok.specs.Marks.{first_mark, rest_of};
 ghost use Rattle.css_rules.specs.Views.{items_in};
+ghost use Rattle.css_rules.specs.Brackets.{is_closed};
 ghost use Rattle.css_rules.specs.Parts as spec;
 
-use crate::brackets::{Open, mark};
+use crate::brackets::Open;
 use bk_num::name::NoMem;
 use css_tok::tokens::{CssToken, CssTokens};
 use std::alloc::Global;
@@ -47,34 +49,51 @@ fn is_stop(stop: Stop, mark: u8) -> bool
 fn ends(stop: Stop, open: &Open, token: &CssToken<'_>) -> bool
     ensures { result ≡ spec.ends stop open.now (item_in token.now) }
 {
-    open.is_outside() && is_stop(stop, mark(token))
+    open.is_outside() && is_stop(stop, token.mark())
 }
 
-/// Reads the tokens before the one that ends a part, and takes that one. Answers its mark, or 0 at the end.
+/// How a part of a sheet ends.
+#[derive(Clone, Copy, Debug)]
+pub struct PartEnd {
+    /// The mark that ends it, or 0 at the end of the text.
+    pub mark: u8,
+    /// Whether none of its brackets is left open.
+    pub closed: bool,
+}
+
+/// Reads the tokens before the one that ends a part, and takes that one.
+#[tactic(auto, unfolding(crate::specs::Brackets::open_at))]
 pub(crate) fn take_until<'a>(
     alloc: Global,
     tokens: &mut CssTokens<'a>,
     stop: Stop,
     found: &mut Vec<CssToken<'a>>,
-) -> Result<u8, NoMem>
+) -> Result<PartEnd, NoMem>
     ensures found { IfOk result (λ _. items_in found.new.items ≡ spec.front_from stop [] (tokens_of tokens.old.rest.now)) }
-    ensures end { IfOk result (λ m. m ≡ spec.first_mark (spec.after_from stop [] (tokens_of tokens.old.rest.now))) }
-    ensures rest { IfOk result (λ _. tokens_of tokens.new.rest.now ≡ spec.rest_of (spec.after_from stop [] (tokens_of tokens.old.rest.now))) }
+    ensures end { IfOk result (λ e. e.mark ≡ first_mark (spec.after_from stop [] (tokens_of tokens.old.rest.now))) }
+    ensures closed { IfOk result (λ e. e.closed ≡ is_closed (items_in found.new.items)) }
+    ensures rest { IfOk result (λ _. tokens_of tokens.new.rest.now ≡ rest_of (spec.after_from stop [] (tokens_of tokens.old.rest.now))) }
     ensures front { IfOk result (λ _. (rest : List ℕ) × (tokens.old.rest.now ≡ spec.joined (items_in found.new.items) ++ rest)) }
     ensures within { length tokens.new.rest.now ≤ length tokens.old.rest.now }
-    ensures moves { IfOk result (λ m. m ≢ 0 → length tokens.new.rest.now < length tokens.old.rest.now) }
-    ensures takes { IfOk result (λ m. 0 < length tokens.old.rest.now → length tokens.new.rest.now < length tokens.old.rest.now) }
+    ensures moves { IfOk result (λ e. e.mark ≢ 0 → length tokens.new.rest.now < length tokens.old.rest.now) }
+    ensures takes { IfOk result (λ _. 0 < length tokens.old.rest.now → length tokens.new.rest.now < length tokens.old.rest.now) }
 {
     found.clear();
     let mut open = Open::new(alloc);
     while let Some(token) = tokens.next() {
         if ends(stop, &open, &token) {
-            return Ok(mark(&token));
+            return Ok(PartEnd {
+                mark: token.mark(),
+                closed: true,
+            });
         }
         open.pass(&token)?;
         found.push(token)?;
     }
-    Ok(0)
+    Ok(PartEnd {
+        mark: 0,
+        closed: open.is_outside(),
+    })
 }
 
 /// Reads the next piece of a list. Answers what ended it.
@@ -84,12 +103,13 @@ pub(crate) fn next_part<'a>(
     tokens: &mut CssTokens<'a>,
     stop: Stop,
     part: &mut Vec<CssToken<'a>>,
-) -> Result<u8, NoMem>
-    ensures parted { IfOk result (λ m. spec.parts_from stop [] (tokens_of tokens.old.rest.now) ≡ items_in part.new.items ∷ (if m == spec.separator stop then spec.parts_from stop [] (tokens_of tokens.new.rest.now) else [])) }
-    ensures past { IfOk result (λ m. spec.past_from stop [] (tokens_of tokens.old.rest.now) ≡ (if m == spec.separator stop then spec.past_from stop [] (tokens_of tokens.new.rest.now) else tokens_of tokens.new.rest.now)) }
+) -> Result<PartEnd, NoMem>
+    ensures parted { IfOk result (λ e. spec.parts_from stop [] (tokens_of tokens.old.rest.now) ≡ items_in part.new.items ∷ (if e.mark == spec.separator stop then spec.parts_from stop [] (tokens_of tokens.new.rest.now) else [])) }
+    ensures past { IfOk result (λ e. spec.past_from stop [] (tokens_of tokens.old.rest.now) ≡ (if e.mark == spec.separator stop then spec.past_from stop [] (tokens_of tokens.new.rest.now) else tokens_of tokens.new.rest.now)) }
+    ensures closed { IfOk result (λ e. e.closed ≡ is_closed (items_in part.new.items)) }
     ensures front { IfOk result (λ _. (rest : List ℕ) × (tokens.old.rest.now ≡ spec.joined (items_in part.new.items) ++ rest)) }
     ensures within { length tokens.new.rest.now ≤ length tokens.old.rest.now }
-    ensures moves { IfOk result (λ m. m ≢ 0 → length tokens.new.rest.now < length tokens.old.rest.now) }
+    ensures moves { IfOk result (λ e. e.mark ≢ 0 → length tokens.new.rest.now < length tokens.old.rest.now) }
 {
     let end = take_until(alloc, tokens, stop, part)?;
     Ok(end)

@@ -4,14 +4,16 @@ ghost use Rattle.std.specs.Prelude.{◌≡◌, ◌≢◌, ◌≤◌, ◌<◌, �
 ghost use Rattle.css_tok.specs.Tokens.{Item, tokens_of, item_in};
 ghost use Rattle.css_rules.specs.Views.{items_in};
 ghost use Rattle.css_rules.specs.Pages.{PageOf, page_in};
-ghost use Rattle.css_rules.specs.Parts.{first_mark, rest_of, joined, past_block};
+ghost use Rattle.css_tok.specs.Marks.{first_mark, rest_of};
+ghost use Rattle.css_rules.specs.Parts.{joined, past_block};
+ghost use Rattle.bk_num.specs.Limits.{most_rules};
 ghost use Rattle.css_rules.specs.Sheet as spec;
 
-use crate::brackets::mark;
 use crate::decls::{DeclSlice, read_block, split};
 use crate::media::is_media_list;
 use crate::pages::{Lead, PageSlice, is_at, read_page};
 use crate::parts::{Stop, take_until};
+use bk_num::limits::MOST_RULES;
 use bk_num::name::NoMem;
 use css_tok::front::CssKind;
 use css_tok::tokens::{CssToken, CssTokens};
@@ -51,7 +53,7 @@ fn lead(inside: bool, token: &CssToken<'_>) -> Lead
 {
     if is_between(token) {
         Lead::Between
-    } else if inside && mark(token) == b'}' {
+    } else if inside && token.mark() == b'}' {
         Lead::Closer
     } else if is_at(token) {
         Lead::At
@@ -144,7 +146,7 @@ fn read_at<'a>(
 {
     let start = tokens.rest;
     let end = take_until(alloc, tokens, at_stop(inside), found)?;
-    match at_kind(inside, token, found, end) {
+    match at_kind(inside, token, found, end.mark) {
         AtKind::Media => Ok(Step::Skipped(true)),
         AtKind::Page => {
             let selectors = split(start, found).0;
@@ -152,8 +154,8 @@ fn read_at<'a>(
             Ok(Step::Page(page))
         }
         AtKind::Other => {
-            skip_block(alloc, tokens, end)?;
-            Ok(Step::Skipped(stays(inside, end)))
+            skip_block(alloc, tokens, end.mark)?;
+            Ok(Step::Skipped(stays(inside, end.mark)))
         }
     }
 }
@@ -171,8 +173,8 @@ fn read_ruleset<'a>(
 {
     let start = tokens.rest;
     let end = take_until(alloc, tokens, prelude_stop(inside), found)?;
-    if end != b'{' {
-        return Ok(Step::Skipped(stays(inside, end)));
+    if end.mark != b'{' {
+        return Ok(Step::Skipped(stays(inside, end.mark)));
     }
     let selectors = split(start, found).0;
     let decls = read_block(alloc, tokens, Stop::BlockPiece)?;
@@ -249,7 +251,7 @@ fn keep<'a>(
     count: usize,
     step: Step<'a>,
 ) -> Result<(bool, usize), NoMem>
-    requires { count ≤ 20000 }
+    requires { count ≤ most_rules }
     ensures rules { OnOk result (map spec.rule_in rules.new.items ≡ map spec.rule_in rules.old.items ++ spec.rules_in_step step.entry) }
     ensures pages { OnOk result (map page_in pages.new.items ≡ map page_in pages.old.items ++ spec.pages_in_step step.entry) }
     ensures inside { IfOk result (λ r. r.0 ≡ spec.inside_after inside step.entry) }
@@ -273,8 +275,8 @@ fn keep<'a>(
 /// Reads a sheet; None where it has more than 20,000 rules.
 fn read_rules<'a>(alloc: Global, text: &'a str) -> Result<Option<Sheet<'a>>, NoMem>
     ensures sheet { IfOk result (λ o. IfSome o (λ s. spec.IsSheet (tokens_of text.now) (spec.rules_in s) (spec.pages_in s))) }
-    ensures few { IfOk result (λ o. IfSome o (λ s. spec.rule_count (spec.rules_in s) (spec.pages_in s) ≤ 20000)) }
-    ensures many { IfOk result (λ o. IfNone o ((rs : List spec.RuleOf) (ps : List PageOf) → spec.IsSheet (tokens_of text.now) rs ps → 20000 < spec.rule_count rs ps)) }
+    ensures few { IfOk result (λ o. IfSome o (λ s. spec.rule_count (spec.rules_in s) (spec.pages_in s) ≤ most_rules)) }
+    ensures many { IfOk result (λ o. IfNone o ((rs : List spec.RuleOf) (ps : List PageOf) → spec.IsSheet (tokens_of text.now) rs ps → most_rules < spec.rule_count rs ps)) }
 {
     let mut tokens = CssTokens::new(text);
     let mut found = Vec::new(alloc);
@@ -288,7 +290,7 @@ fn read_rules<'a>(alloc: Global, text: &'a str) -> Result<Option<Sheet<'a>>, NoM
             return Ok(Some(Sheet { rules, pages }));
         }
         let (behind, more) = keep(&mut rules, &mut pages, inside, count, step)?;
-        if 20_000 < more {
+        if more > MOST_RULES as usize {
             return Ok(None);
         }
         inside = behind;
@@ -302,8 +304,8 @@ fn read_rules<'a>(alloc: Global, text: &'a str) -> Result<Option<Sheet<'a>>, NoM
 /// exactly where there are more than 20,000 rules.
 pub fn read_sheet<'a>(alloc: Global, text: &'a str) -> Result<Sheet<'a>, SheetErr>
     ensures sheet { IfOk result (λ s. spec.IsSheet (tokens_of text.now) (spec.rules_in s) (spec.pages_in s)) }
-    ensures few { IfOk result (λ s. spec.rule_count (spec.rules_in s) (spec.pages_in s) ≤ 20000) }
-    ensures many { IfErr result (λ e. e ≡ SheetErr.Rules → (rs : List spec.RuleOf) (ps : List PageOf) → spec.IsSheet (tokens_of text.now) rs ps → 20000 < spec.rule_count rs ps) }
+    ensures few { IfOk result (λ s. spec.rule_count (spec.rules_in s) (spec.pages_in s) ≤ most_rules) }
+    ensures many { IfErr result (λ e. e ≡ SheetErr.Rules → (rs : List spec.RuleOf) (ps : List PageOf) → spec.IsSheet (tokens_of text.now) rs ps → most_rules < spec.rule_count rs ps) }
 {
     match read_rules(alloc, text) {
         Ok(Some(sheet)) => Ok(sheet),

@@ -48,7 +48,7 @@ fn shown(alloc: Global, text: &str) -> Result<String, Fail> {
     Ok(all)
 }
 
-static SHEETS: [(&str, &str); 60] = [
+static SHEETS: [(&str, &str); 70] = [
     ("", ""),
     ("a{b:c;d}e{f:\"x", "a{b:c;}e{f:\"x;}"),
     ("@foo{x{y:z}}p{q:r}", "p{q:r;}"),
@@ -115,6 +115,16 @@ static SHEETS: [(&str, &str); 60] = [
     ),
     ("@page{@top-left;@top-left}p{}", "p{}@{}"),
     ("@page;@page", ""),
+    ("@page{@top-left x{a:b}}p{}", "p{}@{}"),
+    ("@page{@top-left x{a:b}c:d}", "@{c:d;}"),
+    ("@page{@top-left/*x*/ {a:b}c:d}", "@{c:d;[top-left a:b;]}"),
+    ("@page{@top-left (){a:b}}", "@{}"),
+    ("a{b:f(c !important", "a{b:f(c !important;}"),
+    ("a{b:f(c) !important", "a{b:f(c)!;}"),
+    ("a{b:[c !important];}", "a{b:[c !important];}"),
+    ("a{b:c!important)}", "a{b:c!important);}"),
+    ("a{b:c!/**/ important /**/;}", "a{b:c!;}"),
+    ("a{b:{c !important", "a{b:{c !important;}"),
 ];
 
 #[test]
@@ -167,6 +177,35 @@ fn media_lists_are_read(rt: HostRuntime) {
     ] {
         assert_eq!(rt; media_read(list), want, "of {list}");
     }
+}
+
+/// A list with brackets opened one in another, and as many closed where `closed` says so.
+fn nested(alloc: Global, depth: u32, closed: bool, after: &str) -> Result<String, Fail> {
+    let mut list = String::new(alloc);
+    for _ in 0..depth {
+        list.push_str("(")?;
+    }
+    for _ in 0..depth {
+        list.push_str(if closed { ")" } else { "" })?;
+    }
+    list.push_str(after)?;
+    Ok(list)
+}
+
+#[test]
+fn a_part_with_too_many_brackets_ends_a_media_list(rt: HostRuntime) -> Result<(), Fail> {
+    for (before, depth, closed, after, want) in [
+        ("print,", 1025, false, "", true),
+        ("screen,", 1025, false, "", false),
+        ("", 1025, true, ",print", false),
+        ("", 1024, true, ",print", true),
+    ] {
+        let mut list = String::new(rt.alloc());
+        list.push_str(before)?;
+        list.push_str(nested(rt.alloc(), depth, closed, after)?.as_str())?;
+        assert_eq!(rt; media_read(list.as_str()), want, "{before} {depth} {after}");
+    }
+    Ok(())
 }
 
 #[test]

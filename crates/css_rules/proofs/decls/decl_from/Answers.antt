@@ -1,4 +1,4 @@
-use Rattle.std.proofs.lemmas.List.{take-map, length-map}
+use Rattle.std.proofs.lemmas.List.{take-map}
 use Rattle.css_rules.specs.Decls.{decl_from}
 use Rattle.css_rules.proofs.CoverLemmas.{Covers-take}
 use Rattle.css_rules.proofs.decls.decl_from.Goals as goal
@@ -8,4 +8,4 @@ split-requires c = Covers-take c.args.text.now c.args.tokens.now c.value_len.res
 
 pub returns : goal.returns
 unfolding decl_from
-returns c = rw (c.is_some-important.ensures, c.split.ensures.front, c.bang_place.ensures.value, c.value_len.ensures.value, take-map, length-map)
+returns c = rw (c.is_some-important.ensures, c.split.ensures.front, c.important_place.ensures.value, c.value_len.ensures.value, take-map)

@@ -1,7 +1,7 @@
 use Rattle.std.proofs.Common.{◌≡◌, ◌≤◌, ◌+◌, ◌-◌, drop, length}
 use Rattle.std.specs.List.{prefix_len}
 use Rattle.css_tok.specs.Tokens.{item_in}
-use Rattle.css_rules.specs.Decls.{is_gap}
+use Rattle.css_tok.specs.Marks.{is_gap}
 use Rattle.css_rules.proofs.decls.gap_run.Given as goal
 
 abbrev pub invariant-loop-count : goal.invariant-loop-count

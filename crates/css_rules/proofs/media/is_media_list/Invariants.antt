@@ -1,6 +1,7 @@
 use Rattle.std.proofs.Common.{◌≡◌, length}
 use Rattle.css_rules.specs.Views.{items_in}
-use Rattle.css_rules.specs.Media.{reads, state_in, is_media_list}
+use Rattle.css_rules.specs.Media.{is_media_list}
+use Rattle.css_rules.specs.MediaSteps.{reads, state_in}
 use Rattle.css_rules.proofs.media.is_media_list.Given as goal
 
 abbrev pub invariant-loop-left : goal.invariant-loop-left

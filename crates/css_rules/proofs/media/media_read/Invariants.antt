@@ -1,6 +1,7 @@
 use Rattle.std.proofs.Common.{◌≡◌, length}
 use Rattle.css_tok.specs.Tokens.{tokens_of}
-use Rattle.css_rules.specs.Media.{reads, state_in, is_media_list}
+use Rattle.css_rules.specs.Media.{is_media_list}
+use Rattle.css_rules.specs.MediaSteps.{reads, state_in}
 use Rattle.css_rules.proofs.media.media_read.Given as goal
 
 abbrev pub invariant-loop-token : goal.invariant-loop-token

@@ -1,10 +1,12 @@
 use Rattle.std.proofs.Common.{◌≡◌, ◌∙◌, ◌++◌, sym, false, true, ap, append_assoc}
 use Rattle.css_tok.specs.Tokens.{tokens_of, item_in}
+use Rattle.css_tok.specs.Marks.{first_mark, rest_of}
 use Rattle.css_rules.specs.Parts.{joined}
-use Rattle.css_rules.specs.Parts.{ends, after_from, first_mark, rest_of}
+use Rattle.css_rules.specs.Parts.{ends, after_from}
+use Rattle.css_rules.specs.Brackets.{open_after}
 use Rattle.css_rules.specs.Views.{items_in}
 use Rattle.css_rules.proofs.CoverLemmas.{joined_push}
-use Rattle.css_rules.proofs.PartLemmas.{front_goes, front_stops, front_ends, after_goes, after_stops, after_ends, first_mark_is, first_mark_none, rest_is, rest_none}
+use Rattle.css_rules.proofs.PartLemmas.{front_goes, front_stops, front_ends, after_goes, after_stops, after_ends, first_mark_is, first_mark_none, rest_is, rest_none, opened_push, closed_stops, closed_ends}
 use Rattle.css_rules.proofs.parts.take_until.Goals as goal
 
 pub loop-token-preserved : goal.loop-token-preserved
@@ -14,6 +16,7 @@ loop-token-preserved c =
     record {
       front = rw c.in_ok-push.ensures.items front;
       before = c.loop-token.invariant.before ∙ rw (c.in-Some.ensures.tokens, c.in_ok-push.ensures.items, c.in_ok-pass.ensures) (front_goes c.args.stop c.loop-token.open c.loop-token.found.items c.in-Some.token (tokens_of c.next.new.self.rest.now) inside);
+      opened = c.in_ok-pass.ensures ∙ ap (λ o. open_after o (item_in c.in-Some.token)) c.loop-token.invariant.opened ∙ rw c.in_ok-push.ensures.items (sym (opened_push c.loop-token.found.items c.in-Some.token));
       after = c.loop-token.invariant.after ∙ rw (c.in-Some.ensures.tokens, c.in_ok-pass.ensures) (after_goes c.args.stop c.loop-token.open c.in-Some.token (tokens_of c.next.new.self.rest.now) inside);
     }
 
@@ -33,6 +36,12 @@ returns-then-ends-clause-rest c =
     let stops : ends c.args.stop c.loop-token.open (item_in c.in-Some.token) ≡ true = sym c.ends.ensures ∙ c.if-ends.true in
     let after = c.loop-token.invariant.after ∙ ap (after_from c.args.stop c.loop-token.open) c.in-Some.ensures.tokens ∙ after_stops c.args.stop c.loop-token.open c.in-Some.token (tokens_of c.next.new.self.rest.now) stops in
     sym (ap rest_of after ∙ rest_is (item_in c.in-Some.token) (tokens_of c.next.new.self.rest.now))
+
+pub returns-then-ends-clause-closed : goal.returns-then-ends-clause-closed
+returns-then-ends-clause-closed c = closed_stops c.args.stop c.loop-token.open (items_in c.loop-token.found.items) (item_in c.in-Some.token) (sym c.ends.ensures ∙ c.if-ends.true) c.loop-token.invariant.opened
+
+pub returns-clause-closed : goal.returns-clause-closed
+returns-clause-closed c = closed_ends c.loop-token.open (items_in c.loop-token.found.items) c.is_outside.result c.is_outside.ensures c.loop-token.invariant.opened
 
 pub returns-clause-found : goal.returns-clause-found
 returns-clause-found c = sym (c.loop-token.invariant.before ∙ rw c.in_default.ensures.tokens (front_ends c.args.stop c.loop-token.open c.loop-token.found.items))

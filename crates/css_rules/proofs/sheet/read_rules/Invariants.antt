@@ -1,4 +1,5 @@
 use Rattle.std.proofs.Common.{◌≡◌, ◌≤◌, ◌++◌, List, false, map, length}
+use Rattle.bk_num.specs.Limits.{most_rules}
 use Rattle.css_tok.specs.Tokens.{tokens_of}
 use Rattle.css_rules.specs.Pages.{PageOf, page_in}
 use Rattle.css_rules.specs.Sheet.{RuleOf, AreRules, rule_in, rule_count}
@@ -8,7 +9,7 @@ abbrev pub invariant-rules : goal.invariant-rules
 invariant-rules l = record {
   goes : (rs : List RuleOf) (ps : List PageOf) → AreRules l.inside (tokens_of l.tokens.rest.now) rs ps → AreRules false (tokens_of l.fn.text) (map rule_in l.rules.items ++ rs) (map page_in l.pages.items ++ ps);
   counted : l.count ≡ rule_count (map rule_in l.rules.items) (map page_in l.pages.items);
-  few : l.count ≤ 20000;
+  few : l.count ≤ most_rules;
 }
 
 abbrev pub decreases-rules : goal.decreases-rules
