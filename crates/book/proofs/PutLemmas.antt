@@ -12,13 +12,13 @@ use Rattle.bk_io.proofs.Bytes.{Appends-more}
 parts : {X : Type 0} (f : X → List ℕ) (xs : List X) (i : ℕ) (d : X) → i < length xs → flat_map f xs ≡ flat_map f (take i xs) ++ (f (get_or xs i d) ++ flat_map f (drop (suc i) xs))
 parts f xs i d h = ap (flat_map f) (sym (take-append-drop i xs)) ∙ flat_map-append f (take i xs) (drop i xs) ∙ ap (λ r. flat_map f (take i xs) ++ flat_map f r) (drop-cons xs i d h) ∙ ap (λ r. flat_map f (take i xs) ++ r) (flat_map-cons f (get_or xs i d) (drop (suc i) xs))
 
--- the first texts and a front of the next one are a front of all
-front : {X : Type 0} (f : X → List ℕ) (xs : List X) (i n : ℕ) (d : X) → i < length xs → take (length (flat_map f (take i xs)) + min n (length (f (get_or xs i d)))) (flat_map f xs) ≡ flat_map f (take i xs) ++ take n (f (get_or xs i d))
-front f xs i n d h =
+-- the first texts and a prefix of the next one are a prefix of all
+prefix_of : {X : Type 0} (f : X → List ℕ) (xs : List X) (i n : ℕ) (d : X) → i < length xs → take (length (flat_map f (take i xs)) + min n (length (f (get_or xs i d)))) (flat_map f xs) ≡ flat_map f (take i xs) ++ take n (f (get_or xs i d))
+prefix_of f xs i n d h =
     let k : ℕ = min n (length (f (get_or xs i d))) in
     let low : min n (length (f (get_or xs i d))) ≤ length (f (get_or xs i d)) = omega arith in
     rw (parts f xs i d h, take-append-add) (ap (λ r. flat_map f (take i xs) ++ r) (take-append-le (min n (length (f (get_or xs i d)))) (f (get_or xs i d)) (flat_map f (drop (suc i) xs)) low ∙ take_min n (f (get_or xs i d))))
 
--- where the next text was put in part, a front of all was put
+-- where the next text was put in part, a prefix of all was put
 pub put_in_part : {X E : Type 0} (f : X → List ℕ) (xs : List X) (i n : ℕ) (d : X) (e : E) (old mid new : Option (List ℕ)) → i < length xs → Appends old mid (flat_map f (take i xs)) → Appends mid new (take n (f (get_or xs i d))) → AppendsAllOrPrefix old new (flat_map f xs) (Err e)
-put_in_part f xs i n d e old mid new h a b = (length (flat_map f (take i xs)) + min n (length (f (get_or xs i d))), Appends-more old mid new (flat_map f (take i xs)) (take n (f (get_or xs i d))) _ a b (sym (front f xs i n d h)))
+put_in_part f xs i n d e old mid new h a b = (length (flat_map f (take i xs)) + min n (length (f (get_or xs i d))), Appends-more old mid new (flat_map f (take i xs)) (take n (f (get_or xs i d))) _ a b (sym (prefix_of f xs i n d h)))

@@ -1,6 +1,7 @@
 -- How a run stops at a file, and goes on after one.
 use Rattle.std.proofs.Common.{◌≡◌, ◌≢◌, ap, ◌⊎◌, ℕ, ◌≤◌, List, length, sum_by, nat_lt, true, false, cond, inl, inr, refl, sym, arith, subst, Option, Some, None, Result, Ok, Err, Bool}
 use Rattle.std.specs.Str.{is_utf8}
+use Rattle.bk_num.specs.Limits.{most_file_bytes, most_text_bytes}
 use Rattle.bk_io.proofs.Reading.{Rose-since}
 use Rattle.bk_io.specs.Shelf.{Told, untold, absent, holds}
 use Rattle.book.specs.Expect.{Expect, free, refused, given, IsGiven, IsRefused, IsRefusedUnlessMemory, ◌>>=◌}
@@ -55,7 +56,7 @@ later_cond f false x y h k = k
 later_text : (f g : FileOf) (told : Told) → file_stage f ≤ file_stage g → Later f (text_of g told)
 later_text f g untold h = tt
 later_text f g absent h = h
-later_text f g (holds bytes) h = later_cond f (nat_lt 16777216 (length bytes)) _ _ h (later_cond f (is_utf8 bytes) _ _ tt h)
+later_text f g (holds bytes) h = later_cond f (nat_lt most_file_bytes (length bytes)) _ _ h (later_cond f (is_utf8 bytes) _ _ tt h)
 
 later_faces : (f : FileOf) (read : Result (List FontFace) (ℕ × MetricsWhy)) → Later f (faces_expected read)
 later_faces f (Ok faces) = tt
@@ -92,7 +93,7 @@ later_book count f t =
     later_bind f _ _ (later_verdict f (verdict_of count (sheets_of nodes t.sheet))) (λ v.
     later_bind f _ _ (later_form f (unbuilt_node v nodes) (paragraph_texts nodes)) (λ texts.
     later_bind f _ _ (later_file f v) (λ unruled.
-    later_bind f _ _ (later_cond f (nat_lt 33554432 (sum_by length texts)) _ _ tt tt) (λ room. tt))))))
+    later_bind f _ _ (later_cond f (nat_lt most_text_bytes (sum_by length texts)) _ _ tt tt) (λ room. tt))))))
 
 unforeseen_before : (f : FileOf) (p o : Outcome) → IsReadBefore f p → (o ≡ out.ReadFault f) ⊎ (o ≡ out.NoMemory) → ComesBefore o p
 unforeseen_before f p o l u = elim u [ inl e ↦ rw e l | inr e ↦ rw e tt ]

@@ -2,13 +2,12 @@
 use Rattle.std.specs.Prelude.{◌≡◌, ℕ, ◌%◌, ◌≤◌, Bool, false, List, [], ◌∷◌, ◌++◌, length, ◌==◌, if◌then◌else◌, codes, ℤ, pos, ◌+ℤ◌, ◌-ℤ◌}
 use Rattle.std.specs.List.{flat_map}
 use Rattle.bk_num.specs.Units.{floor_div}
+use Rattle.bk_num.specs.Limits.{most_pages, page_width, page_height, page_margin, frame_width, frame_height, root_size}
 use Rattle.bk_num.specs.declared.ids.FaceId.{FaceId}
 use Rattle.bk_num.specs.declared.values.Color.{Color}
-use Rattle.bk_num.specs.declared.values.Side.{Side}
-use Rattle.bk_num.specs.declared.values.Side.TheVariants as side
 use Rattle.metrics.specs.Face.{FontFace, ascent_of, descent_of, face_at}
 use Rattle.metrics.specs.Choice.{Chooses}
-use Rattle.boxes.specs.Frames.{meets_by_parity}
+use Rattle.boxes.specs.Frames.{meets_by_parity, side_of}
 use Rattle.boxes.specs.Tree.{Tree}
 use Rattle.boxes.specs.declared.frames.Frame.{Frame}
 use Rattle.boxes.specs.declared.frames.PageKind.{PageKind}
@@ -26,15 +25,15 @@ use Rattle.book.specs.Document.{Document}
 
 -- the size of a paragraph's text: 16 px
 abbrev pub text_size : ℤ
-text_size = pos 1024
+text_size = root_size
 
 -- how paragraphs are set in a face: 16 px on lines of 20 px, with margins of 16 px, and at least two lines before and after a break
 abbrev pub style_of : FaceId → ParagraphStyle
-style_of face = record { face = face; size = text_size; line_height = pos 1280; margin = pos 1024; widows = 2; orphans = 2 }
+style_of face = record { face = face; size = text_size; line_height = pos 1280; margin = root_size; widows = 2; orphans = 2 }
 
 -- the frame of each page: of size A5, less margins of 72 px
 abbrev pub page_frame : Frame
-page_frame = record { left = pos 4608; top = pos 4608; width = pos 26584; height = pos 41581 }
+page_frame = record { left = page_margin; top = page_margin; width = frame_width; height = frame_height }
 
 -- all pages have this frame, page 1 is a right page, and sides alternate
 abbrev pub page_frames : PageFrames
@@ -48,12 +47,11 @@ book_tree d face = tree_of (style_of face) d.texts
 unfoldable pub baseline_of : List FontFace → FaceId → ℤ
 baseline_of faces face = floor_div (pos 1280 -ℤ (ascent_of faces face text_size +ℤ descent_of faces face text_size)) 2 +ℤ ascent_of faces face text_size
 
+-- the initial colour (CSS 2.1, 14.1)
 abbrev pub black : Color
 black = record { red = 0; green = 0; blue = 0 }
 
-abbrev pub side_of : ℕ → Side
-side_of index = if index % 2 == 0 then side.Left else side.Right
-
+-- the word for a page's kind
 abbrev pub kind_of : PageKind → Kind
 kind_of page_kind.Flow = kind.Flow
 kind_of page_kind.Blank = kind.Blank
@@ -72,11 +70,11 @@ print_of faces face tree = record { name = (face_at faces face).name; italic = (
 
 -- a line and its text; tops count from the frame's top, and blocks are as wide as the frame
 unfoldable pub line_bytes : Print → Placed → List ℕ
-line_bytes p line = line_record (pos 4608) (pos 4608 +ℤ line.top) (pos 26584) line.height ++ text_record (pos 4608) ((pos 4608 +ℤ line.top) +ℤ p.baseline) (face_field p.name p.italic p.weight) text_size black (text_on p.tree line)
+line_bytes p line = line_record page_margin (page_margin +ℤ line.top) frame_width line.height ++ text_record page_margin ((page_margin +ℤ line.top) +ℤ p.baseline) (face_field p.name p.italic p.weight) text_size black (text_on p.tree line)
 
 -- a page of size A5, whose number is its index, and its lines
 unfoldable pub page_bytes : Print → Page → List ℕ
-page_bytes p page = page_record page.index (pos page.index) (side_of page.index) (kind_of page.kind) [] (pos 35800) (pos 50797) ++ flat_map (line_bytes p) page.solids
+page_bytes p page = page_record page.index (pos page.index) (side_of page.index) (kind_of page.kind) [] page_width page_height ++ flat_map (line_bytes p) page.solids
 
 -- the listing of a page list that settled in the first pass
 unfoldable pub listing_of : Print → List Page → List ℕ
@@ -97,12 +95,12 @@ pub record IsBookOf (d : Document) (b : Book) : Type 0 where
   pub pages : List Page
   pub chosen : Chooses d.faces paragraph_families false 400 face
   pub paged : IsPaged d.faces (book_tree d face) page_frames pages
-  pub few : length pages ≤ 100000
+  pub few : length pages ≤ most_pages
   pub count : b.pages ≡ length pages
   pub listed : b.bytes ≡ listing_of (print_of d.faces face (book_tree d face)) pages
 
--- 100,000 pages of a document leave something unplaced
+-- the most pages of a document leave something unplaced
 pub record HasTooManyPages (d : Document) : Type 0 where
   pub face : FaceId
   pub chosen : Chooses d.faces paragraph_families false 400 face
-  pub left : LeavesSome d.faces (book_tree d face) page_frames 100000
+  pub left : LeavesSome d.faces (book_tree d face) page_frames most_pages

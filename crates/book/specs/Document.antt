@@ -1,5 +1,6 @@
 -- What the texts of the files are read as, or the refusal that they give.
 use Rattle.std.specs.Prelude.{ℕ, List, length, sum_by, min, nat_lt, if◌then◌else◌, Option, Some, None, Result, Ok, Err}
+use Rattle.bk_num.specs.Limits.{most_text_bytes}
 use Rattle.metrics.specs.Face.{FontFace}
 use Rattle.metrics.specs.Text.{faces_of}
 use Rattle.metrics.specs.declared.fault.MetricsWhy.{MetricsWhy}
@@ -61,6 +62,7 @@ lesser_of (Some n) (Some m) = Some (min n m)
 abbrev pub unbuilt_node : Verdict → List Node → Option ℕ
 unbuilt_node v nodes = lesser_of (first_unbuilt nodes) (ruled_element v)
 
+-- the texts, where each node is built
 abbrev pub form_expected : Option ℕ → List (List ℕ) → Expect (List (List ℕ))
 form_expected (Some n) texts = refused (out.NotBuilt file.Html n)
 form_expected None texts = given texts
@@ -74,9 +76,9 @@ abbrev pub file_expected : Verdict → Expect (Unit {0})
 file_expected verdict.FileHasRules = refused (out.NotBuilt (file.Sheet 1) 1)
 file_expected other = given tt
 
--- at most 33,554,432 bytes of text are laid out
+-- no more bytes of text than the limit are laid out
 abbrev pub room_expected : List (List ℕ) → Expect (Unit {0})
-room_expected texts = if nat_lt 33554432 (sum_by length texts) then refused (out.Limit limit.Text) else given tt
+room_expected texts = if nat_lt most_text_bytes (sum_by length texts) then refused (out.Limit limit.Text) else given tt
 
 -- the document of the texts, or the first refusal; `count` gives the number of rules of each sheet's text
 abbrev pub document_of : (List ℕ → ℕ) → Texts → Expect Document

@@ -3,6 +3,7 @@ use Rattle.std.specs.Prelude.{◌≡◌, ℕ, ◌+◌, ◌≤◌, List, length, 
 use Rattle.std.specs.Io.KnownBytes.{Appends, Keeps}
 use Rattle.std.specs.Str.{is_utf8}
 use Rattle.std.specs.Str.Lossy.{utf8_valid_len}
+use Rattle.bk_num.specs.Limits.{most_file_bytes}
 use Rattle.bk_text.specs.Texts.{unmarked}
 use Rattle.bk_io.specs.Shelf.{Told, untold, absent, holds, Faulted}
 use Rattle.bk_io.specs.Causes.{Rose}
@@ -17,11 +18,11 @@ use Rattle.book.specs.declared.outcome.FileOf.{FileOf}
 use Rattle.book.specs.declared.outcome.FileOf.TheVariants as file
 use Rattle.book.specs.declared.outcome.LimitOf.TheVariants as limit
 
--- the text of a file that has at most 16,777,216 bytes
+-- the text of a file within the limit of bytes
 abbrev pub text_of : FileOf → Told → Expect (List ℕ)
 text_of f untold = free
 text_of f absent = refused (out.ReadFault f)
-text_of f (holds bytes) = if nat_lt 16777216 (length bytes) then refused (out.TooLarge f) else
+text_of f (holds bytes) = if nat_lt most_file_bytes (length bytes) then refused (out.TooLarge f) else
     if is_utf8 bytes then given (unmarked bytes) else refused (out.NotUtf8 f (utf8_valid_len bytes))
 
 -- the texts of the files that the words name, or the first refusal in the order of the steps
@@ -94,7 +95,7 @@ HaltsAt free o = Unit {0}
 HaltsAt (refused p) o = IsRefusedUnlessMemory {A = Document} (refused p) o
 HaltsAt (given d) o = Ends d o
 
--- what a run over a document answers, by the bytes taken: Done wrote the document's book, and a write fault a front of it
+-- what a run over a document answers, by the bytes taken: Done wrote the document's book, and a write fault a prefix of it
 abbrev pub Writes : Document → Option (List ℕ) → Option (List ℕ) → Outcome → Type 0
 Writes d old new (out.Done pages passes) = (b : Book) × IsBookOf d b × (pages ≡ b.pages) × (passes ≡ 1) × Appends old new b.bytes
 Writes d old new out.WriteFault = (b : Book) × IsBookOf d b × ((n : ℕ) × Appends old new (take n b.bytes))
@@ -155,9 +156,9 @@ abbrev pub HasWordsCause : Expect Names → Outcome → Type 0
 HasWordsCause e (out.NotRead k) = e ≡ refused (out.NotRead k)
 HasWordsCause e o = Unit {0}
 
--- a line was put: all of it, or, where the count of faults rose, a front of it
-abbrev pub IsTold : Option (List ℕ) → Option (List ℕ) → ℕ → ℕ → List ℕ → Type 0
-IsTold old new before now line = (before ≤ now) × (Appends old new line ⊎ (Rose before now × ((n : ℕ) × Appends old new (take n line))))
+-- a line was put: all of it, or, where the count of faults rose, a prefix of it
+abbrev pub PutsLine : Option (List ℕ) → Option (List ℕ) → ℕ → ℕ → List ℕ → Type 0
+PutsLine old new before now line = (before ≤ now) × (Appends old new line ⊎ (Rose before now × ((n : ℕ) × Appends old new (take n line))))
 
 -- the answer is neither a refusal of words or of files nor one of a run that put something
 abbrev pub IsOfTexts : Outcome → Type 0

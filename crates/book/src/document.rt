@@ -1,6 +1,7 @@
 //! Reads the texts of the files as a document.
 
 ghost use Rattle.std.specs.Prelude.{◌≡◌, ℕ, ◌<◌, ◌≤◌, List, MatchBool, MatchResult, IfErr, IfOk, length, map, option_map, sum_by, All, string_bytes, string_len};
+ghost use Rattle.bk_num.specs.Limits.{most_nodes, most_text_bytes};
 ghost use Rattle.metrics.specs.Text.{faces_of};
 ghost use Rattle.html_tree.specs.Tree.{tree_of};
 ghost use Rattle.plain_flow.specs.Texts.{IsParagraphText};
@@ -12,6 +13,7 @@ ghost use Rattle.book.specs.Run.{IsOfTexts};
 
 use crate::outcome::{FileOf, LimitOf, Outcome};
 use bk_num::ids::NodeId;
+use bk_num::limits::MOST_TEXT_BYTES;
 use bk_num::name::NoMem;
 use dom::{Dom, DomErr};
 use html_tree::read_html;
@@ -34,9 +36,6 @@ pub(crate) struct Texts<'a> {
     pub(crate) html: &'a str,
     pub(crate) sheet: &'a str,
 }
-
-/// The most bytes of text that are laid out.
-const MOST: usize = 33554432;
 
 impl From<AllocError> for Outcome {
     ghost use Rattle.std.specs.Prelude.{◌≡◌};
@@ -62,7 +61,7 @@ impl From<NoMem> for Outcome {
 
 /// The faces of the metrics text.
 fn read_faces(alloc: Global, metrics: &str) -> Result<Faces, Outcome>
-    requires { length metrics.now ≤ 33554432 }
+    requires { length metrics.now ≤ most_text_bytes }
     ensures faces { MatchResult result (λ f. IsGiven (faces_expected (faces_of metrics.now)) f) (λ o. IsRefusedUnlessMemory (faces_expected (faces_of metrics.now)) o) }
     ensures of_texts { IfErr result IsOfTexts }
 {
@@ -132,10 +131,10 @@ fn ruled_element(verdict: Verdict) -> Option<NodeId>
 fn read_texts(alloc: Global, dom: &Dom, verdict: Verdict) -> Result<Vec<String>, Outcome>
     ensures texts { MatchResult result (λ v. IsGiven (paragraphs_expected verdict dom.now) (map (λ t. string_bytes t) v.items)) (λ o. IsRefusedUnlessMemory (paragraphs_expected verdict dom.now) o) }
     ensures plain { IfOk result (λ v. All (λ t. IsParagraphText (string_bytes t)) v.items) }
-    ensures count { IfOk result (λ v. length v.items ≤ 400000) }
+    ensures count { IfOk result (λ v. length v.items ≤ most_nodes) }
     ensures of_texts { IfErr result IsOfTexts }
 {
-    // a tree has at most 400,000 nodes
+    // a tree is within the limit of nodes
     let _count = dom.len();
     match (read_paragraphs(alloc, dom)?, ruled_element(verdict)) {
         (Ok(texts), None) => Ok(texts),
@@ -161,9 +160,9 @@ fn check_file(verdict: Verdict) -> Result<(), Outcome>
 /// Whether the texts have more bytes than are laid out.
 #[tactic(auto, using(crate::proofs::PlainTexts::sum_next))]
 fn is_too_long(texts: &[String]) -> bool
-    ensures { MatchBool result (33554432 < sum_by (λ t. string_len t) texts.now) (sum_by (λ t. string_len t) texts.now ≤ 33554432) }
+    ensures { MatchBool result (most_text_bytes < sum_by (λ t. string_len t) texts.now) (sum_by (λ t. string_len t) texts.now ≤ most_text_bytes) }
 {
-    let mut room = MOST;
+    let mut room = MOST_TEXT_BYTES as usize;
     for text in texts {
         if text.len() > room {
             return true;
@@ -175,7 +174,7 @@ fn is_too_long(texts: &[String]) -> bool
 
 fn check_room(texts: &[String]) -> Result<(), Outcome>
     ensures room { MatchResult result (λ u. IsGiven (room_expected (map (λ t. string_bytes t) texts.now)) u) (λ o. IsRefusedUnlessMemory (room_expected (map (λ t. string_bytes t) texts.now)) o) }
-    ensures few { IfOk result (λ u. sum_by (λ t. string_len t) texts.now ≤ 33554432) }
+    ensures few { IfOk result (λ u. sum_by (λ t. string_len t) texts.now ≤ most_text_bytes) }
     ensures of_texts { IfErr result IsOfTexts }
 {
     if is_too_long(texts) {
@@ -189,12 +188,12 @@ fn check_room(texts: &[String]) -> Result<(), Outcome>
 /// The document of the texts.
 #[tactic(auto, using(crate::proofs::Stopping::refused_after, crate::proofs::Stopping::memory_bind))]
 pub(crate) fn read_document(alloc: Global, texts: Texts<'_>) -> Result<Document, Outcome>
-    requires { length texts.metrics.now ≤ 33554432 }
+    requires { length texts.metrics.now ≤ most_text_bytes }
     ensures document { (count : List ℕ → ℕ) → IsRuleCount count → let document = document_of count (record { metrics = texts.entry.metrics.now; html = texts.entry.html.now; sheet = texts.entry.sheet.now }) in
         MatchResult result (λ d. IsGiven document (document_in d)) (λ o. IsRefusedUnlessMemory document o) }
     ensures plain { IfOk result (λ d. All (λ t. IsParagraphText (string_bytes t)) d.texts.items) }
-    ensures count { IfOk result (λ d. length d.texts.items ≤ 400000) }
-    ensures few { IfOk result (λ d. sum_by (λ t. string_len t) d.texts.items ≤ 33554432) }
+    ensures count { IfOk result (λ d. length d.texts.items ≤ most_nodes) }
+    ensures few { IfOk result (λ d. sum_by (λ t. string_len t) d.texts.items ≤ most_text_bytes) }
     ensures of_texts { IfErr result IsOfTexts }
 {
     let faces = read_faces(alloc, texts.metrics)?;

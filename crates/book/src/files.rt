@@ -1,6 +1,7 @@
 //! Reads the text of a file.
 
 ghost use Rattle.std.specs.Prelude.{◌≡◌, ◌≤◌, MatchResult, IfErr, IfOk, map, string_bytes, string_len};
+ghost use Rattle.bk_num.specs.Limits.{most_file_bytes};
 ghost use Rattle.bk_text.specs.Texts.{unmarked};
 ghost use Rattle.book.specs.Expect.{IsGiven};
 ghost use Rattle.book.specs.FilesView.{texts_in};
@@ -11,6 +12,7 @@ use crate::outcome::{FileOf, Outcome};
 use crate::words::names_of;
 use bk_io::read_all::{ReadErr, read_all};
 use bk_io::shelf::Shelf;
+use bk_num::limits::MOST_FILE_BYTES;
 use bk_text::text_from;
 use std::alloc::Global;
 
@@ -22,9 +24,6 @@ pub(crate) struct FileTexts {
     pub(crate) sheet: String,
 }
 
-/// The most bytes of a file.
-const MOST: u64 = 16777216;
-
 /// The text of one file, a leading U+FEFF included.
 fn read_text<F: Shelf>(
     alloc: Global,
@@ -34,11 +33,11 @@ fn read_text<F: Shelf>(
 ) -> Result<String, Outcome>
     ensures told { F.told shelf.new ≡ F.told shelf.old }
     ensures text { MatchResult result (λ t. IsGiven (text_of file (F.told shelf.old name.now)) (unmarked (string_bytes t))) (λ o. StopsAt file (text_of file (F.told shelf.old name.now)) o) }
-    ensures small { IfOk result (λ t. string_len t ≤ 16777216) }
+    ensures small { IfOk result (λ t. string_len t ≤ most_file_bytes) }
     ensures later { F.faults shelf.old ≤ F.faults shelf.new }
     ensures cause { IfErr result (λ o. HasCauseAt file (F.told shelf.old name.now) name.now (F.faults shelf.old) (F.faults shelf.new) (F.last_fault shelf.new) o) }
 {
-    let bytes = match read_all(alloc, shelf, name, MOST) {
+    let bytes = match read_all(alloc, shelf, name, MOST_FILE_BYTES) {
         Ok(bytes) => bytes,
         Err(ReadErr::Failed) => return Err(Outcome::ReadFault { file }),
         Err(ReadErr::TooLarge) => return Err(Outcome::TooLarge { file }),
@@ -61,7 +60,7 @@ pub(crate) fn read_files<F: Shelf>(
 ) -> Result<FileTexts, Outcome>
     ensures texts { let texts = texts_expected (map (λ w. string_bytes w) words.now) (F.told shelf.old) in
         MatchResult result (λ t. IsGiven texts (texts_in t)) (λ o. Stops texts o) }
-    ensures small { IfOk result (λ t. string_len t.metrics ≤ 16777216) }
+    ensures small { IfOk result (λ t. string_len t.metrics ≤ most_file_bytes) }
     ensures fault { IfErr result (λ o. HasReadCause (asked (map (λ w. string_bytes w) words.now)) (F.told shelf.old) (F.faults shelf.old) (F.faults shelf.new) (F.last_fault shelf.new) o) }
     ensures words { IfErr result (λ o. HasWordsCause (asked (map (λ w. string_bytes w) words.now)) o) }
     ensures no_put { IfErr result IsNoPut }

@@ -1,6 +1,7 @@
 //! Lays a document out.
 
 ghost use Rattle.std.specs.Prelude.{◌≡◌, ℕ, ◌<◌, ◌≤◌, ◌⊎◌, ◌^◌, [], false, length, map, sum_by, All, IfOk, IfErr, MatchResult, string_bytes, string_len, unsigned_abs};
+ghost use Rattle.bk_num.specs.Limits.{most_nodes, most_pages, most_text_bytes};
 ghost use Rattle.metrics.specs.Choice.{Chooses};
 ghost use Rattle.boxes.specs.Tree.{IsWhole, depth_of};
 ghost use Rattle.cursor.specs.Plain.{HasPlainLeaves};
@@ -16,6 +17,7 @@ use crate::document::Document;
 use crate::outcome::{LimitOf, Outcome};
 use crate::print::{Printer, print};
 use bk_num::ids::FaceId;
+use bk_num::limits::{FRAME_HEIGHT, FRAME_WIDTH, PAGE_MARGIN, ROOT_SIZE};
 use bk_num::name::{Name, NoMem};
 use bk_num::px::Px;
 use bk_num::steps::Steps;
@@ -43,7 +45,7 @@ pub(crate) struct Book {
 fn text_size() -> Px
     ensures { result ≡ text_size }
 {
-    Px::from_units(1024)
+    Px::from_units(i64::from(ROOT_SIZE))
 }
 
 /// How paragraphs are set in a face: 16 px on lines of 20 px, with margins of 16 px.
@@ -55,7 +57,7 @@ fn style_of(face: FaceId) -> ParagraphStyle
         face,
         size: text_size(),
         line_height: Px::from_units(1280),
-        margin: Px::from_units(1024),
+        margin: Px::from_units(i64::from(ROOT_SIZE)),
         widows: 2,
         orphans: 2,
     }
@@ -66,10 +68,10 @@ fn page_frame() -> Frame
     ensures { result ≡ page_frame }
 {
     Frame {
-        left: 4608,
-        top: 4608,
-        width: 26584,
-        height: 41581,
+        left: i64::from(PAGE_MARGIN),
+        top: i64::from(PAGE_MARGIN),
+        width: i64::from(FRAME_WIDTH),
+        height: i64::from(FRAME_HEIGHT),
     }
 }
 
@@ -108,9 +110,9 @@ fn pages_of<L: Ledger>(
     requires plain { IsPlain flow.now.main }
     requires leaves { HasPlainLeaves faces.now flow.now.main }
     ensures pages { IfOk result (λ list. IsPaged faces.now flow.now.main page_frames list.pages) }
-    ensures few { IfOk result (λ list. length list.pages ≤ 100000) }
+    ensures few { IfOk result (λ list. length list.pages ≤ most_pages) }
     ensures near { IfOk result (λ list. HaveNearTops list.pages) }
-    ensures err { IfErr result (λ o. (o ≡ Outcome.NoMemory) ⊎ ((o ≡ Outcome.Limit LimitOf.Pages) × LeavesSome faces.now flow.now.main page_frames 100000)) }
+    ensures err { IfErr result (λ o. (o ≡ Outcome.NoMemory) ⊎ ((o ≡ Outcome.Limit LimitOf.Pages) × LeavesSome faces.now flow.now.main page_frames most_pages)) }
 {
     let frames = OneFrame {
         frame: page_frame(),
@@ -134,7 +136,7 @@ fn list(
 ) -> Result<Vec<u8>, NoMem>
     requires face { face.0 < length faces.now }
     requires ascii { HasAsciiLeaves tree.now }
-    requires few { length pages.now ≤ 100000 }
+    requires few { length pages.now ≤ most_pages }
     requires near { HaveNearTops pages.now }
     ensures { IfOk result (λ v. v.items ≡ listing_of (print_of faces.now face tree.now) pages.now) }
 {
@@ -159,8 +161,8 @@ pub(crate) fn lay_out<L: Ledger>(
     steps: &mut Steps<L>,
 ) -> Result<Book, Outcome>
     requires plain { All (λ t. IsParagraphText (string_bytes t)) document.texts.items }
-    requires count { length document.texts.items ≤ 400000 }
-    requires few { sum_by (λ t. string_len t) document.texts.items ≤ 33554432 }
+    requires count { length document.texts.items ≤ most_nodes }
+    requires few { sum_by (λ t. string_len t) document.texts.items ≤ most_text_bytes }
     ensures book { IfOk result (λ b. IsBookOf (document_in document) (record { pages = b.pages; bytes = b.bytes.items })) }
     ensures ends { IfErr result (λ o. Ends (document_in document) o) }
     ensures of_texts { IfErr result IsOfTexts }

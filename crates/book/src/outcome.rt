@@ -24,7 +24,7 @@ pub enum Outcome {
     Limit { what: LimitOf },
     /// A file has a form that isn't built yet.
     NotBuilt { file: FileOf, at: u64 },
-    /// The listing could not be written; a front of it was.
+    /// The listing could not be written; a prefix of it was.
     WriteFault,
     /// Memory ran out.
     NoMemory,

@@ -1,19 +1,21 @@
 //! Prints a page list.
 
 ghost use Rattle.std.specs.Prelude.{◌≡◌, pos, neg_ℤ, ◌+ℤ◌, ◌≤ℤ◌, ◌<◌, ◌≤◌, ◌^◌, ◌++◌, length, All, IfOk, OnOk, unsigned_abs};
+ghost use Rattle.bk_num.specs.Limits.{page_margin, frame_width};
 ghost use Rattle.fragment.specs.Pages.{IsNear, HaveNearTops};
 ghost use Rattle.fragment.specs.Parted.{text_at, text_on};
 ghost use Rattle.listing.specs.Records.{line_record, text_record, face_field};
-ghost use Rattle.book.specs.Answer.{side_of, kind_of, text_size, black, line_bytes, page_bytes, listing_of};
+ghost use Rattle.book.specs.Answer.{kind_of, text_size, black, line_bytes, page_bytes, listing_of};
 ghost use Rattle.book.specs.Printer.{view_of, HasAsciiLeaves};
 
-use bk_num::values::{Color, Side};
-use boxes::frames::PageKind;
+use bk_num::limits::{FRAME_WIDTH, PAGE_HEIGHT, PAGE_MARGIN, PAGE_WIDTH, ROOT_SIZE};
+use bk_num::values::Color;
+use boxes::frames::{PageKind, side_of};
 use boxes::page::{Page, Placed};
 use boxes::place::Event;
 use boxes::tree::BoxTree;
 use listing::records::{
-    Area, FaceLabel, Kind, PageHead, Style, push_book, push_end, push_line, push_page, push_text,
+    Area, FaceLabel, Kind, PageHead, Style, push_book, push_end, push_line, push_page as push_head, push_text,
 };
 use std::alloc::{AllocError, Global};
 
@@ -26,25 +28,11 @@ pub(crate) struct Printer<'a> {
     pub(crate) tree: &'a BoxTree,
 }
 
-/// The margins of a page, in units: 72 px.
-const MARGIN: i64 = 4608;
-
 const BLACK: Color = Color {
     red: 0,
     green: 0,
     blue: 0,
 };
-
-/// Page 1 is a right page, and sides alternate.
-fn side_of(index: u32) -> Side
-    ensures { result ≡ side_of index }
-{
-    if index % 2 == 0 {
-        Side::Left
-    } else {
-        Side::Right
-    }
-}
 
 fn kind_of(kind: PageKind) -> Kind
     ensures { result ≡ kind_of kind }
@@ -88,22 +76,22 @@ fn text_on<'a>(tree: &'a BoxTree, line: &Placed) -> &'a str
 /// How far below its page's top a line is.
 fn y_of(line: &Placed) -> i64
     requires { IsNear line.now }
-    ensures value { result ≡ pos 4608 +ℤ line.now.top }
+    ensures value { result ≡ page_margin +ℤ line.now.top }
     ensures low { neg_ℤ (pos (2 ^ 61)) ≤ℤ result }
     ensures high { result ≤ℤ pos (2 ^ 61) }
 {
-    MARGIN + line.top
+    i64::from(PAGE_MARGIN) + line.top
 }
 
 /// Appends a line.
 fn push_area(out: &mut Vec<u8>, line: &Placed) -> Result<(), AllocError>
     requires { IsNear line.now }
-    ensures { OnOk result (out.new.items ≡ out.old.items ++ line_record (pos 4608) (pos 4608 +ℤ line.now.top) (pos 26584) line.now.height) }
+    ensures { OnOk result (out.new.items ≡ out.old.items ++ line_record page_margin (page_margin +ℤ line.now.top) frame_width line.now.height) }
 {
     let area = Area {
-        x: MARGIN,
+        x: i64::from(PAGE_MARGIN),
         y: y_of(line),
-        width: 26584,
+        width: i64::from(FRAME_WIDTH),
         height: line.height,
     };
     push_line(out, &area)
@@ -114,13 +102,13 @@ fn push_words(out: &mut Vec<u8>, printer: &Printer<'_>, line: &Placed) -> Result
     requires ascii { HasAsciiLeaves printer.now.tree.now }
     requires baseline { unsigned_abs printer.now.baseline ≤ 2 ^ 40 }
     requires near { IsNear line.now }
-    ensures { let p = view_of printer.now in OnOk result (out.new.items ≡ out.old.items ++ text_record (pos 4608) ((pos 4608 +ℤ line.now.top) +ℤ p.baseline) (face_field p.name p.italic p.weight) text_size black (text_on p.tree line.now)) }
+    ensures { let p = view_of printer.now in OnOk result (out.new.items ≡ out.old.items ++ text_record page_margin ((page_margin +ℤ line.now.top) +ℤ p.baseline) (face_field p.name p.italic p.weight) text_size black (text_on p.tree line.now)) }
 {
     let style = Style {
-        x: MARGIN,
+        x: i64::from(PAGE_MARGIN),
         y: y_of(line) + printer.baseline,
         face: printer.label,
-        size: 1024,
+        size: ROOT_SIZE,
         color: BLACK,
     };
     push_text(out, &style, text_on(printer.tree, line))
@@ -138,9 +126,9 @@ fn push_placed(out: &mut Vec<u8>, printer: &Printer<'_>, line: &Placed) -> Resul
     push_words(out, printer, line)
 }
 
-/// Appends a page.
+/// Appends a page's record, its lines and their texts.
 #[tactic(auto, unfolding(crate::specs::Answer::page_bytes))]
-fn push_lines(out: &mut Vec<u8>, printer: &Printer<'_>, page: &Page) -> Result<(), AllocError>
+fn push_page(out: &mut Vec<u8>, printer: &Printer<'_>, page: &Page) -> Result<(), AllocError>
     requires ascii { HasAsciiLeaves printer.now.tree.now }
     requires baseline { unsigned_abs printer.now.baseline ≤ 2 ^ 40 }
     requires near { All IsNear page.now.solids }
@@ -152,10 +140,10 @@ fn push_lines(out: &mut Vec<u8>, printer: &Printer<'_>, page: &Page) -> Result<(
         side: side_of(page.index),
         kind: kind_of(page.kind),
         name: "",
-        width: 35800,
-        height: 50797,
+        width: i64::from(PAGE_WIDTH),
+        height: i64::from(PAGE_HEIGHT),
     };
-    push_page(out, &head)?;
+    push_head(out, &head)?;
     for line in page.solids.as_slice() {
         push_placed(out, printer, line)?;
     }
@@ -178,7 +166,7 @@ pub(crate) fn print(
     let mut out = Vec::new(alloc);
     push_book(&mut out, pages.len() as u32, 1)?;
     for page in pages {
-        push_lines(&mut out, printer, page)?;
+        push_page(&mut out, printer, page)?;
     }
     push_end(&mut out)?;
     Ok(out)

@@ -369,7 +369,7 @@ fn faults_of_files_and_streams(rt: HostRuntime) {
 }
 
 #[test]
-fn a_failed_put_leaves_a_front(rt: HostRuntime) {
+fn a_failed_put_leaves_a_prefix(rt: HostRuntime) {
     let alloc = rt.alloc();
     let words = ["format", "m", "h", "s"];
     let html = b"<p>aaaa bbbb cccc</p>";

@@ -44,7 +44,7 @@ fn refused() -> Outcome
     }
 }
 
-/// The names behind the word `format`.
+/// The names after the word `format`.
 #[tactic(auto, unfolding(crate::specs::Request::names_in))]
 fn names_in<'a>(words: &'a [String]) -> Result<FileNames<'a>, Outcome>
     ensures names { let asked = names_in (map (λ w. string_bytes w) words.now) in

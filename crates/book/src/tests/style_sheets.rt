@@ -114,10 +114,10 @@ fn the_first_node_that_is_not_built_is_told_before_the_file(rt: HostRuntime) {
     }
 }
 
-/// A text that has a piece a number of times after its front.
-fn repeated(alloc: Global, front: &str, piece: &str, count: usize) -> Option<String> {
+/// A text that has a piece a number of times after what it begins with.
+fn repeated(alloc: Global, begin: &str, piece: &str, count: usize) -> Option<String> {
     let mut text = String::new(alloc);
-    text.push_str(front).ok()?;
+    text.push_str(begin).ok()?;
     for _ in 0..count {
         text.push_str(piece).ok()?;
     }
@@ -128,7 +128,7 @@ fn repeated(alloc: Global, front: &str, piece: &str, count: usize) -> Option<Str
 fn limits_come_before_what_is_not_built(rt: HostRuntime) {
     let limit = |what| Outcome::Limit { what };
     let style = "<style></style>";
-    for (front, piece, count, rules, outcome, status, line) in [
+    for (begin, piece, count, rules, outcome, status, line) in [
         // fifteen elements and the file, and one more
         (
             "<head>",
@@ -224,7 +224,7 @@ fn limits_come_before_what_is_not_built(rt: HostRuntime) {
             "bookfmt: limit: nodes\n",
         ),
     ] {
-        let html = repeated(rt.alloc(), front, piece, count);
+        let html = repeated(rt.alloc(), begin, piece, count);
         let sheet = repeated(rt.alloc(), "", "p{}", rules);
         let (Some(html), Some(sheet)) = (html, sheet) else {
             assert!(rt; false);
@@ -239,7 +239,7 @@ fn limits_come_before_what_is_not_built(rt: HostRuntime) {
             assert!(rt; false);
             return;
         };
-        assert_eq!(rt; left.outcome, outcome, "{front} {count} {rules}");
+        assert_eq!(rt; left.outcome, outcome, "{begin} {count} {rules}");
         assert_eq!(rt; left.outcome.status(), status);
         assert!(rt; left.line.as_slice() == line.as_bytes(), "{line}");
     }

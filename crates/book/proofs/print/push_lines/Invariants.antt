@@ -1,9 +1,0 @@
-use Rattle.std.proofs.Common.{◌≡◌, ◌++◌, take, pos, []}
-use Rattle.std.specs.List.{flat_map}
-use Rattle.listing.specs.Records.{page_record}
-use Rattle.book.specs.Answer.{line_bytes, side_of, kind_of}
-use Rattle.book.specs.Printer.{view_of}
-use Rattle.book.proofs.print.push_lines.Given as goal
-
-abbrev pub invariant-loop-line : goal.invariant-loop-line
-invariant-loop-line l = l.out.items ≡ (l.fn.out.items ++ page_record l.page.index (pos l.page.index) (side_of l.page.index) (kind_of l.page.kind) [] (pos 35800) (pos 50797)) ++ flat_map (line_bytes (view_of l.printer)) (take l.line-index l.line-items)
