@@ -10,7 +10,7 @@ use Rattle.std.proofs.lemmas.Bool.{cases_Bool, cases_eq, both_ways, false_from_n
 use Rattle.std.proofs.lemmas.Bool.Decides.{nat_tests}
 use Rattle.memchr.specs.Find.{Nowhere, Passes, is_byte, is_byte2}
 use Rattle.html_tok.proofs.Places.{place-le, place-fails}
-use Rattle.html_tree.specs.Texts.{mended, mended_byte, digits_len, closing_len, numeric, named, rows, reference_at, referred_after}
+use Rattle.html_tree.specs.Texts.{mended, mended_byte, digits_len, closing_len, numeric, named, named_references, reference_at, referred_after}
 
 -- ---- mending
 
@@ -120,7 +120,7 @@ pub reference-end : (bs : List ℕ) → get_or bs 0 0 ≡ 38 → IsRefEnd bs (re
 unfolding reference_at
 reference-end bs h = elim (cases_Bool (eqb (get_or bs 1 0) 35)) [
   | inl t ↦ rw t (elim (cases_Bool (eqb (get_or bs 2 0) 120 || eqb (get_or bs 2 0) 88)) [ inl u ↦ rw u (numeric-end bs 16 3 (omega arith) h) | inr v ↦ rw v (numeric-end bs 10 2 (omega arith) h) ])
-  | inr f ↦ rw f (named-end rows bs h)
+  | inr f ↦ rw f (named-end named_references bs h)
 ]
 
 referred-plain : (n : ℕ) (bs : List ℕ) → n ≤ length bs → ((k : ℕ) → k < n → is_byte 38 (get_or bs k 0) ≡ false) → referred_after 0 bs ≡ take n bs ++ referred_after 0 (drop n bs)

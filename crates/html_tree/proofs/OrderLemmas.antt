@@ -3,6 +3,7 @@ use Rattle.std.proofs.Common.{◌≡◌, ◌⊎◌, inl, inr, ℕ, suc, zero, �
 use Rattle.std.proofs.lemmas.Option.{slice_get_within, slice_get-map}
 use Rattle.std.specs.Str.{bytes_eq}
 use Rattle.bk_num.specs.declared.ids.NodeId.{NodeId}
+use Rattle.bk_num.specs.Limits.{most_nodes}
 use Rattle.dom.specs.Nodes.{Node, root, child_of, depth_at, depth_of, attribute_at, attributed, changed_at, with_attribute}
 use Rattle.dom.specs.Answers.{is_below_all}
 use Rattle.dom.specs.declared.dom.DomErr.{DomErr}
@@ -231,7 +232,7 @@ keeps-rules name (r ∷ table) s h = keeps-rules name table (record s { opened =
 
 keeps-text : (bytes : List ℕ) (s : State) → IsOrdered s → Keeps (add_text bytes s)
 keeps-text [] s h = h
-keeps-text (b ∷ bs) s h = by (is_text_under (current s.opened) (last_of s.nodes)) (nat_le 400000 (length s.nodes))
+keeps-text (b ∷ bs) s h = by (is_text_under (current s.opened) (last_of s.nodes)) (nat_le most_nodes (length s.nodes))
   where
     by : (c d : Bool) → Keeps (if c then Ok (record s { nodes = appended s.nodes (b ∷ bs) }) else if d then Err Nodes else Ok (record s { nodes = s.nodes ++ child_of s.nodes (current s.opened) (Text (b ∷ bs)) ∷ [] }))
     by true d = ordered-same s.nodes (appended s.nodes (b ∷ bs)) (shape-change (λ n. record n { what = longer (b ∷ bs) n.what }) s.nodes (length s.nodes - 1) (λ n. refl)) s.opened h
@@ -239,7 +240,7 @@ keeps-text (b ∷ bs) s h = by (is_text_under (current s.opened) (last_of s.node
     by false false = push-child s (Text (b ∷ bs)) h
 
 keeps-element : (name attrs : List ℕ) (s : State) → IsOrdered s → Keeps (add_element name attrs s)
-keeps-element name attrs s h = by (nat_le 400000 (length s.nodes)) (is_below_all true (depth_at s.nodes (current s.opened))) (has_name void_names name)
+keeps-element name attrs s h = by (nat_le most_nodes (length s.nodes)) (is_below_all true (depth_at s.nodes (current s.opened))) (has_name void_names name)
   where
     made : (opened : List NodeId) → IsOrdered (record { nodes = s.nodes ++ child_of s.nodes (current s.opened) (Element name []) ∷ []; opened = opened }) → IsOrdered (record { nodes = put_all (length s.nodes) (attributes_of attrs) (s.nodes ++ child_of s.nodes (current s.opened) (Element name []) ∷ []); opened = opened })
     made opened k = ordered-same (s.nodes ++ child_of s.nodes (current s.opened) (Element name []) ∷ []) (put_all (length s.nodes) (attributes_of attrs) (s.nodes ++ child_of s.nodes (current s.opened) (Element name []) ∷ [])) (shape-put_all (length s.nodes) (attributes_of attrs) (s.nodes ++ child_of s.nodes (current s.opened) (Element name []) ∷ [])) opened k

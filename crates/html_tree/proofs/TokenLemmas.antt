@@ -5,6 +5,7 @@ use Rattle.std.proofs.lemmas.List.Elements.{Contains-append_left, Contains-appen
 use Rattle.std.proofs.lemmas.Option.{slice_get_within, slice_get_past}
 use Rattle.std.specs.Str.{bytes_eq}
 use Rattle.bk_num.specs.declared.ids.NodeId.{NodeId}
+use Rattle.bk_num.specs.Limits.{most_nodes}
 use Rattle.dom.specs.Nodes.{Node, parents_of, child_of, depth_at}
 use Rattle.dom.specs.Answers.{is_below_all}
 use Rattle.dom.specs.declared.dom.DomErr.TheVariants.{Nodes, Depth}
@@ -103,7 +104,7 @@ IsNextText s next = (next.opened ≡ s.opened) × ((parents_of next.nodes ≡ pa
 
 text-next : (bytes : List ℕ) (s next : State) → add_text bytes s ≡ Ok next → IsNextText s next
 text-next [] s next h = let e : next ≡ s = cc in (ap (λ (x : State). x.opened) e, inl (ap (λ (x : State). parents_of x.nodes) e))
-text-next (b ∷ bs) s next h = by (is_text_under (current s.opened) (last_of s.nodes)) (nat_le 400000 (length s.nodes)) h
+text-next (b ∷ bs) s next h = by (is_text_under (current s.opened) (last_of s.nodes)) (nat_le most_nodes (length s.nodes)) h
   where
     by : (c d : Bool) → (if c then Ok (record s { nodes = appended s.nodes (b ∷ bs) }) else if d then Err Nodes else Ok (record s { nodes = s.nodes ++ child_of s.nodes (current s.opened) (Text (b ∷ bs)) ∷ [] })) ≡ Ok next → IsNextText s next
     by true d h =
@@ -120,7 +121,7 @@ pub record IsNextElement (name : List ℕ) (s next : State) : Type 0 where
   pub opened : next.opened ≡ opened_after name (length s.nodes) s.opened
 
 element-next : (name attrs : List ℕ) (s next : State) → add_element name attrs s ≡ Ok next → IsNextElement name s next
-element-next name attrs s next h = by (nat_le 400000 (length s.nodes)) (is_below_all true (depth_at s.nodes (current s.opened))) h
+element-next name attrs s next h = by (nat_le most_nodes (length s.nodes)) (is_below_all true (depth_at s.nodes (current s.opened))) h
   where
     by : (c d : Bool) → (if c then Err Nodes else if d then Err Depth else Ok (record {
       nodes = put_all (length s.nodes) (attributes_of attrs) (s.nodes ++ child_of s.nodes (current s.opened) (Element name []) ∷ []);

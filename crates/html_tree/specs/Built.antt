@@ -2,6 +2,7 @@
 use Rattle.std.specs.Prelude.{◌≡◌, ℕ, ◌<◌, ◌-◌, true, List, [], ◌∷◌, ◌++◌, Some, Result, Ok, Err, length, slice_get}
 use Rattle.std.specs.String.{string_bytes}
 use Rattle.bk_num.specs.declared.ids.NodeId.{NodeId}
+use Rattle.bk_num.specs.Limits.{most_nodes}
 use Rattle.dom.specs.Nodes.{Node, child_of, is_element_at}
 use Rattle.dom.specs.declared.dom.DomErr.{DomErr}
 use Rattle.dom.specs.declared.dom.DomErr.TheVariants.{Nodes, Depth, NoMemory}
@@ -31,5 +32,5 @@ pub record IsBuilt (b : Builder) : Type 0 where
   pub root : is_element_at b.dom 0 ≡ true
   pub opened : AreElements b.dom b.opened.items
   pub parent : is_element_at b.dom b.parent.0 ≡ true
-  pub few : 0 < length (string_bytes b.text) → length b.dom < 400000
+  pub few : 0 < length (string_bytes b.text) → length b.dom < most_nodes
   pub last : length (string_bytes b.text) ≡ 0 → is_element_at b.dom (length b.dom - 1) ≡ true

@@ -1,9 +1,8 @@
 -- The table of what a start tag closes, and lists of names.
-use Rattle.std.specs.Prelude.{ℕ, Bool, List, not, map, if◌then◌else◌}
+use Rattle.std.specs.Prelude.{ℕ, Bool, true, false, List, [], ◌∷◌, not, map, codes, if◌then◌else◌}
 use Rattle.std.specs.List.{list_any}
 use Rattle.std.specs.Str.{bytes_eq}
 use Rattle.std.specs.Borrow.{Bor}
-use Rattle.html_tree.specs.declared.rules.TheConstants.{RULES, VOID}
 
 abbrev pub texts : List (Bor (List ℕ)) → List (List ℕ)
 texts names = map (λ n. n.now) names
@@ -21,12 +20,70 @@ pub record Rule : Type 0 where
 abbrev pub rule_of : Bool × Bor (List (Bor (List ℕ))) × Bor (List (Bor (List ℕ))) × Bor (List (Bor (List ℕ))) → Rule
 rule_of r = record { all_but = r.0; tags = texts r.1.now; closes = texts r.2.now; unless = texts r.3.now }
 
-abbrev pub rules : List Rule
-rules = map (λ r. record { all_but = r.0; tags = map (λ n. n.now) r.1.now; closes = map (λ n. n.now) r.2.now; unless = map (λ n. n.now) r.3.now }) RULES
+-- the table: what start tags close (HTML, 13.1.2.4 "Optional tags" and 13.2.6.4.7, in part)
+unfoldable pub rules : List Rule
+rules =
+    record {
+      all_but = true;
+      tags = codes "title" ∷ codes "base" ∷ codes "link" ∷ codes "meta" ∷ codes "style" ∷ codes "script" ∷
+          codes "noscript" ∷ codes "template" ∷ [];
+      closes = codes "head" ∷ [];
+      unless = [];
+    } ∷
+    record {
+      all_but = false;
+      tags = codes "li" ∷ [];
+      closes = codes "li" ∷ [];
+      unless = codes "ul" ∷ codes "ol" ∷ codes "menu" ∷ codes "table" ∷ codes "td" ∷ codes "th" ∷ [];
+    } ∷
+    record {
+      all_but = false;
+      tags = codes "dt" ∷ codes "dd" ∷ [];
+      closes = codes "dt" ∷ codes "dd" ∷ [];
+      unless = codes "dl" ∷ codes "table" ∷ codes "td" ∷ codes "th" ∷ [];
+    } ∷
+    record {
+      all_but = false;
+      tags = codes "td" ∷ codes "th" ∷ [];
+      closes = codes "td" ∷ codes "th" ∷ [];
+      unless = codes "tr" ∷ codes "table" ∷ [];
+    } ∷
+    record {
+      all_but = false;
+      tags = codes "tr" ∷ [];
+      closes = codes "tr" ∷ [];
+      unless = codes "table" ∷ [];
+    } ∷
+    record {
+      all_but = false;
+      tags = codes "tbody" ∷ codes "thead" ∷ codes "tfoot" ∷ [];
+      closes = codes "tbody" ∷ codes "thead" ∷ codes "tfoot" ∷ [];
+      unless = codes "table" ∷ [];
+    } ∷
+    record {
+      all_but = false;
+      tags = codes "option" ∷ [];
+      closes = codes "option" ∷ [];
+      unless = codes "select" ∷ [];
+    } ∷
+    record {
+      all_but = false;
+      tags = codes "address" ∷ codes "article" ∷ codes "aside" ∷ codes "blockquote" ∷ codes "dd" ∷
+          codes "details" ∷ codes "div" ∷ codes "dl" ∷ codes "dt" ∷ codes "fieldset" ∷ codes "figcaption" ∷
+          codes "figure" ∷ codes "footer" ∷ codes "form" ∷ codes "h1" ∷ codes "h2" ∷ codes "h3" ∷
+          codes "h4" ∷ codes "h5" ∷ codes "h6" ∷ codes "header" ∷ codes "hr" ∷ codes "li" ∷ codes "main" ∷
+          codes "nav" ∷ codes "ol" ∷ codes "p" ∷ codes "pre" ∷ codes "section" ∷ codes "table" ∷ codes "ul" ∷
+          [];
+      closes = codes "p" ∷ [];
+      unless = codes "table" ∷ codes "td" ∷ codes "th" ∷ codes "caption" ∷ codes "button" ∷ codes "object" ∷ [];
+    } ∷
+    []
 
--- elements that have no content
-abbrev pub void_names : List (List ℕ)
-void_names = map (λ n. n.now) VOID
+-- void elements: those that have no content (HTML, 13.1.2, in part)
+unfoldable pub void_names : List (List ℕ)
+void_names =
+    codes "area" ∷ codes "base" ∷ codes "br" ∷ codes "col" ∷ codes "embed" ∷ codes "hr" ∷ codes "img" ∷
+    codes "input" ∷ codes "link" ∷ codes "meta" ∷ codes "source" ∷ codes "track" ∷ codes "wbr" ∷ []
 
 -- whether a row names a start tag
 abbrev pub names_tag : Rule → List ℕ → Bool

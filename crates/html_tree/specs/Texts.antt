@@ -1,8 +1,7 @@
 -- The text that the bytes of a token stand for: line ends, U+0000 and character references (HTML, 13.2.3.5 and 13.5).
-use Rattle.std.specs.Prelude.{ℕ, zero, suc, ◌+◌, ◌-◌, ◌*◌, Bool, not, List, [], ◌∷◌, ◌++◌, length, take, drop, map, fold, nat_eq, nat_lt, nat_le, ◌==◌, ◌&&◌, ◌||◌, if◌then◌else◌, slice_index, encode_utf8}
+use Rattle.std.specs.Prelude.{ℕ, zero, suc, ◌+◌, ◌-◌, ◌*◌, Bool, not, List, [], ◌∷◌, ◌++◌, length, take, drop, map, fold, nat_eq, nat_lt, nat_le, ◌==◌, ◌&&◌, ◌||◌, if◌then◌else◌, slice_index, encode_utf8, codes}
 use Rattle.std.specs.List.{starts_with, position_or_len}
 use Rattle.std.specs.Char.{is_digit, digit_value, to_ascii_lowercase}
-use Rattle.html_tree.specs.declared.references.TheConstants.{REFERENCES}
 
 -- what a byte becomes before the next one: CR before LF goes, other CR are LF, and U+0000 is U+FFFD
 abbrev pub mended_byte : ℕ → ℕ → List ℕ
@@ -58,13 +57,24 @@ abbrev pub named : List (List ℕ × ℕ) → List ℕ → Reference
 named [] bs = plain
 named (r ∷ rows) bs = if starts_with nat_eq bs r.0 && closing_len (drop (length r.0) bs) == 1 then record { code = r.1; len = 1 + length r.0 + 1 } else named rows bs
 
--- the rows of the table: each a name and its character
-abbrev pub rows : List (List ℕ × ℕ)
-rows = map (λ r. (r.0.now, r.1)) REFERENCES
+-- the named references that are read: each a name and its character (HTML, 13.5, in part)
+unfoldable pub named_references : List (List ℕ × ℕ)
+named_references =
+    (codes "amp", 0x26) ∷ (codes "lt", 0x3C) ∷ (codes "gt", 0x3E) ∷ (codes "quot", 0x22) ∷
+    (codes "apos", 0x27) ∷ (codes "nbsp", 0xA0) ∷ (codes "copy", 0xA9) ∷ (codes "laquo", 0xAB) ∷
+    (codes "shy", 0xAD) ∷ (codes "reg", 0xAE) ∷ (codes "deg", 0xB0) ∷ (codes "para", 0xB6) ∷
+    (codes "middot", 0xB7) ∷ (codes "raquo", 0xBB) ∷ (codes "sect", 0xA7) ∷ (codes "times", 0xD7) ∷
+    (codes "ensp", 0x2002) ∷ (codes "emsp", 0x2003) ∷ (codes "thinsp", 0x2009) ∷ (codes "zwnj", 0x200C) ∷
+    (codes "zwj", 0x200D) ∷ (codes "ndash", 0x2013) ∷ (codes "mdash", 0x2014) ∷ (codes "lsquo", 0x2018) ∷
+    (codes "rsquo", 0x2019) ∷ (codes "sbquo", 0x201A) ∷ (codes "ldquo", 0x201C) ∷
+    (codes "rdquo", 0x201D) ∷ (codes "bdquo", 0x201E) ∷ (codes "dagger", 0x2020) ∷
+    (codes "Dagger", 0x2021) ∷ (codes "bull", 0x2022) ∷ (codes "hellip", 0x2026) ∷
+    (codes "prime", 0x2032) ∷ (codes "Prime", 0x2033) ∷ (codes "euro", 0x20AC) ∷
+    (codes "trade", 0x2122) ∷ []
 
 -- the reference at an `&`: a number in hexadecimal digits, one in decimal digits, or a name
 unfoldable pub reference_at : List ℕ → Reference
-reference_at bs = if slice_index bs 1 == 35 then (if slice_index bs 2 == 120 || slice_index bs 2 == 88 then numeric 16 3 (drop 3 bs) else numeric 10 2 (drop 2 bs)) else named rows (drop 1 bs)
+reference_at bs = if slice_index bs 1 == 35 then (if slice_index bs 2 == 120 || slice_index bs 2 == 88 then numeric 16 3 (drop 3 bs) else numeric 10 2 (drop 2 bs)) else named named_references (drop 1 bs)
 
 -- the text with its references read, where the first n bytes belong to one that is read
 unfoldable pub referred_after : ℕ → List ℕ → List ℕ

@@ -3,6 +3,7 @@ use Rattle.std.specs.Prelude.{ℕ, suc, zero, ◌-◌, Bool, true, false, not, L
 use Rattle.std.specs.List.{list_all}
 use Rattle.std.specs.Str.{bytes_eq}
 use Rattle.std.specs.Char.{is_ascii_whitespace}
+use Rattle.bk_num.specs.Limits.{most_nodes}
 use Rattle.bk_num.specs.declared.ids.NodeId.{NodeId}
 use Rattle.dom.specs.Nodes.{Node, root, child_of, depth_at, name_at, attribute_at, with_attribute, is_element, is_at, changed_at}
 use Rattle.dom.specs.Answers.{is_below_all}
@@ -72,7 +73,7 @@ abbrev pub appended : List Node → List ℕ → List Node
 appended nodes more = changed_at (λ n. record n { what = longer more n.what }) nodes (length nodes - 1) (last_of nodes)
 
 abbrev pub new_text : ℕ → List ℕ → State → Result State DomErr
-new_text parent bytes s = if nat_le 400000 (length s.nodes) then Err Nodes else Ok (record s { nodes = s.nodes ++ child_of s.nodes parent (Text bytes) ∷ [] })
+new_text parent bytes s = if nat_le most_nodes (length s.nodes) then Err Nodes else Ok (record s { nodes = s.nodes ++ child_of s.nodes parent (Text bytes) ∷ [] })
 
 -- a text that isn't empty goes to the last node where that is a text child of the current element, and is a new node else
 abbrev pub add_text : List ℕ → State → Result State DomErr
@@ -92,7 +93,7 @@ opened_after name n opened = if has_name void_names name then opened else opened
 
 -- a new element under the current one, which stays open unless it is void
 abbrev pub add_element : List ℕ → List ℕ → State → Result State DomErr
-add_element name attrs s = if nat_le 400000 (length s.nodes) then Err Nodes else
+add_element name attrs s = if nat_le most_nodes (length s.nodes) then Err Nodes else
     if is_below_all true (depth_at s.nodes (current s.opened)) then Err Depth else
     Ok (record {
       nodes = put_all (length s.nodes) (attributes_of attrs) (s.nodes ++ child_of s.nodes (current s.opened) (Element name []) ∷ []);

@@ -2,10 +2,10 @@
 ghost use Rattle.std.specs.Prelude.{◌≡◌, ◌+◌, ◌<◌, ◌≤◌, length, take, map, min, nat_eq, IsTrue, not, drop, slice_index, ◌&&◌, ◌==◌};
 ghost use Rattle.std.specs.List.{starts_with, position};
 ghost use Rattle.std.specs.Char.{is_digit, digit_value};
-ghost use Rattle.html_tree.specs.Texts.{Reference, character_of, digits_len, number_of, numeric, counted, closing_len, named, reference_at};
+ghost use Rattle.html_tree.specs.Texts.{Reference, character_of, digits_len, number_of, numeric, counted, closing_len, named, named_references, reference_at};
 
 /// The named references that are read, each with its `;` (HTML, 13.5).
-pub(crate) const REFERENCES: [(&str, char); 37] = [
+const REFERENCES: [(&str, char); 37] = [
     ("amp", '&'),
     ("lt", '<'),
     ("gt", '>'),
@@ -62,7 +62,7 @@ pub(crate) fn reference_at(bytes: &[u8]) -> Read
     ensures len { result.len ≡ (reference_at bytes.now).len }
 {
     if byte_at(bytes, 1) != b'#' {
-        return find_name(after(bytes, 1), &REFERENCES);
+        return named(after(bytes, 1));
     }
     let mark = byte_at(bytes, 2);
     if mark == b'x' || mark == b'X' {
@@ -176,6 +176,15 @@ fn closing_len(rest: &[u8]) -> usize
         [b';', ..] => 1,
         _ => 0,
     }
+}
+
+/// The named reference that stands here with its `;`, or the `&` before it.
+#[tactic(auto, unfolding(crate::specs::Texts::named_references))]
+fn named(bytes: &[u8]) -> Read
+    ensures character { result.character ≡ (named named_references bytes.now).code }
+    ensures len { result.len ≡ (named named_references bytes.now).len }
+{
+    find_name(bytes, &REFERENCES)
 }
 
 /// The row whose name stands here with its `;`.

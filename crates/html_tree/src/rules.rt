@@ -2,7 +2,7 @@
 ghost use Rattle.std.specs.Prelude.{◌≡◌, Bool};
 ghost use Rattle.std.specs.List.{list_any};
 ghost use Rattle.std.specs.Str.{bytes_eq};
-ghost use Rattle.html_tree.specs.Rules.{has_name, texts};
+ghost use Rattle.html_tree.specs.Rules.{has_name, texts, void_names};
 
 /// A row has true where it counts for all start tags but those that it names; then the start tags, the elements of which the innermost closes, and those that keep it open from inside.
 pub(crate) const RULES: [(bool, &[&str], &[&str], &[&str]); 8] = [
@@ -76,10 +76,18 @@ pub(crate) const RULES: [(bool, &[&str], &[&str], &[&str]); 8] = [
 ];
 
 /// Void elements (HTML, 13.1.2).
-pub(crate) const VOID: [&str; 13] = [
+const VOID: [&str; 13] = [
     "area", "base", "br", "col", "embed", "hr", "img", "input", "link", "meta", "source", "track",
     "wbr",
 ];
+
+/// Whether an element has no content.
+#[tactic(auto, unfolding(crate::specs::Rules::void_names))]
+pub(crate) fn is_void(name: &str) -> bool
+    ensures { result ≡ has_name void_names name.now }
+{
+    has(&VOID, name)
+}
 
 /// Whether a list of names has one.
 pub(crate) fn has(names: &[&str], name: &str) -> bool

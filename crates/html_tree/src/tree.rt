@@ -1,5 +1,6 @@
 //! The builder of a tree.
 ghost use Rattle.std.specs.Prelude.{◌≡◌, ◌<◌, ◌≤◌, ◌++◌, ◌∷◌, [], length, ℕ, IfOk, IfErr, OnOk, IsTrue, true, false, string_bytes, Ok};
+ghost use Rattle.bk_num.specs.Limits.{most_nodes};
 ghost use Rattle.dom.specs.Nodes.{Node, is_element_at};
 ghost use Rattle.html_tok.specs.Tags.{attributes_of};
 ghost use Rattle.html_tok.specs.Listed.{TokenView, view_of};
@@ -12,15 +13,13 @@ ghost use Rattle.html_tree.specs.Built.{Answers, waiting, state_of, IsBuilt};
 
 use crate::cook::{name_of, text_of};
 use crate::opened::{close_named, close_rows, current, name_of_element};
-use crate::rules::{RULES, VOID, has};
+use crate::rules::{RULES, is_void};
 use bk_num::ids::NodeId;
+use bk_num::limits::MOST_NODES;
 use bk_num::name::NoMem;
 use dom::{Dom, DomErr};
 use html_tok::{Attrs, Token, TokenKind, Tokens};
 use std::alloc::Global;
-
-/// The most nodes of a document.
-const MOST_NODES: u32 = 400000;
 
 /// A tree that is being built: its nodes, the open elements other than node 0, and the text that waits for more, with the element that it belongs to.
 #[derive(Drop)]
@@ -48,7 +47,7 @@ fn put_attributes(dom: &mut Dom, alloc: Global, node: NodeId, attrs: &str) -> Re
 /// Makes a node of the text that waits.
 fn put_text(dom: &mut Dom, alloc: Global, parent: NodeId, text: &mut String) -> Result<(), NoMem>
     requires parent { IsTrue (is_element_at dom.old parent.0) }
-    requires few { 0 < length (string_bytes text.old) → length dom.old < 400000 }
+    requires few { 0 < length (string_bytes text.old) → length dom.old < most_nodes }
     ensures dom { OnOk result (dom.new ≡ dom.old ++ waiting dom.old parent.0 (string_bytes text.old)) }
     ensures text { OnOk result (string_bytes text.new ≡ []) }
 {
@@ -305,7 +304,7 @@ impl Builder {
 fn keep_open(opened: &mut Vec<NodeId>, name: &str, node: NodeId) -> Result<(), NoMem>
     ensures { OnOk result (opened.new.items ≡ opened_after name.now node.0 opened.old.items) }
 {
-    if has(&VOID, name) {
+    if is_void(name) {
         return Ok(());
     }
     if opened.push(node).is_err() {
