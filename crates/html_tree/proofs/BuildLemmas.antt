@@ -50,17 +50,17 @@ name-grow nodes more opened n h = by (slice_get opened n) refl
     by None e = refl
     by (Some o) e = ap (λ x. unwrap_or (part_of Rattle.dom.specs.Nodes.name_in x) []) (grow-get nodes more o.0 (h n o e))
 
-kept-grow : (closes unless : List ℕ → Bool) (nodes more : List Node) (opened : List NodeId) (n : ℕ) → AreElements nodes opened → kept closes unless (nodes ++ more) opened n ≡ kept closes unless nodes opened n
-kept-grow closes unless nodes more opened zero h = refl
-kept-grow closes unless nodes more opened (suc n) h = rw (name-grow nodes more opened n h, kept-grow closes unless nodes more opened n h) refl
+kept-grow : (closes scope : List ℕ → Bool) (nodes more : List Node) (opened : List NodeId) (n : ℕ) → AreElements nodes opened → kept closes scope (nodes ++ more) opened n ≡ kept closes scope nodes opened n
+kept-grow closes scope nodes more opened zero h = refl
+kept-grow closes scope nodes more opened (suc n) h = rw (name-grow nodes more opened n h, kept-grow closes scope nodes more opened n h) refl
 
-pub closed-grow : (closes unless : List ℕ → Bool) (nodes more : List Node) (opened : List NodeId) → AreElements nodes opened → closed_by closes unless (nodes ++ more) opened ≡ closed_by closes unless nodes opened
-closed-grow closes unless nodes more opened h = ap (λ o. take (unwrap_or o (length opened)) opened) (kept-grow closes unless nodes more opened (length opened) h)
+pub closed-grow : (closes scope : List ℕ → Bool) (nodes more : List Node) (opened : List NodeId) → AreElements nodes opened → closed_by closes scope (nodes ++ more) opened ≡ closed_by closes scope nodes opened
+closed-grow closes scope nodes more opened h = ap (λ o. take (unwrap_or o (length opened)) opened) (kept-grow closes scope nodes more opened (length opened) h)
 
 elements-rule : (name : List ℕ) (nodes : List Node) (opened : List NodeId) (r : Rule) → AreElements nodes opened → AreElements nodes (after_rule name nodes opened r)
 elements-rule name nodes opened r h = by (names_tag r name)
   where
-    by : (b : Bool) → AreElements nodes (if b then closed_by (has_name r.closes) (has_name r.unless) nodes opened else opened)
+    by : (b : Bool) → AreElements nodes (if b then closed_by (has_name r.closes) (has_name r.scope) nodes opened else opened)
     by true = elements-take nodes opened _ h
     by false = h
 
@@ -69,8 +69,8 @@ rules-grow name nodes more [] opened h = refl
 rules-grow name nodes more (r ∷ table) opened h =
     ap (λ o. fold (after_rule name (nodes ++ more)) o table) (by (names_tag r name)) ∙ rules-grow name nodes more table (after_rule name nodes opened r) (elements-rule name nodes opened r h)
   where
-    by : (b : Bool) → (if b then closed_by (has_name r.closes) (has_name r.unless) (nodes ++ more) opened else opened) ≡ (if b then closed_by (has_name r.closes) (has_name r.unless) nodes opened else opened)
-    by true = closed-grow (has_name r.closes) (has_name r.unless) nodes more opened h
+    by : (b : Bool) → (if b then closed_by (has_name r.closes) (has_name r.scope) (nodes ++ more) opened else opened) ≡ (if b then closed_by (has_name r.closes) (has_name r.scope) nodes opened else opened)
+    by true = closed-grow (has_name r.closes) (has_name r.scope) nodes more opened h
     by false = refl
 
 -- the current element is one

@@ -1,9 +1,9 @@
 pub mod BuildLemmas
-pub mod CookLemmas
 pub mod NumberLemmas
 pub mod OpenedLemmas
 pub mod OrderLemmas
 pub mod ReadLemmas
 pub mod ScopeLemmas
 pub mod StateLemmas
+pub mod TextLemmas
 pub mod TokenLemmas

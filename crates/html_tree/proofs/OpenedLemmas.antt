@@ -15,19 +15,19 @@ pub any-texts : (names : List (Bor (List ℕ))) (name : List ℕ) → has_name (
 any-texts [] name = refl
 any-texts (n ∷ names) name = ap (λ b. bytes_eq n.now name || b) (any-texts names name)
 
-module _ (closes unless : List ℕ → Bool) (nodes : List Node) (opened : List NodeId) where
+module _ (closes scope : List ℕ → Bool) (nodes : List Node) (opened : List NodeId) where
   -- one element further in
-  pub kept-at : (at : ℕ) (o : NodeId) → 0 < at → at ≤ length opened → o ≡ get_or opened (at - 1) o → kept closes unless nodes opened at ≡ (if closes (unwrap_or (name_at nodes o.0) []) then Some (at - 1) else if unless (unwrap_or (name_at nodes o.0) []) then None else kept closes unless nodes opened (at - 1))
+  pub kept-at : (at : ℕ) (o : NodeId) → 0 < at → at ≤ length opened → o ≡ get_or opened (at - 1) o → kept closes scope nodes opened at ≡ (if closes (unwrap_or (name_at nodes o.0) []) then Some (at - 1) else if scope (unwrap_or (name_at nodes o.0) []) then None else kept closes scope nodes opened (at - 1))
   kept-at zero o some within e = absurd (omega arith)
   kept-at (suc n) o some within e =
       let s : suc n - 1 ≡ n = omega arith in
       let g : slice_get opened n ≡ Some o = slice_get_read opened (length opened) n o refl (omega arith) (rw s at e) in
       rw (s, g) refl
 
-  pub closed-take : (n : ℕ) → kept closes unless nodes opened (length opened) ≡ Some n → take n opened ≡ closed_by closes unless nodes opened
+  pub closed-take : (n : ℕ) → kept closes scope nodes opened (length opened) ≡ Some n → take n opened ≡ closed_by closes scope nodes opened
   closed-take n e = rw e refl
 
-  pub closed-none : kept closes unless nodes opened (length opened) ≡ None → opened ≡ closed_by closes unless nodes opened
+  pub closed-none : kept closes scope nodes opened (length opened) ≡ None → opened ≡ closed_by closes scope nodes opened
   closed-none e = rw e (sym (take-length opened))
 
 pub get-take : {A : Type 0} (xs : List A) (n k : ℕ) (x : A) → slice_get (take n xs) k ≡ Some x → slice_get xs k ≡ Some x

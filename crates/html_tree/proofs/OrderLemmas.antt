@@ -226,7 +226,7 @@ keeps-rules : (name : List ℕ) (table : List Rule) (s : State) → IsOrdered s 
 keeps-rules name [] s h = h
 keeps-rules name (r ∷ table) s h = keeps-rules name table (record s { opened = after_rule name s.nodes s.opened r }) (by (names_tag r name))
   where
-    by : (b : Bool) → IsOrdered (record s { opened = if b then closed_by (has_name r.closes) (has_name r.unless) s.nodes s.opened else s.opened })
+    by : (b : Bool) → IsOrdered (record s { opened = if b then closed_by (has_name r.closes) (has_name r.scope) s.nodes s.opened else s.opened })
     by true = keeps-taken s _ h
     by false = h
 

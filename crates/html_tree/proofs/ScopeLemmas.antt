@@ -9,61 +9,61 @@ use Rattle.html_tree.specs.Rules.{Rule, has_name, names_tag}
 use Rattle.html_tree.specs.Tree.{name_in, kept, closed_by, after_rule}
 use Rattle.html_tree.specs.Open.{IsInScope, IsInnermost, ClosesInnermost, ClosesByRow, KeptIsInnermost, AllIsKept}
 
-module _ (closes unless : List ℕ → Bool) (nodes : List Node) (opened : List NodeId) where
-  scope-up : (n k : ℕ) → unless (name_in nodes (slice_get opened n)) ≡ false → IsInScope closes unless nodes opened n k → IsInScope closes unless nodes opened (suc n) k
+module _ (closes scope : List ℕ → Bool) (nodes : List Node) (opened : List NodeId) where
+  scope-up : (n k : ℕ) → scope (name_in nodes (slice_get opened n)) ≡ false → IsInScope closes scope nodes opened n k → IsInScope closes scope nodes opened (suc n) k
   scope-up n k f s = record { within = (let w = s.within in omega arith); closed = s.closed; free = λ j l m. by j l (cases_lt j n) (omega arith) }
     where
-      by : (j : ℕ) → k < j → (j < n) ⊎ (n ≤ j) → j ≤ n → unless (name_in nodes (slice_get opened j)) ≡ false
+      by : (j : ℕ) → k < j → (j < n) ⊎ (n ≤ j) → j ≤ n → scope (name_in nodes (slice_get opened j)) ≡ false
       by j l (inl i) m = s.free j l i
-      by j l (inr i) m = let e : n ≡ j = omega arith in subst (λ x. unless (name_in nodes (slice_get opened x)) ≡ false) e f
+      by j l (inr i) m = let e : n ≡ j = omega arith in subst (λ x. scope (name_in nodes (slice_get opened x)) ≡ false) e f
 
-  scope-down : (n k : ℕ) → closes (name_in nodes (slice_get opened n)) ≡ false → IsInScope closes unless nodes opened (suc n) k → IsInScope closes unless nodes opened n k
+  scope-down : (n k : ℕ) → closes (name_in nodes (slice_get opened n)) ≡ false → IsInScope closes scope nodes opened (suc n) k → IsInScope closes scope nodes opened n k
   scope-down n k e s = record { within = by (cases_lt k n); closed = s.closed; free = λ j l m. s.free j l (omega arith) }
     where
       by : (k < n) ⊎ (n ≤ k) → k < n
       by (inl l) = l
       by (inr l) = let w = s.within in let i : k ≡ n = omega arith in let c = subst (λ x. closes (name_in nodes (slice_get opened x)) ≡ true) i s.closed in absurd cc
 
-  kept-some : (n k : ℕ) → kept closes unless nodes opened n ≡ Some k → IsInnermost closes unless nodes opened n k
+  kept-some : (n k : ℕ) → kept closes scope nodes opened n ≡ Some k → IsInnermost closes scope nodes opened n k
   kept-some zero k h = cc
-  kept-some (suc n) k h = by (closes (name_in nodes (slice_get opened n))) (unless (name_in nodes (slice_get opened n))) refl refl h (kept-some n k)
+  kept-some (suc n) k h = by (closes (name_in nodes (slice_get opened n))) (scope (name_in nodes (slice_get opened n))) refl refl h (kept-some n k)
     where
-      by : (a b : Bool) → closes (name_in nodes (slice_get opened n)) ≡ a → unless (name_in nodes (slice_get opened n)) ≡ b → (if a then Some n else if b then None else kept closes unless nodes opened n) ≡ Some k → (kept closes unless nodes opened n ≡ Some k → IsInnermost closes unless nodes opened n k) → IsInnermost closes unless nodes opened (suc n) k
-      by true b e f h rest = let same : n ≡ k = cc in subst (λ i. IsInnermost closes unless nodes opened (suc n) i) same (record {
-        scope = record { within = omega arith; closed = e; free = λ j l m. absurd (omega arith) };
+      by : (a b : Bool) → closes (name_in nodes (slice_get opened n)) ≡ a → scope (name_in nodes (slice_get opened n)) ≡ b → (if a then Some n else if b then None else kept closes scope nodes opened n) ≡ Some k → (kept closes scope nodes opened n ≡ Some k → IsInnermost closes scope nodes opened n k) → IsInnermost closes scope nodes opened (suc n) k
+      by true b e f h rest = let same : n ≡ k = cc in subst (λ i. IsInnermost closes scope nodes opened (suc n) i) same (record {
+        in_scope = record { within = omega arith; closed = e; free = λ j l m. absurd (omega arith) };
         last = λ j s. let w = s.within in omega arith;
       })
       by false true e f h rest = cc
-      by false false e f h rest = let r = rest h in record { scope = scope-up n k f r.scope; last = λ j s. r.last j (scope-down n j e s) }
+      by false false e f h rest = let r = rest h in record { in_scope = scope-up n k f r.in_scope; last = λ j s. r.last j (scope-down n j e s) }
 
-  kept-none : (n k : ℕ) → kept closes unless nodes opened n ≡ None → IsInScope closes unless nodes opened n k → ⊥
+  kept-none : (n k : ℕ) → kept closes scope nodes opened n ≡ None → IsInScope closes scope nodes opened n k → ⊥
   kept-none zero k h s = let w = s.within in omega arith
-  kept-none (suc n) k h s = by (closes (name_in nodes (slice_get opened n))) (unless (name_in nodes (slice_get opened n))) refl refl h (kept-none n k)
+  kept-none (suc n) k h s = by (closes (name_in nodes (slice_get opened n))) (scope (name_in nodes (slice_get opened n))) refl refl h (kept-none n k)
     where
-      by : (a b : Bool) → closes (name_in nodes (slice_get opened n)) ≡ a → unless (name_in nodes (slice_get opened n)) ≡ b → (if a then Some n else if b then None else kept closes unless nodes opened n) ≡ None → (kept closes unless nodes opened n ≡ None → IsInScope closes unless nodes opened n k → ⊥) → ⊥
+      by : (a b : Bool) → closes (name_in nodes (slice_get opened n)) ≡ a → scope (name_in nodes (slice_get opened n)) ≡ b → (if a then Some n else if b then None else kept closes scope nodes opened n) ≡ None → (kept closes scope nodes opened n ≡ None → IsInScope closes scope nodes opened n k → ⊥) → ⊥
       by true b e f h rest = cc
       by false true e f h rest = let d = scope-down n k e s in let g = s.free n d.within (omega arith) in cc
       by false false e f h rest = rest h (scope-down n k e s)
 
-  some-kept : (n k : ℕ) → IsInnermost closes unless nodes opened n k → kept closes unless nodes opened n ≡ Some k
-  some-kept n k i = by (kept closes unless nodes opened n) refl
+  some-kept : (n k : ℕ) → IsInnermost closes scope nodes opened n k → kept closes scope nodes opened n ≡ Some k
+  some-kept n k i = by (kept closes scope nodes opened n) refl
     where
-      by : (o : Option ℕ) → kept closes unless nodes opened n ≡ o → o ≡ Some k
-      by None e = absurd (kept-none n k e i.scope)
-      by (Some j) e = let r = kept-some n j e in let a = i.last j r.scope in let b = r.last k i.scope in let same : j ≡ k = omega arith in ap Some same
+      by : (o : Option ℕ) → kept closes scope nodes opened n ≡ o → o ≡ Some k
+      by None e = absurd (kept-none n k e i.in_scope)
+      by (Some j) e = let r = kept-some n j e in let a = i.last j r.in_scope in let b = r.last k i.in_scope in let same : j ≡ k = omega arith in ap Some same
 
-  none-kept : (n : ℕ) → ((k : ℕ) → IsInScope closes unless nodes opened n k → ⊥) → kept closes unless nodes opened n ≡ None
-  none-kept n h = by (kept closes unless nodes opened n) refl
+  none-kept : (n : ℕ) → ((k : ℕ) → IsInScope closes scope nodes opened n k → ⊥) → kept closes scope nodes opened n ≡ None
+  none-kept n h = by (kept closes scope nodes opened n) refl
     where
-      by : (o : Option ℕ) → kept closes unless nodes opened n ≡ o → o ≡ None
+      by : (o : Option ℕ) → kept closes scope nodes opened n ≡ o → o ≡ None
       by None e = refl
-      by (Some j) e = absurd (h j (kept-some n j e).scope)
+      by (Some j) e = absurd (h j (kept-some n j e).in_scope)
 
 pub kept_innermost : KeptIsInnermost
-kept_innermost closes unless nodes opened n k = (kept-some closes unless nodes opened n k, some-kept closes unless nodes opened n k)
+kept_innermost closes scope nodes opened n k = (kept-some closes scope nodes opened n k, some-kept closes scope nodes opened n k)
 
 pub all_kept : AllIsKept
-all_kept closes unless nodes opened n = (λ e k s. kept-none closes unless nodes opened n k e s, none-kept closes unless nodes opened n)
+all_kept closes scope nodes opened n = (λ e k s. kept-none closes scope nodes opened n k e s, none-kept closes scope nodes opened n)
 
 -- ---- what a row closes
 
@@ -90,29 +90,29 @@ contains-get xs x (k, l, e) = (k, slice_get_read xs (length xs) k x refl l (sym 
 pub get-contains : {A : Type 0} (xs : List A) (k : ℕ) (x : A) → slice_get xs k ≡ Some x → Contains xs x
 get-contains xs k x h = (k, slice_get_within xs k x h, get_or_from_slice_get xs k x x h)
 
-module _ (closes unless : List ℕ → Bool) (nodes : List Node) (opened : List NodeId) where
-  closed-take : (k : ℕ) → kept closes unless nodes opened (length opened) ≡ Some k → closed_by closes unless nodes opened ≡ take k opened
+module _ (closes scope : List ℕ → Bool) (nodes : List Node) (opened : List NodeId) where
+  closed-take : (k : ℕ) → kept closes scope nodes opened (length opened) ≡ Some k → closed_by closes scope nodes opened ≡ take k opened
   closed-take k e = rw e refl
 
-  closed-all : kept closes unless nodes opened (length opened) ≡ None → closed_by closes unless nodes opened ≡ opened
+  closed-all : kept closes scope nodes opened (length opened) ≡ None → closed_by closes scope nodes opened ≡ opened
   closed-all e = rw e (take-length opened)
 
   -- what isn't closed stays
-  pub closed-stays : (o : NodeId) → Contains opened o → (ClosesInnermost closes unless nodes opened o → ⊥) → Contains (closed_by closes unless nodes opened) o
-  closed-stays o h not = by (kept closes unless nodes opened (length opened)) refl (contains-get opened o h)
+  pub closed-stays : (o : NodeId) → Contains opened o → (ClosesInnermost closes scope nodes opened o → ⊥) → Contains (closed_by closes scope nodes opened) o
+  closed-stays o h not = by (kept closes scope nodes opened (length opened)) refl (contains-get opened o h)
     where
-      by : (r : Option ℕ) → kept closes unless nodes opened (length opened) ≡ r → ((k : ℕ) × (slice_get opened k ≡ Some o)) → Contains (closed_by closes unless nodes opened) o
+      by : (r : Option ℕ) → kept closes scope nodes opened (length opened) ≡ r → ((k : ℕ) × (slice_get opened k ≡ Some o)) → Contains (closed_by closes scope nodes opened) o
       by None e w = subst (λ l. Contains l o) (sym (closed-all e)) h
       by (Some k) e (i, g) = of (cases_lt i k)
         where
-          of : (i < k) ⊎ (k ≤ i) → Contains (closed_by closes unless nodes opened) o
+          of : (i < k) ⊎ (k ≤ i) → Contains (closed_by closes scope nodes opened) o
           of (inl l) = subst (λ l. Contains l o) (sym (closed-take k e)) (get-contains (take k opened) i o (get-take opened k i o l g))
-          of (inr l) = absurd (not (record { innermost = k; place = i; found = kept-some closes unless nodes opened (length opened) k e; inside = l; here = g }))
+          of (inr l) = absurd (not (record { innermost = k; place = i; found = kept-some closes scope nodes opened (length opened) k e; inside = l; here = g }))
 
   -- what stays isn't closed
-  pub closed-not : AreApart opened → (o : NodeId) → Contains (closed_by closes unless nodes opened) o → ClosesInnermost closes unless nodes opened o → ⊥
+  pub closed-not : AreApart opened → (o : NodeId) → Contains (closed_by closes scope nodes opened) o → ClosesInnermost closes scope nodes opened o → ⊥
   closed-not apart o h c =
-      let e = some-kept closes unless nodes opened (length opened) c.innermost c.found in
+      let e = some-kept closes scope nodes opened (length opened) c.innermost c.found in
       let w = contains-get (take c.innermost opened) o (subst (λ l. Contains l o) (closed-take c.innermost e) h) in
       let g = take-get opened c.innermost w.0 o w.1 in
       let same = apart.apart w.0 c.place o g.1 c.here in
@@ -120,7 +120,7 @@ module _ (closes unless : List ℕ → Bool) (nodes : List Node) (opened : List 
       let i = c.inside in omega (arith, l, i, same)
 
   -- closing opens nothing
-  pub closed-within : (k : ℕ) (o : NodeId) → slice_get (closed_by closes unless nodes opened) k ≡ Some o → slice_get opened k ≡ Some o
+  pub closed-within : (k : ℕ) (o : NodeId) → slice_get (closed_by closes scope nodes opened) k ≡ Some o → slice_get opened k ≡ Some o
   closed-within k o h = (take-get opened _ k o h).1
 
 pub within-contains : (less more : List NodeId) → ((k : ℕ) (o : NodeId) → slice_get less k ≡ Some o → slice_get more k ≡ Some o) → (o : NodeId) → Contains less o → Contains more o
@@ -132,24 +132,24 @@ within-apart less more f h = record { apart = λ i j o a b. h.apart i j o (f i o
 -- ---- what a table closes
 
 module _ (name : List ℕ) (nodes : List Node) where
-  rule-stays : (opened : List NodeId) (r : Rule) (o : NodeId) → Contains opened o → (names_tag r name ≡ true → ClosesInnermost (has_name r.closes) (has_name r.unless) nodes opened o → ⊥) → Contains (after_rule name nodes opened r) o
+  rule-stays : (opened : List NodeId) (r : Rule) (o : NodeId) → Contains opened o → (names_tag r name ≡ true → ClosesInnermost (has_name r.closes) (has_name r.scope) nodes opened o → ⊥) → Contains (after_rule name nodes opened r) o
   rule-stays opened r o h not = by (names_tag r name) refl
     where
-      by : (b : Bool) → names_tag r name ≡ b → Contains (if b then closed_by (has_name r.closes) (has_name r.unless) nodes opened else opened) o
-      by true e = closed-stays (has_name r.closes) (has_name r.unless) nodes opened o h (not e)
+      by : (b : Bool) → names_tag r name ≡ b → Contains (if b then closed_by (has_name r.closes) (has_name r.scope) nodes opened else opened) o
+      by true e = closed-stays (has_name r.closes) (has_name r.scope) nodes opened o h (not e)
       by false e = h
 
   rule-within : (opened : List NodeId) (r : Rule) (k : ℕ) (o : NodeId) → slice_get (after_rule name nodes opened r) k ≡ Some o → slice_get opened k ≡ Some o
   rule-within opened r k o = by (names_tag r name)
     where
-      by : (b : Bool) → slice_get (if b then closed_by (has_name r.closes) (has_name r.unless) nodes opened else opened) k ≡ Some o → slice_get opened k ≡ Some o
-      by true h = closed-within (has_name r.closes) (has_name r.unless) nodes opened k o h
+      by : (b : Bool) → slice_get (if b then closed_by (has_name r.closes) (has_name r.scope) nodes opened else opened) k ≡ Some o → slice_get opened k ≡ Some o
+      by true h = closed-within (has_name r.closes) (has_name r.scope) nodes opened k o h
       by false h = h
 
-  rule-not : (opened : List NodeId) (r : Rule) → AreApart opened → (o : NodeId) → Contains (after_rule name nodes opened r) o → names_tag r name ≡ true → ClosesInnermost (has_name r.closes) (has_name r.unless) nodes opened o → ⊥
-  rule-not opened r apart o h e c = closed-not (has_name r.closes) (has_name r.unless) nodes opened apart o (by (names_tag r name) e h) c
+  rule-not : (opened : List NodeId) (r : Rule) → AreApart opened → (o : NodeId) → Contains (after_rule name nodes opened r) o → names_tag r name ≡ true → ClosesInnermost (has_name r.closes) (has_name r.scope) nodes opened o → ⊥
+  rule-not opened r apart o h e c = closed-not (has_name r.closes) (has_name r.scope) nodes opened apart o (by (names_tag r name) e h) c
     where
-      by : (b : Bool) → b ≡ true → Contains (if b then closed_by (has_name r.closes) (has_name r.unless) nodes opened else opened) o → Contains (closed_by (has_name r.closes) (has_name r.unless) nodes opened) o
+      by : (b : Bool) → b ≡ true → Contains (if b then closed_by (has_name r.closes) (has_name r.scope) nodes opened else opened) o → Contains (closed_by (has_name r.closes) (has_name r.scope) nodes opened) o
       by true e h = h
       by false e h = cc
 
@@ -167,9 +167,9 @@ module _ (name : List ℕ) (nodes : List Node) where
   table-not [] opened apart o h c = let l = c.listed in cc
   table-not (r ∷ table) opened apart o h c = by c.number c.listed c.closes (table-not table (after_rule name nodes opened r) (within-apart (after_rule name nodes opened r) opened (rule-within opened r) apart) o h)
     where
-      by : (n : ℕ) → slice_get (r ∷ table) n ≡ Some c.row → ClosesInnermost (has_name c.row.closes) (has_name c.row.unless) nodes (fold (after_rule name nodes) opened (take n (r ∷ table))) o → (ClosesByRow table name nodes (after_rule name nodes opened r) o → ⊥) → ⊥
+      by : (n : ℕ) → slice_get (r ∷ table) n ≡ Some c.row → ClosesInnermost (has_name c.row.closes) (has_name c.row.scope) nodes (fold (after_rule name nodes) opened (take n (r ∷ table))) o → (ClosesByRow table name nodes (after_rule name nodes opened r) o → ⊥) → ⊥
       by zero listed closes rest = let same : c.row ≡ r = cc in
           rule-not opened r apart o (within-contains (fold (after_rule name nodes) (after_rule name nodes opened r) table) (after_rule name nodes opened r) (table-within table (after_rule name nodes opened r)) o h)
           (subst (λ (x : Rule). names_tag x name ≡ true) same c.named)
-          (subst (λ (x : Rule). ClosesInnermost (has_name x.closes) (has_name x.unless) nodes opened o) same closes)
+          (subst (λ (x : Rule). ClosesInnermost (has_name x.closes) (has_name x.scope) nodes opened o) same closes)
       by (suc n) listed closes rest = rest (record { number = n; row = c.row; listed = listed; named = c.named; closes = closes })

@@ -115,7 +115,7 @@ text-next (b ∷ bs) s next h = by (is_text_under (current s.opened) (last_of s.
         let e : next ≡ record s { nodes = s.nodes ++ child_of s.nodes (current s.opened) (Text (b ∷ bs)) ∷ [] } = cc in
         (ap (λ (x : State). x.opened) e, inr (ap (λ (x : State). parents_of x.nodes) e ∙ parents-child s.nodes (child_of s.nodes (current s.opened) (Text (b ∷ bs)))))
 
--- an element is a new node, and opens unless it is void
+-- an element is a new node, and opens if it isn't void
 pub record IsNextElement (name : List ℕ) (s next : State) : Type 0 where
   pub parents : parents_of next.nodes ≡ parents_of s.nodes ++ Some (current s.opened) ∷ []
   pub opened : next.opened ≡ opened_after name (length s.nodes) s.opened

@@ -11,22 +11,22 @@ use Rattle.html_tree.specs.Tree.{State, number_of, name_in, kept, after_rule, is
 
 -- ---- what closes among the open elements
 
--- the open element at place k is of `closes` and has none of `unless` inside it, among the first n (HTML, 13.2.4.2 "have a particular element in a specific scope")
-pub record IsInScope (closes unless : List ℕ → Bool) (nodes : List Node) (opened : List NodeId) (n k : ℕ) : Type 0 where
+-- the open element at place k is of `closes` and has none of `scope` inside it, among the first n (HTML, 13.2.4.2 "have a particular element in a specific scope")
+pub record IsInScope (closes scope : List ℕ → Bool) (nodes : List Node) (opened : List NodeId) (n k : ℕ) : Type 0 where
   pub within : k < n
   pub closed : closes (name_in nodes (slice_get opened k)) ≡ true
-  pub free : (j : ℕ) → k < j → j < n → unless (name_in nodes (slice_get opened j)) ≡ false
+  pub free : (j : ℕ) → k < j → j < n → scope (name_in nodes (slice_get opened j)) ≡ false
 
 -- the innermost of them
-pub record IsInnermost (closes unless : List ℕ → Bool) (nodes : List Node) (opened : List NodeId) (n k : ℕ) : Type 0 where
-  pub scope : IsInScope closes unless nodes opened n k
-  pub last : (j : ℕ) → IsInScope closes unless nodes opened n j → j ≤ k
+pub record IsInnermost (closes scope : List ℕ → Bool) (nodes : List Node) (opened : List NodeId) (n k : ℕ) : Type 0 where
+  pub in_scope : IsInScope closes scope nodes opened n k
+  pub last : (j : ℕ) → IsInScope closes scope nodes opened n j → j ≤ k
 
 -- an open element closes where it is that one or stands inside it
-pub record ClosesInnermost (closes unless : List ℕ → Bool) (nodes : List Node) (opened : List NodeId) (o : NodeId) : Type 0 where
+pub record ClosesInnermost (closes scope : List ℕ → Bool) (nodes : List Node) (opened : List NodeId) (o : NodeId) : Type 0 where
   pub innermost : ℕ
   pub place : ℕ
-  pub found : IsInnermost closes unless nodes opened (length opened) innermost
+  pub found : IsInnermost closes scope nodes opened (length opened) innermost
   pub inside : innermost ≤ place
   pub here : slice_get opened place ≡ Some o
 
@@ -36,7 +36,7 @@ pub record ClosesByRow (table : List Rule) (name : List ℕ) (nodes : List Node)
   pub row : Rule
   pub listed : slice_get table number ≡ Some row
   pub named : names_tag row name ≡ true
-  pub closes : ClosesInnermost (has_name row.closes) (has_name row.unless) nodes (fold (after_rule name nodes) opened (take number table)) o
+  pub closes : ClosesInnermost (has_name row.closes) (has_name row.scope) nodes (fold (after_rule name nodes) opened (take number table)) o
 
 -- ---- what a token closes and opens
 
@@ -121,15 +121,15 @@ IsParentAt tokens t p = IsLastOpened tokens t (record { 0 = p }) ⊎ ((p ≡ 0) 
 
 -- ---- laws
 
--- what is kept ends at the innermost element of `closes` with none of `unless` inside it
+-- what is kept ends at the innermost element of `closes` with none of `scope` inside it
 abbrev pub KeptIsInnermost : Type 0
-KeptIsInnermost = (closes unless : List ℕ → Bool) (nodes : List Node) (opened : List NodeId) (n k : ℕ) →
-    (kept closes unless nodes opened n ≡ Some k) ↔ IsInnermost closes unless nodes opened n k
+KeptIsInnermost = (closes scope : List ℕ → Bool) (nodes : List Node) (opened : List NodeId) (n k : ℕ) →
+    (kept closes scope nodes opened n ≡ Some k) ↔ IsInnermost closes scope nodes opened n k
 
 -- all is kept exactly where there is no such element
 abbrev pub AllIsKept : Type 0
-AllIsKept = (closes unless : List ℕ → Bool) (nodes : List Node) (opened : List NodeId) (n : ℕ) →
-    (kept closes unless nodes opened n ≡ None) ↔ ((k : ℕ) → IsInScope closes unless nodes opened n k → ⊥)
+AllIsKept = (closes scope : List ℕ → Bool) (nodes : List Node) (opened : List NodeId) (n : ℕ) →
+    (kept closes scope nodes opened n ≡ None) ↔ ((k : ℕ) → IsInScope closes scope nodes opened n k → ⊥)
 
 -- the open elements at a token are those that an earlier token opened and none between closes
 abbrev pub OpenIsOpened : Type 0

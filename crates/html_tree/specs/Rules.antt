@@ -10,15 +10,15 @@ texts names = map (λ n. n.now) names
 abbrev pub has_name : List (List ℕ) → List ℕ → Bool
 has_name names name = list_any (λ n. bytes_eq n name) names
 
--- a row of the table: it counts for these start tags or for all but them, and closes an element of `closes` that has none of `unless` inside it
+-- a row of the table: it counts for these start tags or for all but them, and closes an element of `closes` that has none of `scope` inside it
 pub record Rule : Type 0 where
   pub all_but : Bool
   pub tags : List (List ℕ)
   pub closes : List (List ℕ)
-  pub unless : List (List ℕ)
+  pub scope : List (List ℕ)
 
 abbrev pub rule_of : Bool × Bor (List (Bor (List ℕ))) × Bor (List (Bor (List ℕ))) × Bor (List (Bor (List ℕ))) → Rule
-rule_of r = record { all_but = r.0; tags = texts r.1.now; closes = texts r.2.now; unless = texts r.3.now }
+rule_of r = record { all_but = r.0; tags = texts r.1.now; closes = texts r.2.now; scope = texts r.3.now }
 
 -- the table: what start tags close (HTML, 13.1.2.4 "Optional tags" and 13.2.6.4.7, in part)
 unfoldable pub rules : List Rule
@@ -28,43 +28,43 @@ rules =
       tags = codes "title" ∷ codes "base" ∷ codes "link" ∷ codes "meta" ∷ codes "style" ∷ codes "script" ∷
           codes "noscript" ∷ codes "template" ∷ [];
       closes = codes "head" ∷ [];
-      unless = [];
+      scope = [];
     } ∷
     record {
       all_but = false;
       tags = codes "li" ∷ [];
       closes = codes "li" ∷ [];
-      unless = codes "ul" ∷ codes "ol" ∷ codes "menu" ∷ codes "table" ∷ codes "td" ∷ codes "th" ∷ [];
+      scope = codes "ul" ∷ codes "ol" ∷ codes "menu" ∷ codes "table" ∷ codes "td" ∷ codes "th" ∷ [];
     } ∷
     record {
       all_but = false;
       tags = codes "dt" ∷ codes "dd" ∷ [];
       closes = codes "dt" ∷ codes "dd" ∷ [];
-      unless = codes "dl" ∷ codes "table" ∷ codes "td" ∷ codes "th" ∷ [];
+      scope = codes "dl" ∷ codes "table" ∷ codes "td" ∷ codes "th" ∷ [];
     } ∷
     record {
       all_but = false;
       tags = codes "td" ∷ codes "th" ∷ [];
       closes = codes "td" ∷ codes "th" ∷ [];
-      unless = codes "tr" ∷ codes "table" ∷ [];
+      scope = codes "tr" ∷ codes "table" ∷ [];
     } ∷
     record {
       all_but = false;
       tags = codes "tr" ∷ [];
       closes = codes "tr" ∷ [];
-      unless = codes "table" ∷ [];
+      scope = codes "table" ∷ [];
     } ∷
     record {
       all_but = false;
       tags = codes "tbody" ∷ codes "thead" ∷ codes "tfoot" ∷ [];
       closes = codes "tbody" ∷ codes "thead" ∷ codes "tfoot" ∷ [];
-      unless = codes "table" ∷ [];
+      scope = codes "table" ∷ [];
     } ∷
     record {
       all_but = false;
       tags = codes "option" ∷ [];
       closes = codes "option" ∷ [];
-      unless = codes "select" ∷ [];
+      scope = codes "select" ∷ [];
     } ∷
     record {
       all_but = false;
@@ -75,7 +75,7 @@ rules =
           codes "nav" ∷ codes "ol" ∷ codes "p" ∷ codes "pre" ∷ codes "section" ∷ codes "table" ∷ codes "ul" ∷
           [];
       closes = codes "p" ∷ [];
-      unless = codes "table" ∷ codes "td" ∷ codes "th" ∷ codes "caption" ∷ codes "button" ∷ codes "object" ∷ [];
+      scope = codes "table" ∷ codes "td" ∷ codes "th" ∷ codes "caption" ∷ codes "button" ∷ codes "object" ∷ [];
     } ∷
     []
 

@@ -4,16 +4,16 @@ use Rattle.std.specs.List.{starts_with, position_or_len}
 use Rattle.std.specs.Char.{is_digit, digit_value, to_ascii_lowercase}
 
 -- what a byte becomes before the next one: CR before LF goes, other CR are LF, and U+0000 is U+FFFD
-abbrev pub mended_byte : ℕ → ℕ → List ℕ
-mended_byte b next = if b == 13 then (if next == 10 then [] else 10 ∷ []) else if b == 0 then encode_utf8 0xFFFD else b ∷ []
+abbrev pub normalized_byte : ℕ → ℕ → List ℕ
+normalized_byte b next = if b == 13 then (if next == 10 then [] else 10 ∷ []) else if b == 0 then encode_utf8 0xFFFD else b ∷ []
 
-unfoldable pub mended : List ℕ → List ℕ
-mended [] = []
-mended (b ∷ bs) = mended_byte b (slice_index bs 0) ++ mended bs
+unfoldable pub normalized : List ℕ → List ℕ
+normalized [] = []
+normalized (b ∷ bs) = normalized_byte b (slice_index bs 0) ++ normalized bs
 
 -- the name of an element or of an attribute
 abbrev pub name_of : List ℕ → List ℕ
-name_of bs = map to_ascii_lowercase (mended bs)
+name_of bs = map to_ascii_lowercase (normalized bs)
 
 -- ---- references
 
@@ -82,6 +82,6 @@ referred_after n [] = []
 referred_after (suc n) (b ∷ bs) = referred_after n bs
 referred_after zero (b ∷ bs) = if b == 38 then encode_utf8 (reference_at (b ∷ bs)).code ++ referred_after ((reference_at (b ∷ bs)).len - 1) bs else b ∷ referred_after 0 bs
 
--- line ends are mended first, and then references are read where there are any
+-- line ends are normalized first, and then references are read where there are any
 unfoldable pub text_of : Bool → List ℕ → List ℕ
-text_of references bs = if references then referred_after 0 (mended bs) else mended bs
+text_of references bs = if references then referred_after 0 (normalized bs) else normalized bs

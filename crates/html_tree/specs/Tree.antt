@@ -28,18 +28,18 @@ abbrev pub name_in : List Node → Option NodeId → List ℕ
 name_in nodes None = []
 name_in nodes (Some o) = unwrap_or (name_at nodes o.0) []
 
--- how many of the first n open elements stay where the innermost of `closes` closes that has none of `unless` inside it, if there is one
+-- how many of the first n open elements stay where the innermost of `closes` closes that has none of `scope` inside it, if there is one
 abbrev pub kept : (List ℕ → Bool) → (List ℕ → Bool) → List Node → List NodeId → ℕ → Option ℕ
-kept closes unless nodes opened zero = None
-kept closes unless nodes opened (suc n) = if closes (name_in nodes (slice_get opened n)) then Some n else
-    if unless (name_in nodes (slice_get opened n)) then None else kept closes unless nodes opened n
+kept closes scope nodes opened zero = None
+kept closes scope nodes opened (suc n) = if closes (name_in nodes (slice_get opened n)) then Some n else
+    if scope (name_in nodes (slice_get opened n)) then None else kept closes scope nodes opened n
 
 abbrev pub closed_by : (List ℕ → Bool) → (List ℕ → Bool) → List Node → List NodeId → List NodeId
-closed_by closes unless nodes opened = take (unwrap_or (kept closes unless nodes opened (length opened)) (length opened)) opened
+closed_by closes scope nodes opened = take (unwrap_or (kept closes scope nodes opened (length opened)) (length opened)) opened
 
 -- what is open after a row of the table
 abbrev pub after_rule : List ℕ → List Node → List NodeId → Rule → List NodeId
-after_rule name nodes opened rule = if names_tag rule name then closed_by (has_name rule.closes) (has_name rule.unless) nodes opened else opened
+after_rule name nodes opened rule = if names_tag rule name then closed_by (has_name rule.closes) (has_name rule.scope) nodes opened else opened
 
 -- and after the innermost element of a name is closed, where there is one
 abbrev pub without : List ℕ → List Node → List NodeId → List NodeId

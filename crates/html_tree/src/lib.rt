@@ -1,13 +1,13 @@
 //! The tree of an HTML text.
 #![tactic(auto)]
 
-mod cook;
 pub mod laws;
 mod opened;
 mod references;
 mod rules;
 #[cfg(test)]
 mod tests;
+mod text;
 mod tree;
 
 pub use dom::{Dom, DomErr};

@@ -20,10 +20,10 @@ pub(crate) fn name_of_element<'d>(dom: &'d Dom, node: NodeId) -> &'d str
     }
 }
 
-/// Closes the innermost open element of `closes` that has none of `unless` inside it, with all inside it.
-pub(crate) fn close_by(dom: &Dom, opened: &mut Vec<NodeId>, closes: &[&str], unless: &[&str])
+/// Closes the innermost open element of `closes` that has none of `scope` inside it, with all inside it.
+pub(crate) fn close_by(dom: &Dom, opened: &mut Vec<NodeId>, closes: &[&str], scope: &[&str])
     requires { AreElements dom.now opened.old.items }
-    ensures closed { opened.new.items ≡ closed_by (has_name (texts closes.now)) (has_name (texts unless.now)) dom.now opened.old.items }
+    ensures closed { opened.new.items ≡ closed_by (has_name (texts closes.now)) (has_name (texts scope.now)) dom.now opened.old.items }
     ensures elements { AreElements dom.now opened.new.items }
 {
     let mut at = opened.len();
@@ -33,7 +33,7 @@ pub(crate) fn close_by(dom: &Dom, opened: &mut Vec<NodeId>, closes: &[&str], unl
             opened.truncate(at - 1);
             return;
         }
-        if has(unless, name) {
+        if has(scope, name) {
             return;
         }
         at -= 1;
@@ -51,9 +51,9 @@ fn close_row(
     ensures closed { opened.new.items ≡ after_rule name.now dom.now opened.old.items (rule_of row.now) }
     ensures elements { AreElements dom.now opened.new.items }
 {
-    let (all_but, tags, closes, unless) = *row;
+    let (all_but, tags, closes, scope) = *row;
     if has(tags, name) != all_but {
-        close_by(dom, opened, closes, unless);
+        close_by(dom, opened, closes, scope);
     }
 }
 

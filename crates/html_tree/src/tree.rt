@@ -11,9 +11,9 @@ ghost use Rattle.std.specs.Prelude.{fold};
 ghost use Rattle.html_tree.specs.Order.{AreInOrder};
 ghost use Rattle.html_tree.specs.Built.{Answers, waiting, state_of, IsBuilt};
 
-use crate::cook::{name_of, text_of};
 use crate::opened::{close_named, close_rows, current, name_of_element};
 use crate::rules::{RULES, is_void};
+use crate::text::{name_of, text_of};
 use bk_num::ids::NodeId;
 use bk_num::limits::MOST_NODES;
 use bk_num::name::NoMem;
@@ -300,7 +300,7 @@ impl Builder {
     }
 }
 
-/// Opens an element, unless it is void.
+/// Opens an element that isn't void.
 fn keep_open(opened: &mut Vec<NodeId>, name: &str, node: NodeId) -> Result<(), NoMem>
     ensures { OnOk result (opened.new.items ≡ opened_after name.now node.0 opened.old.items) }
 {

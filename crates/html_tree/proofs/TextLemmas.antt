@@ -1,4 +1,4 @@
--- The mended text, and the text with its references read, piece by piece.
+-- The normalized text, and the text with its references read, piece by piece.
 use Rattle.std.proofs.Common.{◌≡◌, ◌⊎◌, inl, inr, ℕ, zero, suc, ◌+◌, ◌-◌, ◌<◌, ◌≤◌, true, false, not, List, [], ◌∷◌, ◌++◌, length, take, drop, get_or, eqb, nat_eq, ◌==◌, ◌&&◌, ◌||◌, refl, ap, sym, ◌∙◌, arith, subst, append_assoc, append-nil, length-drop, encode_utf8}
 use Rattle.std.specs.List.{starts_with}
 use Rattle.std.specs.Char.{is_digit}
@@ -10,43 +10,43 @@ use Rattle.std.proofs.lemmas.Bool.{cases_Bool, cases_eq, both_ways, false_from_n
 use Rattle.std.proofs.lemmas.Bool.Decides.{nat_tests}
 use Rattle.memchr.specs.Find.{Nowhere, Passes, is_byte, is_byte2}
 use Rattle.html_tok.proofs.Places.{place-le, place-fails}
-use Rattle.html_tree.specs.Texts.{mended, mended_byte, digits_len, closing_len, numeric, named, named_references, reference_at, referred_after}
+use Rattle.html_tree.specs.Texts.{normalized, normalized_byte, digits_len, closing_len, numeric, named, named_references, reference_at, referred_after}
 
 -- ---- mending
 
-plain-byte : (b next : ℕ) → is_byte2 13 0 b ≡ false → mended_byte b next ≡ b ∷ []
+plain-byte : (b next : ℕ) → is_byte2 13 0 b ≡ false → normalized_byte b next ≡ b ∷ []
 plain-byte b next h = elim (cases_eq b 13) [
   | inl e ↦ absurd (both_ways _ h (rw e refl))
   | inr n ↦ elim (cases_eq b 0) [ inl e ↦ absurd (both_ways _ h (rw e refl)) | inr m ↦ grind (arith, nat_tests) ]
 ]
 
-pub mended-plain : (n : ℕ) (bs : List ℕ) → n ≤ length bs → ((k : ℕ) → k < n → is_byte2 13 0 (get_or bs k 0) ≡ false) → mended bs ≡ take n bs ++ mended (drop n bs)
-unfolding mended
-mended-plain zero bs h none = refl
-mended-plain (suc n) [] h none = absurd (omega arith)
-mended-plain (suc n) (b ∷ bs) h none = rw (plain-byte b (get_or bs 0 0) (none 0 (omega arith))) (ap (λ r. b ∷ r) (mended-plain n bs (omega arith) (λ k l. none (suc k) (omega arith))))
+pub normalized-plain : (n : ℕ) (bs : List ℕ) → n ≤ length bs → ((k : ℕ) → k < n → is_byte2 13 0 (get_or bs k 0) ≡ false) → normalized bs ≡ take n bs ++ normalized (drop n bs)
+unfolding normalized
+normalized-plain zero bs h none = refl
+normalized-plain (suc n) [] h none = absurd (omega arith)
+normalized-plain (suc n) (b ∷ bs) h none = rw (plain-byte b (get_or bs 0 0) (none 0 (omega arith))) (ap (λ r. b ∷ r) (normalized-plain n bs (omega arith) (λ k l. none (suc k) (omega arith))))
 
-mended-step : (bs : List ℕ) → 0 < length bs → mended bs ≡ mended_byte (get_or bs 0 0) (get_or bs 1 0) ++ mended (drop 1 bs)
-unfolding mended
-mended-step [] h = absurd (omega arith)
-mended-step (b ∷ bs) h = refl
+normalized-step : (bs : List ℕ) → 0 < length bs → normalized bs ≡ normalized_byte (get_or bs 0 0) (get_or bs 1 0) ++ normalized (drop 1 bs)
+unfolding normalized
+normalized-step [] h = absurd (omega arith)
+normalized-step (b ∷ bs) h = refl
 
-mended-none : (bs : List ℕ) → length bs ≡ 0 → mended bs ≡ []
-unfolding mended
-mended-none [] h = refl
-mended-none (b ∷ bs) h = absurd (omega arith)
+normalized-none : (bs : List ℕ) → length bs ≡ 0 → normalized bs ≡ []
+unfolding normalized
+normalized-none [] h = refl
+normalized-none (b ∷ bs) h = absurd (omega arith)
 
 module _ (rest : List ℕ) where
-  pub mend-on : (out new base : List ℕ) (at : ℕ) → at < length rest → Nowhere (Passes (is_byte2 13 0) rest) 0 at → new ≡ (out ++ take at rest) ++ mended_byte (get_or (drop at rest) 0 0) (get_or (drop at rest) 1 0) → out ++ mended rest ≡ base → new ++ mended (drop 1 (drop at rest)) ≡ base
-  mend-on out new base at l none e h =
+  pub normalize-on : (out new base : List ℕ) (at : ℕ) → at < length rest → Nowhere (Passes (is_byte2 13 0) rest) 0 at → new ≡ (out ++ take at rest) ++ normalized_byte (get_or (drop at rest) 0 0) (get_or (drop at rest) 1 0) → out ++ normalized rest ≡ base → new ++ normalized (drop 1 (drop at rest)) ≡ base
+  normalize-on out new base at l none e h =
       let some : 0 < length (drop at rest) = (let d = length-drop at rest in omega arith) in
-      let step : mended rest ≡ take at rest ++ (mended_byte (get_or (drop at rest) 0 0) (get_or (drop at rest) 1 0) ++ mended (drop 1 (drop at rest))) =
-      mended-plain at rest (omega arith) (λ k m. false_from_ne_true _ (none k (omega arith) m)) ∙ ap (λ r. take at rest ++ r) (mended-step (drop at rest) some) in
-      rw e (append_assoc (out ++ take at rest) (mended_byte (get_or (drop at rest) 0 0) (get_or (drop at rest) 1 0)) (mended (drop 1 (drop at rest))) ∙ append_assoc out (take at rest) (mended_byte (get_or (drop at rest) 0 0) (get_or (drop at rest) 1 0) ++ mended (drop 1 (drop at rest))) ∙ ap (λ r. out ++ r) (sym step) ∙ h)
+      let step : normalized rest ≡ take at rest ++ (normalized_byte (get_or (drop at rest) 0 0) (get_or (drop at rest) 1 0) ++ normalized (drop 1 (drop at rest))) =
+      normalized-plain at rest (omega arith) (λ k m. false_from_ne_true _ (none k (omega arith) m)) ∙ ap (λ r. take at rest ++ r) (normalized-step (drop at rest) some) in
+      rw e (append_assoc (out ++ take at rest) (normalized_byte (get_or (drop at rest) 0 0) (get_or (drop at rest) 1 0)) (normalized (drop 1 (drop at rest))) ∙ append_assoc out (take at rest) (normalized_byte (get_or (drop at rest) 0 0) (get_or (drop at rest) 1 0) ++ normalized (drop 1 (drop at rest))) ∙ ap (λ r. out ++ r) (sym step) ∙ h)
 
-  pub mend-end : (out new base : List ℕ) → Nowhere (Passes (is_byte2 13 0) rest) 0 (length rest) → new ≡ out ++ rest → out ++ mended rest ≡ base → new ≡ base
-  mend-end out new base none e h =
-      let all : mended rest ≡ rest = mended-plain (length rest) rest (omega arith) (λ k m. false_from_ne_true _ (none k (omega arith) m)) ∙ ap (λ r. take (length rest) rest ++ r) (mended-none (drop (length rest) rest) (let d = length-drop (length rest) rest in omega arith)) ∙ append-nil (take (length rest) rest) ∙ take-length rest in
+  pub normalize-end : (out new base : List ℕ) → Nowhere (Passes (is_byte2 13 0) rest) 0 (length rest) → new ≡ out ++ rest → out ++ normalized rest ≡ base → new ≡ base
+  normalize-end out new base none e h =
+      let all : normalized rest ≡ rest = normalized-plain (length rest) rest (omega arith) (λ k m. false_from_ne_true _ (none k (omega arith) m)) ∙ ap (λ r. take (length rest) rest ++ r) (normalized-none (drop (length rest) rest) (let d = length-drop (length rest) rest in omega arith)) ∙ append-nil (take (length rest) rest) ∙ take-length rest in
       e ∙ ap (λ r. out ++ r) (sym all) ∙ h
 
 -- ---- references

@@ -2,7 +2,7 @@
 ghost use Rattle.std.specs.Prelude.{◌≡◌, ◌++◌, ◌<◌, length, IfOk, OnOk, slice_index, string_bytes, IsTrue};
 ghost use Rattle.memchr.specs.Find.{is_byte2};
 ghost use Rattle.std.specs.Str.{IsCharBoundary};
-ghost use Rattle.html_tree.specs.Texts.{mended, mended_byte, referred_after, text_of, name_of, reference_at};
+ghost use Rattle.html_tree.specs.Texts.{normalized, normalized_byte, referred_after, text_of, name_of, reference_at};
 
 use crate::references::reference_at;
 use bk_num::name::NoMem;
@@ -14,13 +14,13 @@ use std::alloc::Global;
 pub(crate) fn text_of(alloc: Global, text: &str, references: bool) -> Result<String, NoMem>
     ensures { IfOk result (λ s. string_bytes s ≡ text_of references text.now) }
 {
-    let mut mended = String::new(alloc);
-    mend(&mut mended, text)?;
+    let mut normalized = String::new(alloc);
+    normalize(&mut normalized, text)?;
     if !references {
-        return Ok(mended);
+        return Ok(normalized);
     }
     let mut read = String::new(alloc);
-    read_references(&mut read, mended.as_str())?;
+    read_references(&mut read, normalized.as_str())?;
     Ok(read)
 }
 
@@ -28,21 +28,21 @@ pub(crate) fn text_of(alloc: Global, text: &str, references: bool) -> Result<Str
 pub(crate) fn name_of(alloc: Global, name: &str) -> Result<String, NoMem>
     ensures { IfOk result (λ s. string_bytes s ≡ name_of name.now) }
 {
-    let mut mended = String::new(alloc);
-    mend(&mut mended, name)?;
-    mended.make_ascii_lowercase();
-    Ok(mended)
+    let mut normalized = String::new(alloc);
+    normalize(&mut normalized, name)?;
+    normalized.make_ascii_lowercase();
+    Ok(normalized)
 }
 
-/// Appends the text with its line ends mended and without U+0000.
-fn mend(out: &mut String, text: &str) -> Result<(), NoMem>
-    ensures { OnOk result (string_bytes out.new ≡ string_bytes out.old ++ mended text.now) }
+/// Appends the text with its line ends normalized and without U+0000.
+fn normalize(out: &mut String, text: &str) -> Result<(), NoMem>
+    ensures { OnOk result (string_bytes out.new ≡ string_bytes out.old ++ normalized text.now) }
 {
     let mut rest = text;
     while let Some(at) = memchr2(b'\r', 0, rest.as_bytes()) {
         out.push_str(&rest[..at])?;
         let begun = &rest[at..];
-        push_mended(out, begun.as_bytes())?;
+        push_normalized(out, begun.as_bytes())?;
         rest = &begun[1..];
     }
     out.push_str(rest)?;
@@ -50,9 +50,9 @@ fn mend(out: &mut String, text: &str) -> Result<(), NoMem>
 }
 
 /// Appends what the first byte becomes, which is U+000D or U+0000.
-fn push_mended(out: &mut String, bytes: &[u8]) -> Result<(), NoMem>
+fn push_normalized(out: &mut String, bytes: &[u8]) -> Result<(), NoMem>
     requires { IsTrue (is_byte2 13 0 (slice_index bytes.now 0)) }
-    ensures { OnOk result (string_bytes out.new ≡ string_bytes out.old ++ mended_byte (slice_index bytes.now 0) (slice_index bytes.now 1)) }
+    ensures { OnOk result (string_bytes out.new ≡ string_bytes out.old ++ normalized_byte (slice_index bytes.now 0) (slice_index bytes.now 1)) }
 {
     match bytes {
         [b'\r', b'\n', ..] => {}

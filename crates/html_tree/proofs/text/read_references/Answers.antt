@@ -3,8 +3,8 @@ use Rattle.std.specs.String.{string_bytes}
 use Rattle.std.proofs.lemmas.Bool.{eqb-true}
 use Rattle.std.proofs.lemmas.List.{get_or-drop}
 use Rattle.html_tree.specs.Texts.{referred_after, reference_at}
-use Rattle.html_tree.proofs.CookLemmas.{refer-on, refer-end, reference-end, reference-boundary}
-use Rattle.html_tree.proofs.cook.read_references.Goals as goal
+use Rattle.html_tree.proofs.TextLemmas.{refer-on, refer-end, reference-end, reference-boundary}
+use Rattle.html_tree.proofs.text.read_references.Goals as goal
 
 pub range_from-rest-requires : goal.range_from-rest-requires
 range_from-rest-requires c =

@@ -3,7 +3,7 @@ use Rattle.std.specs.String.{string_bytes}
 use denote.Text.{Utf8}
 use denote.Shadow.{shadow}
 use Rattle.html_tree.specs.Texts.{referred_after}
-use Rattle.html_tree.proofs.cook.read_references.Given as goal
+use Rattle.html_tree.proofs.text.read_references.Given as goal
 
 abbrev pub invariant-loop-at : goal.invariant-loop-at
 invariant-loop-at l = record {
