@@ -1,5 +1,5 @@
 -- How the number of a counter is printed (CSS 2.1, 12.4.2).
-use Rattle.std.specs.Prelude.{◌≡◌, ℕ, zero, suc, ◌+◌, ◌*◌, ◌-◌, ◌/◌, ◌%◌, ◌<◌, ◌≤◌, Bool, false, ◌&&◌, ◌||◌, nat_le, nat_lt, ◌==◌, if◌then◌else◌, List, [], ◌∷◌, ◌++◌, fold, All, ℤ, pos, negsuc, neg_ℤ, ◌+ℤ◌, unsigned_abs, codes, get_or, decimal}
+use Rattle.std.specs.Prelude.{◌≡◌, ℕ, zero, suc, ◌+◌, ◌*◌, ◌-◌, ◌/◌, ◌%◌, ◌<◌, ◌≤◌, Bool, false, ◌&&◌, ◌||◌, nat_le, nat_lt, ◌==◌, if◌then◌else◌, List, [], ◌∷◌, ◌++◌, fold, All, ℤ, pos, negsuc, neg_ℤ, ◌+ℤ◌, unsigned_abs, get_or}
 use Rattle.std.specs.Fmt.{signed_decimal}
 use Rattle.std.specs.Int.{is_positive}
 use Rattle.bk_num.specs.declared.values.NumStyle.{NumStyle}

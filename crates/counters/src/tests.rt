@@ -45,6 +45,6 @@ fn numbers_are_printed_in_their_style(rt: HostRuntime) {
     ] {
         let mut text = Vec::new(rt.alloc());
         assert!(rt; text.push(b'=').is_ok() && numeral(n, style, &mut text).is_ok());
-        assert!(rt; text[1..] == *want.as_bytes(), "{n} {want}");
+        assert!(rt; &text[1..] == want.as_bytes(), "{n} {want}");
     }
 }
