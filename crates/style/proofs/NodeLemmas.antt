@@ -99,8 +99,8 @@ pub sound-text : {A E : Type 0} (res : Result A E) (n : ℕ) (rows next : List R
 sound-text (Ok a) n rows next row ok err h g = rw ok (all-push n rows row h g)
 sound-text (Err a) n rows next row ok err h g = rw err h
 
-pub own-row : (styles : List Style) (s : Style) (i : ℕ) (shown note : Bool) → i ≡ length styles → node_of (styles ++ s ∷ []) (record { own = Some i; before = None; after = None; call = None; marker = None; shown = shown; note = note }) ≡ own_style s shown note
-own-row styles s i shown note e = rw (e, get-end styles s) refl
+pub own-row : (styles : List Style) (s : Style) (i : ℕ) (shown note in_note : Bool) → i ≡ length styles → node_of (styles ++ s ∷ []) (record { own = Some i; before = None; after = None; call = None; marker = None; shown = shown; note = note; in_note = in_note }) ≡ own_style s shown note in_note
+own-row styles s i shown note in_note e = rw (e, get-end styles s) refl
 
 pub one-more : (styles more : List Style) (s : Style) → more ≡ styles ++ s ∷ [] → length more ≡ length styles + 1
 one-more styles more s e = rw e (longer styles s)

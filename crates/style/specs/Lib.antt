@@ -4,3 +4,4 @@ pub mod Longs
 pub mod Styles
 pub mod Nodes
 pub mod NodeFields
+pub mod PageNames

@@ -4,7 +4,7 @@ use Rattle.bk_num.specs.declared.values.Pseudo.{Pseudo}
 use Rattle.bk_num.specs.declared.values.Pseudo.TheVariants as pseudo
 use Rattle.style.specs.declared.style.Style.{Style}
 
--- what a node has: its own style, those of its pseudo-elements, whether it is shown, and whether it is a note element
+-- what a node has: its own style, those of its pseudo-elements, whether it is shown, whether it is a note element, and whether it is one or stands in one
 pub record NodeStyles : Type 0 where
   pub own : Option Style
   pub before : Option Style
@@ -13,14 +13,15 @@ pub record NodeStyles : Type 0 where
   pub marker : Option Style
   pub shown : Bool
   pub note : Bool
+  pub in_note : Bool
 
 -- what a text has
 abbrev pub no_styles : NodeStyles
-no_styles = record { own = None; before = None; after = None; call = None; marker = None; shown = false; note = false }
+no_styles = record { own = None; before = None; after = None; call = None; marker = None; shown = false; note = false; in_note = false }
 
 -- what an element without pseudo-elements has
-abbrev pub own_style : Style → Bool → Bool → NodeStyles
-own_style style shown note = record { own = Some style; before = None; after = None; call = None; marker = None; shown = shown; note = note }
+abbrev pub own_style : Style → Bool → Bool → Bool → NodeStyles
+own_style style shown note in_note = record { own = Some style; before = None; after = None; call = None; marker = None; shown = shown; note = note; in_note = in_note }
 
 abbrev pub style_in : NodeStyles → Pseudo → Option Style
 style_in n pseudo.Element = n.own
@@ -58,3 +59,7 @@ is_shown_in (Some n) = n.shown
 abbrev pub is_note_in : Option NodeStyles → Bool
 is_note_in None = false
 is_note_in (Some n) = n.note
+
+abbrev pub is_in_note_in : Option NodeStyles → Bool
+is_in_note_in None = false
+is_in_note_in (Some n) = n.in_note

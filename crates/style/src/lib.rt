@@ -5,6 +5,7 @@ pub mod content;
 pub mod lists;
 pub mod long;
 pub mod longhand;
+pub mod names;
 pub mod style;
 pub mod styles;
 pub mod values;

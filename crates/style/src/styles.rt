@@ -2,7 +2,7 @@
 
 ghost use Rattle.std.specs.Prelude.{◌≡◌, ◌<◌, ◌+◌, [], ◌∷◌, ◌++◌, OnOk, OnErr, IfOk, None, Some, option_map, length, slice_get};
 ghost use Rattle.style.specs.NodeFields.{number_in, with_number};
-ghost use Rattle.style.specs.Nodes.{no_styles, own_style, style_at, with_style, change_last, is_shown_in, is_note_in};
+ghost use Rattle.style.specs.Nodes.{no_styles, own_style, style_at, with_style, change_last, is_shown_in, is_note_in, is_in_note_in};
 
 use crate::style::Style;
 use bk_num::ids::NodeId;
@@ -21,6 +21,7 @@ pub(crate) struct Row {
     marker: Option<u32>,
     shown: bool,
     note: bool,
+    in_note: bool,
 }
 
 /// The styles of nodes, by the numbers of the nodes. Contracts see the list of what each node has.
@@ -82,6 +83,16 @@ impl Styles {
         }
     }
 
+    /// Whether a node is a note element or stands in one.
+    pub fn is_in_note(&self, node: NodeId) -> bool
+        ensures { result ≡ is_in_note_in (slice_get self.now node.0) }
+    {
+        match self.rows.get(node.0 as usize) {
+            Some(row) => row.in_note,
+            None => false,
+        }
+    }
+
     /// Adds a text, which has no style.
     pub fn add_text(&mut self) -> Result<(), NoMem>
         ensures ok { OnOk result (self.new ≡ self.old ++ no_styles ∷ []) }
@@ -95,13 +106,20 @@ impl Styles {
             marker: None,
             shown: false,
             note: false,
+            in_note: false,
         };
         push_row(&mut self.rows, row)
     }
 
     /// Adds an element without pseudo-elements.
-    pub fn add_element(&mut self, style: Style, shown: bool, note: bool) -> Result<(), NoMem>
-        ensures ok { OnOk result (self.new ≡ self.old ++ own_style style shown note ∷ []) }
+    pub fn add_element(
+        &mut self,
+        style: Style,
+        shown: bool,
+        note: bool,
+        in_note: bool,
+    ) -> Result<(), NoMem>
+        ensures ok { OnOk result (self.new ≡ self.old ++ own_style style shown note in_note ∷ []) }
         ensures err { OnErr result (self.new ≡ self.old) }
     {
         let number = push_style(&mut self.styles, style)?;
@@ -113,6 +131,7 @@ impl Styles {
             marker: None,
             shown,
             note,
+            in_note,
         };
         push_row(&mut self.rows, row)
     }

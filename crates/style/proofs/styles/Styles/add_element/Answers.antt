@@ -13,7 +13,7 @@ invariant_of-self-2 c =
     sound-add c.push_row.result c.self.inside.styles.items c.push_style.new.styles.items c.args.style c.self.inside.rows.items c.push_row.new.rows.items _ c.in_ok-number.ensures.ok c.push_row.ensures.ok c.push_row.ensures.err c.self.invariant (record { own = below; before = tt; after = tt; call = tt; marker = tt })
 
 pub returns-clause-ok : goal.returns-clause-ok
-returns-clause-ok c = rw (← c.self.view_is) (view-ok c.push_row.result c.self.inside.styles.items c.push_style.new.styles.items c.args.style c.self.inside.rows.items c.push_row.new.rows.items _ _ c.in_ok-number.ensures.ok c.push_row.ensures.ok c.self.invariant (own-row c.self.inside.styles.items c.args.style c.in_ok-number.number c.args.shown c.args.note c.in_ok-number.ensures.number))
+returns-clause-ok c = rw (← c.self.view_is) (view-ok c.push_row.result c.self.inside.styles.items c.push_style.new.styles.items c.args.style c.self.inside.rows.items c.push_row.new.rows.items _ _ c.in_ok-number.ensures.ok c.push_row.ensures.ok c.self.invariant (own-row c.self.inside.styles.items c.args.style c.in_ok-number.number c.args.shown c.args.note c.args.in_note c.in_ok-number.ensures.number))
 
 pub returns-clause-err : goal.returns-clause-err
 returns-clause-err c = rw (← c.self.view_is) (view-err c.push_row.result c.self.inside.styles.items c.push_style.new.styles.items c.args.style c.self.inside.rows.items c.push_row.new.rows.items c.in_ok-number.ensures.ok c.push_row.ensures.err c.self.invariant)
