@@ -5,3 +5,5 @@ pub mod Order
 pub mod DomFields
 pub mod Links
 pub mod Answers
+pub mod Walk
+pub mod WalkFields

@@ -1,5 +1,6 @@
 -- A tree as a list of nodes with the numbers of their parents.
 use Rattle.std.specs.Prelude.{◌≡◌, ℕ, ◌+◌, ◌<◌, ◌≤◌, Bool, false, true, List, [], ◌∷◌, ◌++◌, Option, None, Some, if◌then◌else◌, ◌==◌, take, drop, map, length, slice_get, slice_set, count_by, codes}
+use Rattle.bk_num.specs.Limits.{most_nodes, most_depth}
 use Rattle.dom.specs.Pairs.{pair_value}
 use Rattle.dom.specs.declared.rows.NodeData.{NodeData}
 use Rattle.dom.specs.declared.rows.NodeData.TheVariants.{Element, Text}
@@ -159,7 +160,7 @@ HasPlace nodes k n (Some p) = (p < k) × (is_element_at nodes p ≡ true) × (n.
 
 -- at most 400,000 nodes, elements at most 200 deep and texts at most 201, and each node in its place
 pub record IsTree (nodes : List Node) : Type 0 where
-  pub few : length nodes ≤ 400000
+  pub few : length nodes ≤ most_nodes
   pub some : 0 < length nodes
-  pub deep : (k : ℕ) (n : Node) → slice_get nodes k ≡ Some n → reach_of n.depth n.what ≤ 201
+  pub deep : (k : ℕ) (n : Node) → slice_get nodes k ≡ Some n → reach_of n.depth n.what ≤ most_depth + 1
   pub placed : (k : ℕ) (n : Node) → slice_get nodes k ≡ Some n → HasPlace nodes k n n.parent

@@ -11,18 +11,13 @@ ghost use Rattle.dom.specs.declared.rows.NodeData.TheVariants.{Element, Text};
 use crate::attrs::Attributes;
 use crate::rows::{NodeData, Row, link, put_attribute};
 use bk_num::ids::NodeId;
+use bk_num::limits::{MOST_DEPTH, MOST_NODES};
 use bk_num::name::{Name, NoMem};
 use std::alloc::Global;
 use std::cmp::Ordering;
 use std::marker::Model;
 
-/// The most nodes of a document.
-const MOST_NODES: u32 = 400000;
-
-/// The depth of the deepest elements. The element `html` has depth 1.
-const MOST_DEPTH: u8 = 200;
-
-/// The most nodes on the way from the root to a node.
+/// The most nodes on the way from the root to a node: 200 elements and a text.
 const WAY: usize = 201;
 
 /// Why a node was not added.
@@ -88,6 +83,16 @@ impl Dom {
         ensures tree { IsTree self.now }
     {
         self.rows.len() as u32
+    }
+
+    /// The element `html`, node 0.
+    pub fn root(&self) -> NodeId
+        ensures root { result.0 ≡ 0 }
+        ensures some { 0 < length self.now }
+        ensures tree { IsTree self.now }
+    {
+        let _ = &self.rows;
+        NodeId(0)
     }
 
     /// The parent of a node; None exactly for node 0.
@@ -382,7 +387,7 @@ fn is_after(a: &[u32], b: &[u32]) -> bool
 fn is_below_all(element: bool, depth: u8) -> bool
     ensures { result ≡ is_below_all element depth }
 {
-    depth >= MOST_DEPTH && element
+    u32::from(depth) >= MOST_DEPTH && element
 }
 
 /// How many element children there are after one more child.

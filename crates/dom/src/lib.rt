@@ -6,7 +6,9 @@ mod dom;
 mod rows;
 #[cfg(test)]
 mod tests;
+mod walk;
 
 pub use attrs::Attributes;
 pub use dom::{Dom, DomErr};
 pub use rows::NodeData;
+pub use walk::{Step, Walk};

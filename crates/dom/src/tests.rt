@@ -1,6 +1,6 @@
 //! A document by hand.
 
-use crate::{Dom, DomErr};
+use crate::{Dom, DomErr, Step, Walk};
 use bk_num::ids::NodeId;
 use std::alloc::Global;
 use std::test::Fail;
@@ -39,6 +39,20 @@ const LINKS: [[Option<u32>; 5]; 5] = [
     [Some(1), None, None, Some(2), None],
 ];
 
+/// The steps of a walk in tree order: whether a node is entered, and its number.
+const STEPS: [(bool, u32); 10] = [
+    (true, 0),
+    (true, 1),
+    (true, 2),
+    (false, 2),
+    (true, 4),
+    (false, 4),
+    (false, 1),
+    (true, 3),
+    (false, 3),
+    (false, 0),
+];
+
 fn number(node: Option<NodeId>) -> Option<u32> {
     match node {
         Some(n) => Some(n.0),
@@ -70,5 +84,16 @@ fn nodes_are_read_as_they_were_added(rt: HostRuntime) -> Result<(), Fail> {
     assert_eq!(rt; dom.len(), 5);
     assert_eq!(rt; number(dom.by_id("x")), Some(4));
     assert_eq!(rt; number(dom.by_id("y")), None);
+    let mut walk = Walk::new(&dom);
+    for (entered, number) in STEPS {
+        let node = NodeId(number);
+        let step = if entered {
+            Step::Enter(node)
+        } else {
+            Step::Leave(node)
+        };
+        assert_eq!(rt; walk.next(), Some(step));
+    }
+    assert_eq!(rt; walk.next(), None);
     Ok(())
 }
