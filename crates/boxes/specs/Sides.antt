@@ -1,0 +1,10 @@
+-- Sides alternate, so each demand is met on one of two pages.
+use Rattle.std.proofs.Common.{◌≡◌, ◌≤◌, ℕ, ◌+◌, ◌-◌, ◌%◌, Bool, true, false, ◌==◌, refl, arith}
+use Rattle.boxes.specs.Frames.{meets_by_parity, side_of, is_left}
+use Rattle.boxes.specs.declared.frames.Demand.{Demand}
+use Rattle.boxes.specs.declared.frames.Demand.TheVariants.{Page, Left, Right}
+
+pub parity_within : (index : ℕ) (d : Demand) → (k : ℕ) × (k ≤ 1) × (meets_by_parity (index + k) d ≡ true)
+parity_within index Page = (0, omega arith, refl)
+parity_within index Left = (index % 2, omega arith, grind arith)
+parity_within index Right = (1 - index % 2, omega arith, grind arith)
