@@ -1,6 +1,6 @@
--- Sides alternate, so each demand is met on one of two pages.
+-- Sides alternate, so each demand is met on one of two pages, and a free one on each.
 use Rattle.std.proofs.Common.{◌≡◌, ◌≤◌, ℕ, ◌+◌, ◌-◌, ◌%◌, Bool, true, false, ◌==◌, refl, arith}
-use Rattle.boxes.specs.Frames.{meets_by_parity, side_of, is_left}
+use Rattle.boxes.specs.Frames.{meets_by_parity, is_free_demand, side_of, is_left}
 use Rattle.boxes.specs.declared.frames.Demand.{Demand}
 use Rattle.boxes.specs.declared.frames.Demand.TheVariants.{Page, Left, Right}
 
@@ -8,3 +8,8 @@ pub parity_within : (index : ℕ) (d : Demand) → (k : ℕ) × (k ≤ 1) × (me
 parity_within index Page = (0, omega arith, refl)
 parity_within index Left = (index % 2, omega arith, grind arith)
 parity_within index Right = (1 - index % 2, omega arith, grind arith)
+
+pub free_met : (index : ℕ) (d : Demand) → is_free_demand d ≡ true → meets_by_parity index d ≡ true
+free_met index Page free = refl
+free_met index Left free = absurd (cc)
+free_met index Right free = absurd (cc)

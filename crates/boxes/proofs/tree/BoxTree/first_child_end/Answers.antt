@@ -57,4 +57,3 @@ returns-in-Leaf-clause-end c =
     let low : c.args.at < length rows = simp length-map at (rw (← c.self.view_is) at c.requires) in
     let row : slice_get rows c.args.at ≡ Some c.index-row.result.now = slice_get_read rows (length rows) c.args.at c.index-row.result.now refl low c.index-row.ensures in
     subst (λ (t : Tree). None ≡ first_child_end t.events c.args.at) c.self.view_is (no_chain rows c.args.at c.index-row.result.now (Leaf c.in-Leaf.field-0) row c.in-Leaf.is refl)
-
