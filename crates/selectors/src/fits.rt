@@ -13,7 +13,7 @@ use bk_num::ids::NodeId;
 use bk_num::name::Name;
 use dom::Dom;
 
-pub(crate) fn is_blank(b: u8) -> bool
+pub fn is_blank(b: u8) -> bool
     ensures { result ≡ is_blank b }
 {
     b == b' ' || b == b'\t' || b == b'\n' || b == 12 || b == b'\r'

@@ -11,7 +11,8 @@ ghost use Rattle.selectors.specs.Specificity.{is_pseudo};
 
 use crate::nth::nth_of;
 use crate::reader::{Reader, significant};
-use crate::types::{AttrTest, Compound, Items, Join, Plain, Selector, SelectorList, Test};
+use crate::types::{AttrTest, Compound, Join, Plain, Selector, SelectorList, Test};
+use bk_num::items::Items;
 use bk_num::name::{Name, NoMem};
 use bk_num::values::Pseudo;
 use css_tok::front::CssKind;

@@ -25,7 +25,7 @@ fn fits(selector: &Selector, at: usize, dom: &Dom, node: NodeId) -> bool
 }
 
 #[tactic(auto, unfolding(crate::specs::Match::joins_by))]
-fn joins_by(selector: &Selector, join: Join, at: usize) -> bool
+pub fn joins_by(selector: &Selector, join: Join, at: usize) -> bool
     ensures { result ≡ joins_by selector.now join at }
 {
     match (selector.joins().get(at), join) {
@@ -38,7 +38,7 @@ fn joins_by(selector: &Selector, join: Join, at: usize) -> bool
 }
 
 /// The number of compounds.
-fn count(selector: &Selector) -> usize
+pub fn count(selector: &Selector) -> usize
     ensures count { result ≡ length selector.now.parts }
     ensures few { result ≤ 16 }
     ensures joins { result ≡ length selector.now.joins + 1 }
@@ -48,7 +48,7 @@ fn count(selector: &Selector) -> usize
 
 /// The wanted compounds that a node fits.
 #[tactic(auto, using(crate::proofs::SetLemmas::has_none))]
-fn fitting(selector: &Selector, dom: &Dom, node: NodeId, wanted: u16) -> u16
+pub fn fitting(selector: &Selector, dom: &Dom, node: NodeId, wanted: u16) -> u16
     requires { node.0 < length dom.now }
     ensures { (k : ℕ) → sets.has result k ≡ (sets.has wanted k && fits dom.now selector.now k node.0) }
 {

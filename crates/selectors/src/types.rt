@@ -1,65 +1,11 @@
 //! What a selector is.
 
-ghost use Rattle.std.specs.Prelude.{◌≡◌, ◌++◌, ◌∷◌, [], ◌<◌, ◌≤◌, ◌+◌, length, OnOk, OnErr};
+ghost use Rattle.std.specs.Prelude.{◌≡◌, ◌≤◌, ◌+◌, length};
 
-use bk_num::name::{Name, NoMem};
+use bk_num::items::Items;
+use bk_num::name::Name;
 use bk_num::values::Pseudo;
-use std::alloc::Global;
 use std::marker::Model;
-
-/// A list that owns its items. Contracts see the list.
-#[derive(Drop)]
-pub struct Items<T: Drop> {
-    items: Vec<T>,
-}
-
-impl<T: Drop> Model for Items<T> {
-    ghost use Rattle.std.specs.Prelude.{List};
-
-    ghost Value = { List T };
-
-    ghost view = { λ s. s.items.items };
-}
-
-impl<T: Drop> Items<T> {
-    pub fn new(alloc: Global) -> Items<T>
-        ensures { result ≡ [] }
-    {
-        Items {
-            items: Vec::new(alloc),
-        }
-    }
-
-    /// The list that owns these items. It takes no memory.
-    pub fn from_vec(items: Vec<T>) -> Items<T>
-        ensures { result ≡ items.items }
-    {
-        Items { items }
-    }
-
-    /// The items. It takes no memory.
-    pub fn into_vec(self) -> Vec<T>
-        ensures { result.items ≡ self }
-    {
-        self.items
-    }
-
-    pub fn as_slice(&self) -> &[T]
-        ensures { result.now ≡ self.now }
-    {
-        self.items.as_slice()
-    }
-
-    pub fn push(&mut self, item: T) -> Result<(), NoMem>
-        ensures ok { OnOk result (self.new ≡ self.old ++ item ∷ []) }
-        ensures err { OnErr result (self.new ≡ self.old) }
-    {
-        match self.items.push(item) {
-            Ok(_) => Ok(()),
-            Err(_) => Err(NoMem),
-        }
-    }
-}
 
 /// How an attribute's value is tested (Selectors 3, 6.3.1 and 6.3.2).
 #[derive(Clone, Copy, Debug, PartialEq, Eq)]

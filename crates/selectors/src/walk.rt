@@ -55,7 +55,7 @@ pub(crate) fn is_element(dom: &Dom, node: NodeId) -> bool
 }
 
 /// The parent of a node, which has a lesser number.
-pub(crate) fn parent(dom: &Dom, node: NodeId) -> Option<NodeId>
+pub fn parent(dom: &Dom, node: NodeId) -> Option<NodeId>
     requires { node.0 < length dom.now }
     ensures value { option_map (λ n. n.0) result ≡ parent_at (parents_of dom.now) node.0 }
     ensures below { IfSome result (λ p. p.0 < node.0) }
@@ -155,7 +155,7 @@ pub(crate) fn has_content(dom: &Dom, node: NodeId) -> bool
 
 /// The element sibling just before a node, which has a lesser number.
 #[tactic(auto, unfolding(crate::specs::Walk::prev_element, crate::specs::Walk::siblings_before))]
-pub(crate) fn prev_element(dom: &Dom, node: NodeId) -> Option<NodeId>
+pub fn prev_element(dom: &Dom, node: NodeId) -> Option<NodeId>
     requires { node.0 < length dom.now }
     ensures { option_map (λ n. n.0) result ≡ spec.prev_element dom.now node.0 }
 {
