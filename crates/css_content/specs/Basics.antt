@@ -1,0 +1,29 @@
+-- Values that several properties have: words of a table, whole numbers, values in a row.
+use Rattle.std.specs.Prelude.{ℕ, ◌==◌, Bool, false, ◌&&◌, if◌then◌else◌, List, [], ◌∷◌, Option, Some, None, ℤ}
+use Rattle.css_tok.specs.declared.front.CssKind.TheVariants as kind
+use Rattle.css_tok.specs.Numbers.{decimal_of}
+use Rattle.css_tok.specs.Tokens.{Item}
+use Rattle.css_words.specs.Parser.{Parser, ◌>>=◌, ◌>>◌, pure, refuse, on_some, peek, advance}
+use Rattle.css_words.specs.Repeat.{with_front}
+use Rattle.css_words.specs.Table.{find_word}
+use Rattle.css_words.specs.Words.{of_kind, slice_of}
+
+-- an Ident that a table has, and what it stands for
+unfoldable pub word_in : {A : Type 0} → List (List ℕ × A) → Parser A
+word_in rows = do
+  t ← peek
+  on_some (if of_kind kind.Ident t then find_word rows (slice_of t) else None) refuse (λ a. advance >> pure a)
+
+-- a whole number: a Number without a point, and so without decimals (css-syntax, 4.3.12)
+unfoldable pub whole_of : Option Item → Option ℤ
+whole_of None = None
+whole_of (Some t) = if of_kind kind.Number (Some t) && (decimal_of t.slice).places == 0 then Some (decimal_of t.slice).units else None
+
+unfoldable pub whole : Parser ℤ
+whole = do
+  t ← peek
+  on_some (whole_of t) refuse (λ n. advance >> pure n)
+
+-- a first value, and those that follow it
+abbrev pub first_and : {A : Type 0} → Parser A → Parser (List A) → Parser (List A)
+first_and p more = p >>= (λ x i. with_front (x ∷ []) (more i))

@@ -1,0 +1,172 @@
+-- Lists of content, of counters and of named strings (CSS 2.1, 12.2 and 12.4; css-gcpm-3, 1.1).
+use Rattle.std.specs.Prelude.{ℕ, Bool, true, false, ◌&&◌, ◌||◌, if◌then◌else◌, List, [], ◌∷◌, codes, Option, Some, None, ℤ, nat_eq}
+use Rattle.std.specs.Cmp.Lexicographic.{pointwise}
+use Rattle.bk_num.specs.declared.values.NumStyle.{NumStyle}
+use Rattle.bk_num.specs.declared.values.NumStyle.TheVariants as style
+use Rattle.css_tok.specs.declared.front.CssKind.TheVariants as kind
+use Rattle.css_tok.specs.Tokens.{Item}
+use Rattle.css_words.specs.Parser.{Parser, ◌>>=◌, ◌>>◌, pure, refuse, on_some, peek, second, advance}
+use Rattle.css_words.specs.Repeat.{many, fewer_than}
+use Rattle.css_words.specs.Table.{find_word}
+use Rattle.css_words.specs.Words.{of_kind, is_none, is_mark, is_named, slice_of, value, ident, lower_ident, string, expect, close}
+use Rattle.style.specs.declared.content.Link.{Link}
+use Rattle.style.specs.declared.content.Link.TheVariants as link
+use Rattle.style.specs.declared.content.Part.{Part}
+use Rattle.style.specs.declared.content.Part.TheVariants as part
+use Rattle.css_content.specs.Basics.{word_in, whole, first_and}
+use Rattle.css_content.specs.Numerals.{styles}
+use Rattle.css_content.specs.declared.content.Place.{Place}
+use Rattle.css_content.specs.declared.content.Place.TheVariants as place
+use Rattle.css_content.specs.declared.content.Function.{Function}
+use Rattle.css_content.specs.declared.content.Function.TheVariants as function
+
+-- ---- parts of content
+
+unfoldable pub functions : List (List ℕ × Function)
+functions =
+    (codes "attr", function.Attr) ∷ (codes "counter", function.Counter) ∷ (codes "counters", function.Counters)
+    ∷ (codes "target-counter", function.Target) ∷ (codes "content", function.Own) ∷ []
+
+-- a comma and a style, or `decimal`
+unfoldable pub style_argument : Parser NumStyle
+style_argument = do
+  t ← peek
+  if is_mark 44 t then (advance >> word_in styles) else pure style.Decimal
+
+unfoldable pub attr_arguments : Parser Part
+attr_arguments = do
+  name ← lower_ident
+  _ ← close
+  pure (part.Attr name)
+
+-- the names that pages count by: the flow has no counter() of them
+abbrev pub is_of_pages : List ℕ → Bool
+is_of_pages name = pointwise nat_eq name (codes "page") || pointwise nat_eq name (codes "pages")
+
+unfoldable pub counter_arguments : Parser Part
+counter_arguments = do
+  name ← ident
+  s ← style_argument
+  _ ← close
+  if is_of_pages name then refuse else pure (part.Counter name s)
+
+unfoldable pub counters_arguments : Parser Part
+counters_arguments = do
+  name ← ident
+  _ ← expect 44
+  between ← string
+  s ← style_argument
+  _ ← close
+  pure (part.Counters name between s)
+
+-- `attr(name)` or `attr(name url)`
+unfoldable pub link_attr : Parser Link
+link_attr = do
+  name ← lower_ident
+  t ← peek
+  if is_named kind.Ident t (codes "url") then (advance >> close >> pure (link.Attr name)) else (close >> pure (link.Attr name))
+
+unfoldable pub link_url : Parser Link
+link_url = do
+  address ← string
+  _ ← close
+  pure (link.Url address)
+
+unfoldable pub link_of : Option Item → Parser Link
+link_of t =
+    if of_kind kind.Str t || of_kind kind.Url t then pure (link.Url (value t))
+    else (if is_named kind.Func t (codes "url") then link_url
+    else (if is_named kind.Func t (codes "attr") then link_attr else refuse))
+
+unfoldable pub target_arguments : Parser Part
+target_arguments = do
+  t ← peek
+  _ ← advance
+  to ← link_of t
+  _ ← expect 44
+  name ← ident
+  s ← style_argument
+  _ ← close
+  pure (part.Target to name s)
+
+-- nothing, or `text`
+unfoldable pub own_arguments : Parser Part
+own_arguments = do
+  t ← peek
+  if is_named kind.Ident t (codes "text") then (advance >> close >> pure part.Own) else (close >> pure part.Own)
+
+-- target-counter() is of `content` alone, and content() of `string-set` alone
+unfoldable pub arguments : Place → Function → Parser Part
+arguments p function.Attr = attr_arguments
+arguments p function.Counter = counter_arguments
+arguments p function.Counters = counters_arguments
+arguments place.Content function.Target = target_arguments
+arguments place.StringSet function.Own = own_arguments
+arguments _ _ = refuse
+
+-- what a part says that begins with this token
+unfoldable pub part_of : Place → Option Item → Parser Part
+part_of p t =
+    if of_kind kind.Str t then pure (part.Text (value t))
+    else on_some (if of_kind kind.Func t then find_word functions (slice_of t) else None) refuse (arguments p)
+
+unfoldable pub one_part : Place → Parser Part
+one_part p = do
+  t ← peek
+  if is_none t then refuse else (advance >> part_of p t)
+
+-- parts end at a comma and at the end
+unfoldable pub next_part : Place → Parser (Option Part)
+next_part p = do
+  t ← peek
+  if is_none t || is_mark 44 t then pure None else (one_part p >>= (λ x. pure (Some x)))
+
+unfoldable pub content_list : Place → Parser (List Part)
+content_list p = first_and (one_part p) (many (next_part p))
+
+-- `normal`, `none`, or a list
+unfoldable pub content : Parser (Option (List Part))
+content = do
+  t ← peek
+  if is_named kind.Ident t (codes "normal") || is_named kind.Ident t (codes "none") then (advance >> pure None) else (content_list place.Content >>= (λ ps. pure (Some ps)))
+
+-- ---- counters
+
+-- a counter's name and a number, which may be left out
+unfoldable pub entry : ℤ → Parser (List ℕ × ℤ)
+entry other = do
+  name ← ident
+  t ← peek
+  if of_kind kind.Number t then (whole >>= (λ n. pure (name, n))) else pure (name, other)
+
+unfoldable pub next_entry : ℤ → Parser (Option (List ℕ × ℤ))
+next_entry other = do
+  t ← peek
+  if is_none t then pure None else (entry other >>= (λ e. pure (Some e)))
+
+-- `none` alone, or one to 64 entries
+unfoldable pub counter_list : ℤ → Parser (List (List ℕ × ℤ))
+counter_list other = do
+  t ← peek
+  s ← second
+  if is_named kind.Ident t (codes "none") && is_none s then (advance >> pure []) else first_and (entry other) (fewer_than 64 (next_entry other))
+
+-- ---- named strings
+
+unfoldable pub string_entry : Parser (List ℕ × List Part)
+string_entry = do
+  name ← ident
+  parts ← content_list place.StringSet
+  pure (name, parts)
+
+unfoldable pub next_string : Parser (Option (List ℕ × List Part))
+next_string = do
+  t ← peek
+  if is_mark 44 t then (advance >> string_entry >>= (λ e. pure (Some e))) else pure None
+
+-- `none` alone, or a comma list
+unfoldable pub string_sets : Parser (List (List ℕ × List Part))
+string_sets = do
+  t ← peek
+  s ← second
+  if is_named kind.Ident t (codes "none") && is_none s then (advance >> pure []) else first_and string_entry (many next_string)

@@ -1,0 +1,301 @@
+//! Lists of content (CSS 2.1, 12.2; css-gcpm-3, 1.1).
+
+ghost use Rattle.std.specs.Prelude.{◌≡◌, ◌≤◌, ◌<◌, ◌∷◌, [], length, option_map, IfOk, IfSome};
+ghost use Rattle.css_tok.specs.Tokens.{item_in};
+ghost use Rattle.css_words.specs.Parser.{Reads};
+ghost use Rattle.css_words.specs.Repeat.{many, with_front};
+ghost use Rattle.css_words.specs.Table.{find_word};
+ghost use Rattle.css_content.specs.Grammar as spec;
+
+use crate::words::num_style;
+use bk_num::values::NumStyle;
+use css_tok::front::CssKind;
+use css_tok::tokens::CssToken;
+use css_words::reader::Reader;
+use css_words::table::find_word;
+use css_words::unread::Unread;
+use css_words::words::{
+    close, expect, ident, is_mark, is_named, lower_ident, of_kind, slice_of, string, value,
+};
+use std::alloc::Global;
+use style::content::{Content, Link, Part};
+
+/// Where a list of content stands.
+#[derive(Clone, Copy, Debug, PartialEq, Eq)]
+pub enum Place {
+    /// In `content`, where `target-counter()` may stand.
+    Content,
+    /// In `string-set`, where `content()` may stand.
+    StringSet,
+}
+
+/// The functions of content.
+#[derive(Clone, Copy, Debug, PartialEq, Eq)]
+pub enum Function {
+    Attr,
+    Counter,
+    Counters,
+    Target,
+    Own,
+}
+
+#[tactic(auto, unfolding(crate::specs::Grammar::functions))]
+fn function_of(name: &str) -> Option<Function>
+    ensures { result ≡ find_word spec.functions name.now }
+{
+    find_word(
+        &[
+            ("attr", Function::Attr),
+            ("counter", Function::Counter),
+            ("counters", Function::Counters),
+            ("target-counter", Function::Target),
+            ("content", Function::Own),
+        ],
+        name,
+    )
+}
+
+/// Reads a comma and a style of numerals, or nothing, which is `decimal`.
+#[tactic(auto, unfolding(crate::specs::Grammar::style_argument))]
+pub fn style_argument(reader: &mut Reader<'_>) -> Result<NumStyle, Unread>
+    ensures reads { Reads (λ x. x) (spec.style_argument reader.old) result reader.new }
+    ensures within { length reader.new ≤ length reader.old }
+{
+    if !is_mark(b',', reader.peek()) {
+        return Ok(NumStyle::Decimal);
+    }
+    reader.advance();
+    num_style(reader)
+}
+
+#[tactic(auto, unfolding(crate::specs::Grammar::attr_arguments))]
+fn attr_arguments(alloc: Global, reader: &mut Reader<'_>) -> Result<Part, Unread>
+    ensures reads { Reads (λ x. x) (spec.attr_arguments reader.old) result reader.new }
+    ensures within { length reader.new ≤ length reader.old }
+{
+    let name = lower_ident(alloc, reader)?;
+    close(reader)?;
+    Ok(Part::Attr(name))
+}
+
+/// Whether pages count by this name, so that the flow has no `counter()` of it.
+fn is_of_pages(name: &str) -> bool
+    ensures { result ≡ spec.is_of_pages name.now }
+{
+    name == "page" || name == "pages"
+}
+
+#[tactic(auto, unfolding(crate::specs::Grammar::counter_arguments))]
+fn counter_arguments(alloc: Global, reader: &mut Reader<'_>) -> Result<Part, Unread>
+    ensures reads { Reads (λ x. x) (spec.counter_arguments reader.old) result reader.new }
+    ensures within { length reader.new ≤ length reader.old }
+{
+    let name = ident(alloc, reader)?;
+    let style = style_argument(reader)?;
+    close(reader)?;
+    if is_of_pages(name.as_str()) {
+        return Err(Unread::NoReading);
+    }
+    Ok(Part::Counter(name, style))
+}
+
+#[tactic(auto, unfolding(crate::specs::Grammar::counters_arguments))]
+fn counters_arguments(alloc: Global, reader: &mut Reader<'_>) -> Result<Part, Unread>
+    ensures reads { Reads (λ x. x) (spec.counters_arguments reader.old) result reader.new }
+    ensures within { length reader.new ≤ length reader.old }
+{
+    let name = ident(alloc, reader)?;
+    expect(reader, b',')?;
+    let between = string(alloc, reader)?;
+    let style = style_argument(reader)?;
+    close(reader)?;
+    Ok(Part::Counters(name, between, style))
+}
+
+/// `attr(name)` or `attr(name url)`.
+#[tactic(auto, unfolding(crate::specs::Grammar::link_attr))]
+fn link_attr(alloc: Global, reader: &mut Reader<'_>) -> Result<Link, Unread>
+    ensures reads { Reads (λ x. x) (spec.link_attr reader.old) result reader.new }
+    ensures within { length reader.new ≤ length reader.old }
+{
+    let name = lower_ident(alloc, reader)?;
+    if is_named(CssKind::Ident, reader.peek(), "url") {
+        reader.advance();
+    }
+    close(reader)?;
+    Ok(Link::Attr(name))
+}
+
+#[tactic(auto, unfolding(crate::specs::Grammar::link_url))]
+fn link_url(alloc: Global, reader: &mut Reader<'_>) -> Result<Link, Unread>
+    ensures reads { Reads (λ x. x) (spec.link_url reader.old) result reader.new }
+    ensures within { length reader.new ≤ length reader.old }
+{
+    let address = string(alloc, reader)?;
+    close(reader)?;
+    Ok(Link::Url(address))
+}
+
+/// The rest of a link that begins with this token.
+#[tactic(auto, unfolding(crate::specs::Grammar::link_of))]
+fn link_of(
+    alloc: Global,
+    reader: &mut Reader<'_>,
+    token: Option<CssToken<'_>>,
+) -> Result<Link, Unread>
+    ensures reads { Reads (λ x. x) (spec.link_of (option_map item_in token.entry) reader.old) result reader.new }
+    ensures within { length reader.new ≤ length reader.old }
+{
+    if of_kind(CssKind::Str, token) || of_kind(CssKind::Url, token) {
+        Ok(Link::Url(value(alloc, token)?))
+    } else if is_named(CssKind::Func, token, "url") {
+        link_url(alloc, reader)
+    } else if is_named(CssKind::Func, token, "attr") {
+        link_attr(alloc, reader)
+    } else {
+        Err(Unread::NoReading)
+    }
+}
+
+#[tactic(auto, unfolding(crate::specs::Grammar::target_arguments))]
+fn target_arguments(alloc: Global, reader: &mut Reader<'_>) -> Result<Part, Unread>
+    ensures reads { Reads (λ x. x) (spec.target_arguments reader.old) result reader.new }
+    ensures within { length reader.new ≤ length reader.old }
+{
+    let token = reader.peek();
+    reader.advance();
+    let link = link_of(alloc, reader, token)?;
+    expect(reader, b',')?;
+    let name = ident(alloc, reader)?;
+    let style = style_argument(reader)?;
+    close(reader)?;
+    Ok(Part::Target(link, name, style))
+}
+
+#[tactic(auto, unfolding(crate::specs::Grammar::own_arguments))]
+fn own_arguments(reader: &mut Reader<'_>) -> Result<Part, Unread>
+    ensures reads { Reads (λ x. x) (spec.own_arguments reader.old) result reader.new }
+    ensures within { length reader.new ≤ length reader.old }
+{
+    if is_named(CssKind::Ident, reader.peek(), "text") {
+        reader.advance();
+    }
+    close(reader)?;
+    Ok(Part::Own)
+}
+
+#[tactic(auto, unfolding(crate::specs::Grammar::arguments))]
+fn arguments(
+    alloc: Global,
+    reader: &mut Reader<'_>,
+    place: Place,
+    function: Function,
+) -> Result<Part, Unread>
+    ensures reads { Reads (λ x. x) (spec.arguments place function reader.old) result reader.new }
+    ensures within { length reader.new ≤ length reader.old }
+{
+    match (place, function) {
+        (_, Function::Attr) => attr_arguments(alloc, reader),
+        (_, Function::Counter) => counter_arguments(alloc, reader),
+        (_, Function::Counters) => counters_arguments(alloc, reader),
+        (Place::Content, Function::Target) => target_arguments(alloc, reader),
+        (Place::StringSet, Function::Own) => own_arguments(reader),
+        (_, _) => Err(Unread::NoReading),
+    }
+}
+
+/// The rest of a part that begins with this token.
+#[tactic(auto, unfolding(crate::specs::Grammar::part_of))]
+fn part_of(
+    alloc: Global,
+    reader: &mut Reader<'_>,
+    place: Place,
+    token: Option<CssToken<'_>>,
+) -> Result<Part, Unread>
+    ensures reads { Reads (λ x. x) (spec.part_of place (option_map item_in token.entry) reader.old) result reader.new }
+    ensures within { length reader.new ≤ length reader.old }
+{
+    if of_kind(CssKind::Str, token) {
+        return Ok(Part::Text(value(alloc, token)?));
+    }
+    if !of_kind(CssKind::Func, token) {
+        return Err(Unread::NoReading);
+    }
+    match function_of(slice_of(token)) {
+        Some(function) => arguments(alloc, reader, place, function),
+        None => Err(Unread::NoReading),
+    }
+}
+
+#[tactic(auto, unfolding(crate::specs::Grammar::one_part))]
+fn one_part(alloc: Global, reader: &mut Reader<'_>, place: Place) -> Result<Part, Unread>
+    ensures reads { Reads (λ x. x) (spec.one_part place reader.old) result reader.new }
+    ensures within { length reader.new ≤ length reader.old }
+    ensures taken { IfOk result (λ _. length reader.new < length reader.old) }
+{
+    let token = reader.peek();
+    if token.is_none() {
+        return Err(Unread::NoReading);
+    }
+    reader.advance();
+    part_of(alloc, reader, place, token)
+}
+
+/// The next part; None at a comma and at the end.
+#[tactic(auto, unfolding(crate::specs::Grammar::next_part))]
+fn next_part(alloc: Global, reader: &mut Reader<'_>, place: Place) -> Result<Option<Part>, Unread>
+    ensures reads { Reads (λ x. x) (spec.next_part place reader.old) result reader.new }
+    ensures within { length reader.new ≤ length reader.old }
+    ensures taken { IfOk result (λ o. IfSome o (λ _. length reader.new < length reader.old)) }
+{
+    let token = reader.peek();
+    if token.is_none() || is_mark(b',', token) {
+        return Ok(None);
+    }
+    Ok(Some(one_part(alloc, reader, place)?))
+}
+
+/// Reads the parts that follow a first one.
+#[tactic(auto, using(css_words::proofs::RepeatLemmas::many_goes, css_words::proofs::RepeatLemmas::many_stops, css_words::proofs::RepeatLemmas::many_fails))]
+fn more_parts(
+    alloc: Global,
+    reader: &mut Reader<'_>,
+    place: Place,
+    first: Part,
+) -> Result<Content, Unread>
+    ensures reads { Reads (λ x. x) (with_front (first ∷ []) (many (spec.next_part place) reader.old)) result reader.new }
+    ensures within { length reader.new ≤ length reader.old }
+{
+    let mut found = Content::new(alloc);
+    found.push(first)?;
+    'parts: loop {
+        match next_part(alloc, reader, place)? {
+            Some(next) => found.push(next)?,
+            None => return Ok(found),
+        }
+    }
+}
+
+/// Reads one part or more, up to a comma or the end.
+#[tactic(auto, unfolding(crate::specs::Grammar::content_list))]
+pub fn content_list(alloc: Global, reader: &mut Reader<'_>, place: Place) -> Result<Content, Unread>
+    ensures reads { Reads (λ x. x) (spec.content_list place reader.old) result reader.new }
+    ensures within { length reader.new ≤ length reader.old }
+{
+    let first = one_part(alloc, reader, place)?;
+    more_parts(alloc, reader, place, first)
+}
+
+/// Reads a value of `content`: None for `normal` and `none`.
+#[tactic(auto, unfolding(crate::specs::Grammar::content))]
+pub fn content(alloc: Global, reader: &mut Reader<'_>) -> Result<Option<Content>, Unread>
+    ensures reads { Reads (λ x. x) (spec.content reader.old) result reader.new }
+    ensures within { length reader.new ≤ length reader.old }
+{
+    let token = reader.peek();
+    if is_named(CssKind::Ident, token, "normal") || is_named(CssKind::Ident, token, "none") {
+        reader.advance();
+        return Ok(None);
+    }
+    Ok(Some(content_list(alloc, reader, Place::Content)?))
+}

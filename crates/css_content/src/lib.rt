@@ -1,0 +1,9 @@
+//! Reads lists of content, of counters and of named strings.
+#![tactic(auto)]
+
+pub mod content;
+pub mod counters;
+pub mod strings;
+#[cfg(test)]
+mod tests;
+pub mod words;
