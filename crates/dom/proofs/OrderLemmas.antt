@@ -2,6 +2,7 @@
 use Rattle.std.proofs.Common.{◌≡◌, inl, inr, ℕ, zero, suc, ◌+◌, ◌-◌, ◌<◌, ◌≤◌, true, false, List, [], ◌∷◌, ◌++◌, Option, None, Some, length, take, drop, slice_get, slice_set, option_map, refl, sym, ◌∙◌, ap, subst, arith, append_assoc}
 use Rattle.std.proofs.lemmas.Bool.{cases_lt, both_ways}
 use Rattle.std.proofs.lemmas.Cmp.{nat_list_cmp_total}
+use Rattle.std.proofs.lemmas.Map.Lookups.{exact_bytes}
 use Rattle.std.specs.Cmp.{upto}
 use Rattle.std.specs.Cmp.Lexicographic.{slice_cmp}
 use Rattle.std.specs.Ordering.{nat_cmp, is_gt, ordering_reverse}
@@ -73,10 +74,10 @@ reverse-gt Equal s h g = cc
 reverse-gt Greater s h g = ap is_gt h
 
 module _ (nodes : List Node) where
-  after-self : (n : ℕ) → comes_after nodes n n ≡ false
+  pub after-self : (n : ℕ) → comes_after nodes n n ≡ false
   after-self n = reverse-self (slice_cmp nat_cmp (way_to nodes n) (way_to nodes n)) (nat_list_cmp_total.antisymm (way_to nodes n) (way_to nodes n))
 
-  after-one-way : (a b : ℕ) → comes_after nodes a b ≡ true → comes_after nodes b a ≡ false
+  pub after-one-way : (a b : ℕ) → comes_after nodes a b ≡ true → comes_after nodes b a ≡ false
   after-one-way a b h = reverse-gt (slice_cmp nat_cmp (way_to nodes a) (way_to nodes b)) (slice_cmp nat_cmp (way_to nodes b) (way_to nodes a)) (nat_list_cmp_total.antisymm (way_to nodes b) (way_to nodes a)) h
 
   after-trans : (a b c : ℕ) → comes_after nodes a b ≡ false → comes_after nodes b c ≡ false → comes_after nodes a c ≡ false
@@ -100,10 +101,55 @@ module _ (nodes : List Node) where
     pub first-before : (i n : ℕ) → has_id nodes id i ≡ true → comes_after nodes n i ≡ true → IsFirstBelow nodes id i (Some n) → IsFirstBelow nodes id (i + 1) (Some i)
     first-before i n is gt h = (omega arith, is, below (λ m. has_id nodes id m ≡ true → comes_after nodes i m ≡ false) i (λ m l y. after-trans i n m (after-one-way n i gt) (h.2 m l y)) (λ y. after-self i))
 
-    beyond : (m : ℕ) → length nodes ≤ m → has_id nodes id m ≡ false
+    pub beyond : (m : ℕ) → length nodes ≤ m → has_id nodes id m ≡ false
     beyond m h = rw (get-past nodes m h) refl
 
     -- none is past the end
     pub first-of : (o : Option ℕ) → IsFirstBelow nodes id (length nodes) o → IsFirstOf nodes id o
     first-of None h = λ m. elim (cases_lt m (length nodes)) [ inl l ↦ h m l | inr g ↦ beyond m g ]
     first-of (Some n) h = (h.1, λ m y. elim (cases_lt m (length nodes)) [ inl l ↦ h.2 m l y | inr g ↦ absurd (both_ways _ (beyond m g) y) ])
+
+-- ---- one first element
+
+-- the last of a list
+abbrev ending : List ℕ → ℕ → ℕ
+ending [] d = d
+ending (x ∷ xs) d = ending xs x
+
+ending-push : (xs : List ℕ) (n d : ℕ) → ending (xs ++ n ∷ []) d ≡ n
+ending-push [] n d = refl
+ending-push (x ∷ xs) n d = ending-push xs n x
+
+-- a node ends the way to it
+way-ends : (nodes : List Node) (n : ℕ) (x : Node) → IsTree nodes → slice_get nodes n ≡ Some x → ending (way_to nodes n) 0 ≡ n
+way-ends nodes n x t g = by (depth_at nodes n) (ap depth_of g) (t.placed n x g)
+  where
+    some : (o : Option ℕ) → HasPlace nodes n x o → 0 < x.depth
+    some None h = let e = h.1 in omega arith
+    some (Some p) h = let e = h.2 in omega arith
+
+    by : (d : ℕ) → d ≡ x.depth → HasPlace nodes n x x.parent → ending (way (parents_of nodes) d (Some n)) 0 ≡ n
+    by zero e h = let s = some x.parent h in absurd (omega arith)
+    by (suc d) e h = ending-push (way (parents_of nodes) d (parent_at (parents_of nodes) n)) n 0
+
+neither-after : (r s : Ordering) → s ≡ ordering_reverse r → is_gt r ≡ false → is_gt s ≡ false → r ≡ Equal
+neither-after Less s h a b = let e : is_gt s ≡ true = ap is_gt h in absurd (both_ways _ b e)
+neither-after Equal s h a b = refl
+neither-after Greater s h a b = cc
+
+id-there : (nodes : List Node) (id : List ℕ) (n : ℕ) → has_id nodes id n ≡ true → (x : Node) × (slice_get nodes n ≡ Some x)
+id-there nodes id n h = elim (cases_lt n (length nodes)) [ inl l ↦ slice_get_at nodes n l | inr g ↦ absurd (both_ways _ (beyond nodes id n g) h) ]
+
+same-node : (nodes : List Node) (n m : ℕ) (x y : Node) → IsTree nodes → slice_get nodes n ≡ Some x → slice_get nodes m ≡ Some y → comes_after nodes n m ≡ false → comes_after nodes m n ≡ false → n ≡ m
+same-node nodes n m x y t a b p q =
+    let equal = neither-after (slice_cmp nat_cmp (way_to nodes n) (way_to nodes m)) (slice_cmp nat_cmp (way_to nodes m) (way_to nodes n)) (nat_list_cmp_total.antisymm (way_to nodes m) (way_to nodes n)) p q in
+    sym (way-ends nodes n x t a) ∙ ap (λ w. ending w 0) (exact_bytes (way_to nodes n) (way_to nodes m) equal) ∙ way-ends nodes m y t b
+
+pub first-one : (nodes : List Node) (id : List ℕ) (a b : Option ℕ) → IsTree nodes → IsFirstOf nodes id a → IsFirstOf nodes id b → a ≡ b
+first-one nodes id None None t h g = refl
+first-one nodes id None (Some m) t h g = absurd (both_ways _ (h m) g.0)
+first-one nodes id (Some n) None t h g = absurd (both_ways _ (g n) h.0)
+first-one nodes id (Some n) (Some m) t h g =
+    let x = id-there nodes id n h.0 in
+    let y = id-there nodes id m g.0 in
+    ap (λ k. Some k) (same-node nodes n m x.0 y.0 t x.1 y.1 (h.1 m g.0) (g.1 n h.0))

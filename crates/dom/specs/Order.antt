@@ -3,7 +3,7 @@ use Rattle.std.specs.Prelude.{◌≡◌, ℕ, zero, suc, ◌<◌, Bool, true, fa
 use Rattle.std.specs.Str.{bytes_eq}
 use Rattle.std.specs.Ordering.{nat_cmp, is_gt}
 use Rattle.std.specs.Cmp.Lexicographic.{slice_cmp}
-use Rattle.dom.specs.Nodes.{Node, parents_of, parent_at, depth_at, attribute_at}
+use Rattle.dom.specs.Nodes.{Node, parents_of, parent_at, depth_at, attribute_at, IsTree}
 
 -- the last d nodes of the way from the root to a node
 abbrev pub way : List (Option ℕ) → ℕ → Option ℕ → List ℕ
@@ -34,3 +34,9 @@ IsFirstOf nodes id r = MatchOption r ((m : ℕ) → has_id nodes id m ≡ false)
 -- the same among the first i nodes
 abbrev pub IsFirstBelow : List Node → List ℕ → ℕ → Option ℕ → Type 0
 IsFirstBelow nodes id i r = MatchOption r ((m : ℕ) → m < i → has_id nodes id m ≡ false) (λ n. (n < i) × (has_id nodes id n ≡ true) × ((m : ℕ) → m < i → has_id nodes id m ≡ true → comes_after nodes n m ≡ false))
+
+-- ---- law
+
+-- an id has one first element
+abbrev pub FirstIsOne : Type 0
+FirstIsOne = (nodes : List Node) (id : List ℕ) (a b : Option ℕ) → IsTree nodes → IsFirstOf nodes id a → IsFirstOf nodes id b → a ≡ b

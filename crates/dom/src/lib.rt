@@ -3,6 +3,7 @@
 
 mod attrs;
 mod dom;
+pub mod laws;
 mod rows;
 #[cfg(test)]
 mod tests;

@@ -7,3 +7,4 @@ pub mod ScopeLemmas
 pub mod StateLemmas
 pub mod TextLemmas
 pub mod TokenLemmas
+mod TreeOrderLemmas

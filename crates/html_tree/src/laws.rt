@@ -1,6 +1,7 @@
 //! Laws of the tree, for the layers above. Each function is empty and carries one law.
 
 ghost use Rattle.html_tree.specs.Open.{KeptIsInnermost, AllIsKept, OpenIsOpened, OpenIsPath, NodesAreAdded, ParentIsLastOpened, TreeIsLastState};
+ghost use Rattle.html_tree.specs.Order.{TreeOrderIsNumberOrder};
 
 /// What closes is the innermost of a row's elements that has none of those inside it that keep it open; nothing closes exactly where there is none.
 pub fn kept_is_innermost()
@@ -19,4 +20,9 @@ pub fn parent_is_last_opened()
     ensures added { NodesAreAdded }
     ensures parent { ParentIsLastOpened }
     ensures tree { TreeIsLastState }
+{}
+
+/// In a tree that is read one node comes after another in tree order exactly where its number is greater.
+pub fn numbers_are_in_tree_order()
+    ensures { TreeOrderIsNumberOrder }
 {}
