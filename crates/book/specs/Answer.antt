@@ -10,15 +10,11 @@ use Rattle.metrics.specs.Choice.{Chooses}
 use Rattle.boxes.specs.Frames.{meets_by_parity, side_of}
 use Rattle.boxes.specs.Tree.{Tree}
 use Rattle.boxes.specs.declared.frames.Frame.{Frame}
-use Rattle.boxes.specs.declared.frames.PageKind.{PageKind}
-use Rattle.boxes.specs.declared.frames.PageKind.TheVariants as page_kind
 use Rattle.boxes.specs.declared.page.Page.{Page}
 use Rattle.boxes.specs.declared.page.Placed.{Placed}
 use Rattle.fragment.specs.Pages.{PageFrames, IsPaged, LeavesSome}
 use Rattle.fragment.specs.Parted.{text_on}
 use Rattle.listing.specs.Records.{book_record, page_record, line_record, text_record, end_record, face_field}
-use Rattle.listing.specs.declared.records.Kind.{Kind}
-use Rattle.listing.specs.declared.records.Kind.TheVariants as kind
 use Rattle.plain_flow.specs.Tree.{tree_of}
 use Rattle.plain_flow.specs.declared.style.ParagraphStyle.{ParagraphStyle}
 use Rattle.book.specs.Document.{Document}
@@ -51,12 +47,6 @@ baseline_of faces face = floor_div (pos 1280 -ℤ (ascent_of faces face text_siz
 abbrev pub black : Color
 black = record { red = 0; green = 0; blue = 0 }
 
--- the word for a page's kind
-abbrev pub kind_of : PageKind → Kind
-kind_of page_kind.Flow = kind.Flow
-kind_of page_kind.Blank = kind.Blank
-kind_of page_kind.Notes = kind.Notes
-
 -- how the lines of a book are printed: the name, style and weight of the face, how far a baseline is below its line's top, and the tree whose lines they are
 pub record Print : Type 0 where
   pub name : List ℕ
@@ -74,7 +64,7 @@ line_bytes p line = line_record page_margin (page_margin +ℤ line.top) frame_wi
 
 -- a page of size A5, whose number is its index, and its lines
 unfoldable pub page_bytes : Print → Page → List ℕ
-page_bytes p page = page_record page.index (pos page.index) (side_of page.index) (kind_of page.kind) [] page_width page_height ++ flat_map (line_bytes p) page.solids
+page_bytes p page = page_record page.index (pos page.index) (side_of page.index) page.kind [] page_width page_height ++ flat_map (line_bytes p) page.solids
 
 -- the listing of a page list that settled in the first pass
 unfoldable pub listing_of : Print → List Page → List ℕ

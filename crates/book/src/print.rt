@@ -5,17 +5,17 @@ ghost use Rattle.bk_num.specs.Limits.{page_margin, frame_width};
 ghost use Rattle.fragment.specs.Pages.{IsNear, HaveNearTops};
 ghost use Rattle.fragment.specs.Parted.{text_at, text_on};
 ghost use Rattle.listing.specs.Records.{line_record, text_record, face_field};
-ghost use Rattle.book.specs.Answer.{kind_of, text_size, black, line_bytes, page_bytes, listing_of};
+ghost use Rattle.book.specs.Answer.{text_size, black, line_bytes, page_bytes, listing_of};
 ghost use Rattle.book.specs.Printer.{view_of, HasAsciiLeaves};
 
 use bk_num::limits::{FRAME_WIDTH, PAGE_HEIGHT, PAGE_MARGIN, PAGE_WIDTH, ROOT_SIZE};
 use bk_num::values::Color;
-use boxes::frames::{PageKind, side_of};
+use boxes::frames::side_of;
 use boxes::page::{Page, Placed};
 use boxes::place::Event;
 use boxes::tree::BoxTree;
 use listing::records::{
-    Area, FaceLabel, Kind, PageHead, Style, push_book, push_end, push_line, push_page as push_head, push_text,
+    Area, FaceLabel, PageHead, Style, push_book, push_end, push_line, push_page as push_head, push_text,
 };
 use std::alloc::{AllocError, Global};
 
@@ -33,16 +33,6 @@ const BLACK: Color = Color {
     green: 0,
     blue: 0,
 };
-
-fn kind_of(kind: PageKind) -> Kind
-    ensures { result ≡ kind_of kind }
-{
-    match kind {
-        PageKind::Flow => Kind::Flow,
-        PageKind::Blank => Kind::Blank,
-        PageKind::Notes => Kind::Notes,
-    }
-}
 
 /// The text of the leaf that an event is.
 fn text_at(tree: &BoxTree, at: u32) -> &str
@@ -138,7 +128,7 @@ fn push_page(out: &mut Vec<u8>, printer: &Printer<'_>, page: &Page) -> Result<()
         index: page.index,
         number: page.index as i64,
         side: side_of(page.index),
-        kind: kind_of(page.kind),
+        kind: page.kind,
         name: "",
         width: i64::from(PAGE_WIDTH),
         height: i64::from(PAGE_HEIGHT),

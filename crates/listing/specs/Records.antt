@@ -6,8 +6,8 @@ use Rattle.std.specs.Char.{digit_char}
 use Rattle.bk_num.specs.declared.values.Color.{Color}
 use Rattle.bk_num.specs.declared.values.Side.{Side}
 use Rattle.bk_num.specs.declared.values.Side.TheVariants as side
-use Rattle.listing.specs.declared.records.Kind.{Kind}
-use Rattle.listing.specs.declared.records.Kind.TheVariants as kind
+use Rattle.boxes.specs.declared.frames.PageKind.{PageKind}
+use Rattle.boxes.specs.declared.frames.PageKind.TheVariants as kind
 
 -- a byte of a string: `"` and `\` have a `\` before them, LF is `\n`, other controls are `\x` and two digits; other characters stand as they are
 unfoldable pub escape : ℕ → List ℕ
@@ -40,7 +40,7 @@ abbrev pub side_name : Side → List ℕ
 side_name side.Left = codes "left"
 side_name side.Right = codes "right"
 
-abbrev pub kind_name : Kind → List ℕ
+abbrev pub kind_name : PageKind → List ℕ
 kind_name kind.Flow = codes "flow"
 kind_name kind.Blank = codes "blank"
 kind_name kind.Notes = codes "notes"
@@ -50,7 +50,7 @@ unfoldable pub book_record : ℕ → ℕ → List ℕ
 book_record pages passes = codes "book" ++ field (pos pages) ++ field (pos passes) ++ codes "\n"
 
 -- `page INDEX NUMBER SIDE KIND NAME WIDTH HEIGHT`
-unfoldable pub page_record : ℕ → ℤ → Side → Kind → List ℕ → ℤ → ℤ → List ℕ
+unfoldable pub page_record : ℕ → ℤ → Side → PageKind → List ℕ → ℤ → ℤ → List ℕ
 page_record index number side kind name width height = codes "page" ++ field (pos index) ++ field number ++ word (side_name side) ++ word (kind_name kind) ++ string_field name ++ field width ++ field height ++ codes "\n"
 
 -- `line X Y W H`

@@ -5,15 +5,8 @@ ghost use Rattle.listing.specs.Records.{book_record, page_record, line_record, t
 
 use crate::fields::{push_color, push_face, push_field, push_string, push_word};
 use bk_num::values::{Color, Side};
+use boxes::frames::PageKind;
 use std::alloc::AllocError;
-
-/// What stands on a page.
-#[derive(Clone, Copy, Debug, PartialEq, Eq)]
-pub enum Kind {
-    Flow,
-    Blank,
-    Notes,
-}
 
 /// A face by its name, style and weight.
 #[derive(Clone, Copy, Debug)]
@@ -29,7 +22,7 @@ pub struct PageHead<'a> {
     pub index: u32,
     pub number: i64,
     pub side: Side,
-    pub kind: Kind,
+    pub kind: PageKind,
     pub name: &'a str,
     pub width: i64,
     pub height: i64,
@@ -75,13 +68,13 @@ fn side_name(side: Side) -> &'static str
     }
 }
 
-fn kind_name(kind: Kind) -> &'static str
+fn kind_name(kind: PageKind) -> &'static str
     ensures { result.now ≡ kind_name kind }
 {
     match kind {
-        Kind::Flow => "flow",
-        Kind::Blank => "blank",
-        Kind::Notes => "notes",
+        PageKind::Flow => "flow",
+        PageKind::Blank => "blank",
+        PageKind::Notes => "notes",
     }
 }
 

@@ -1,9 +1,10 @@
 //! The bytes of records.
 
 use crate::records::{
-    Area, FaceLabel, Kind, PageHead, Style, push_book, push_end, push_line, push_page, push_text,
+    Area, FaceLabel, PageHead, Style, push_book, push_end, push_line, push_page, push_text,
 };
 use bk_num::values::{Color, Side};
+use boxes::frames::PageKind;
 use std::alloc::AllocError;
 
 const COLOR: Color = Color {
@@ -18,7 +19,7 @@ fn push_records(out: &mut Vec<u8>) -> Result<(), AllocError> {
         index: 2,
         number: -7,
         side: Side::Left,
-        kind: Kind::Blank,
+        kind: PageKind::Blank,
         name: "wide",
         width: 35800,
         height: 50797,
