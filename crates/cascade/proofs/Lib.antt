@@ -1,0 +1,4 @@
+pub mod ChoiceLemmas
+pub mod WinnerLemmas
+pub mod CandidateLemmas
+pub mod OneLemmas

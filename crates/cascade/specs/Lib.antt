@@ -1,0 +1,5 @@
+pub mod Weights
+pub mod Candidates
+pub mod Choice
+pub mod Winners
+pub mod Laws
