@@ -1,5 +1,7 @@
+pub mod Bounds
 pub mod Cuts
 pub mod Fronts
+pub mod Inside
 pub mod Notes
 pub mod Pages
 pub mod Parted

@@ -1,24 +1,24 @@
 //! The cut of the next page.
 
-ghost use Rattle.std.specs.Prelude.{◌≡◌, ℕ, ℤ, List, pos, neg_ℤ, ◌<◌, ◌≤◌, ◌^◌, ◌≤ℤ◌, ◌+ℤ◌, length, All, map, take, slice_get, None, IfOk, true, false, ◌∷◌, ◌++◌, []};
+ghost use Rattle.std.specs.Prelude.{◌≡◌, ℕ, ℤ, List, pos, neg_ℤ, ◌<◌, ◌≤◌, ◌^◌, ◌≤ℤ◌, ◌+ℤ◌, length, All, map, take, slice_get, None, is_some, IfOk, true, false, ◌∷◌, ◌++◌, []};
 ghost use Rattle.boxes.specs.Frames.{IsGoodFrame};
 ghost use Rattle.boxes.specs.Tree.{IsTree, IsWhole, Holds, depth_of};
 ghost use Rattle.cursor.specs.Plain.{HasPlainLeaves};
-ghost use Rattle.seams.specs.Plain.{IsPlain};
 ghost use Rattle.cursor.specs.Fields.{solid_view};
 ghost use Rattle.cursor.specs.Remainder.{SolidView, IsSmallSolid};
 ghost use Rattle.fragment.specs.Pages.{CutsAt, IsFlowCut, IsFront, IsNear, text_size, row_of, rows_of, placed_at, placed_from, first_gap, place_after, forced_after, end_cut};
+ghost use Rattle.fragment.specs.Inside.{EndsBy};
 ghost use Rattle.fragment.specs.Rows.{AreForcedBetween};
 ghost use Rattle.seams.specs.Levels.{block_at, widows_in, orphans_in};
 
 use crate::cut::cut_rows;
 use crate::front::Look;
 use crate::row::Row;
+use bk_num::items::Items;
 use bk_num::name::NoMem;
 use bk_num::steps::Steps;
 use boxes::flow::Flow;
 use boxes::frames::{Demand, Frame};
-use boxes::items::Items;
 use boxes::page::{Placed, PlacedNote};
 use boxes::place::Position;
 use boxes::tree::BoxTree;
@@ -209,8 +209,16 @@ fn gap_on_page(solid: &Solid<'_>, is_first: bool, kept: bool) -> i64
     }
 }
 
-/// The solids of a flow that tell a page's cut: those up to the first point that misses, and as many lines behind it
-/// as widows ask for; else all that are left.
+/// Whether a page ends before a solid whatever fits: its seam is forced, and it isn't the page's first solid.
+fn ends_page(solid: &Solid<'_>, is_first: bool) -> bool
+    ensures forced { result ≡ true → (is_first ≡ false) × (is_some solid.now.seam.forced ≡ true) }
+    ensures free { result ≡ false → is_first ≡ false → solid.now.seam.forced ≡ None }
+{
+    !is_first && solid.seam.forced.is_some()
+}
+
+/// The solids of a flow that tell a page's cut: those up to the first forced seam behind the first one, or up to the
+/// first point that misses, and as many lines behind it as widows ask for; else all that are left.
 fn front<'t, L: Ledger>(
     alloc: Global,
     tree: &'t BoxTree,
@@ -224,7 +232,6 @@ fn front<'t, L: Ledger>(
     requires depth { depth_of tree.now.events ≤ 2048 }
     requires bytes { text_size tree.now.leaves tree.now.events ≤ 2 ^ 25 }
     requires frame { IsGoodFrame frame }
-    requires plain { IsPlain tree.now }
     requires leaves { HasPlainLeaves faces.now tree.now }
     ensures front { IfOk result (λ v. IsFront faces.now tree.now frame from.at from.kept (map solid_view v.items)) }
     ensures small { IfOk result (λ v. All IsSmallSolid (map solid_view v.items)) }
@@ -235,10 +242,15 @@ fn front<'t, L: Ledger>(
     let mut at = from.at;
     while let Some(solid) = next_solid(tree, faces, at, frame.width, steps) {
         at = solid.end;
-        let gap = gap_on_page(&solid, solids.is_empty(), from.kept);
+        let is_first = solids.is_empty();
+        let gap = gap_on_page(&solid, is_first, from.kept);
+        let ends = ends_page(&solid, is_first);
         look.take(&row_of(tree, &solid), gap, frame.height);
         if solids.push(solid).is_err() {
             return Err(NoMem);
+        }
+        if ends {
+            return Ok(solids);
         }
         if look.is_enough() {
             return Ok(solids);
@@ -310,11 +322,9 @@ pub(crate) fn cut_tree<L: Ledger>(
     requires depth { depth_of tree.now.events ≤ 2048 }
     requires bytes { text_size tree.now.leaves tree.now.events ≤ 2 ^ 25 }
     requires frame { IsGoodFrame frame }
-    requires plain { IsPlain tree.now }
     requires leaves { HasPlainLeaves faces.now tree.now }
     ensures cut { IfOk result (λ cut. IsFlowCut faces.now tree.now frame from.at from.kept cut) }
     ensures holds { IfOk result (λ cut. Holds tree.now cut.to) }
-    ensures free { IfOk result (λ cut. cut.forced ≡ None) }
     ensures near { IfOk result (λ cut. All IsNear cut.solids) }
 {
     let _count = tree.count();
@@ -343,9 +353,9 @@ pub fn next_cut<L: Ledger>(
     requires frame { IsGoodFrame frame }
     requires notes { flow.now.notes ≡ [] }
     requires carried { carried.now ≡ [] }
-    requires plain { IsPlain flow.now.main }
     requires leaves { HasPlainLeaves faces.now flow.now.main }
     ensures cut { IfOk result (λ cut. IsFlowCut faces.now flow.now.main frame from.at from.kept cut) }
+    ensures inside { IfOk result (λ cut. cut.level ≤ 2 → All (EndsBy frame.height) cut.solids) }
     ensures near { IfOk result (λ cut. All IsNear cut.solids) }
 {
     cut_tree(alloc, &flow.main, faces, from, frame, steps)

@@ -1,19 +1,20 @@
 //! The pages of a flow.
 
-ghost use Rattle.std.specs.Prelude.{◌≡◌, ℕ, ◌<◌, ◌≤◌, ◌^◌, [], length, IfOk, IfErr};
+ghost use Rattle.std.specs.Prelude.{◌≡◌, ℕ, ◌+◌, ◌<◌, ◌≤◌, ◌^◌, [], length, true, false, IfOk, IfErr};
 ghost use Rattle.boxes.specs.Tree.{IsWhole, depth_of};
 ghost use Rattle.cursor.specs.Plain.{HasPlainLeaves};
-ghost use Rattle.fragment.specs.Pages.{HasOnePageList, HasSomePageList, HaveNearTops, IsPaged, LeavesNothing, LeavesSome, text_size, flow_page_of};
-ghost use Rattle.fragment.specs.Parted.{HoldsText, PartsText, solids_of};
-ghost use Rattle.seams.specs.Plain.{IsPlain};
+ghost use Rattle.fragment.specs.Bounds.{most_pages};
+ghost use Rattle.fragment.specs.Inside.{EndInside};
+ghost use Rattle.fragment.specs.Pages.{HasOnePageList, HasSomePageList, HaveNearTops, IsPaged, LeavesNothing, LeavesSome, text_size, flow_page_of, blank_of, meets_at, AddsBlanks};
+ghost use Rattle.fragment.specs.Parted.{HoldsAll, HoldsBreaks, HoldsEdges, HoldsText, solids_of};
 
 use crate::cut::one_cut;
 use crate::next_cut::{Cut, CutFrom, cut_tree};
 use bk_num::ids::NameId;
+use bk_num::items::Items;
 use bk_num::steps::Steps;
 use boxes::flow::Flow;
-use boxes::frames::{Frame, Frames, PageKind};
-use boxes::items::Items;
+use boxes::frames::{Demand, Frame, Frames, PageKind};
 use boxes::page::{Page, PageList};
 use boxes::place::Position;
 use cursor::laws::remainder_is_one;
@@ -50,6 +51,69 @@ fn page_of(index: u32, name: NameId, frame: Frame, cut: Cut) -> Page
     }
 }
 
+/// A blank page.
+fn blank_of(alloc: Global, index: u32, name: NameId, frame: Frame) -> Page
+    ensures { result ≡ blank_of index name frame }
+{
+    Page {
+        index,
+        kind: PageKind::Blank,
+        name,
+        frame,
+        solids: Items::of(Vec::new(alloc)),
+        notes: Items::of(Vec::new(alloc)),
+        level: 0,
+    }
+}
+
+/// How many blank pages stand before the page that meets a demand.
+fn empty_before<Fr: Frames>(frames: &Fr, index: u32, demand: Option<Demand>) -> u32
+    requires low { 1 ≤ index }
+    requires high { index ≤ 100001 }
+    ensures meets { meets_at (record { meets = Fr.meets frames.now; frame_of = Fr.frame_of frames.now }) (index + result) demand ≡ true }
+    ensures least { (k : ℕ) → k < result → meets_at (record { meets = Fr.meets frames.now; frame_of = Fr.frame_of frames.now }) (index + k) demand ≡ false }
+{
+    match demand {
+        None => 0,
+        Some(asked) => frames.empty_before(index, asked),
+    }
+}
+
+/// Adds blank pages up to the first page that meets a demand, and answers its index. `Pages` comes where that page
+/// would be one too many.
+fn add_blanks<Fr: Frames>(
+    alloc: Global,
+    pages: &mut Vec<Page>,
+    frames: &Fr,
+    index: u32,
+    name: NameId,
+    demand: Option<Demand>,
+) -> Result<u32, PageErr>
+    requires count { length pages.old.items + 1 ≡ index }
+    requires high { index ≤ 100001 }
+    ensures count { IfOk result (λ to. length pages.new.items + 1 ≡ to) }
+    ensures few { IfOk result (λ to. to ≤ 100000) }
+    ensures meets { IfOk result (λ to. meets_at (record { meets = Fr.meets frames.now; frame_of = Fr.frame_of frames.now }) to demand ≡ true) }
+    ensures blanks { IfOk result (λ to. AddsBlanks (record { meets = Fr.meets frames.now; frame_of = Fr.frame_of frames.now }) name demand index to pages.old.items pages.new.items) }
+    ensures many { IfErr result (λ err. err ≡ PageErr.Pages → AddsBlanks (record { meets = Fr.meets frames.now; frame_of = Fr.frame_of frames.now }) name demand index 100001 pages.old.items pages.new.items) }
+{
+    let empty = empty_before(frames, index, demand);
+    for k in 0..empty {
+        if pages.len() >= 100_000 {
+            return Err(PageErr::Pages);
+        }
+        let at = index + k;
+        let frame = frames.frame(at, name, PageKind::Blank);
+        if pages.push(blank_of(alloc, at, name, frame)).is_err() {
+            return Err(PageErr::NoMemory);
+        }
+    }
+    if pages.len() >= 100_000 {
+        return Err(PageErr::Pages);
+    }
+    Ok(index + empty)
+}
+
 /// Two page lists of one flow are equal.
 pub fn one_page_list()
     ensures { HasOnePageList }
@@ -58,8 +122,8 @@ pub fn one_page_list()
     one_cut();
 }
 
-/// A flow without edges, break values and further page names, whose leaves are plain, has a page list, however long it
-/// is. By `one_page_list` it has no other.
+/// A flow whose leaves are plain has a page list, however long it is, over frames that meet each demand. By
+/// `one_page_list` it has no other.
 pub fn page_list_is_there()
     ensures { HasSomePageList }
 {}
@@ -73,9 +137,9 @@ pub fn a_page_list_leaves_nothing()
     one_cut();
 }
 
-/// The pages of a flow without notes, each ended by its best cut. Their lines part the text of each leaf in order, so
-/// no character is lost or stands twice. Tops are within 2^60 units, and heights from 0 to 2^32. `Pages` comes exactly
-/// where 100,000 pages leave something unplaced.
+/// The pages of a flow without notes, each ended by its best cut, with blank pages where a side is asked. Each edge
+/// stands once and in order, and the lines part the text of each leaf in order. Tops are
+/// within 2^60 units, and heights from 0 to 2^32. `Pages` comes exactly where 100,000 pages leave something unplaced.
 pub fn paginate<Fr: Frames, L: Ledger>(
     alloc: Global,
     flow: &Flow,
@@ -87,11 +151,14 @@ pub fn paginate<Fr: Frames, L: Ledger>(
     requires depth { depth_of flow.now.main.events ≤ 2048 }
     requires bytes { text_size flow.now.main.leaves flow.now.main.events ≤ 2 ^ 25 }
     requires notes { flow.now.notes ≡ [] }
-    requires plain { IsPlain flow.now.main }
     requires leaves { HasPlainLeaves faces.now flow.now.main }
     ensures pages { IfOk result (λ list. IsPaged faces.now flow.now.main (record { meets = Fr.meets frames.now; frame_of = Fr.frame_of frames.now }) list.pages) }
-    ensures parted { IfOk result (λ list. PartsText flow.now.main (solids_of list.pages)) }
+    ensures whole { IfOk result (λ list. HoldsAll flow.now.main (solids_of list.pages)) }
     ensures text { IfOk result (λ list. HoldsText flow.now.main (solids_of list.pages)) }
+    ensures edges { IfOk result (λ list. HoldsEdges flow.now.main (solids_of list.pages)) }
+    ensures breaks { IfOk result (λ list. HoldsBreaks flow.now.main (record { meets = Fr.meets frames.now; frame_of = Fr.frame_of frames.now }) list.pages) }
+    ensures inside { IfOk result (λ list. EndInside list.pages) }
+    ensures bound { IfOk result (λ list. length list.pages ≤ most_pages (Fr.is_free frames.now) (Fr.bound frames.now) flow.now.main) }
     ensures tops { IfOk result (λ list. HaveNearTops list.pages) }
     ensures few { IfOk result (λ list. length list.pages ≤ 100000) }
     ensures many { IfErr result (λ err. err ≡ PageErr.Pages → LeavesSome faces.now flow.now.main (record { meets = Fr.meets frames.now; frame_of = Fr.frame_of frames.now }) 100000) }
@@ -106,8 +173,15 @@ pub fn paginate<Fr: Frames, L: Ledger>(
         },
         kept: true,
     };
-    for index in 1..100001 {
+    let mut index = 1;
+    let mut demand = seam(tree, from.at, 0).forced;
+    for turn in 0..100_000_u32 {
+        let _turn = turn;
         let name = seam(tree, from.at, 0).name;
+        index = match add_blanks(alloc, &mut pages, frames, index, name, demand) {
+            Ok(to) => to,
+            Err(err) => return Err(err),
+        };
         let frame = frames.frame(index, name, PageKind::Flow);
         let Ok(cut) = cut_tree(alloc, tree, faces, from, frame, steps) else {
             return Err(PageErr::NoMemory);
@@ -117,6 +191,7 @@ pub fn paginate<Fr: Frames, L: Ledger>(
             at: cut.to,
             kept: cut.forced.is_some(),
         };
+        demand = cut.forced;
         if pages.push(page_of(index, name, frame, cut)).is_err() {
             return Err(PageErr::NoMemory);
         }
@@ -126,6 +201,7 @@ pub fn paginate<Fr: Frames, L: Ledger>(
             });
         }
         from = next;
+        index += 1;
     }
     Err(PageErr::Pages)
 }

@@ -1,0 +1,451 @@
+-- How many pages a flow has at most: each flow page takes an edge or a character, and blank pages stand before sides that are asked.
+use Rattle.std.proofs.Common.{◌≡◌, ◌≢◌, ◌<◌, ◌≤◌, ◌+◌, ◌-◌, ◌*◌, ◌==◌, ℕ, zero, suc, ℤ, pos, Bool, true, false, not, cond, eqb, List, [], ◌∷◌, Option, None, Some, length, max, drop, slice_get, refl, sym, ap, ◌∙◌, subst, arith, add-one, ◌⊎◌, ⊎_elim, inl, inr, suc-mul}
+use Rattle.std.specs.Prelude.{◌&&◌}
+use Rattle.std.proofs.Math.Nat.{mul-le-mul_right, max-eq_right, le-max_left}
+use Rattle.std.proofs.lemmas.Bool.{cases_lt, eq-eqb}
+use Rattle.std.proofs.lemmas.Bool.Decides.{eqb_tells}
+use Rattle.std.proofs.lemmas.List.{length-map}
+use Rattle.std.proofs.lemmas.Option.{slice_get_within}
+use Rattle.metrics.specs.Face.{FontFace}
+use Rattle.boxes.specs.Steps.{IsRun}
+use Rattle.boxes.specs.Tree.{Tree, IsTree}
+use Rattle.boxes.specs.declared.frames.Demand.{Demand}
+use Rattle.boxes.specs.declared.frames.Frame.{Frame}
+use Rattle.boxes.specs.declared.frames.PageKind.TheVariants as kind
+use Rattle.boxes.specs.declared.leaf.Leaf.{Leaf as LeafData}
+use Rattle.boxes.specs.declared.page.Page.{Page}
+use Rattle.boxes.specs.declared.page.SolidKind.{SolidKind}
+use Rattle.boxes.specs.declared.page.SolidKind.TheVariants.{OpenEdge, CloseEdge}
+use Rattle.boxes.specs.declared.place.Event.{Event}
+use Rattle.boxes.specs.declared.place.Event.TheVariants.{Opens, Closes, Leaf}
+use Rattle.boxes.specs.declared.place.Position.{Position}
+use Rattle.boxes.specs.declared.props.BoxProps.{BoxProps}
+use Rattle.boxes.proofs.ListLemmas.{slice_get_at}
+use Rattle.line_fill.proofs.EndLemmas.{lines_go_on}
+use Rattle.seams.specs.Runs.{solid_after, is_solid, is_solid_at}
+use Rattle.seams.specs.Seams.{seam_of, seam_before, seam_between, solid_behind, line_seam}
+use Rattle.seams.specs.declared.seam_info.SeamInfo.{SeamInfo}
+use Rattle.seams.proofs.RunLemmas.{after_solid}
+use Rattle.cursor.specs.Remainder.{SolidView, IsSolid, IsContent, IsLineSolid, IsRemainder, leaf_measure, end_of}
+use Rattle.cursor.specs.Remainder.IsContent.{of_line, of_open, of_close}
+use Rattle.cursor.proofs.RemLemmas.{Stands, solid_stands, begins_of, found_of, solid_within}
+use Rattle.fragment.specs.Bounds.{is_sided, sided_among, sided_in, parts_in, most_pages}
+use Rattle.fragment.specs.Pages.{CutsSolids, IsEnded, IsFlowCut, IsPaged, IsStep, PageFrames, State, after_flow, meets_at, name_at, place_after, rows_of, row_of, first_gap, start_of, text_size}
+use Rattle.fragment.specs.Pages.IsStep.{blank, flow}
+use Rattle.fragment.specs.Parted.{edges_among}
+use Rattle.fragment.specs.declared.next_cut.Cut.{Cut}
+use Rattle.fragment.proofs.BreakLemmas.{cut_breaks, seam_next}
+use Rattle.fragment.proofs.PageLemmas.{cut_within, drop_get, drop_drop, size_later, size_here, solid_at}
+use Rattle.fragment.proofs.PartLemmas.{cut_stands, start_stands}
+
+abbrev place : ℕ → ℕ → Position
+place event offset = record { event = event; offset = offset }
+
+-- ---- the edges and characters from an event on
+abbrev left : Tree → ℕ → ℕ
+left t k = text_size t.leaves (drop k t.events) + length (edges_among t.boxes (drop k t.events))
+
+edges_mono : (boxes : List BoxProps) (es : List Event) (j : ℕ) → length (edges_among boxes (drop j es)) ≤ length (edges_among boxes es)
+edges_mono boxes es zero = omega arith
+edges_mono boxes [] (suc j) = omega arith
+edges_mono boxes (Opens b ∷ es) (suc j) = by (is_solid boxes (Opens b)) (edges_mono boxes es j)
+  where
+    by : (c : Bool) → length (edges_among boxes (drop j es)) ≤ length (edges_among boxes es) → length (edges_among boxes (drop j es)) ≤ length (cond c (OpenEdge b ∷ edges_among boxes es) (edges_among boxes es))
+    by true h = omega arith
+    by false h = h
+edges_mono boxes (Closes b ∷ es) (suc j) = by (is_solid boxes (Closes b)) (edges_mono boxes es j)
+  where
+    by : (c : Bool) → length (edges_among boxes (drop j es)) ≤ length (edges_among boxes es) → length (edges_among boxes (drop j es)) ≤ length (cond c (CloseEdge b ∷ edges_among boxes es) (edges_among boxes es))
+    by true h = omega arith
+    by false h = h
+edges_mono boxes (Leaf l ∷ es) (suc j) = edges_mono boxes es j
+
+left_later : (t : Tree) (j k : ℕ) → j ≤ k → left t k ≤ left t j
+left_later t j k low =
+    let n : j + (k - j) ≡ k = omega arith in
+    let e : drop (k - j) (drop j t.events) ≡ drop k t.events = drop_drop t.events j (k - j) ∙ ap (λ (m : ℕ). drop m t.events) n in
+    let edges = subst (λ (xs : List Event). length (edges_among t.boxes xs) ≤ length (edges_among t.boxes (drop j t.events))) e (edges_mono t.boxes (drop j t.events) (k - j)) in
+    let text = size_later t.leaves t.events j k low in
+    omega arith
+
+edge_here : (t : Tree) (n : ℕ) (e : Event) → slice_get t.events n ≡ Some e → is_solid t.boxes e ≡ true → ((l : ℕ) → e ≡ Leaf l → ⊥) → suc (left t (n + 1)) ≡ left t n
+edge_here t n (Opens b) at is other =
+    let next : left t (n + 1) ≡ left t (suc n) = ap (left t) (add-one n) in
+    let size : text_size t.leaves (drop n t.events) ≡ text_size t.leaves (drop (suc n) t.events) = ap (text_size t.leaves) (drop_get t.events n (Opens b) at) in
+    let edges : length (edges_among t.boxes (drop n t.events)) ≡ suc (length (edges_among t.boxes (drop (suc n) t.events))) =
+    ap (λ (es : List Event). length (edges_among t.boxes es)) (drop_get t.events n (Opens b) at) ∙ ap (λ (c : Bool). length (cond c (OpenEdge b ∷ edges_among t.boxes (drop (suc n) t.events)) (edges_among t.boxes (drop (suc n) t.events)))) is in
+    omega arith
+edge_here t n (Closes b) at is other =
+    let next : left t (n + 1) ≡ left t (suc n) = ap (left t) (add-one n) in
+    let size : text_size t.leaves (drop n t.events) ≡ text_size t.leaves (drop (suc n) t.events) = ap (text_size t.leaves) (drop_get t.events n (Closes b) at) in
+    let edges : length (edges_among t.boxes (drop n t.events)) ≡ suc (length (edges_among t.boxes (drop (suc n) t.events))) =
+    ap (λ (es : List Event). length (edges_among t.boxes es)) (drop_get t.events n (Closes b) at) ∙ ap (λ (c : Bool). length (cond c (CloseEdge b ∷ edges_among t.boxes (drop (suc n) t.events)) (edges_among t.boxes (drop (suc n) t.events)))) is in
+    omega arith
+edge_here t n (Leaf l) at is other = absurd (other l refl)
+
+line_here : (t : Tree) (n l : ℕ) (leaf : LeafData) → slice_get t.events n ≡ Some (Leaf l) → slice_get t.leaves l ≡ Some leaf → left t n ≡ length leaf.text + left t (suc n)
+line_here t n l leaf at has =
+    let size = size_here t n l leaf at has in
+    let edges : length (edges_among t.boxes (drop n t.events)) ≡ length (edges_among t.boxes (drop (suc n) t.events)) = ap (λ (es : List Event). length (edges_among t.boxes es)) (drop_get t.events n (Leaf l) at) in
+    omega arith
+
+offset_low : (t : Tree) (at : Position) → Stands t at → at.offset ≤ left t at.event
+offset_low t at st = ⊎_elim
+    (λ (o : 0 < at.offset). let p = st.offset o in let size = line_here t at.event p.0 p.1 p.2 p.3 in let less = p.4 in omega arith)
+    (λ (o : at.offset ≤ 0). omega arith)
+    (cases_lt 0 at.offset)
+
+-- ---- the event after the seam at a place
+abbrev beyond : Position → ℕ
+beyond at = cond (at.offset == 0) at.event (suc at.event)
+
+beyond_low : (at : Position) → (at.event ≤ beyond at) × (beyond at ≤ suc at.event)
+beyond_low at = by (at.offset == 0)
+  where
+    by : (b : Bool) → (at.event ≤ cond b at.event (suc at.event)) × (cond b at.event (suc at.event) ≤ suc at.event)
+    by true = (omega arith, omega arith)
+    by false = (omega arith, omega arith)
+
+beyond_in : (at : Position) → 0 < at.offset → beyond at ≡ suc at.event
+beyond_in at some = by (eqb_tells at.offset 0)
+  where
+    by : ((eqb at.offset 0 ≡ true) × (at.offset ≡ 0)) ⊎ ((eqb at.offset 0 ≡ false) × (at.offset ≢ 0)) → beyond at ≡ suc at.event
+    by (inl h) = absurd (let e = h.1 in omega arith)
+    by (inr h) = ap (λ (b : Bool). cond b at.event (suc at.event)) h.0
+
+-- what one solid takes
+record Takes (t : Tree) (from : Position) (s : SolidView) : Type 0 where
+  later : left t s.placed_at.event + from.offset ≤ left t from.event + s.placed_at.offset
+  takes : suc (left t s.end.event) + s.placed_at.offset ≤ left t s.placed_at.event + s.end.offset
+  grows : beyond from ≤ beyond s.placed_at
+  ends : suc s.placed_at.event ≤ beyond s.end
+  solid : is_solid_at t.boxes (slice_get t.events s.placed_at.event) ≡ true
+
+solid_takes : (faces : List FontFace) (t : Tree) (w : ℤ) (from : Position) (s : SolidView) → IsTree t → Stands t from → IsSolid faces t w from s → Takes t from s
+solid_takes faces t w from s tree st is = record { later = (place_by (eqb_tells s.placed_at.event from.event)).0; grows = (place_by (eqb_tells s.placed_at.event from.event)).1; takes = (by is.content).0; ends = (by is.content).1; solid = here }
+  where
+    here : is_solid_at t.boxes (slice_get t.events s.placed_at.event) ≡ true
+    here = (after_solid t from.event s.placed_at.event is.found).1
+
+    after : from.event ≤ s.placed_at.event
+    after = (after_solid t from.event s.placed_at.event is.found).0
+
+    place_by : ((eqb s.placed_at.event from.event ≡ true) × (s.placed_at.event ≡ from.event)) ⊎ ((eqb s.placed_at.event from.event ≡ false) × (s.placed_at.event ≢ from.event)) → (left t s.placed_at.event + from.offset ≤ left t from.event + s.placed_at.offset) × (beyond from ≤ beyond s.placed_at)
+    place_by (inl e) =
+        let offset : s.placed_at.offset ≡ from.offset = begins_of faces t w from s st is ∙ ap (λ (b : Bool). cond b from.offset 0) e.0 in
+        let same : s.placed_at ≡ from = ap (λ (n : ℕ). place n s.placed_at.offset) e.1 ∙ ap (place from.event) offset in
+        subst (λ (p : Position). (left t p.event + from.offset ≤ left t from.event + p.offset) × (beyond from ≤ beyond p)) (sym same) (omega arith, omega arith)
+    place_by (inr e) = ⊎_elim
+        (λ (o : 0 < from.offset).
+        let p = st.offset o in
+        let at : solid_after t from.event ≡ Some from.event = solid_at t from.event (ap (λ o. is_solid_at t.boxes o) p.2) in
+        let same : Some from.event ≡ Some s.placed_at.event = sym at ∙ is.found in
+        absurd (e.1 (let n : from.event ≡ s.placed_at.event = cc in sym n)))
+        (λ (o : from.offset ≤ 0).
+        let l = left_later t from.event s.placed_at.event after in
+        let a = after in
+        let n = e.1 in
+        let more : suc from.event ≤ s.placed_at.event = less from.event s.placed_at.event a (λ g. n (sym g)) in
+        let f = (beyond_low from).1 in
+        let g = (beyond_low s.placed_at).0 in
+        (omega arith, omega arith))
+        (cases_lt 0 from.offset)
+      where
+        less : (x y : ℕ) → x ≤ y → x ≢ y → suc x ≤ y
+        less x y low other = ⊎_elim (λ (h : x < y). omega arith) (λ (h : y ≤ x). absurd (other (omega arith))) (cases_lt x y)
+
+    Taken : Position → Type 0
+    Taken p = (suc (left t p.event) + s.placed_at.offset ≤ left t s.placed_at.event + p.offset) × (suc s.placed_at.event ≤ beyond p)
+
+    edge : (e : Event) → slice_get t.events s.placed_at.event ≡ Some e → ((l : ℕ) → e ≡ Leaf l → ⊥) → s.placed_at.offset ≡ 0 → s.end ≡ place (s.placed_at.event + 1) 0 → Taken s.end
+    edge e at other begins ends =
+        let h = edge_here t s.placed_at.event e at (sym (ap (λ o. is_solid_at t.boxes o) at) ∙ here) other in
+        subst Taken (sym ends) (omega arith, omega arith)
+
+    line : (l : IsLineSolid faces t w from s) → Taken s.end
+    line l =
+        let f = found_of faces t w from s tree st is.found l in
+        let text = lines_go_on faces l.leaf s.placed_at.offset (leaf_measure t w s.placed_at.event) l.line_of f.inside l.fills in
+        to_by (eqb_tells l.line_of.to (length l.leaf.text)) l.ends text.0 text.1 (line_here t s.placed_at.event l.number l.leaf l.names l.has)
+      where
+        to_by : {to len : ℕ} → ((eqb to len ≡ true) × (to ≡ len)) ⊎ ((eqb to len ≡ false) × (to ≢ len)) → s.end ≡ end_of s.placed_at.event len to → s.placed_at.offset < to → to ≤ len → left t s.placed_at.event ≡ len + left t (suc s.placed_at.event) → Taken s.end
+        to_by {to} {len} (inl h) ends a b size =
+            let e : s.end ≡ place (suc s.placed_at.event) 0 = ends ∙ ap (λ (x : Bool). cond x (record { event = s.placed_at.event + 1; offset = 0 }) (record { event = s.placed_at.event; offset = to })) h.0 ∙ ap (λ (n : ℕ). place n 0) (add-one s.placed_at.event) in
+            let same = h.1 in
+            subst Taken (sym e) (omega arith, omega arith)
+        to_by {to} {len} (inr h) ends a b size =
+            let e : s.end ≡ place s.placed_at.event to = ends ∙ ap (λ (x : Bool). cond x (record { event = s.placed_at.event + 1; offset = 0 }) (record { event = s.placed_at.event; offset = to })) h.0 in
+            let far = beyond_in (place s.placed_at.event to) (omega arith) in
+            subst Taken (sym e) (omega arith, omega arith)
+
+    by : IsContent faces t w from s → Taken s.end
+    by (of_line l) = line l
+    by (of_open b e l) = edge (Opens b) e (λ n g. cc) l.begins l.ends
+    by (of_close b e l) = edge (Closes b) e (λ n g. cc) l.begins l.ends
+
+-- what a number of solids take before one of them
+record Reached (t : Tree) (from : Position) (n : ℕ) (v : SolidView) : Type 0 where
+  taken : n + left t v.placed_at.event + from.offset ≤ left t from.event + v.placed_at.offset
+  some : suc v.placed_at.offset ≤ left t v.placed_at.event
+  grows : beyond from ≤ beyond v.placed_at
+  solid : is_solid_at t.boxes (slice_get t.events v.placed_at.event) ≡ true
+
+reached : (faces : List FontFace) (t : Tree) (w : ℤ) → IsTree t → (from : Position) (solids : List SolidView) (n : ℕ) (v : SolidView) → Stands t from → IsRemainder faces t w from solids → slice_get solids n ≡ Some v → Reached t from n v
+reached faces t w tree from [] n v st r e = absurd (cc)
+reached faces t w tree from (x ∷ xs) zero v st r e =
+    let same : x ≡ v = cc in
+    let a = solid_takes faces t w from x tree st r.1.0 in
+    let low = offset_low t x.end (solid_stands faces t w from x tree st r.1.0) in
+    let b = a.takes in
+    let c = a.later in
+    subst (Reached t from 0) same (record { taken = omega arith; some = omega arith; grows = a.grows; solid = a.solid })
+reached faces t w tree from (x ∷ xs) (suc n) v st r e =
+    let a = solid_takes faces t w from x tree st r.1.0 in
+    let there = subst (Stands t) (sym r.1.1) (solid_stands faces t w from x tree st r.1.0) in
+    let more = subst (λ (p : Position). Reached t p n v) r.1.1 (reached faces t w tree r.0 xs n v there r.2 e) in
+    let b = a.takes in
+    let c = a.later in
+    let d = more.taken in
+    let far = a.ends in
+    let on = more.grows in
+    let up = a.grows in
+    let near = (beyond_low x.placed_at).1 in
+    record { taken = omega arith; some = more.some; grows = omega arith; solid = more.solid }
+
+-- a later solid stands beyond the first one
+past_first : (faces : List FontFace) (t : Tree) (w : ℤ) → IsTree t → (from : Position) (x : SolidView) (xs : List SolidView) (n : ℕ) (v : SolidView) → Stands t from → IsRemainder faces t w from (x ∷ xs) → slice_get (x ∷ xs) (suc n) ≡ Some v → suc x.placed_at.event ≤ beyond v.placed_at
+past_first faces t w tree from x xs n v st r e =
+    let a = solid_takes faces t w from x tree st r.1.0 in
+    let there = subst (Stands t) (sym r.1.1) (solid_stands faces t w from x tree st r.1.0) in
+    let more = subst (λ (p : Position). Reached t p n v) r.1.1 (reached faces t w tree r.0 xs n v there r.2 e) in
+    let far = a.ends in
+    let on = more.grows in
+    omega arith
+
+module _ (free : Demand → Bool) (t : Tree) where
+  -- ---- the sides that are asked from an event on
+  abbrev sided_from : ℕ → ℕ
+  sided_from k = sided_among free t k (drop k t.events)
+
+  sided_mono : (es : List Event) (k j : ℕ) → sided_among free t (k + j) (drop j es) ≤ sided_among free t k es
+  sided_mono es k zero = let n : k + 0 ≡ k = omega arith in subst (λ (m : ℕ). sided_among free t m es ≤ sided_among free t k es) (sym n) (omega arith)
+  sided_mono [] k (suc j) = omega arith
+  sided_mono (e ∷ es) k (suc j) =
+      let n : k + suc j ≡ suc k + j = omega arith in
+      let h = sided_mono es (suc k) j in
+      subst (λ (m : ℕ). sided_among free t m (drop j es) ≤ sided_among free t k (e ∷ es)) (sym n) (omega arith)
+
+  sided_later : (j k : ℕ) → j ≤ k → sided_from k ≤ sided_from j
+  sided_later j k low =
+      let n : j + (k - j) ≡ k = omega arith in
+      let h = sided_mono (drop j t.events) j (k - j) in
+      let e : drop (k - j) (drop j t.events) ≡ drop k t.events = drop_drop t.events j (k - j) ∙ ap (λ (m : ℕ). drop m t.events) n in
+      subst (λ (es : List Event). sided_among free t k es ≤ sided_from j) e (subst (λ (m : ℕ). sided_among free t m (drop (k - j) (drop j t.events)) ≤ sided_from j) n h)
+
+  abbrev asks_at : Position → Bool
+  asks_at at = is_sided free (seam_of t at (pos 0)).forced
+
+  -- a seam whose demand isn't free stands before a solid, and counts
+  sided_at : (at : Position) → is_solid_at t.boxes (slice_get t.events at.event) ≡ true → asks_at at ≡ true → (at.offset ≡ 0) × (suc (sided_from (suc at.event)) ≡ sided_from at.event)
+  sided_at at is asks = (none, by (slice_get t.events at.event) refl is)
+    where
+      none : at.offset ≡ 0
+      none = go (eqb_tells at.offset 0)
+        where
+          go : ((eqb at.offset 0 ≡ true) × (at.offset ≡ 0)) ⊎ ((eqb at.offset 0 ≡ false) × (at.offset ≢ 0)) → at.offset ≡ 0
+          go (inl h) = h.1
+          go (inr h) = absurd (let f : false ≡ true = sym (ap (λ (b : Bool). is_sided free (cond b (seam_before t at.event (pos 0)) (line_seam t at.event)).forced) h.0) ∙ asks in cc)
+
+      asked : is_sided free (seam_of t (place at.event 0) (pos 0)).forced ≡ true
+      asked = ap (λ (o : ℕ). asks_at (place at.event o)) (sym none) ∙ asks
+
+      by : (o : Option Event) → slice_get t.events at.event ≡ o → is_solid_at t.boxes o ≡ true → suc (sided_from (suc at.event)) ≡ sided_from at.event
+      by None e h = absurd (cc)
+      by (Some event) e h =
+          let both : (is_solid t.boxes event && is_sided free (seam_of t (place at.event 0) (pos 0)).forced) ≡ true = rw h asked in
+          let here : sided_from at.event ≡ 1 + sided_from (suc at.event) = ap (sided_among free t at.event) (drop_get t.events at.event event e) ∙ ap (λ (b : Bool). cond b 1 0 + sided_from (suc at.event)) both in
+          omega arith
+
+  abbrev bit : Bool → ℕ
+  bit b = cond b 1 0
+
+  -- a page takes the side that is asked at its start
+  page_asks : (faces : List FontFace) (w : ℤ) → IsTree t → (from : Position) (x : SolidView) (xs : List SolidView) (n : ℕ) (v : SolidView) → Stands t from → IsRemainder faces t w from (x ∷ xs) → slice_get (x ∷ xs) (suc n) ≡ Some v → bit (asks_at from) + sided_from (beyond v.placed_at) ≤ sided_from (beyond from)
+  page_asks faces w tree from x xs n v st r e = by (asks_at from) refl
+    where
+      grows : beyond from ≤ beyond v.placed_at
+      grows = (reached faces t w tree from (x ∷ xs) (suc n) v st r e).grows
+
+      by : (b : Bool) → asks_at from ≡ b → bit b + sided_from (beyond v.placed_at) ≤ sided_from (beyond from)
+      by false h = let l = sided_later (beyond from) (beyond v.placed_at) grows in omega arith
+      by true h =
+          let a = solid_takes faces t w from x tree st r.1.0 in
+          let asks : asks_at x.placed_at ≡ true = ap (λ (i : SeamInfo). is_sided free i.forced) (sym (seam_next faces t w from x st r.1.0 (pos 0))) ∙ h in
+          let s = sided_at x.placed_at a.solid asks in
+          let head = s.1 in
+          let flat : beyond x.placed_at ≡ x.placed_at.event = ap (λ (o : ℕ). cond (o == 0) x.placed_at.event (suc x.placed_at.event)) s.0 in
+          let up = a.grows in
+          let one = sided_later (beyond from) x.placed_at.event (omega arith) in
+          let two = sided_later (suc x.placed_at.event) (beyond v.placed_at) (past_first faces t w tree from x xs n v st r e) in
+          omega arith
+
+  -- a side that the flow's start asks is asked before its first solid
+  start_sided : asks_at (place 0 0) ≡ true → 1 ≤ sided_from 0
+  start_sided asks = by (solid_after t 0) refl
+    where
+      asked_by : Option ℕ → Bool
+      asked_by o = is_sided free (seam_between t (pos 0) (solid_behind t o) o).forced
+
+      by : (o : Option ℕ) → solid_after t 0 ≡ o → 1 ≤ sided_from 0
+      by None e = absurd (let f : false ≡ true = sym (ap asked_by e) ∙ asks in cc)
+      by (Some n) e =
+          let is = (after_solid t 0 n e).1 in
+          let here = solid_at t n is in
+          let s = sided_at (place n 0) is (ap asked_by (here ∙ sym e) ∙ asks) in
+          let head = s.1 in
+          let more = sided_later 0 n (omega arith) in
+          omega arith
+
+-- ---- the pages from a state on
+none_after : (faces : List FontFace) (t : Tree) (frames : PageFrames) (u : State) (pages : List Page) → u.done ≡ true → IsRun (IsStep faces t frames) IsEnded u pages → length pages ≡ 0
+none_after faces t frames u [] done r = refl
+none_after faces t frames u (p ∷ pages) done r = by r.1
+  where
+    by : {v : State} → IsStep faces t frames u p v → length (p ∷ pages) ≡ 0
+    by (blank going n p_is v_is) = absurd (let f : true ≡ false = sym done ∙ going in cc)
+    by (flow going m cut is p_is v_is) = absurd (let f : true ≡ false = sym done ∙ going in cc)
+
+-- a place's edges and characters
+abbrev rest_at : Tree → Position → ℕ
+rest_at t at = left t at.event - at.offset
+
+-- what a cut that doesn't end the flow leaves
+record Leaves (free : Demand → Bool) (t : Tree) (from to : Position) : Type 0 where
+  less : suc (rest_at t to) ≤ rest_at t from
+  some : 1 ≤ rest_at t to
+  asks : bit free t (asks_at free t from) + sided_from free t (beyond to) ≤ sided_from free t (beyond from)
+  next : asks_at free t to ≡ true → 1 ≤ sided_from free t (beyond to)
+
+cut_leaves : (free : Demand → Bool) (faces : List FontFace) (t : Tree) (frame : Frame) (from : Position) (kept : Bool) (cut : Cut) → IsTree t → Stands t from → IsFlowCut faces t frame from kept cut → cut.ended ≡ false → Leaves free t from cut.to
+cut_leaves free faces t frame from kept cut tree st is going = by is.solids is.rest is.cuts
+  where
+    by : (solids : List SolidView) → IsRemainder faces t frame.width from solids → CutsSolids t frame.height kept solids cut → Leaves free t from cut.to
+    by [] r e = absurd (let f : true ≡ false = sym (ap (λ (c : Cut). c.ended) e) ∙ going in cc)
+    by (x ∷ xs) r (zero, at) = absurd (let w = (cut_within (first_gap kept (x ∷ xs)) frame.height (rows_of t (x ∷ xs)) cut.level 0 at.best).0 in omega arith)
+    by (x ∷ xs) r (suc n, at) =
+        let w = cut_within (first_gap kept (x ∷ xs)) frame.height (rows_of t (x ∷ xs)) cut.level (suc n) at.best in
+        let most = w.1 in
+        let size : length (rows_of t (x ∷ xs)) ≡ length (x ∷ xs) = length-map (x ∷ xs) (row_of t) in
+        let other : suc n ≢ length (x ∷ xs) = unlike (suc n) (length (x ∷ xs)) (sym at.ended_is ∙ going) in
+        let v = slice_get_at (x ∷ xs) (suc n) (under (suc n) (length (x ∷ xs)) (omega arith) other) in
+        let to : cut.to ≡ v.0.placed_at = at.to_is ∙ ap (place_after t) v.1 in
+        let far = reached faces t frame.width tree from (x ∷ xs) (suc n) v.0 st r v.1 in
+        let taken = far.taken in
+        let some = far.some in
+        let low = offset_low t from st in
+        let asks = page_asks free t faces frame.width tree from x xs n v.0 st r v.1 in
+        subst (Leaves free t from) (sym to) (record {
+          less = omega arith;
+          some = omega arith;
+          asks = asks;
+          next = λ h.
+              let s = sided_at free t v.0.placed_at far.solid h in
+              let head = s.1 in
+              let flat : beyond v.0.placed_at ≡ v.0.placed_at.event = ap (λ (o : ℕ). cond (o == 0) v.0.placed_at.event (suc v.0.placed_at.event)) s.0 in
+              rw flat (omega arith);
+        })
+      where
+        unlike : (a b : ℕ) → (a == b) ≡ false → a ≢ b
+        unlike a b e = ⊎_elim (λ (h : (eqb a b ≡ true) × (a ≡ b)). absurd (let f : true ≡ false = sym h.0 ∙ e in cc)) (λ (h : (eqb a b ≡ false) × (a ≢ b)). h.1) (eqb_tells a b)
+
+        under : (a b : ℕ) → a ≤ b → a ≢ b → a < b
+        under a b low n = ⊎_elim (λ (h : a < b). h) (λ (h : b ≤ a). absurd (n (omega arith))) (cases_lt a b)
+
+-- from each index on a page that meets a demand is near
+abbrev pub AreNear : PageFrames → (Demand → Bool) → ℕ → Type 0
+AreNear frames free bound = (index : ℕ) (d : Option Demand) → (k : ℕ) × (k ≤ cond (is_sided free d) bound 0) × (meets_at frames (index + k) d ≡ true)
+
+module _ (free : Demand → Bool) (bound : ℕ) (faces : List FontFace) (t : Tree) (frames : PageFrames) (tree : IsTree t) (near : AreNear frames free bound) where
+  bound_on : (s : State) (pages : List Page) (k asked : ℕ) → Stands t s.at → s.done ≡ false → s.demand ≡ (seam_of t s.at (pos 0)).forced → meets_at frames (s.index + k) s.demand ≡ true →
+      sided_from free t (beyond s.at) ≤ bit free t (asks_at free t s.at) + asked → IsRun (IsStep faces t frames) IsEnded s pages → length pages ≤ k + (max 1 (rest_at t s.at) + asked * bound)
+  bound_on s [] k asked st going asks met sided ended = absurd (let f : true ≡ false = sym ended ∙ going in cc)
+  bound_on s (p ∷ pages) k asked st going asks met sided r = by r.0 r.1 r.2 (λ j n st' going' asks' met' sided'. bound_on r.0 pages j n st' going' asks' met' sided' r.2)
+    where
+      More : State → Type 0
+      More u = (j n : ℕ) → Stands t u.at → u.done ≡ false → u.demand ≡ (seam_of t u.at (pos 0)).forced → meets_at frames (u.index + j) u.demand ≡ true → sided_from free t (beyond u.at) ≤ bit free t (asks_at free t u.at) + n → length pages ≤ j + (max 1 (rest_at t u.at) + n * bound)
+
+      Goal : Type 0
+      Goal = length (p ∷ pages) ≤ k + (max 1 (rest_at t s.at) + asked * bound)
+
+      empty : (j : ℕ) → meets_at frames s.index s.demand ≡ false → meets_at frames (s.index + j) s.demand ≡ true → (length pages ≤ (j - 1) + (max 1 (rest_at t s.at) + asked * bound)) ⊎ (j ≡ 0) → length (p ∷ pages) ≤ j + (max 1 (rest_at t s.at) + asked * bound)
+      empty zero misses meets h = absurd (let n : s.index + 0 ≡ s.index = omega arith in let f : false ≡ true = sym misses ∙ ap (λ (i : ℕ). meets_at frames i s.demand) (sym n) ∙ meets in cc)
+      empty (suc j) misses meets (inl h) = omega arith
+      empty (suc j) misses meets (inr h) = absurd (omega arith)
+
+      page : (cut : Cut) → IsFlowCut faces t (frames.frame_of s.index (name_at t s.at) kind.Flow) s.at s.kept cut → More (after_flow s cut) → cut.ended ≡ false → Goal
+      page cut is more on =
+          let f : Frame = frames.frame_of s.index (name_at t s.at) kind.Flow in
+          let there = cut_stands faces t f s.at s.kept cut tree st is in
+          let l = cut_leaves free faces t f s.at s.kept cut tree st is on in
+          let next : cut.forced ≡ (seam_of t cut.to (pos 0)).forced = (cut_breaks faces t f s.at s.kept cut st is).next on in
+          let m = near (suc s.index) cut.forced in
+          asked_by l m.0 (asks_at free t cut.to) refl (subst (λ (d : Option Demand). m.0 ≤ cond (is_sided free d) bound 0) next m.1) (λ n sided'. more m.0 n there on next m.2 sided')
+        where
+          Size : ℕ → ℕ → Type 0
+          Size j n = length pages ≤ j + (max 1 (rest_at t cut.to) + n * bound)
+
+          asked_by : Leaves free t s.at cut.to → (j : ℕ) (b : Bool) → asks_at free t cut.to ≡ b → j ≤ cond b bound 0 → ((n : ℕ) → sided_from free t (beyond cut.to) ≤ bit free t (asks_at free t cut.to) + n → Size j n) → Goal
+          asked_by l j false h small rest =
+              let n : ℕ = sided_from free t (beyond cut.to) in
+              let size : Size j n = rest n (omega arith) in
+              let a = l.asks in
+              let low : n * bound ≤ asked * bound = mul-le-mul_right bound (omega arith) in
+              let less = l.less in
+              let some = l.some in
+              let here : max 1 (rest_at t cut.to) ≡ rest_at t cut.to = max-eq_right some in
+              let all : max 1 (rest_at t s.at) ≡ rest_at t s.at = max-eq_right (omega arith) in
+              omega arith
+          asked_by l j true h small rest =
+              let n : ℕ = sided_from free t (beyond cut.to) - 1 in
+              let one = l.next h in
+              let size : Size j n = rest n (rw h (omega arith)) in
+              let a = l.asks in
+              let low : suc n * bound ≤ asked * bound = mul-le-mul_right bound (omega arith) in
+              let step : suc n * bound ≡ n * bound + bound = suc-mul n bound in
+              let less = l.less in
+              let some = l.some in
+              let here : max 1 (rest_at t cut.to) ≡ rest_at t cut.to = max-eq_right some in
+              let all : max 1 (rest_at t s.at) ≡ rest_at t s.at = max-eq_right (omega arith) in
+              omega arith
+
+      by : (u : State) → IsStep faces t frames s p u → IsRun (IsStep faces t frames) IsEnded u pages → More u → Goal
+      by u (blank going' misses p_is u_is) run more =
+          let on = subst More u_is more in
+          empty k misses met (short k met misses on)
+        where
+          short : (j : ℕ) → meets_at frames (s.index + j) s.demand ≡ true → meets_at frames s.index s.demand ≡ false → More (record s { index = suc s.index }) → (length pages ≤ (j - 1) + (max 1 (rest_at t s.at) + asked * bound)) ⊎ (j ≡ 0)
+          short zero meets n on = inr refl
+          short (suc j) meets n on = let i : s.index + suc j ≡ suc s.index + j = omega arith in inl (let h = on j asked st going asks (subst (λ (m : ℕ). meets_at frames m s.demand ≡ true) i meets) sided in omega arith)
+      by u (flow going' m cut is p_is u_is) run more = ended_by cut.ended refl
+        where
+          ended_by : (b : Bool) → cut.ended ≡ b → Goal
+          ended_by false e = page cut is (subst More u_is more) e
+          ended_by true e =
+              let none = none_after faces t frames u pages (ap (λ (v : State). v.done) u_is ∙ e) run in
+              let one : 1 ≤ max 1 (rest_at t s.at) = le-max_left 1 (rest_at t s.at) in
+              omega arith
+
+  -- a page list has no more pages than these
+  pub page_bound : (pages : List Page) → IsPaged faces t frames pages → length pages ≤ most_pages free bound t
+  page_bound pages paged =
+      let demand : Option Demand = (start_of t).demand in
+      let first = near 1 demand in
+      by (asks_at free t (start_of t).at) refl first.1 (λ n sided. bound_on (start_of t) pages first.0 n (start_stands t) refl refl first.2 sided paged)
+    where
+      by : {j : ℕ} (b : Bool) → asks_at free t (start_of t).at ≡ b → j ≤ cond b bound 0 → ((n : ℕ) → sided_from free t 0 ≤ bit free t (asks_at free t (start_of t).at) + n → length pages ≤ j + (max 1 (rest_at t (start_of t).at) + n * bound)) → length pages ≤ most_pages free bound t
+      by {j} false h small rest = let size = rest (sided_from free t 0) (omega arith) in omega arith
+      by {j} true h small rest = go (sided_from free t 0) refl
+        where
+          go : (n : ℕ) → sided_from free t 0 ≡ n → length pages ≤ most_pages free bound t
+          go zero e = absurd (let low = start_sided free t h in omega arith)
+          go (suc n) e = let size = rest n (rw h (omega arith)) in let step : suc n * bound ≡ n * bound + bound = suc-mul n bound in let all : sided_in free t * bound ≡ suc n * bound = ap (λ (m : ℕ). m * bound) e in omega arith

@@ -1,0 +1,31 @@
+-- How many pages a flow without notes has at most.
+use Rattle.std.specs.Prelude.{ℕ, zero, suc, ◌+◌, ◌*◌, pos, List, [], ◌∷◌, Option, None, Some, Bool, false, not, ◌&&◌, length, max, if◌then◌else◌}
+use Rattle.boxes.specs.Tree.{Tree}
+use Rattle.boxes.specs.declared.frames.Demand.{Demand}
+use Rattle.boxes.specs.declared.place.Event.{Event}
+use Rattle.seams.specs.Runs.{is_solid}
+use Rattle.seams.specs.Seams.{seam_of}
+use Rattle.fragment.specs.Pages.{text_size}
+use Rattle.fragment.specs.Parted.{edges_among}
+
+-- whether a seam has a demand that isn't free: not each page meets it
+abbrev pub is_sided : (Demand → Bool) → Option Demand → Bool
+is_sided free None = false
+is_sided free (Some d) = not (free d)
+
+-- how many of some events, numbered from k on, are solids after a seam whose demand isn't free
+abbrev pub sided_among : (Demand → Bool) → Tree → ℕ → List Event → ℕ
+sided_among free t k [] = 0
+sided_among free t k (e ∷ es) = (if is_solid t.boxes e && is_sided free (seam_of t (record { event = k; offset = 0 }) (pos 0)).forced then 1 else 0) + sided_among free t (suc k) es
+
+-- the forced seams of a tree whose demand isn't free, the start among them where it asks a side
+abbrev pub sided_in : (Demand → Bool) → Tree → ℕ
+sided_in free t = sided_among free t 0 t.events
+
+-- the edges that a tree has, and its characters, each of which is a byte in the texts that are built so far
+abbrev pub parts_in : Tree → ℕ
+parts_in t = text_size t.leaves t.events + length (edges_among t.boxes t.events)
+
+-- as many pages as parts, at least one, and before each side that is asked as many blank ones as frames need at most
+abbrev pub most_pages : (Demand → Bool) → ℕ → Tree → ℕ
+most_pages free bound t = max 1 (parts_in t) + sided_in free t * bound
