@@ -8,3 +8,4 @@ pub mod StateLemmas
 pub mod TextLemmas
 pub mod TokenLemmas
 mod TreeOrderLemmas
+mod NameLemmas

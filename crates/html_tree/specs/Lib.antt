@@ -4,3 +4,4 @@ pub mod Tree
 pub mod Order
 pub mod Built
 pub mod Open
+pub mod Words

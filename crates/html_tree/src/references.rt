@@ -1,7 +1,8 @@
 //! Character references.
 ghost use Rattle.std.specs.Prelude.{◌≡◌, ◌+◌, ◌<◌, ◌≤◌, length, take, map, min, nat_eq, IsTrue, not, drop, slice_index, ◌&&◌, ◌==◌};
 ghost use Rattle.std.specs.List.{starts_with, position};
-ghost use Rattle.std.specs.Char.{is_digit, digit_value};
+ghost use Rattle.std.specs.Char.{is_digit, digit_value, is_ascii_alphabetic};
+ghost use Rattle.html_tree.specs.Words.{letters_len};
 ghost use Rattle.html_tree.specs.Texts.{Reference, character_of, digits_len, number_of, numeric, counted, closing_len, named, named_references, reference_at};
 
 /// The named references that are read, each with its `;` (HTML, 13.5).
@@ -184,7 +185,32 @@ fn named(bytes: &[u8]) -> Read
     ensures character { result.character ≡ (named named_references bytes.now).code }
     ensures len { result.len ≡ (named named_references bytes.now).len }
 {
+    if !is_closed_word(bytes) {
+        return PLAIN;
+    }
     find_name(bytes, &REFERENCES)
+}
+
+/// Whether letters with a `;` stand here, as each name needs. Most `&` without a name end here.
+fn is_closed_word(bytes: &[u8]) -> bool
+    ensures { result ≡ (closing_len (drop (letters_len bytes.now) bytes.now) == 1) }
+{
+    let count = count_of_letters(bytes);
+    closing_len(&bytes[count..]) == 1
+}
+
+fn count_of_letters(bytes: &[u8]) -> usize
+    ensures count { result ≡ letters_len bytes.now }
+    ensures within { result ≤ length bytes.now }
+{
+    past_letters(bytes).unwrap_or(bytes.len())
+}
+
+/// The place of the first byte that is no letter.
+fn past_letters(bytes: &[u8]) -> Option<usize>
+    ensures { result ≡ position (λ b. not (is_ascii_alphabetic b)) bytes.now }
+{
+    bytes.iter().position(|b| !b.is_ascii_alphabetic())
 }
 
 /// The row whose name stands here with its `;`.
