@@ -2,6 +2,7 @@
 use Rattle.std.specs.Prelude.{◌≡◌, ℕ, zero, suc, ◌+◌, Bool, false, ◌&&◌, ◌==◌, nat_lt, if◌then◌else◌, List, [], ◌∷◌, ◌++◌, Option, None, Some, find, length, codes, unwrap_or}
 use Rattle.std.specs.List.{list_any}
 use Rattle.std.specs.Str.{bytes_eq}
+use Rattle.bk_num.specs.Limits.{most_rules, most_sheets}
 use Rattle.dom.specs.Nodes.{Node, parents_of, parent_at, name_at, text_at, attribute_at}
 use Rattle.css_tok.specs.Tokens.{tokens_of}
 use Rattle.css_rules.specs.Media.{is_media_list}
@@ -66,7 +67,7 @@ pub record IsRuleCount (count : List ℕ → ℕ) : Type 0 where
   pub is : (text : List ℕ) (rs : List RuleOf) (ps : List PageOf) → IsSheet (tokens_of text) rs ps → count text ≡ rule_count rs ps
 
 abbrev pub has_many : (List ℕ → ℕ) → Sheet → Bool
-has_many count s = nat_lt 20000 (count s.text)
+has_many count s = nat_lt most_rules (count s.text)
 
 abbrev pub has_rules : (List ℕ → ℕ) → Sheet → Bool
 has_rules count s = nat_lt 0 (count s.text)
@@ -81,5 +82,5 @@ verdict_by (Some s) = verdict_at s.element
 
 -- more than 16 sheets, then a sheet of more than 20,000 rules, then the first element and at last the file with a rule
 abbrev pub verdict_of : (List ℕ → ℕ) → List Sheet → Verdict
-verdict_of count sheets = if nat_lt 16 (length sheets) then verdict.TooManySheets else
+verdict_of count sheets = if nat_lt most_sheets (length sheets) then verdict.TooManySheets else
     if list_any (has_many count) sheets then verdict.TooManyRules else verdict_by (find (has_rules count) sheets)

@@ -10,6 +10,7 @@ ghost use Rattle.std.specs.Prelude.{map};
 
 use crate::elements::{child_text, count_of_elements, is_sheet_element};
 use bk_num::ids::NodeId;
+use bk_num::limits::MOST_SHEETS;
 use bk_num::name::NoMem;
 use css_rules::pages::PageSlice;
 use css_rules::sheet::{SheetErr, one_reading, read_sheet};
@@ -17,7 +18,7 @@ use dom::Dom;
 use std::alloc::Global;
 
 /// The most sheets beside that of the file.
-const MOST_ELEMENTS: u32 = 15;
+pub(crate) const MOST_ELEMENTS: u32 = MOST_SHEETS - 1;
 
 /// What the sheets say: in this order, what comes first counts.
 #[derive(Clone, Copy, Debug, PartialEq, Eq)]

@@ -1,7 +1,9 @@
 //! Sheets of documents by hand.
 
 use crate::check::{Verdict, check_sheets};
+use crate::list::list_sheets;
 use bk_num::ids::NodeId;
+use bk_num::name::NoMem;
 use dom::{Dom, DomErr};
 use std::alloc::Global;
 use std::test::Fail;
@@ -72,6 +74,27 @@ fn texts_of_an_element_are_joined(rt: HostRuntime) -> Result<(), Fail> {
     dom.add_text(rt.alloc(), NodeId(3), "*/")?;
     dom.add_text(rt.alloc(), NodeId(1), "p{}")?;
     assert_eq!(rt; check_sheets(rt.alloc(), &dom, "")?, Verdict::Built);
+    Ok(())
+}
+
+#[test]
+fn sheets_are_listed_with_their_texts(rt: HostRuntime) -> Result<(), Fail> {
+    let dom = document(rt.alloc(), "screen", "p{}", "q{}")?;
+    let found = list_sheets(rt.alloc(), &dom)?;
+    assert_eq!(rt; found.map(|sheets| sheets.as_slice().len()), Some(1));
+    let dom = document(rt.alloc(), "", "p{}", "q{}")?;
+    let Some(sheets) = list_sheets(rt.alloc(), &dom)? else {
+        return Err(Fail::from(NoMem));
+    };
+    match sheets.as_slice() {
+        [first, second] => {
+            assert_eq!(rt; first.element, NodeId(2));
+            assert_eq!(rt; first.text.as_str(), "p{}");
+            assert_eq!(rt; second.element, NodeId(4));
+            assert_eq!(rt; second.text.as_str(), "q{}");
+        }
+        _ => assert!(rt; false),
+    }
     Ok(())
 }
 
