@@ -34,6 +34,9 @@ SHEETS = {
     "a million commas": b"a," * 1_000_000 + b"{}",
     "a value of 16 MB": b"p{a:" + b"b " * 8_000_000 + b"}",
     "media lists": filled("@media a,b,c,print{@x;}"),
+    "a deep media list": b"@media " + filled("(") + b",print{p{}}",
+    "important in open brackets": filled("p{a:f(b!important;"),
+    "margin boxes with preludes": filled("@page{@top-left x{a:b}}"),
 }
 
 SELECTORS = {
