@@ -1,4 +1,3 @@
-pub mod BoxLemmas
 pub mod EventLemmas
 pub mod LeafLemmas
 pub mod PlaceLemmas

@@ -5,7 +5,6 @@ use Rattle.std.proofs.lemmas.List.{length-map, map-append}
 use Rattle.std.proofs.lemmas.List.Sums.{sum_by-cons}
 use Rattle.std.proofs.lemmas.List.Elements.{All-head, All-tail}
 use Rattle.metrics.specs.Face.{FontFace}
-use Rattle.bk_num.specs.declared.values.BreakAt.TheVariants as break_at
 use Rattle.boxes.specs.Tree.{Tree, IsWhole, no_tree, takes_box, with_box, with_leaf, with_close, innermost_of, first_of, rest_of, depth_of, last_event, is_leaf}
 use Rattle.boxes.specs.declared.leaf.Leaf.{Leaf as LeafData}
 use Rattle.boxes.specs.declared.place.Event.{Event}
@@ -15,13 +14,11 @@ use Rattle.boxes.proofs.TreeLemmas.{open-append}
 use Rattle.cursor.specs.Plain.{HasPlainLeaves}
 use Rattle.fragment.specs.Pages.{text_size}
 use Rattle.line_fill.specs.Plain.{IsPlainLeaf}
-use Rattle.seams.specs.Plain.{IsPlain}
 use Rattle.plain_flow.specs.declared.style.ParagraphStyle.{ParagraphStyle}
 use Rattle.plain_flow.specs.Boxes.{root_props, paragraph_props}
 use Rattle.plain_flow.specs.Leaves.{leaf_of}
 use Rattle.plain_flow.specs.Texts.{IsParagraphText}
 use Rattle.plain_flow.specs.Tree.{events_of, open_tree, tree_of}
-use Rattle.plain_flow.proofs.BoxLemmas.{each_box, no_edge}
 use Rattle.plain_flow.proofs.EventLemmas.{events-more, push-three, open_behind, most_among, ends_closed, length-events, size-events}
 use Rattle.plain_flow.proofs.LeafLemmas.{plain_leaf}
 
@@ -104,17 +101,6 @@ sum-lengths {Z} (t ∷ texts) =
     let one = sum_by-cons length (string_bytes t) (map (λ (s : String Z). string_bytes s) texts) in
     let other = sum_by-cons (λ (s : String Z). string_len s) t texts in
     omega (arith, here, rest, one, other)
-
-pub tree_plain : (style : ParagraphStyle) (texts : List (List ℕ)) → IsPlain (tree_of style texts)
-unfolding tree_of
-tree_plain style texts = record {
-  top = λ b. (no_edge style texts b).0;
-  bottom = λ b. (no_edge style texts b).1;
-  before = each_box style texts (λ p. p.before ≡ break_at.Auto) refl refl;
-  after = each_box style texts (λ p. p.after ≡ break_at.Auto) refl refl;
-  inside = each_box style texts (λ p. p.avoid_inside ≡ false) refl refl;
-  names = λ b c p q here there. each_box style texts (λ r. r.name ≡ record { 0 = 0 }) refl refl b p here ∙ sym (each_box style texts (λ r. r.name ≡ record { 0 = 0 }) refl refl c q there);
-}
 
 each_leaf : (style : ParagraphStyle) (P : LeafData → Type 0) → ((text : List ℕ) → IsParagraphText text → P (leaf_of style text)) → (texts : List (List ℕ)) → All IsParagraphText texts →
     (l : ℕ) (leaf : LeafData) → slice_get (map (leaf_of style) texts) l ≡ Some leaf → P leaf

@@ -4,7 +4,6 @@ ghost use Rattle.std.specs.Prelude.{◌≡◌, ◌<◌, ◌≤◌, ◌≤ℤ◌,
 ghost use Rattle.std.specs.List.{All, sum_by};
 ghost use Rattle.metrics.specs.Face.{FontFace};
 ghost use Rattle.boxes.specs.Tree.{IsWhole, takes_box, with_box, with_leaf, with_close, depth_of};
-ghost use Rattle.seams.specs.Plain.{IsPlain};
 ghost use Rattle.cursor.specs.Plain.{HasPlainLeaves};
 ghost use Rattle.fragment.specs.Pages.{text_size};
 ghost use Rattle.plain_flow.specs.Boxes.{paragraph_props};
@@ -14,9 +13,9 @@ ghost use Rattle.plain_flow.specs.Tree.{tree_of};
 
 use crate::leaf::leaf_of;
 use crate::style::{ParagraphStyle, paragraph_props, root_props};
+use bk_num::items::Items;
 use bk_num::name::NoMem;
 use boxes::flow::Flow;
-use boxes::items::Items;
 use boxes::tree::BoxTree;
 use std::alloc::Global;
 
@@ -76,7 +75,6 @@ pub fn flow_of(alloc: Global, style: &ParagraphStyle, texts: Vec<String>) -> Res
     ensures whole { IfOk result (λ f. IsWhole f.main.events) }
     ensures depth { IfOk result (λ f. depth_of f.main.events ≤ 2048) }
     ensures bytes { IfOk result (λ f. text_size f.main.leaves f.main.events ≤ 2 ^ 25) }
-    ensures plain { IfOk result (λ f. IsPlain f.main) }
     ensures leaves { IfOk result (λ f. (faces : List FontFace) → style.now.face.0 < length faces → HasPlainLeaves faces f.main) }
 {
     Ok(Flow {

@@ -5,9 +5,9 @@ ghost use Rattle.plain_flow.specs.Leaves.{leaf_of, span_of};
 
 use crate::places::places_of;
 use crate::style::{ParagraphStyle, black, zero};
+use bk_num::items::{Items, Text};
 use bk_num::name::NoMem;
 use bk_num::values::Align;
-use boxes::items::{Items, Text};
 use boxes::leaf::{Leaf, Span};
 use std::alloc::Global;
 

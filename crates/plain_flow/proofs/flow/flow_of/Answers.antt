@@ -4,9 +4,8 @@ use Rattle.std.proofs.lemmas.List.Elements.{All-map}
 use Rattle.boxes.specs.Tree.{Tree, IsWhole, depth_of}
 use Rattle.cursor.specs.Plain.{HasPlainLeaves}
 use Rattle.fragment.specs.Pages.{text_size}
-use Rattle.seams.specs.Plain.{IsPlain}
 use Rattle.plain_flow.specs.Texts.{IsParagraphText}
-use Rattle.plain_flow.proofs.TreeLemmas.{tree_whole, tree_depth, tree_size, sum-lengths, tree_plain, tree_leaves}
+use Rattle.plain_flow.proofs.TreeLemmas.{tree_whole, tree_depth, tree_size, sum-lengths, tree_leaves}
 use Rattle.plain_flow.proofs.flow.flow_of.Goals as goal
 
 pub returns-clause-whole : goal.returns-clause-whole
@@ -20,9 +19,6 @@ returns-clause-bytes c =
     let texts : List (List ℕ) = map (λ (t : String Global). string_bytes t) c.args.texts.items in
     let size = ap (λ (t : Tree). text_size t.leaves t.events) c.in_ok-tree_of.ensures ∙ tree_size c.args.style.now texts ∙ sum-lengths c.args.texts.items in
     omega (arith, size, c.requires.bytes)
-
-pub returns-clause-plain : goal.returns-clause-plain
-returns-clause-plain c = subst IsPlain (sym c.in_ok-tree_of.ensures) (tree_plain c.args.style.now (map (λ (t : String Global). string_bytes t) c.args.texts.items))
 
 pub returns-clause-leaves : goal.returns-clause-leaves
 returns-clause-leaves c =
