@@ -1,0 +1,5 @@
+pub mod RowInvariants
+pub mod ColumnLemmas
+pub mod WordLemmas
+pub mod IndexLemmas
+pub mod AllLemmas

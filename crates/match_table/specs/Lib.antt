@@ -1,0 +1,4 @@
+pub mod Columns
+pub mod All
+pub mod Rows
+pub mod Index

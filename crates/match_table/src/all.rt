@@ -1,0 +1,206 @@
+//! Matches many selectors against all nodes of a document in one pass.
+
+ghost use Rattle.std.specs.Prelude.{◌≡◌, ◌<◌, ◌-◌, ◌↔◌, ℕ, [], get_or, length, map, slice_get, Some, IfOk, IfSome, OnOk, OnErr, IsTrue};
+ghost use Rattle.std.specs.List.{Contains};
+ghost use Rattle.match_table.specs.All.{AreMatchLists};
+ghost use Rattle.match_table.specs.Index.{AreNoted, IsKeyNumber};
+ghost use Rattle.selectors.specs.Match.{Matches};
+ghost use Rattle.match_table.specs.Rows as spec;
+
+use crate::columns::{all_cells, cell_of};
+use crate::index::{Words, empty_lists, key_of, nodes_by_word, words_of_keys};
+use bk_num::ids::NodeId;
+use bk_num::items::Items;
+use bk_num::name::NoMem;
+use dom::Dom;
+use selectors::matching::matches;
+use selectors::sets::has;
+use selectors::types::{Join, Selector};
+use std::alloc::Global;
+use std::marker::Model;
+
+/// For each node the selectors that match it. Contracts see a list of places of selectors for each node.
+#[derive(Drop)]
+pub struct MatchTable {
+    rows: Vec<Items<u32>>,
+}
+
+impl Model for MatchTable {
+    ghost use Rattle.std.specs.Prelude.{List, ℕ};
+
+    ghost Value = { List (List ℕ) };
+
+    ghost view = { λ t. t.rows.items };
+}
+
+impl MatchTable {
+    /// How many nodes the document has.
+    pub fn len(&self) -> usize
+        ensures { result ≡ length self.now }
+    {
+        self.rows.len()
+    }
+
+    /// The places of the selectors that match a node, in ascending order.
+    pub fn of(&self, node: NodeId) -> &[u32]
+        requires { node.0 < length self.now }
+        ensures { slice_get self.now node.0 ≡ Some result.now }
+    {
+        self.rows[node.0 as usize].as_slice()
+    }
+}
+
+/// Whether a place stands at the end of a list.
+fn ends_with_place(row: &[u32], place: u32) -> bool
+    ensures { result ≡ spec.is_same place (slice_get row.now (length row.now - 1)) }
+{
+    match row.last() {
+        Some(last) => *last == place,
+        None => false,
+    }
+}
+
+/// Puts a place at the end of a list, unless it stands there.
+#[tactic(auto, unfolding(crate::specs::Rows::with_last))]
+fn put_last(row: &mut Items<u32>, place: u32) -> Result<(), NoMem>
+    ensures { OnOk result (row.new ≡ spec.with_last row.old place) }
+{
+    if ends_with_place(row.as_slice(), place) {
+        return Ok(());
+    }
+    row.push(place)
+}
+
+/// Puts a place into the list of a node that is hit.
+#[tactic(auto, unfolding(crate::specs::Rows::with_place))]
+fn put_if(rows: &mut Vec<Items<u32>>, hit: bool, node: usize, place: u32) -> Result<(), NoMem>
+    requires { IsTrue hit → node < length rows.old.items }
+    ensures placed { OnOk result (rows.new.items ≡ spec.placed_if hit rows.old.items node place) }
+    ensures count { length rows.new.items ≡ length rows.old.items }
+{
+    if !hit {
+        return Ok(());
+    }
+    put_last(&mut rows[node], place)
+}
+
+/// Whether there is a node of this number which a selector matches.
+fn is_matched(dom: &Dom, node: u32, selector: &Selector) -> bool
+    ensures { IsTrue result ↔ ((node < length dom.now) × Matches dom.now selector.now node) }
+{
+    if node < dom.len() {
+        matches(dom, NodeId(node), selector)
+    } else {
+        false
+    }
+}
+
+/// Puts a selector's place into the lists of those nodes, among some candidates, that it matches.
+fn mark_listed(
+    rows: &mut Vec<Items<u32>>,
+    dom: &Dom,
+    selector: &Selector,
+    place: u32,
+    nodes: &[u32],
+) -> Result<(), NoMem>
+    requires count { length rows.old.items ≡ length dom.now }
+    requires below { spec.AreBelow place rows.old.items }
+    requires candidates { spec.HasCandidates dom.now selector.now nodes.now }
+    ensures marked { OnOk result (spec.AreMarked dom.now selector.now place rows.old.items rows.new.items) }
+    ensures count { length rows.new.items ≡ length rows.old.items }
+{
+    for node in nodes {
+        let hit = is_matched(dom, *node, selector);
+        put_if(rows, hit, *node as usize, place)?;
+    }
+    Ok(())
+}
+
+/// Puts a selector's place into the lists of the nodes that it matches, which one pass over all nodes finds.
+fn mark_column(
+    alloc: Global,
+    rows: &mut Vec<Items<u32>>,
+    dom: &Dom,
+    selector: &Selector,
+    place: u32,
+) -> Result<(), NoMem>
+    requires count { length rows.old.items ≡ length dom.now }
+    requires below { spec.AreBelow place rows.old.items }
+    ensures marked { OnOk result (spec.AreMarked dom.now selector.now place rows.old.items rows.new.items) }
+    ensures count { length rows.new.items ≡ length rows.old.items }
+{
+    let cells = all_cells(alloc, dom, selector)?;
+    let last = selector.parts().len() - 1;
+    for node in 0..dom.len() {
+        let cell = cell_of(&cells, Some(NodeId(node)));
+        let hit = has(cell.reach, last);
+        put_if(rows, hit, node as usize, place)?;
+    }
+    Ok(())
+}
+
+/// Whether a selector goes back over all siblings before a node.
+fn has_later(selector: &Selector) -> bool {
+    selector
+        .joins()
+        .iter()
+        .any(|join| matches!(join, Join::Later))
+}
+
+/// The number of a word that each node has which a selector matches, if it has a key.
+fn number_of_key(selector: &Selector, words: &Words<'_>) -> Option<usize>
+    ensures key { IfSome result (λ i. IsKeyNumber selector.now words.now i) }
+    ensures within { IfSome result (λ i. i < length words.now) }
+{
+    match key_of(selector) {
+        Some(word) => words.number(word),
+        None => None,
+    }
+}
+
+/// Puts a selector's place into the lists of the nodes that it matches. A selector whose last compound asks
+/// for an id, a class or a type tries the nodes that have it, and any other goes over all nodes, as does one with a
+/// `~`, which would else go back over all siblings of each candidate.
+fn mark(
+    alloc: Global,
+    rows: &mut Vec<Items<u32>>,
+    dom: &Dom,
+    selector: &Selector,
+    place: u32,
+    words: &Words<'_>,
+    lists: &[Items<u32>],
+) -> Result<(), NoMem>
+    requires count { length rows.old.items ≡ length dom.now }
+    requires below { spec.AreBelow place rows.old.items }
+    requires lists { length lists.now ≡ length words.now }
+    requires noted { AreNoted dom.now words.now lists.now (length dom.now) }
+    ensures marked { OnOk result (spec.AreMarked dom.now selector.now place rows.old.items rows.new.items) }
+    ensures count { length rows.new.items ≡ length rows.old.items }
+{
+    if !has_later(selector) {
+        if let Some(number) = number_of_key(selector, words) {
+            return mark_listed(rows, dom, selector, place, lists[number].as_slice());
+        }
+    }
+    mark_column(alloc, rows, dom, selector, place)
+}
+
+/// For each node the places of the selectors that match it (Selectors 3, 8), each once and in ascending order. Selectors
+/// find the nodes that they may match by id, class or type, so that the work is in proportion to the nodes and
+/// to those candidates.
+pub fn match_all(alloc: Global, dom: &Dom, selectors: &[&Selector]) -> Result<MatchTable, NoMem>
+    ensures count { IfOk result (λ t. length t ≡ length dom.now) }
+    ensures lists { IfOk result (λ t. AreMatchLists dom.now (map (λ s. s.now) selectors.now) t) }
+{
+    let words = words_of_keys(alloc, selectors)?;
+    let lists = nodes_by_word(alloc, dom, &words)?;
+    let mut rows = empty_lists(alloc, dom.len() as usize)?;
+    let Ok(count) = u32::try_from(selectors.len()) else {
+        return Err(NoMem);
+    };
+    for place in 0..count {
+        let selector = selectors[place as usize];
+        mark(alloc, &mut rows, dom, selector, place, &words, &lists)?;
+    }
+    Ok(MatchTable { rows })
+}
