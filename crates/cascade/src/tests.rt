@@ -47,6 +47,14 @@ fn by_rule(author: bool, specificity: (u32, u32, u32), rule: u64) -> Weight {
     }
 }
 
+fn author(specificity: (u32, u32, u32), rule: u64) -> Weight {
+    by_rule(true, specificity, rule)
+}
+
+fn default(specificity: (u32, u32, u32), rule: u64) -> Weight {
+    by_rule(false, specificity, rule)
+}
+
 /// The red part of the colour that wins.
 fn red_of(longs: &[Long]) -> Option<u8> {
     match longs {
@@ -57,8 +65,6 @@ fn red_of(longs: &[Long]) -> Option<u8> {
 
 #[test]
 fn the_greater_of_two_wins(rt: HostRuntime) -> Result<(), Fail> {
-    let author = |specificity, rule| by_rule(true, specificity, rule);
-    let default = |specificity, rule| by_rule(false, specificity, rule);
     for (first, first_important, second, second_important, want) in [
         // `p{color:red!important}` and `.a{color:blue}`, then without `!important`
         (author((0, 0, 1), 0), true, author((0, 1, 0), 1), false, 1),
