@@ -1,7 +1,10 @@
 #!/usr/bin/env python3
-"""Prints how long the built program takes to read HTML texts, per megabyte and as a ratio to a plain scan for one byte.
+"""Prints how the built program reads HTML texts: growth over ten times the input, and milliseconds a megabyte.
 
-The texts are read whole as trees and then refused as not built, or are empty books, so that reading is what is measured."""
+Each text is an empty book or is refused as not built, so that reading is what is measured. With a second word, the path of
+another program of the same command line, it prints the ratio of the two times as well.
+
+    bench/html.py crates/bookfmt/out/bookfmt [OTHER]"""
 import os
 import subprocess
 import sys
@@ -10,32 +13,47 @@ import time
 
 TOP = os.path.dirname(os.path.dirname(os.path.abspath(__file__)))
 PROGRAM = sys.argv[1] if len(sys.argv) > 1 else f"{TOP}/crates/bookfmt/out/bookfmt"
-SIZE = 4_000_000
+OTHER = sys.argv[2] if len(sys.argv) > 2 else None
+SIZE = 400_000
+LINE = "The printing house stood at the corner of the square. "
+ITEM = "<div class=a id='b{}'><h2>One &amp; two</h2><p>" + LINE * 6 + "<b>bold</b><ul><li>one<li>two</ul></div>\n"
 
 
 def filled(part):
-    return (part * (SIZE // len(part) + 1))[:SIZE].encode()
+    return lambda size: (part * (size // len(part) + 1))[:size].encode()
+
+
+def manual(size):
+    return "".join(ITEM.format(n) for n in range(size // len(ITEM) + 1)).encode()
 
 
 TEXTS = {
-    "prose": filled("<x>" + "The printing house stood at the corner. " * 400),
-    "markup": filled("<x a=1 b='2'>c</x><!-- d -->") [:SIZE],
+    "a manual": manual,
+    "prose": filled("<x>" + LINE * 400),
+    "190 open elements": lambda size: ("<div>" * 190 + "<div></div>" * (size // 11)).encode(),
+    "190 open elements below a p": lambda size: ("<p><button>" + "<div>" * 188 + "<div></div>" * (size // 11)).encode(),
     "end tags": filled("</p>"),
     "less-than signs": filled("<"),
     "ampersands": filled("&"),
+    "references": filled("&amp;&trade;"),
+    "words of references": filled("&a;"),
     "comments": filled("<!--"),
+    "text with comments": filled("a<!-- b -->"),
     "cut tags": filled("<a "),
     "quotes": filled('"'),
-    "400,000 attributes": ("<p " + " ".join(f"a{n}" for n in range(400_000)) + ">").encode(),
-    "a tag of 16 MB": b"<a" + b"a" * 16_000_000 + b">",
+    "attributes of one element": lambda size: ("<p " + " ".join(f"a{n}" for n in range(size // 8)) + ">").encode(),
+    "a long tag": lambda size: b"<a" + b"a" * size + b">",
 }
 
 
-def seconds(run):
+def seconds(program, text, work):
+    with open(f"{work}/html", "wb") as it:
+        it.write(text)
+    words = [program, "format", f"{TOP}/examples/plain/metrics.txt", f"{work}/html", f"{work}/sheet"]
     best = None
     for _ in range(3):
         begun = time.perf_counter()
-        run()
+        subprocess.run(words, stdout=subprocess.DEVNULL, stderr=subprocess.DEVNULL)
         spent = time.perf_counter() - begun
         best = spent if best is None else min(best, spent)
     return best
@@ -44,10 +62,10 @@ def seconds(run):
 with tempfile.TemporaryDirectory() as work:
     open(f"{work}/sheet", "w").close()
     for name, text in TEXTS.items():
-        with open(f"{work}/html", "wb") as it:
-            it.write(text)
-        words = [PROGRAM, "format", f"{TOP}/examples/plain/metrics.txt", f"{work}/html", f"{work}/sheet"]
-        read = seconds(lambda: subprocess.run(words, stdout=subprocess.DEVNULL, stderr=subprocess.DEVNULL))
-        scan = seconds(lambda: text.count(b"\x01"))
-        megabytes = len(text) / 1_000_000
-        print(f"{name}: {1000 * read / megabytes:.1f} ms a megabyte, {read / scan:.0f} times a scan")
+        large = text(10 * SIZE)
+        less = seconds(PROGRAM, text(SIZE), work)
+        more = seconds(PROGRAM, large, work)
+        line = f"{name}: {more / less:.1f} times for ten times the text, {1e9 * more / len(large):.1f} ms a megabyte"
+        if OTHER:
+            line += f", {more / seconds(OTHER, large, work):.1f} times the other program"
+        print(line, flush=True)
