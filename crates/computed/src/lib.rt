@@ -3,4 +3,7 @@
 
 pub mod apply;
 pub mod context;
+pub mod styled;
 pub mod values;
+pub mod walk;
+pub mod winners;

@@ -1,0 +1,25 @@
+-- How a node's row is made.
+use Rattle.std.specs.Prelude.{ℕ, ℤ, Bool, List, Option, None, Some}
+use Rattle.bk_num.specs.declared.values.Pseudo.{Pseudo}
+use Rattle.bk_num.specs.declared.values.Pseudo.TheVariants as pseudo
+use Rattle.style.specs.Nodes.{NodeStyles, with_style, change_last}
+use Rattle.style.specs.declared.style.Style.{Style}
+use Rattle.computed.specs.declared.walk.Generated.{Generated}
+use Rattle.computed.specs.declared.winners.NodeWinners.{NodeWinners}
+use Rattle.computed.specs.Walk.{HasPseudo}
+
+-- a node with the style of a pseudo-element, where there is one
+abbrev pub with_option : Pseudo → Option Style → NodeStyles → NodeStyles
+with_option p None = λ n. n
+with_option p (Some s) = with_style p s
+
+-- the last node with those of all its pseudo-elements
+abbrev pub all_put : Generated → List NodeStyles → List NodeStyles
+all_put g rows = change_last (with_option pseudo.Marker g.marker) (change_last (with_option pseudo.Call g.call) (change_last (with_option pseudo.After g.after) (change_last (with_option pseudo.Before g.before) rows)))
+
+-- each is there exactly where the element may have it and it is generated
+pub record AreGenerated (names : List (List ℕ)) (own : Style) (root : ℤ) (shown note : Bool) (w : NodeWinners) (g : Generated) : Type 0 where
+  pub before : HasPseudo names own root shown w.before g.before
+  pub after : HasPseudo names own root shown w.after g.after
+  pub call : HasPseudo names own root note w.call g.call
+  pub marker : HasPseudo names own root note w.marker g.marker
