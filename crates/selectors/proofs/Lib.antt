@@ -4,5 +4,4 @@ pub mod WalkLemmas
 pub mod Pending
 pub mod ReadLemmas
 pub mod NthLemmas
-pub mod GrammarLemmas
 pub mod LoopLemmas

@@ -2,7 +2,7 @@
 use Rattle.std.proofs.Common.{◌≡◌, ℕ, zero, suc, ◌+◌, ◌-◌, ◌*◌, ◌<◌, ◌≤◌, min, List, [], ◌∷◌, drop, length, get_or, refl, arith, Bool, true, false, ◌&&◌, take, ap, ◌∙◌, eqb}
 use Rattle.std.specs.Str.{str_eq_ignore_ascii_case}
 use Rattle.std.specs.Char.{to_ascii_lowercase}
-use Rattle.selectors.specs.Nth.{number_from}
+use Rattle.selectors.specs.AnPlusB.{number_from}
 
 pub number_step : (n : ℕ) (ds : List ℕ) (at : ℕ) → at < length ds → number_from n (drop at ds) ≡ number_from (min 999999999 (n * 10 + (get_or ds at 0 - 48))) (drop (at + 1) ds)
 unfolding number_from
@@ -16,14 +16,3 @@ number_end n [] zero past = refl
 number_end n [] (suc at) past = refl
 number_end n (d ∷ ds) zero past = absurd (omega arith)
 number_end n (d ∷ ds) (suc at) past = number_end n ds at (omega arith)
-
-and_false : (a : Bool) → (a && false) ≡ false
-and_false true = refl
-and_false false = refl
-
--- a text shorter than a word doesn't begin with it
-pub short_word : (text word : List ℕ) → length text < length word → str_eq_ignore_ascii_case (take (length word) text) word ≡ false
-short_word [] [] short = absurd (omega arith)
-short_word [] (w ∷ ws) short = refl
-short_word (b ∷ bs) [] short = absurd (omega arith)
-short_word (b ∷ bs) (w ∷ ws) short = ap (λ z. eqb (to_ascii_lowercase b) (to_ascii_lowercase w) && z) (short_word bs ws (omega arith)) ∙ and_false (eqb (to_ascii_lowercase b) (to_ascii_lowercase w))

@@ -5,5 +5,6 @@ pub mod Selectors
 pub mod Match
 pub mod Specificity
 pub mod Reader
-pub mod Nth
+pub mod Parser
+pub mod AnPlusB
 pub mod Grammar

@@ -11,7 +11,7 @@ use dom::{Dom, DomErr};
 use std::alloc::Global;
 use std::test::Fail;
 
-static READ: [&str; 48] = [
+static READ: [&str; 54] = [
     "a",
     "*",
     "a.b",
@@ -56,13 +56,19 @@ static READ: [&str; 48] = [
     ":nth-child(+2n)",
     ":nth-child(7)",
     ":nth-child(\\6e)",
+    ":nth-child(2\\6e)",
+    ":nth-child(2n/**/+1)",
+    ":nth-child(+/**/n)",
+    ":nth-child(n-2)",
+    ":nth-child(2N-/**/ 1)",
+    ":nth-child(-n- 1/**/)",
     "\\61",
     "a:\\72oot",
     "a.\\31",
     "a a a a a a a a a a a a a a a a",
 ];
 
-static UNREAD: [&str; 43] = [
+static UNREAD: [&str; 53] = [
     "",
     " ",
     ",",
@@ -101,6 +107,16 @@ static UNREAD: [&str; 43] = [
     ":nth-child(n1)",
     ":nth-child(a)",
     ":nth-child(1.5)",
+    ":nth-child(2/**/n)",
+    ":nth-child(o/**/dd)",
+    ":nth-child(1/**/2)",
+    ":nth-child(n\\ )",
+    ":nth-child(n\\\n)",
+    ":nth-child(+ n)",
+    ":nth-child(2.0n)",
+    ":nth-child(n-a)",
+    ":nth-child(n + +1)",
+    ":nth-child(- n)",
     ":nth-child(2",
     "a*",
     "**",
@@ -157,7 +173,7 @@ fn add(dom: &mut Dom, alloc: Global, row: (char, u32, &str, &str)) -> Result<(),
     Ok(())
 }
 
-static MATCHES: [(&str, &str); 71] = [
+static MATCHES: [(&str, &str); 74] = [
     ("*", "0 1 2 3 5 6 7 8 10 "),
     ("li", "3 5 6 "),
     ("LI", "3 5 6 "),
@@ -207,6 +223,9 @@ static MATCHES: [(&str, &str); 71] = [
     ("li:nth-child(0n+0)", ""),
     ("li:nth-child( 3n - 1 )", "5 "),
     ("li:nth-child(+3)", "6 "),
+    ("li:nth-child(2n/**/+1)", "3 6 "),
+    ("li:nth-child(+/**/n)", "3 5 6 "),
+    ("li:nth-child(n-0\\31)", "3 5 6 "),
     (":root:nth-child(1)", "0 "),
     ("li:not(.c)", "5 6 "),
     ("li:not(:first-child):not(:last-child)", "5 "),

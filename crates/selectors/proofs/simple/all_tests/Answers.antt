@@ -2,7 +2,7 @@ use Rattle.std.proofs.Common.{rules, arith}
 use Rattle.std.proofs.lemmas.Grind.{common_steps}
 use Rattle.selectors.specs.Grammar.{tests_from}
 use Rattle.selectors.proofs.ReadLemmas.{one_more, no_more}
-use Rattle.selectors.proofs.grammar.all_tests.Goals as goal
+use Rattle.selectors.proofs.simple.all_tests.Goals as goal
 
 pub returns-in_err-test : goal.returns-in_err-test
 unfolding tests_from

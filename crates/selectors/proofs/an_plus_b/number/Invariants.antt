@@ -1,6 +1,6 @@
 use Rattle.std.proofs.Common.{◌≡◌, ◌≤◌, drop}
-use Rattle.selectors.specs.Nth.{number_from}
-use Rattle.selectors.proofs.nth.number.Given as goal
+use Rattle.selectors.specs.AnPlusB.{number_from}
+use Rattle.selectors.proofs.an_plus_b.number.Given as goal
 
 abbrev pub invariant-loop-at : goal.invariant-loop-at
 invariant-loop-at l = record {
