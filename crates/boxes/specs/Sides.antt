@@ -1,6 +1,6 @@
 -- Sides alternate, so each demand is met on one of two pages, and a free one on each.
-use Rattle.std.proofs.Common.{◌≡◌, ◌≤◌, ℕ, ◌+◌, ◌-◌, ◌%◌, Bool, true, false, ◌==◌, refl, arith}
-use Rattle.boxes.specs.Frames.{meets_by_parity, is_free_demand, side_of, is_left}
+use Rattle.std.proofs.Common.{◌≡◌, ◌≤◌, ℕ, ◌+◌, ◌-◌, ◌%◌, true, refl, arith}
+use Rattle.boxes.specs.Frames.{meets_by_parity, is_free_demand}
 use Rattle.boxes.specs.declared.frames.Demand.{Demand}
 use Rattle.boxes.specs.declared.frames.Demand.TheVariants.{Page, Left, Right}
 

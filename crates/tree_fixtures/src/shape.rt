@@ -1,6 +1,6 @@
 //! Boxes in short.
 
-ghost use Rattle.std.specs.Prelude.{◌≡◌, ◌≤ℤ◌, pos};
+ghost use Rattle.std.specs.Prelude.{◌≡◌, pos};
 ghost use Rattle.boxes.specs.Contents.{IsGoodBox};
 
 use bk_num::ids::NameId;
