@@ -7,7 +7,6 @@ ghost use Rattle.boxes.specs.Tree.{IsWhole, depth_of};
 ghost use Rattle.cursor.specs.Plain.{HasPlainLeaves};
 ghost use Rattle.fragment.specs.Pages.{IsPaged, LeavesSome, HaveNearTops, text_size as bytes_of};
 ghost use Rattle.plain_flow.specs.Texts.{IsParagraphText};
-ghost use Rattle.seams.specs.Plain.{IsPlain};
 ghost use Rattle.book.specs.DocumentView.{document_in};
 ghost use Rattle.book.specs.Answer.{paragraph_families, baseline_of, text_size, style_of, page_frame, page_frames, listing_of, print_of, IsBookOf};
 ghost use Rattle.book.specs.Printer.{HasAsciiLeaves};
@@ -107,7 +106,6 @@ fn pages_of<L: Ledger>(
     requires depth { depth_of flow.now.main.events ≤ 2048 }
     requires bytes { bytes_of flow.now.main.leaves flow.now.main.events ≤ 2 ^ 25 }
     requires notes { flow.now.notes ≡ [] }
-    requires plain { IsPlain flow.now.main }
     requires leaves { HasPlainLeaves faces.now flow.now.main }
     ensures pages { IfOk result (λ list. IsPaged faces.now flow.now.main page_frames list.pages) }
     ensures few { IfOk result (λ list. length list.pages ≤ most_pages) }
