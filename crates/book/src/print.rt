@@ -15,7 +15,8 @@ use boxes::page::{Page, Placed};
 use boxes::place::Event;
 use boxes::tree::BoxTree;
 use listing::records::{
-    Area, FaceLabel, PageHead, Style, push_book, push_end, push_line, push_page as push_head, push_text,
+    Area, FaceLabel, PageHead, Style, push_book, push_end, push_line, push_page as push_head,
+    push_text,
 };
 use std::alloc::{AllocError, Global};
 
