@@ -4,3 +4,5 @@
 pub mod all;
 mod columns;
 mod index;
+#[cfg(test)]
+mod tests;
