@@ -1,0 +1,9 @@
+pub mod Words
+pub mod Measures
+pub mod Colors
+pub mod Fonts
+pub mod Borders
+pub mod Values
+pub mod Shorthands
+pub mod Properties
+pub mod Decls
