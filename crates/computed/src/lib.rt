@@ -4,6 +4,8 @@
 pub mod apply;
 pub mod context;
 pub mod styled;
+#[cfg(test)]
+mod tests;
 pub mod values;
 pub mod walk;
 pub mod winners;

@@ -1,7 +1,9 @@
-//! Trees by hand and by chance, and the pages that they are cut into. It has tests alone.
+//! Trees by hand, their solids, and the pages that they are cut into. It has tests alone.
 #![tactic(auto)]
 
 #[cfg(test)]
 mod build;
 #[cfg(test)]
 mod rows;
+#[cfg(test)]
+mod solids;

@@ -21,7 +21,7 @@ use std::sync::ledger::{Blank, Ledger};
 use std::test::Fail;
 
 /// A frame of 80 px and a height.
-fn frame(height: u16) -> Frame
+pub(crate) fn frame(height: u16) -> Frame
     ensures { IsGoodFrame result }
 {
     Frame {
