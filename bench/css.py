@@ -1,9 +1,12 @@
 #!/usr/bin/env python3
 """Prints how long the built programs take to read style sheets and selectors, per megabyte and as a ratio to a plain scan for
-one byte, and to match selectors, per node and selector.
+one byte, and to match selectors: milliseconds, and how many times those of a tenth of the document.
 
-Words: further sheets to read. Sheets are read by `bookfmt`, with an empty document; selectors by `match_bench`."""
+Words: further sheets to read. Sheets are read by `bookfmt`, with an empty document; selectors by `match_bench`. Where the
+environment names a program of the same command line as `OTHER`, which prints how long its styles take, matching is compared with it
+(`BOOKFMT_TIMES=1` asks for the times)."""
 import os
+import re
 import subprocess
 import sys
 import tempfile
@@ -12,6 +15,7 @@ import time
 TOP = os.path.dirname(os.path.dirname(os.path.abspath(__file__)))
 BOOKFMT = f"{TOP}/crates/bookfmt/out/bookfmt"
 MATCH = f"{TOP}/crates/match_bench/out/match_bench"
+OTHER = os.environ.get("OTHER")
 SIZE = 4_000_000
 
 
@@ -48,15 +52,41 @@ SELECTORS = {
     "a million pseudo-classes": b"a" + b":root" * 1_000_000,
 }
 
+def items(count):
+    return "<div>" * 100 + "<ul>" + "".join(f"<li class=c{n % 7}><b></b>" for n in range(count // 2))
+
+
+def classes(count):
+    return "".join(f"<p class='a{n % 2000} b{n % 500}'></p>" for n in range(count))
+
+
+def types(count):
+    return "<div>" + "".join(f"<x{n}></x{n}>" for n in range(count)) + "</div>"
+
+
+def siblings(count):
+    return "<div>" + "<b></b>" * count + "</div>"
+
+
+def forms(form, count):
+    return [form.format(n=n % 7) for n in range(count)]
+
+
+# documents of so many nodes, how many in the larger one, and the selectors that are matched
 MATCHES = {
-    "classes": ".c{n}",
-    "inside": "div div div li.c{n}",
-    "inside, never": "p div div div li.c{n}",
-    "children": "div > ul > li > b",
-    "next": "ul > li + .c{n}",
-    "later": ".c{n} ~ li b",
-    "places": "li:nth-child({n}n+1)",
-    "types": "li:not(.c{n}):first-of-type > b",
+    "1,000 classes": (classes, 100_000, [f".a{n}" for n in range(1000)]),
+    "1,000 classes below others": (classes, 100_000, [f"body > .a{n}.b{n % 500}" for n in range(1000)]),
+    "first and last of 30,000 types": (types, 30_000, [":first-of-type", ":last-of-type"]),
+    "later than 30,000 siblings": (siblings, 30_000, ["b ~ b", "p ~ b"]),
+    "inside": (items, 100_000, forms("div div div li.c{n}", 100)),
+    "inside, never": (items, 100_000, forms("p div div div li.c{n}", 100)),
+    "children": (items, 100_000, forms("div > ul > li > b", 100)),
+    "next": (items, 100_000, forms("ul > li + .c{n}", 100)),
+    "later": (items, 100_000, forms(".c{n} ~ li b", 100)),
+    "places": (items, 100_000, forms("li:nth-child({n}n+1)", 100)),
+    "types": (items, 100_000, forms("li:not(.c{n}):first-of-type > b", 100)),
+    "parts of a value": (lambda n: "<p title='" + "a" * n + "'>", 1_000_000, lambda n: ["[title*=" + "a" * (n // 2) + "b]"]),
+    "a list of classes": (lambda n: "<p class='" + "x " * (n // 2) + "y'>", 1_000_000, [".y"] * 100),
 }
 
 
@@ -90,14 +120,33 @@ with tempfile.TemporaryDirectory() as work:
         words = [BOOKFMT, "format", f"{TOP}/examples/plain/metrics.txt", f"{work}/html", f"{work}/sheet"]
         told(name, text, lambda: subprocess.run(words, stdout=subprocess.DEVNULL, stderr=subprocess.DEVNULL))
 
-    def matched(items, text):
-        subprocess.run([MATCH, str(items)], input=text, stdout=subprocess.DEVNULL, check=True)
+    def matched(html, selectors):
+        with open(f"{work}/input", "wb") as it:
+            it.write(b"\n".join([html.encode(), *selectors]))
+        with open(f"{work}/input", "rb") as it:
+            subprocess.run([MATCH], stdin=it, stdout=subprocess.DEVNULL, check=True)
 
     for name, text in SELECTORS.items():
-        told(name, text, lambda: matched(0, text))
-    items = 49_950
-    empty = seconds(lambda: matched(items, b""), 1)
-    for name, form in MATCHES.items():
-        text = "\n".join(form.format(n=n % 7) for n in range(1000)).encode()
-        spent = seconds(lambda: matched(items, text), 1) - empty
-        print(f"{name}: {1e9 * spent / (1000 * (2 * items + 102)):.0f} ns for a node and a selector")
+        told(name, text, lambda: matched("", [text]))
+
+    def spent(form, count, selectors):
+        html, lines = form(count), [one.encode() for one in (selectors(count) if callable(selectors) else selectors)]
+        return seconds(lambda: matched(html, lines)) - seconds(lambda: matched(html, []))
+
+    def styles_of_other(html, selectors):
+        with open(f"{work}/html", "w") as it:
+            it.write(html)
+        with open(f"{work}/sheet", "w") as it:
+            it.write("".join(f"{one}{{color:#123456}}\n" for one in selectors))
+        words = [OTHER, "format", f"{TOP}/examples/plain/metrics.txt", f"{work}/html", f"{work}/sheet"]
+        told = subprocess.run(words, stdout=subprocess.DEVNULL, stderr=subprocess.PIPE, env={**os.environ, "BOOKFMT_TIMES": "1"})
+        found = re.search(rb"styles:\s*([0-9.]+) ms", told.stderr)
+        return float(found[1]) / 1000 if found else None
+
+    for name, (form, count, selectors) in MATCHES.items():
+        less, more = spent(form, count // 10, selectors), spent(form, count, selectors)
+        line = f"{name}: {1000 * more:.0f} ms, {more / less:.1f} times those of a tenth"
+        other = styles_of_other(form(count), selectors) if OTHER and not callable(selectors) else None
+        if other:
+            line += f", {more / other:.2f} times the styles of the other program"
+        print(line, flush=True)

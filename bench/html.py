@@ -2,9 +2,10 @@
 """Prints how the built program reads HTML texts: growth over ten times the input, and milliseconds a megabyte.
 
 Each text is an empty book or is refused as not built, so that reading is what is measured. With a second word, the path of
-another program of the same command line, it prints the ratio of the two times as well.
+another program of the same command line, it prints the ratio of the two times as well. HTML files that are named after it are
+read too.
 
-    bench/html.py crates/bookfmt/out/bookfmt [OTHER]"""
+    bench/html.py crates/bookfmt/out/bookfmt [OTHER [FILE..]]"""
 import os
 import subprocess
 import sys
@@ -14,6 +15,7 @@ import time
 TOP = os.path.dirname(os.path.dirname(os.path.abspath(__file__)))
 PROGRAM = sys.argv[1] if len(sys.argv) > 1 else f"{TOP}/crates/bookfmt/out/bookfmt"
 OTHER = sys.argv[2] if len(sys.argv) > 2 else None
+FILES = sys.argv[3:]
 SIZE = 400_000
 LINE = "The printing house stood at the corner of the square. "
 ITEM = "<div class=a id='b{}'><h2>One &amp; two</h2><p>" + LINE * 6 + "<b>bold</b><ul><li>one<li>two</ul></div>\n"
@@ -69,3 +71,9 @@ with tempfile.TemporaryDirectory() as work:
         if OTHER:
             line += f", {more / seconds(OTHER, large, work):.1f} times the other program"
         print(line, flush=True)
+    for name in FILES:
+        with open(name, "rb") as it:
+            text = it.read()
+        own = seconds(PROGRAM, text, work)
+        line = f"{name}: {len(text) / 1e6:.1f} megabytes, {1e9 * own / len(text):.1f} ms a megabyte"
+        print(f"{line}, {own / seconds(OTHER, text, work):.1f} times the other program", flush=True)

@@ -1,8 +1,8 @@
 //! Files in memory that fail to be read at listed calls.
 
-ghost use Rattle.std.specs.Prelude.{◌≡◌, ℕ, ◌+◌, ◌-◌, ◌^◌, ◌<◌, ◌≤◌, length, take, min, IfOk, Contains, Ok, None};
+ghost use Rattle.std.specs.Prelude.{◌≡◌, ◌+◌, ◌-◌, ◌^◌, ◌<◌, ◌≤◌, length, take, min, IfOk, Contains, Ok, None};
 ghost use Rattle.bk_io.specs.Memory.{files_in, told_of, fetched, HasFaultMore, HasSameFaults};
-ghost use Rattle.bk_io.specs.Shelf.{Told, absent, holds, HasFault, IfHolds, Fetches};
+ghost use Rattle.bk_io.specs.Shelf.{absent, holds, HasFault, IfHolds, Fetches};
 
 use crate::shelf::{FetchErr, Shelf};
 use crate::still_shelf::{copy_from, place_of};

@@ -1,6 +1,6 @@
 //! A stream into memory that also fails at listed calls.
 
-ghost use Rattle.std.specs.Prelude.{◌≡◌, ℕ, ◌+◌, ◌-◌, ◌^◌, ◌<◌, ◌≤◌, ◌↔◌, [], length, IfOk, IsErr, min, Some, Contains, ◌⊎◌};
+ghost use Rattle.std.specs.Prelude.{◌≡◌, ◌+◌, ◌-◌, ◌^◌, ◌<◌, ◌≤◌, ◌↔◌, [], length, IfOk, IsErr, min, Some, Contains, ◌⊎◌};
 ghost use Rattle.std.specs.Io.KnownBytes.{WriteAppends};
 ghost use Rattle.bk_io.specs.Memory.{faults_after};
 ghost use Rattle.bk_io.specs.Sink.{Takes, HasCause};
@@ -22,7 +22,7 @@ pub struct MemSink {
 }
 
 impl Model for MemSink {
-    ghost use Rattle.std.specs.Prelude.{ℕ, ◌<◌, ◌≤◌, vec_len, vec_capacity};
+    ghost use Rattle.std.specs.Prelude.{◌<◌, ◌≤◌, vec_len, vec_capacity};
     ghost use Rattle.bk_io.specs.Memory.{FailingTaken};
 
     ghost Value = { FailingTaken };

@@ -1,4 +1,4 @@
-ghost use Rattle.std.specs.Prelude.{◌≡◌, ℕ, ◌≤◌, ◌<◌, IfOk};
+ghost use Rattle.std.specs.Prelude.{◌≡◌, ◌<◌};
 ghost use Rattle.bk_io.specs.Shelf.{ReadAnswers, HasFault};
 
 use crate::shelf::{FetchErr, Shelf};

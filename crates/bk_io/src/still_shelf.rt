@@ -1,9 +1,9 @@
 //! Files in memory that are always read.
 
-ghost use Rattle.std.specs.Prelude.{◌≡◌, ℕ, ◌-◌, ◌<◌, ◌≤◌, length, take, drop, min, IfOk, IfSome, IfNone, OnErr, slice_index_or, slice_get, Ok, None, Some};
+ghost use Rattle.std.specs.Prelude.{◌≡◌, ◌-◌, ◌<◌, ◌≤◌, length, take, drop, min, IfOk, IfSome, IfNone, slice_index_or, slice_get, Ok, None, Some};
 ghost use Rattle.std.specs.Option.{option_map};
 ghost use Rattle.bk_io.specs.Memory.{files_in, told_of, fetched};
-ghost use Rattle.bk_io.specs.Shelf.{Told, absent, holds, HasFault, IfHolds, Fetches};
+ghost use Rattle.bk_io.specs.Shelf.{absent, holds, HasFault, IfHolds, Fetches};
 
 use crate::shelf::{FetchErr, Shelf};
 use bk_num::name::Name;

@@ -1,6 +1,6 @@
 //! A stream into memory that fails only where no room is left.
 
-ghost use Rattle.std.specs.Prelude.{◌≡◌, ℕ, ◌+◌, ◌-◌, ◌<◌, ◌≤◌, ◌↔◌, ◌++◌, [], length, take, IfOk, OnErr, IsErr, min, Some};
+ghost use Rattle.std.specs.Prelude.{◌≡◌, ◌-◌, ◌<◌, ◌≤◌, ◌↔◌, [], length, IfOk, IsErr, min, Some};
 ghost use Rattle.std.specs.Io.KnownBytes.{WriteAppends};
 ghost use Rattle.bk_io.specs.Memory.{faults_after};
 ghost use Rattle.bk_io.specs.Sink.{Takes, HasCause};
@@ -19,7 +19,7 @@ pub struct StillSink {
 }
 
 impl Model for StillSink {
-    ghost use Rattle.std.specs.Prelude.{ℕ, ◌≤◌, vec_len, vec_capacity};
+    ghost use Rattle.std.specs.Prelude.{◌≤◌, vec_len, vec_capacity};
     ghost use Rattle.bk_io.specs.Memory.{Taken};
 
     ghost Value = { Taken };

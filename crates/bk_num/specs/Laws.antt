@@ -1,6 +1,6 @@
 -- What rounding and clamping keep.
-use Rattle.std.specs.Prelude.{◌≡◌, ℕ, ◌<◌, ◌≤◌, ◌^◌, ℤ, pos, ◌≤ℤ◌, unsigned_abs}
-use Rattle.bk_num.specs.Units.{clamped, floor_div, rounded}
+use Rattle.std.specs.Prelude.{◌≡◌, ℕ, ◌<◌, ◌≤◌, ◌^◌, ℤ, ◌≤ℤ◌, unsigned_abs}
+use Rattle.bk_num.specs.Units.{clamped, rounded}
 
 -- clamping keeps the order
 abbrev pub ClampingKeepsOrder : Type 0

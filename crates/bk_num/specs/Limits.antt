@@ -1,5 +1,5 @@
 -- The limits of the program, and the sizes of the page that no sheet changes, in units of 1/64 px.
-use Rattle.std.specs.Prelude.{◌≡◌, ℕ, ◌*◌, ◌+◌, ℤ, pos}
+use Rattle.std.specs.Prelude.{◌≡◌, ℕ, ℤ, pos}
 use Rattle.bk_num.specs.declared.limits.TheConstants.{MOST_NODES, MOST_DEPTH, MOST_FILE_BYTES, MOST_TEXT_BYTES, MOST_PAGES, MOST_SHEETS, MOST_RULES, MOST_EVENTS, MOST_OPEN, MOST_ENTRIES, PAGE_WIDTH, PAGE_HEIGHT, PAGE_MARGIN, FRAME_WIDTH, FRAME_HEIGHT, ROOT_SIZE}
 
 -- the most nodes of a document, elements and texts

@@ -11,7 +11,7 @@ mark = 0xEF ∷ 0xBB ∷ 0xBF ∷ []
 unfoldable pub unmarked : List ℕ → List ℕ
 unmarked text = if starts_with nat_eq text mark then drop 3 text else text
 
--- the front of this length is UTF-8, and no longer front is
+-- the prefix of this length is UTF-8, and no longer prefix is
 pub record IsLongestPrefix (bytes : List ℕ) (n : ℕ) : Type 0 where
   pub within : n ≤ length bytes
   pub utf8 : IsUtf8 (take n bytes)

@@ -32,7 +32,7 @@ pub fn text_from(bytes: Vec<u8>) -> Result<String, usize>
     }
 }
 
-/// Law: `utf8_valid_len` is the greatest length at which the front of the bytes is UTF-8.
+/// Law: `utf8_valid_len` is the greatest length at which the prefix of the bytes is UTF-8.
 pub fn longest_prefix()
     ensures { LongestPrefixIs utf8_valid_len }
 {}

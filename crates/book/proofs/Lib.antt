@@ -1,6 +1,9 @@
 pub mod Complete
+pub mod Documents
 pub mod NumberLemmas
+pub mod OneBook
 pub mod PlainTexts
 pub mod PutLemmas
 pub mod RequestLemmas
+pub mod SetLemmas
 pub mod Stopping

@@ -12,7 +12,7 @@ use Rattle.dom.specs.Nodes.{Node}
 use Rattle.dom.specs.declared.dom.DomErr.{DomErr}
 use Rattle.dom.specs.declared.dom.DomErr.TheVariants as dom_err
 use Rattle.html_tree.specs.Tree.{tree_of}
-use Rattle.plain_html.specs.Texts.{paragraph_texts}
+use Rattle.plain_html.specs.Texts.{ElementText, paragraph_texts}
 use Rattle.sheets.specs.Sheets.{sheets_of, verdict_of}
 use Rattle.sheets.specs.declared.check.Verdict.{Verdict}
 use Rattle.sheets.specs.declared.check.Verdict.TheVariants as verdict
@@ -68,7 +68,7 @@ later_nodes f (Err dom_err.Nodes) = tt
 later_nodes f (Err dom_err.Depth) = tt
 later_nodes f (Err dom_err.NoMemory) = tt
 
-later_form : (f : FileOf) (first : Option ℕ) (texts : List (List ℕ)) → Later f (form_expected first texts)
+later_form : (f : FileOf) (first : Option ℕ) (texts : List ElementText) → Later f (form_expected first texts)
 later_form f None texts = tt
 later_form f (Some n) texts = tt
 
@@ -93,7 +93,7 @@ later_book count f t =
     later_bind f _ _ (later_verdict f (verdict_of count (sheets_of nodes t.sheet))) (λ v.
     later_bind f _ _ (later_form f (unbuilt_node v nodes) (paragraph_texts nodes)) (λ texts.
     later_bind f _ _ (later_file f v) (λ unruled.
-    later_bind f _ _ (later_cond f (nat_lt most_text_bytes (sum_by length texts)) _ _ tt tt) (λ room. tt))))))
+    later_bind f _ _ (later_cond f (nat_lt most_text_bytes (sum_by (λ t. length t.text) texts)) _ _ tt tt) (λ room. tt))))))
 
 unforeseen_before : (f : FileOf) (p o : Outcome) → IsReadBefore f p → (o ≡ out.ReadFault f) ⊎ (o ≡ out.NoMemory) → ComesBefore o p
 unforeseen_before f p o l u = elim u [ inl e ↦ rw e l | inr e ↦ rw e tt ]

@@ -9,7 +9,7 @@ use Rattle.dom.specs.declared.dom.DomErr.{DomErr}
 use Rattle.dom.specs.declared.dom.DomErr.TheVariants as dom_err
 use Rattle.html_tree.specs.Tree.{tree_of}
 use Rattle.plain_html.specs.Form.{first_unbuilt}
-use Rattle.plain_html.specs.Texts.{paragraph_texts}
+use Rattle.plain_html.specs.Texts.{ElementText, paragraph_texts}
 use Rattle.sheets.specs.Sheets.{sheets_of, verdict_of}
 use Rattle.sheets.specs.declared.check.Verdict.{Verdict}
 use Rattle.sheets.specs.declared.check.Verdict.TheVariants as verdict
@@ -24,10 +24,12 @@ pub record Texts : Type 0 where
   pub html : List ℕ
   pub sheet : List ℕ
 
--- a document: the faces of its metrics text, and the texts of its paragraphs
+-- a document: the faces of its metrics text, its nodes, the text of the file's sheet, and the texts of its paragraphs with their elements
 pub record Document : Type 0 where
   pub faces : List FontFace
-  pub texts : List (List ℕ)
+  pub nodes : List Node
+  pub sheet : List ℕ
+  pub texts : List ElementText
 
 -- the faces of a metrics text, or its first bad line
 abbrev pub faces_expected : Result (List FontFace) (ℕ × MetricsWhy) → Expect (List FontFace)
@@ -63,12 +65,12 @@ abbrev pub unbuilt_node : Verdict → List Node → Option ℕ
 unbuilt_node v nodes = lesser_of (first_unbuilt nodes) (ruled_element v)
 
 -- the texts, where each node is built
-abbrev pub form_expected : Option ℕ → List (List ℕ) → Expect (List (List ℕ))
+abbrev pub form_expected : Option ℕ → List ElementText → Expect (List ElementText)
 form_expected (Some n) texts = refused (out.NotBuilt file.Html n)
 form_expected None texts = given texts
 
 -- the texts of the paragraphs, or the first node that isn't built
-abbrev pub paragraphs_expected : Verdict → List Node → Expect (List (List ℕ))
+abbrev pub paragraphs_expected : Verdict → List Node → Expect (List ElementText)
 paragraphs_expected v nodes = form_expected (unbuilt_node v nodes) (paragraph_texts nodes)
 
 -- the file's sheet isn't built where it has a rule; the sheets of elements were judged before
@@ -77,8 +79,8 @@ file_expected verdict.FileHasRules = refused (out.NotBuilt (file.Sheet 1) 1)
 file_expected other = given tt
 
 -- no more bytes of text than the limit are laid out
-abbrev pub room_expected : List (List ℕ) → Expect (Unit {0})
-room_expected texts = if nat_lt most_text_bytes (sum_by length texts) then refused (out.Limit limit.Text) else given tt
+abbrev pub room_expected : List ElementText → Expect (Unit {0})
+room_expected texts = if nat_lt most_text_bytes (sum_by (λ t. length t.text) texts) then refused (out.Limit limit.Text) else given tt
 
 -- the document of the texts, or the first refusal; `count` gives the number of rules of each sheet's text
 abbrev pub document_of : (List ℕ → ℕ) → Texts → Expect Document
@@ -88,4 +90,4 @@ document_of count t = faces_expected (faces_of t.metrics) >>= λ faces.
     paragraphs_expected found nodes >>= λ texts.
     file_expected found >>= λ unruled.
     room_expected texts >>= λ room.
-    given (record { faces = faces; texts = texts })
+    given (record { faces = faces; nodes = nodes; sheet = t.sheet; texts = texts })

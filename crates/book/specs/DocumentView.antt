@@ -1,7 +1,8 @@
 -- What a document in memory stands for.
-use Rattle.std.specs.Prelude.{map, string_bytes}
+use Rattle.std.specs.Prelude.{map}
+use Rattle.plain_html.specs.Texts.{element_text_in}
 use Rattle.book.specs.Document.{Document}
 use Rattle.book.specs.declared.document.Document.{Document as InMemory}
 
 abbrev pub document_in : InMemory → Document
-document_in d = record { faces = d.faces; texts = map (λ t. string_bytes t) d.texts.items }
+document_in d = record { faces = d.faces; nodes = d.dom; sheet = d.sheet.now; texts = map element_text_in d.texts.items }

@@ -1,10 +1,11 @@
 //! Reads the texts of the files as a document.
 
-ghost use Rattle.std.specs.Prelude.{◌≡◌, ℕ, ◌<◌, ◌≤◌, List, MatchBool, MatchResult, IfErr, IfOk, length, map, option_map, sum_by, All, string_bytes, string_len};
+ghost use Rattle.std.specs.Prelude.{◌≡◌, ℕ, ◌<◌, ◌≤◌, List, MatchBool, MatchResult, IfErr, IfOk, length, map, option_map, sum_by, All, string_len, string_bytes};
 ghost use Rattle.bk_num.specs.Limits.{most_nodes, most_text_bytes};
 ghost use Rattle.metrics.specs.Text.{faces_of};
 ghost use Rattle.html_tree.specs.Tree.{tree_of};
 ghost use Rattle.plain_flow.specs.Texts.{IsParagraphText};
+ghost use Rattle.plain_html.specs.Texts.{element_text_in};
 ghost use Rattle.sheets.specs.Sheets.{IsRuleCount, sheets_of, verdict_of};
 ghost use Rattle.book.specs.Expect.{IsRefusedUnlessMemory, IsGiven};
 ghost use Rattle.book.specs.Document.{document_of, faces_expected, nodes_expected, verdict_expected, ruled_element, paragraphs_expected, file_expected, room_expected};
@@ -18,15 +19,17 @@ use bk_num::name::NoMem;
 use dom::{Dom, DomErr};
 use html_tree::read_html;
 use metrics::{Faces, MetricsErr, read_metrics};
-use plain_html::read_paragraphs;
+use plain_html::{ParagraphText, read_paragraphs};
 use sheets::{Verdict, check_sheets};
 use std::alloc::{AllocError, Global};
 
-/// The faces of the metrics text, and the texts of the paragraphs.
+/// The faces of the metrics text, the tree, the text of the file's sheet, and the texts of the paragraphs with their elements.
 #[derive(Drop)]
-pub(crate) struct Document {
+pub(crate) struct Document<'a> {
     pub(crate) faces: Faces,
-    pub(crate) texts: Vec<String>,
+    pub(crate) dom: Dom,
+    pub(crate) sheet: &'a str,
+    pub(crate) texts: Vec<ParagraphText>,
 }
 
 /// The texts of the files, less a leading U+FEFF.
@@ -128,9 +131,9 @@ fn ruled_element(verdict: Verdict) -> Option<NodeId>
 /// The texts of the paragraphs, or the first node that isn't built: one of another form, or a `style` element whose sheet has
 /// a rule.
 #[tactic(auto, using(crate::proofs::PlainTexts::texts_set))]
-fn read_texts(alloc: Global, dom: &Dom, verdict: Verdict) -> Result<Vec<String>, Outcome>
-    ensures texts { MatchResult result (λ v. IsGiven (paragraphs_expected verdict dom.now) (map (λ t. string_bytes t) v.items)) (λ o. IsRefusedUnlessMemory (paragraphs_expected verdict dom.now) o) }
-    ensures plain { IfOk result (λ v. All (λ t. IsParagraphText (string_bytes t)) v.items) }
+fn read_texts(alloc: Global, dom: &Dom, verdict: Verdict) -> Result<Vec<ParagraphText>, Outcome>
+    ensures texts { MatchResult result (λ v. IsGiven (paragraphs_expected verdict dom.now) (map element_text_in v.items)) (λ o. IsRefusedUnlessMemory (paragraphs_expected verdict dom.now) o) }
+    ensures plain { IfOk result (λ v. All (λ t. IsParagraphText (string_bytes t.text)) v.items) }
     ensures count { IfOk result (λ v. length v.items ≤ most_nodes) }
     ensures of_texts { IfErr result IsOfTexts }
 {
@@ -159,22 +162,23 @@ fn check_file(verdict: Verdict) -> Result<(), Outcome>
 
 /// Whether the texts have more bytes than are laid out.
 #[tactic(auto, using(crate::proofs::PlainTexts::sum_next))]
-fn is_too_long(texts: &[String]) -> bool
-    ensures { MatchBool result (most_text_bytes < sum_by (λ t. string_len t) texts.now) (sum_by (λ t. string_len t) texts.now ≤ most_text_bytes) }
+fn is_too_long(texts: &[ParagraphText]) -> bool
+    ensures { MatchBool result (most_text_bytes < sum_by (λ t. string_len t.text) texts.now) (sum_by (λ t. string_len t.text) texts.now ≤ most_text_bytes) }
 {
     let mut room = MOST_TEXT_BYTES as usize;
     for text in texts {
-        if text.len() > room {
+        let len = text.text.len();
+        if len > room {
             return true;
         }
-        room -= text.len();
+        room -= len;
     }
     false
 }
 
-fn check_room(texts: &[String]) -> Result<(), Outcome>
-    ensures room { MatchResult result (λ u. IsGiven (room_expected (map (λ t. string_bytes t) texts.now)) u) (λ o. IsRefusedUnlessMemory (room_expected (map (λ t. string_bytes t) texts.now)) o) }
-    ensures few { IfOk result (λ u. sum_by (λ t. string_len t) texts.now ≤ most_text_bytes) }
+fn check_room(texts: &[ParagraphText]) -> Result<(), Outcome>
+    ensures room { MatchResult result (λ u. IsGiven (room_expected (map element_text_in texts.now)) u) (λ o. IsRefusedUnlessMemory (room_expected (map element_text_in texts.now)) o) }
+    ensures few { IfOk result (λ u. sum_by (λ t. string_len t.text) texts.now ≤ most_text_bytes) }
     ensures of_texts { IfErr result IsOfTexts }
 {
     if is_too_long(texts) {
@@ -187,13 +191,13 @@ fn check_room(texts: &[String]) -> Result<(), Outcome>
 
 /// The document of the texts.
 #[tactic(auto, using(crate::proofs::Stopping::refused_after, crate::proofs::Stopping::memory_bind))]
-pub(crate) fn read_document(alloc: Global, texts: Texts<'_>) -> Result<Document, Outcome>
+pub(crate) fn read_document<'a>(alloc: Global, texts: Texts<'a>) -> Result<Document<'a>, Outcome>
     requires { length texts.metrics.now ≤ most_text_bytes }
     ensures document { (count : List ℕ → ℕ) → IsRuleCount count → let document = document_of count (record { metrics = texts.entry.metrics.now; html = texts.entry.html.now; sheet = texts.entry.sheet.now }) in
         MatchResult result (λ d. IsGiven document (document_in d)) (λ o. IsRefusedUnlessMemory document o) }
-    ensures plain { IfOk result (λ d. All (λ t. IsParagraphText (string_bytes t)) d.texts.items) }
+    ensures plain { IfOk result (λ d. All (λ t. IsParagraphText (string_bytes t.text)) d.texts.items) }
     ensures count { IfOk result (λ d. length d.texts.items ≤ most_nodes) }
-    ensures few { IfOk result (λ d. sum_by (λ t. string_len t) d.texts.items ≤ most_text_bytes) }
+    ensures few { IfOk result (λ d. sum_by (λ t. string_len t.text) d.texts.items ≤ most_text_bytes) }
     ensures of_texts { IfErr result IsOfTexts }
 {
     let faces = read_faces(alloc, texts.metrics)?;
@@ -204,6 +208,8 @@ pub(crate) fn read_document(alloc: Global, texts: Texts<'_>) -> Result<Document,
     check_room(paragraphs.as_slice())?;
     Ok(Document {
         faces,
+        dom,
+        sheet: texts.sheet,
         texts: paragraphs,
     })
 }

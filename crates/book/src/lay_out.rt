@@ -1,34 +1,28 @@
 //! Lays a document out.
 
-ghost use Rattle.std.specs.Prelude.{◌≡◌, ℕ, ◌<◌, ◌≤◌, ◌⊎◌, ◌^◌, [], false, length, map, sum_by, All, IfOk, IfErr, MatchResult, string_bytes, string_len, unsigned_abs};
+ghost use Rattle.std.specs.Prelude.{◌≡◌, ◌<◌, ◌≤◌, ◌⊎◌, ◌^◌, [], length, sum_by, All, IfOk, IfErr, string_bytes, string_len};
 ghost use Rattle.bk_num.specs.Limits.{most_nodes, most_pages, most_text_bytes};
-ghost use Rattle.metrics.specs.Choice.{Chooses};
-ghost use Rattle.boxes.specs.Tree.{IsWhole, depth_of};
+ghost use Rattle.boxes.specs.Tree.{IsTree, IsWhole, depth_of};
 ghost use Rattle.cursor.specs.Plain.{HasPlainLeaves};
 ghost use Rattle.fragment.specs.Pages.{IsPaged, LeavesSome, HaveNearTops, text_size as bytes_of};
 ghost use Rattle.plain_flow.specs.Texts.{IsParagraphText};
 ghost use Rattle.book.specs.DocumentView.{document_in};
-ghost use Rattle.book.specs.Answer.{paragraph_families, baseline_of, text_size, style_of, page_frame, page_frames, listing_of, print_of, IsBookOf};
-ghost use Rattle.book.specs.Printer.{HasAsciiLeaves};
+ghost use Rattle.book.specs.Answer.{page_frame, page_frames, IsBookOf};
 ghost use Rattle.book.specs.Run.{Ends, IsOfTexts};
 
 use crate::document::Document;
 use crate::outcome::{LimitOf, Outcome};
 use crate::print::{Printer, print};
-use bk_num::ids::FaceId;
-use bk_num::limits::{FRAME_HEIGHT, FRAME_WIDTH, PAGE_MARGIN, ROOT_SIZE};
-use bk_num::name::{Name, NoMem};
-use bk_num::px::Px;
+use crate::styled::set_paragraphs;
+use bk_num::limits::{FRAME_HEIGHT, FRAME_WIDTH, PAGE_MARGIN};
 use bk_num::steps::Steps;
 use boxes::flow::Flow;
 use boxes::frames::{Frame, OneFrame};
-use boxes::page::{Page, PageList};
+use boxes::page::PageList;
 use boxes::tree::BoxTree;
 use fragment::paginate::{PageErr, paginate};
-use listing::records::FaceLabel;
 use metrics::Faces;
 use plain_flow::flow::flow_of;
-use plain_flow::style::ParagraphStyle;
 use std::alloc::Global;
 use std::sync::ledger::Ledger;
 
@@ -37,29 +31,6 @@ use std::sync::ledger::Ledger;
 pub(crate) struct Book {
     pub(crate) pages: u32,
     pub(crate) bytes: Vec<u8>,
-}
-
-/// The size of a paragraph's text: 16 px.
-#[tactic(auto, unfolding(bk_num::specs::Units::clamped))]
-fn text_size() -> Px
-    ensures { result ≡ text_size }
-{
-    Px::from_units(i64::from(ROOT_SIZE))
-}
-
-/// How paragraphs are set in a face: 16 px on lines of 20 px, with margins of 16 px.
-#[tactic(auto, unfolding(bk_num::specs::Units::clamped))]
-fn style_of(face: FaceId) -> ParagraphStyle
-    ensures { result ≡ style_of face }
-{
-    ParagraphStyle {
-        face,
-        size: text_size(),
-        line_height: Px::from_units(1280),
-        margin: Px::from_units(i64::from(ROOT_SIZE)),
-        widows: 2,
-        orphans: 2,
-    }
 }
 
 /// The frame of each page: of size A5, less margins of 72 px.
@@ -74,25 +45,11 @@ fn page_frame() -> Frame
     }
 }
 
-/// The face of a paragraph's text.
-fn paragraph_face(alloc: Global, faces: &Faces) -> Result<FaceId, NoMem>
-    ensures choice { IfOk result (λ f. Chooses faces.now paragraph_families false 400 f) }
-    ensures face { IfOk result (λ f. f.0 < length faces.now) }
+/// A tree is one that can be built.
+fn is_built(tree: &BoxTree)
+    ensures { IsTree tree.now }
 {
-    let families = [Name::new(alloc, "serif")?];
-    Ok(faces.choose(&families, false, 400))
-}
-
-/// How far below a line's top its baseline is, in units.
-#[tactic(auto, unfolding(crate::specs::Answer::baseline_of))]
-fn baseline(faces: &Faces, face: FaceId) -> i64
-    requires { face.0 < length faces.now }
-    ensures value { result ≡ baseline_of faces.now face }
-    ensures near { unsigned_abs result ≤ 2 ^ 40 }
-{
-    let ascent = faces.ascent(face, text_size()).units() as i64;
-    let descent = faces.descent(face, text_size()).units() as i64;
-    (1280 - (ascent + descent)).div_euclid(2) + ascent
+    let _count = tree.count();
 }
 
 /// The pages of a flow.
@@ -124,53 +81,35 @@ fn pages_of<L: Ledger>(
     }
 }
 
-/// The listing of the pages.
-fn list(
-    alloc: Global,
-    faces: &Faces,
-    face: FaceId,
-    tree: &BoxTree,
-    pages: &[Page],
-) -> Result<Vec<u8>, NoMem>
-    requires face { face.0 < length faces.now }
-    requires ascii { HasAsciiLeaves tree.now }
-    requires few { length pages.now ≤ most_pages }
-    requires near { HaveNearTops pages.now }
-    ensures { IfOk result (λ v. v.items ≡ listing_of (print_of faces.now face tree.now) pages.now) }
-{
-    let (name, italic, weight) = faces.label(face);
-    let printer = Printer {
-        label: FaceLabel {
-            name,
-            italic,
-            weight,
-        },
-        baseline: baseline(faces, face),
-        tree,
-    };
-    let bytes = print(alloc, &printer, pages)?;
-    Ok(bytes)
-}
-
 /// The book of a document.
 pub(crate) fn lay_out<L: Ledger>(
     alloc: Global,
-    document: Document,
+    document: Document<'_>,
     steps: &mut Steps<L>,
 ) -> Result<Book, Outcome>
-    requires plain { All (λ t. IsParagraphText (string_bytes t)) document.texts.items }
+    requires plain { All (λ t. IsParagraphText (string_bytes t.text)) document.texts.items }
     requires count { length document.texts.items ≤ most_nodes }
-    requires few { sum_by (λ t. string_len t) document.texts.items ≤ most_text_bytes }
-    ensures book { IfOk result (λ b. IsBookOf (document_in document) (record { pages = b.pages; bytes = b.bytes.items })) }
-    ensures ends { IfErr result (λ o. Ends (document_in document) o) }
+    requires few { sum_by (λ t. string_len t.text) document.texts.items ≤ most_text_bytes }
+    ensures book { IfOk result (λ b. IsBookOf (document_in document.entry) (record { pages = b.pages; bytes = b.bytes.items })) }
+    ensures ends { IfErr result (λ o. Ends (document_in document.entry) o) }
     ensures of_texts { IfErr result IsOfTexts }
 {
-    let Document { faces, texts } = document;
-    let face = paragraph_face(alloc, &faces)?;
-    let flow = flow_of(alloc, &style_of(face), texts)?;
+    let Document {
+        faces,
+        dom,
+        sheet,
+        texts,
+    } = document;
+    let paragraphs = set_paragraphs(alloc, &faces, dom, sheet, texts)?;
+    let flow = flow_of(alloc, paragraphs)?;
+    is_built(&flow.main);
     let list_of_pages = pages_of(alloc, &flow, &faces, steps)?;
     let pages = list_of_pages.pages.as_slice();
-    let bytes = list(alloc, &faces, face, &flow.main, pages)?;
+    let printer = Printer {
+        faces: &faces,
+        tree: &flow.main,
+    };
+    let bytes = print(alloc, &printer, pages)?;
     Ok(Book {
         pages: pages.len() as u32,
         bytes,

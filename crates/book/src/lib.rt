@@ -8,6 +8,7 @@ pub mod message;
 pub mod outcome;
 mod print;
 pub mod run;
+mod styled;
 #[cfg(test)]
 mod tests;
 mod words;

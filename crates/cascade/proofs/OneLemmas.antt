@@ -11,16 +11,16 @@ use Rattle.cascade.specs.Weights.{rank, ranks_of}
 use Rattle.cascade.specs.Laws.{OneWins}
 use Rattle.cascade.proofs.WinnerLemmas.{both-greatest}
 
-one_rank : (s t : Bool) → rank s ≡ rank t → s ≡ t
+pub one_rank : (s t : Bool) → rank s ≡ rank t → s ≡ t
 one_rank true true e = refl
 one_rank false false e = refl
 one_rank true false e = absurd (omega (arith, e))
 one_rank false true e = absurd (omega (arith, e))
 
-same_ranks : (a b : Weight) → slice_cmp nat_cmp (ranks_of a) (ranks_of b) ≡ Equal → ranks_of a ≡ ranks_of b
+pub same_ranks : (a b : Weight) → slice_cmp nat_cmp (ranks_of a) (ranks_of b) ≡ Equal → ranks_of a ≡ ranks_of b
 same_ranks a b e = (bytes_eq-Decides (ranks_of a) (ranks_of b)).0 (sym (is_eq-slice_cmp (ranks_of a) (ranks_of b)) ∙ ap is_eq e)
 
-some_same : {A : Type 0} (o : Option A) (x y : A) → o ≡ Some x → o ≡ Some y → x ≡ y
+pub some_same : {A : Type 0} (o : Option A) (x y : A) → o ≡ Some x → o ≡ Some y → x ≡ y
 some_same o x y e f = cc
 
 pub one_wins : OneWins

@@ -1,7 +1,12 @@
 -- Laws of winners.
 use Rattle.std.specs.Prelude.{◌≡◌, ℕ, List, Some, slice_get}
+use Rattle.bk_num.specs.declared.values.Pseudo.{Pseudo}
+use Rattle.selectors.specs.Match.{Tree}
+use Rattle.style.specs.declared.long.Long.{Long}
+use Rattle.cascade.specs.declared.sheet.ReadSheet.{ReadSheet}
 use Rattle.cascade.specs.Candidates.{Declared, AppliedOf, DeclaredBy}
-use Rattle.cascade.specs.Winners.{IsWinner}
+use Rattle.cascade.specs.Winners.{IsWinner, AreWinners}
+use Rattle.cascade.specs.Document.{IsDeclaredAt}
 
 -- rules at one place of the order are one rule, which applies by several selectors, and there is one style attribute
 abbrev pub ArePlaced : List AppliedOf → Type 0
@@ -12,3 +17,13 @@ ArePlaced rules =
 abbrev pub OneWins : Type 0
 OneWins =
     (rules : List AppliedOf) → ArePlaced rules → (slot : ℕ) (a b : Declared) → IsWinner (DeclaredBy rules) slot a → IsWinner (DeclaredBy rules) slot b → a.long ≡ b.long
+
+-- so has a longhand of a node or of its pseudo-element
+abbrev pub OneWinsAt : Type 0
+OneWinsAt =
+    (dom : Tree) (sheets : List ReadSheet) (n : ℕ) (p : Pseudo) (slot : ℕ) (a b : Declared) → IsWinner (IsDeclaredAt dom sheets n p) slot a → IsWinner (IsDeclaredAt dom sheets n p) slot b → a.long ≡ b.long
+
+-- what wins for a node or for its pseudo-element is one list
+abbrev pub WinnersAreOne : Type 0
+WinnersAreOne =
+    (dom : Tree) (sheets : List ReadSheet) (n : ℕ) (p : Pseudo) (longs more : List Long) → AreWinners (IsDeclaredAt dom sheets n p) longs → AreWinners (IsDeclaredAt dom sheets n p) more → longs ≡ more

@@ -4,6 +4,11 @@
 pub mod choice;
 pub mod decl;
 pub mod laws;
+mod selected;
+pub mod sheet;
 #[cfg(test)]
 mod tests;
+#[cfg(test)]
+mod tests_winners;
 pub mod weight;
+pub mod winners;

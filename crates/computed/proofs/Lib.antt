@@ -1,1 +1,3 @@
+mod OneLemmas
+mod RangeLemmas
 mod WalkLemmas

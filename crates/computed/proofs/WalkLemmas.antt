@@ -1,5 +1,5 @@
 -- Rows of nodes, and names that grow.
-use Rattle.std.proofs.Common.{◌≡◌, ℕ, ℤ, zero, suc, ◌+◌, ◌<◌, ◌≤◌, Bool, true, false, List, [], ◌∷◌, ◌++◌, Option, None, Some, Result, Ok, Err, OnOk, is_some, length, length-append, map, option_map, unwrap_or, slice_get, refl, sym, ◌∙◌, ap, subst, arith, ◌⊎◌, inl, inr}
+use Rattle.std.proofs.Common.{◌≡◌, ℕ, ℤ, ◌+◌, ◌<◌, ◌≤◌, Bool, true, false, List, [], ◌∷◌, ◌++◌, Option, None, Some, Result, Ok, Err, OnOk, is_some, length, length-append, option_map, unwrap_or, slice_get, refl, sym, ◌∙◌, ap, subst, arith, ◌⊎◌, inl, inr}
 use Rattle.std.proofs.lemmas.Option.{slice_get-map, slice_get_within}
 use Rattle.bk_num.specs.Tables.{value_of}
 use Rattle.bk_num.proofs.ListLemmas.{get-push, get-before}
@@ -8,7 +8,7 @@ use Rattle.style.specs.Nodes.{NodeStyles, change_last, own_style, no_styles}
 use Rattle.style.specs.declared.style.Style.{Style}
 use Rattle.style.specs.declared.long.Long.{Long}
 use Rattle.computed.specs.declared.walk.Generated.{Generated}
-use Rattle.computed.specs.declared.winners.NodeWinners.{NodeWinners}
+use Rattle.cascade.specs.declared.winners.NodeWinners.{NodeWinners}
 use Rattle.computed.specs.Walk.{IsPage, IsStyle, HasPseudo, IsElement, IsNode, AreNodes, Adds, AddsElement, Extends, style_above, root_above, is_shown_below, is_note_below, is_in_note_below, page_in}
 use Rattle.computed.specs.Rows.{all_put, AreGenerated}
 
@@ -82,7 +82,7 @@ pub node-added : {A E : Type 0} (res : Result A E) (names : List (List ℕ)) (no
 node-added (Ok a) names nodes k w rows new parent h p ok = record { row = ok.row; added = ok.added; fits = rw (h, ← p) ok.fits }
 node-added (Err a) names nodes k w rows new parent h p ok = tt
 
-some-is : {A : Type 0} {a b : A} → Some a ≡ Some b → a ≡ b
+pub some-is : {A : Type 0} {a b : A} → Some a ≡ Some b → a ≡ b
 some-is e = cc
 
 -- the rows of a node's parent and of the root stay
@@ -99,7 +99,7 @@ node-keep names more e rows row parent low false w r h = h
 node-keep names more e rows row parent low true w r h = element-keep names more e rows row parent low w r h
 
 -- a node's parent comes before it
-falls : (nodes : List Node) → IsTree nodes → (k p : ℕ) → parent_at (parents_of nodes) k ≡ Some p → p < k
+pub falls : (nodes : List Node) → IsTree nodes → (k p : ℕ) → parent_at (parents_of nodes) k ≡ Some p → p < k
 falls nodes tree k p h = by (slice_get nodes k) refl (ap flat (sym (slice_get-map (λ n. n.parent) nodes k)) ∙ h)
   where
     place : (n : Node) (q : Option ℕ) → HasPlace nodes k n q → q ≡ Some p → p < k

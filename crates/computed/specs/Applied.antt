@@ -1,5 +1,5 @@
 -- Styles from winners (CSS 2.1, 6.2): each field is that of the element without declarations, or what its own winner gives.
-use Rattle.std.specs.Prelude.{ℕ, ℤ, pos, true, false, List, [], ◌∷◌, Option, None, Some, fold, codes}
+use Rattle.std.specs.Prelude.{ℤ, pos, List, Option, fold}
 use Rattle.bk_num.specs.declared.length.Len.TheVariants as len
 use Rattle.style.specs.Styles.{initial_style, child_style, zero_len}
 use Rattle.style.specs.declared.style.Style.{Style}

@@ -3,3 +3,6 @@ pub mod Context
 pub mod Applied
 pub mod Walk
 pub mod Rows
+pub mod Document
+pub mod Ranges
+pub mod Laws

@@ -1,6 +1,6 @@
 //! What an element's values are computed in.
 
-ghost use Rattle.std.specs.Prelude.{◌≡◌, ℤ, Option, Some};
+ghost use Rattle.std.specs.Prelude.{◌≡◌, Option, Some};
 ghost use Rattle.computed.specs.Context.{bare, noted, rem_of, settled, context_of};
 
 use crate::values::{chosen, chosen_size};

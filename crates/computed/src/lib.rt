@@ -3,9 +3,10 @@
 
 pub mod apply;
 pub mod context;
+pub mod document;
+pub mod laws;
 pub mod styled;
 #[cfg(test)]
 mod tests;
 pub mod values;
 pub mod walk;
-pub mod winners;

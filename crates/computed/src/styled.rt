@@ -1,6 +1,6 @@
 //! The style of an element, and of a pseudo-element, with its page name.
 
-ghost use Rattle.std.specs.Prelude.{◌≡◌, ℕ, List, None, Some, false, IfOk, option_map};
+ghost use Rattle.std.specs.Prelude.{◌≡◌, None, Some, false, IfOk, option_map};
 ghost use Rattle.computed.specs.Walk.{named, page_in, IsPage, IsStyle, HasPseudo, Extends, is_displayed, is_generated};
 ghost use Rattle.computed.specs.Applied.{inline_display};
 

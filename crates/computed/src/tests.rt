@@ -1,13 +1,13 @@
 //! The styles of a document by hand.
 
 use crate::walk::styles_of;
-use crate::winners::NodeWinners;
 use bk_num::decimal::Decimal;
 use bk_num::ids::NodeId;
 use bk_num::items::Items;
 use bk_num::length::Len;
 use bk_num::name::{Name, NoMem};
 use bk_num::values::Pseudo;
+use cascade::winners::NodeWinners;
 use dom::Dom;
 use std::alloc::Global;
 use style::content::Content;

@@ -2,7 +2,7 @@
 
 ghost use Rattle.std.specs.Prelude.{◌≡◌, ◌≤◌, ◌^◌, pos, Some, None, unsigned_abs};
 ghost use Rattle.style.specs.Styles.{initial_style, zero_len};
-ghost use Rattle.computed.specs.Values.{given_by, same, held, held_number, units_of, len_of, without_auto, held_len, is_painted, width_of, size_of, weight_of, height_of, color_of};
+ghost use Rattle.computed.specs.Values.{given_by, same, held, held_number, units_of, len_of, without_auto, held_len, width_of, size_of, weight_of, height_of, color_of};
 ghost use Rattle.computed.specs.Applied.{medium};
 
 use crate::context::Context;

@@ -1,19 +1,18 @@
 //! The styles of a document's nodes, in one pass over the list of nodes.
 
-ghost use Rattle.std.specs.Prelude.{◌≡◌, ◌<◌, ◌++◌, ◌∷◌, [], ℕ, List, None, Some, true, IfOk, OnOk, is_some, option_map, unwrap_or, length};
+ghost use Rattle.std.specs.Prelude.{◌≡◌, ◌<◌, None, Some, true, IfOk, OnOk, option_map, unwrap_or, length};
 ghost use Rattle.bk_num.specs.Tables.{value_of};
-ghost use Rattle.dom.specs.Nodes.{parents_of, parent_at, name_at};
-ghost use Rattle.style.specs.Nodes.{NodeStyles, change_last};
+ghost use Rattle.style.specs.Nodes.{change_last};
 ghost use Rattle.style.specs.Styles.{initial_style};
 ghost use Rattle.computed.specs.Walk.{style_above, root_above, is_shown_below, is_note_below, is_in_note_below, font_of, AreStyles, Extends, Adds, AddsElement};
 ghost use Rattle.computed.specs.Rows.{with_option, all_put, AreGenerated};
 
 use crate::styled::{is_displayed, pseudo_style, style_of};
-use crate::winners::NodeWinners;
 use bk_num::ids::NodeId;
 use bk_num::name::NoMem;
 use bk_num::px::Px;
 use bk_num::values::Pseudo;
+use cascade::winners::NodeWinners;
 use dom::Dom;
 use std::alloc::Global;
 use style::names::Names;

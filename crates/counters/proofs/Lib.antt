@@ -1,1 +1,10 @@
-mod NumeralLemmas
+pub mod NumeralLemmas
+pub mod ChainLemmas
+pub mod ScopeLemmas
+pub mod ValueLemmas
+pub mod TourLemmas
+pub mod NestLemmas
+pub mod GatherLemmas
+pub mod SpotLemmas
+pub mod TallyLemmas
+pub mod NumberLemmas

@@ -1,1 +1,6 @@
 pub mod Numerals
+pub mod Scopes
+pub mod Chains
+pub mod At
+pub mod Document
+pub mod Gather

@@ -1,7 +1,14 @@
 //! Counters of a document, and how their numbers are printed.
 #![tactic(auto)]
 
+pub mod at;
+mod events;
+pub mod gather;
 pub mod laws;
+pub mod number;
 pub mod numeral;
+pub mod scopes;
+pub mod spots;
+mod tally;
 #[cfg(test)]
 mod tests;

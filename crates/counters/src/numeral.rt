@@ -1,6 +1,6 @@
 //! How the number of a counter is printed (CSS 2.1, 12.4.2).
 
-ghost use Rattle.std.specs.Prelude.{◌≡◌, ℕ, ◌+◌, ◌<◌, ◌≤◌, ◌++◌, ◌∷◌, [], OnOk, OnErr};
+ghost use Rattle.std.specs.Prelude.{◌≡◌, ◌+◌, ◌<◌, ◌≤◌, ◌++◌, [], OnOk, OnErr};
 ghost use Rattle.std.specs.Fmt.{signed_decimal};
 ghost use Rattle.counters.specs.Numerals.{is_among, letters, roman, roman_digit, numeral_of, with_zero, in_roman, in_letters, IsLonger};
 

@@ -1,7 +1,6 @@
 -- A number without decimals is at most its greatest integer part.
-use Rattle.std.proofs.Common.{◌≡◌, ℕ, ◌+◌, ◌*◌, ◌^◌, ◌≤◌, Bool, true, false, List, [], ◌∷◌, length, min, ℤ, pos, neg_ℤ, unsigned_abs, arith, refl}
-use Rattle.std.specs.Str.Parse.{digits_value}
-use Rattle.css_tok.specs.Numbers.{decimal_of, scaled, signed, whole_of, is_minus, unsigned, digits_at, decimals}
+use Rattle.std.proofs.Common.{◌≡◌, ℕ, ◌≤◌, Bool, true, false, List, [], ◌∷◌, length, unsigned_abs, arith}
+use Rattle.css_tok.specs.Numbers.{decimal_of, scaled, signed, is_minus, unsigned, digits_at, decimals}
 
 scaled_small : (ds part : List ℕ) → length part ≡ 0 → scaled ds part ≤ 999999999
 scaled_small ds [] e = omega arith

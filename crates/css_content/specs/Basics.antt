@@ -1,10 +1,9 @@
 -- Values that several properties have: words of a table, whole numbers, values in a row.
-use Rattle.std.specs.Prelude.{ℕ, ◌==◌, Bool, false, ◌&&◌, if◌then◌else◌, List, [], ◌∷◌, Option, Some, None, ℤ}
-use Rattle.css_tok.specs.declared.front.CssKind.TheVariants as kind
+use Rattle.std.specs.Prelude.{ℕ, ◌==◌, ◌&&◌, if◌then◌else◌, List, Option, Some, None, ℤ}
+use Rattle.css_tok.specs.declared.kind.CssKind.TheVariants as kind
 use Rattle.css_tok.specs.Numbers.{decimal_of}
 use Rattle.css_tok.specs.Tokens.{Item}
 use Rattle.css_words.specs.Parser.{Parser, ◌>>=◌, ◌>>◌, pure, refuse, on_some, peek, advance}
-use Rattle.css_words.specs.Repeat.{with_front}
 use Rattle.css_words.specs.Table.{find_word}
 use Rattle.css_words.specs.Words.{of_kind, slice_of}
 
@@ -23,7 +22,3 @@ unfoldable pub whole : Parser ℤ
 whole = do
   t ← peek
   on_some (whole_of t) refuse (λ n. advance >> pure n)
-
--- a first value, and those that follow it
-abbrev pub first_and : {A : Type 0} → Parser A → Parser (List A) → Parser (List A)
-first_and p more = p >>= (λ x i. with_front (x ∷ []) (more i))

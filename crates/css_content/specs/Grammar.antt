@@ -1,19 +1,19 @@
 -- Lists of content, of counters and of named strings (CSS 2.1, 12.2 and 12.4; css-gcpm-3, 1.1).
-use Rattle.std.specs.Prelude.{ℕ, Bool, true, false, ◌&&◌, ◌||◌, if◌then◌else◌, List, [], ◌∷◌, codes, Option, Some, None, ℤ, nat_eq}
+use Rattle.std.specs.Prelude.{ℕ, Bool, ◌&&◌, ◌||◌, if◌then◌else◌, List, [], ◌∷◌, codes, Option, Some, None, ℤ, nat_eq}
 use Rattle.std.specs.Cmp.Lexicographic.{pointwise}
 use Rattle.bk_num.specs.declared.values.NumStyle.{NumStyle}
 use Rattle.bk_num.specs.declared.values.NumStyle.TheVariants as style
-use Rattle.css_tok.specs.declared.front.CssKind.TheVariants as kind
+use Rattle.css_tok.specs.declared.kind.CssKind.TheVariants as kind
 use Rattle.css_tok.specs.Tokens.{Item}
 use Rattle.css_words.specs.Parser.{Parser, ◌>>=◌, ◌>>◌, pure, refuse, on_some, peek, second, advance}
-use Rattle.css_words.specs.Repeat.{many, fewer_than}
+use Rattle.css_words.specs.Repeat.{first_and, many, fewer_than}
 use Rattle.css_words.specs.Table.{find_word}
 use Rattle.css_words.specs.Words.{of_kind, is_none, is_mark, is_named, slice_of, value, ident, lower_ident, string, expect, close}
 use Rattle.style.specs.declared.content.Link.{Link}
 use Rattle.style.specs.declared.content.Link.TheVariants as link
 use Rattle.style.specs.declared.content.Part.{Part}
 use Rattle.style.specs.declared.content.Part.TheVariants as part
-use Rattle.css_content.specs.Basics.{word_in, whole, first_and}
+use Rattle.css_content.specs.Basics.{word_in, whole}
 use Rattle.css_content.specs.Numerals.{styles}
 use Rattle.css_content.specs.declared.content.Place.{Place}
 use Rattle.css_content.specs.declared.content.Place.TheVariants as place

@@ -3,13 +3,13 @@
 ghost use Rattle.std.specs.Prelude.{◌≡◌, ◌≤◌, ◌<◌, ◌∷◌, [], length, option_map, IfOk, IfSome};
 ghost use Rattle.css_tok.specs.Tokens.{item_in};
 ghost use Rattle.css_words.specs.Parser.{Reads};
-ghost use Rattle.css_words.specs.Repeat.{many, with_front};
+ghost use Rattle.css_words.specs.Repeat.{many, with_prefix};
 ghost use Rattle.css_words.specs.Table.{find_word};
 ghost use Rattle.css_content.specs.Grammar as spec;
 
 use crate::words::num_style;
 use bk_num::values::NumStyle;
-use css_tok::front::CssKind;
+use css_tok::kind::CssKind;
 use css_tok::tokens::CssToken;
 use css_words::reader::Reader;
 use css_words::table::find_word;
@@ -256,14 +256,14 @@ fn next_part(alloc: Global, reader: &mut Reader<'_>, place: Place) -> Result<Opt
 }
 
 /// Reads the parts that follow a first one.
-#[tactic(auto, using(css_words::proofs::RepeatLemmas::many_goes, css_words::proofs::RepeatLemmas::many_stops, css_words::proofs::RepeatLemmas::many_fails))]
+#[tactic(auto, using(css_words::proofs::RepeatLemmas::many_turns))]
 fn more_parts(
     alloc: Global,
     reader: &mut Reader<'_>,
     place: Place,
     first: Part,
 ) -> Result<Content, Unread>
-    ensures reads { Reads (λ x. x) (with_front (first ∷ []) (many (spec.next_part place) reader.old)) result reader.new }
+    ensures reads { Reads (λ x. x) (with_prefix (first ∷ []) (many (spec.next_part place) reader.old)) result reader.new }
     ensures within { length reader.new ≤ length reader.old }
 {
     let mut found = Content::new(alloc);

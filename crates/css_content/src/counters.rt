@@ -1,13 +1,13 @@
 //! Lists of counters (CSS 2.1, 12.4).
 
-ghost use Rattle.std.specs.Prelude.{◌≡◌, ◌≤◌, ◌∷◌, [], length, pos, unsigned_abs, IfOk, IfSome};
+ghost use Rattle.std.specs.Prelude.{◌≤◌, ◌∷◌, [], length, pos, unsigned_abs, IfOk, IfSome};
 ghost use Rattle.css_words.specs.Parser.{Reads};
-ghost use Rattle.css_words.specs.Repeat.{fewer_than, with_front};
+ghost use Rattle.css_words.specs.Repeat.{fewer_than, with_prefix};
 ghost use Rattle.css_content.specs.Grammar as spec;
 
 use crate::words::whole;
 use bk_num::name::Name;
-use css_tok::front::CssKind;
+use css_tok::kind::CssKind;
 use css_words::reader::Reader;
 use css_words::unread::Unread;
 use css_words::words::{ident, is_named, of_kind};
@@ -56,7 +56,7 @@ fn more_entries(
     first: (Name, i64),
 ) -> Result<CounterList, Unread>
     requires small { unsigned_abs first.1 ≤ 999999999 }
-    ensures reads { Reads (λ x. x) (with_front (first ∷ []) (fewer_than 64 (spec.next_entry (pos other)) reader.old)) result reader.new }
+    ensures reads { Reads (λ x. x) (with_prefix (first ∷ []) (fewer_than 64 (spec.next_entry (pos other)) reader.old)) result reader.new }
     ensures within { length reader.new ≤ length reader.old }
 {
     let mut found = CounterList::new(alloc);

@@ -1,13 +1,13 @@
 //! Lists of named strings (css-gcpm-3, 1.1.1).
 
-ghost use Rattle.std.specs.Prelude.{◌≡◌, ◌≤◌, ◌<◌, ◌∷◌, [], length, IfOk, IfSome};
+ghost use Rattle.std.specs.Prelude.{◌≤◌, ◌<◌, ◌∷◌, [], length, IfOk, IfSome};
 ghost use Rattle.css_words.specs.Parser.{Reads};
-ghost use Rattle.css_words.specs.Repeat.{many, with_front};
+ghost use Rattle.css_words.specs.Repeat.{many, with_prefix};
 ghost use Rattle.css_content.specs.Grammar as spec;
 
 use crate::content::{Place, content_list};
 use bk_num::name::Name;
-use css_tok::front::CssKind;
+use css_tok::kind::CssKind;
 use css_words::reader::Reader;
 use css_words::unread::Unread;
 use css_words::words::{ident, is_mark, is_named};
@@ -42,13 +42,13 @@ fn next_string(alloc: Global, reader: &mut Reader<'_>) -> Result<Option<(Name, C
 }
 
 /// Reads the entries that follow a first one.
-#[tactic(auto, using(css_words::proofs::RepeatLemmas::many_goes, css_words::proofs::RepeatLemmas::many_stops, css_words::proofs::RepeatLemmas::many_fails))]
+#[tactic(auto, using(css_words::proofs::RepeatLemmas::many_turns))]
 fn more_strings(
     alloc: Global,
     reader: &mut Reader<'_>,
     first: (Name, Content),
 ) -> Result<StringSets, Unread>
-    ensures reads { Reads (λ x. x) (with_front (first ∷ []) (many spec.next_string reader.old)) result reader.new }
+    ensures reads { Reads (λ x. x) (with_prefix (first ∷ []) (many spec.next_string reader.old)) result reader.new }
     ensures within { length reader.new ≤ length reader.old }
 {
     let mut found = Vec::new(alloc);

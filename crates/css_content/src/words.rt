@@ -7,7 +7,7 @@ ghost use Rattle.css_content.specs.Basics as spec;
 ghost use Rattle.css_content.specs.Numerals.{styles};
 
 use bk_num::values::NumStyle;
-use css_tok::front::CssKind;
+use css_tok::kind::CssKind;
 use css_tok::tokens::CssToken;
 use css_words::reader::Reader;
 use css_words::table::find_word;

@@ -8,8 +8,8 @@ use Rattle.std.proofs.lemmas.Bool.Decides.{nat_tests}
 use Rattle.css_tok.specs.Tokens.{Item, item_in}
 use Rattle.css_tok.specs.declared.tokens.CssToken.{CssToken}
 use Rattle.css_rules.specs.Views.{items_in}
-use Rattle.css_tok.specs.declared.front.CssKind.{CssKind}
-use Rattle.css_tok.specs.declared.front.CssKind.TheVariants as kind
+use Rattle.css_tok.specs.declared.kind.CssKind.{CssKind}
+use Rattle.css_tok.specs.declared.kind.CssKind.TheVariants as kind
 use Rattle.css_tok.specs.Marks.{mark, mark_in, closer_of, closer_in, is_gap, is_gap_kind}
 use Rattle.css_rules.specs.Brackets.{open_after, closes, is_outside}
 use Rattle.css_rules.specs.Parts.{Piece, ends, parts_from, with_tokens}

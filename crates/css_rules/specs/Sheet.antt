@@ -1,7 +1,7 @@
 -- A sheet: its rulesets and page rules, by a grammar with skipping cases over the tokens (CSS 2.1, 4.1 and 4.2).
 use Rattle.std.specs.Prelude.{◌≡◌, ◌+◌, ℕ, Bool, true, false, not, ◌&&◌, if◌then◌else◌, ◌==◌, List, [], ◌∷◌, ◌++◌, map, length, codes}
-use Rattle.css_tok.specs.declared.front.CssKind.{CssKind}
-use Rattle.css_tok.specs.declared.front.CssKind.TheVariants as kind
+use Rattle.css_tok.specs.declared.kind.CssKind.{CssKind}
+use Rattle.css_tok.specs.declared.kind.CssKind.TheVariants as kind
 use Rattle.css_tok.specs.Tokens.{Item}
 use Rattle.css_tok.specs.Plain.{is_word}
 use Rattle.css_tok.specs.Value.{value_slice}

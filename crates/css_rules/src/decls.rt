@@ -1,7 +1,7 @@
 //! Declarations.
 
-ghost use Rattle.std.specs.Prelude.{◌≡◌, ◌++◌, ◌≤◌, ◌<◌, ◌-◌, ℕ, List, [], length, take, drop, map, OnOk, IfOk, IfSome, IsSome, IsTrue, option_map};
-ghost use Rattle.std.specs.List.{filter_map, prefix_len, list_any};
+ghost use Rattle.std.specs.Prelude.{◌≡◌, ◌++◌, ◌≤◌, ◌<◌, ◌-◌, [], length, drop, map, IfOk, IfSome, IsSome, IsTrue, option_map};
+ghost use Rattle.std.specs.List.{prefix_len, list_any};
 ghost use Rattle.css_tok.specs.Tokens.{tokens_of, item_in};
 ghost use Rattle.css_tok.specs.Marks.{is_gap};
 ghost use Rattle.css_rules.specs.Brackets.{is_closed};
@@ -12,7 +12,7 @@ ghost use Rattle.css_rules.specs.Decls.{Covers};
 
 use crate::parts::{Stop, next_part};
 use bk_num::name::NoMem;
-use css_tok::front::CssKind;
+use css_tok::kind::CssKind;
 use css_tok::tokens::{CssToken, CssTokens};
 use css_tok::words::is_word;
 use std::alloc::Global;

@@ -1,6 +1,6 @@
 //! Media lists, read without memory.
 
-ghost use Rattle.std.specs.Prelude.{◌≡◌, ◌<◌, ◌≤◌, ◌-◌, ◌==◌, ◌++◌, ◌&&◌, List, [], ◌∷◌, length, take, slice_get, true, false, IsTrue, MatchBool, MatchOption};
+ghost use Rattle.std.specs.Prelude.{◌≡◌, ◌<◌, ◌≤◌, ◌-◌, ◌==◌, ◌++◌, ◌&&◌, List, [], ◌∷◌, length, take, slice_get, true, false, MatchBool, MatchOption};
 ghost use Rattle.css_tok.specs.Tokens.{Item, tokens_of, item_in};
 ghost use Rattle.css_tok.specs.Marks.{is_gap};
 ghost use Rattle.css_rules.specs.Brackets.{open_after};

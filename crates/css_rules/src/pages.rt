@@ -1,18 +1,18 @@
 //! Page rules.
 
-ghost use Rattle.std.specs.Prelude.{◌≡◌, ◌≤◌, ◌<◌, ◌++◌, ◌==◌, List, ℕ, [], ◌∷◌, length, map, true, option_map, option_to_list, IsTrue, IfOk, OnOk};
+ghost use Rattle.std.specs.Prelude.{◌≡◌, ◌≤◌, ◌<◌, ◌++◌, ◌==◌, length, true, option_map, option_to_list, IsTrue, IfOk, OnOk};
 ghost use Rattle.css_tok.specs.Tokens.{tokens_of, item_in};
 ghost use Rattle.css_rules.specs.Brackets as brackets;
 ghost use Rattle.std.specs.List.{list_all};
 ghost use Rattle.css_tok.specs.Marks.{first_mark, rest_of, is_gap_kind};
-ghost use Rattle.css_rules.specs.Decls.{Decl, decl_in};
+ghost use Rattle.css_rules.specs.Decls.{decl_in};
 ghost use Rattle.css_rules.specs.Decls as spec_decls;
 ghost use Rattle.css_rules.specs.Pages as spec;
 
 use crate::decls::{DeclSlice, decl_of, read_block};
 use crate::parts::{Stop, take_until};
 use bk_num::name::NoMem;
-use css_tok::front::CssKind;
+use css_tok::kind::CssKind;
 use css_tok::tokens::{CssToken, CssTokens};
 use css_tok::words::is_word;
 use std::alloc::Global;

@@ -1,11 +1,10 @@
 //! The rules of a sheet.
 
-ghost use Rattle.std.specs.Prelude.{◌≡◌, ◌≢◌, ◌≤◌, ◌<◌, ◌++◌, ◌==◌, List, ℕ, [], ◌∷◌, length, map, true, false, codes, ◌&&◌, not, if◌then◌else◌, ◌+◌, IsTrue, IfOk, OnOk, IfSome, IfNone, IfErr, MatchResult};
+ghost use Rattle.std.specs.Prelude.{◌≡◌, ◌≤◌, ◌<◌, ◌++◌, ◌==◌, List, [], ◌∷◌, length, map, true, false, ◌&&◌, not, if◌then◌else◌, ◌+◌, IfOk, OnOk, IfSome, IfNone, IfErr};
 ghost use Rattle.css_tok.specs.Tokens.{Item, tokens_of, item_in};
 ghost use Rattle.css_rules.specs.Views.{items_in};
 ghost use Rattle.css_rules.specs.Pages.{PageOf, page_in};
-ghost use Rattle.css_tok.specs.Marks.{first_mark, rest_of};
-ghost use Rattle.css_rules.specs.Parts.{joined, past_block};
+ghost use Rattle.css_rules.specs.Parts.{past_block};
 ghost use Rattle.bk_num.specs.Limits.{most_rules};
 ghost use Rattle.css_rules.specs.Sheet as spec;
 
@@ -15,7 +14,7 @@ use crate::pages::{Lead, PageSlice, is_at, read_page};
 use crate::parts::{Stop, take_until};
 use bk_num::limits::MOST_RULES;
 use bk_num::name::NoMem;
-use css_tok::front::CssKind;
+use css_tok::kind::CssKind;
 use css_tok::tokens::{CssToken, CssTokens};
 use css_tok::words::is_word;
 use std::alloc::Global;

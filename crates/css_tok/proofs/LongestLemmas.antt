@@ -1,4 +1,4 @@
--- No kind has a longer reading than the token at the front of a text.
+-- No kind has a longer reading than the token at the start of a text.
 use Rattle.std.proofs.Common.{◌≡◌, ◌⊎◌, inl, inr, ℕ, zero, suc, ◌+◌, ◌<◌, ◌≤◌, Bool, true, false, not, cond, ◌&&◌, ◌||◌, eqb, ltb, List, [], ◌∷◌, ◌++◌, drop, take, length, get_or, refl, sym, ◌∙◌, ap, subst, arith, codes, ◌==◌, zero-le, get_or-drop}
 use Rattle.std.proofs.lemmas.Bool.{cases_lt, cases_Bool, cond_both, and_parts, eqb-true, ne_eqb, eq-eqb}
 use Rattle.std.proofs.lemmas.Bool.Decides.{nat_tests}
@@ -6,11 +6,11 @@ use Rattle.std.proofs.lemmas.List.{get_or_past, take-append-drop}
 use Rattle.std.proofs.lemmas.Slice.Eq.{bytes_eq-Decides}
 use Rattle.std.specs.Str.{bytes_eq, str_eq_ignore_ascii_case}
 use Rattle.std.specs.Char.{is_ascii_digit, to_ascii_lowercase}
-use Rattle.css_tok.specs.declared.front.CssKind.{CssKind}
-use Rattle.css_tok.specs.declared.front.CssKind.TheVariants as kind
+use Rattle.css_tok.specs.declared.kind.CssKind.{CssKind}
+use Rattle.css_tok.specs.declared.kind.CssKind.TheVariants as kind
 use Rattle.css_tok.specs.declared.lengths.Class.TheVariants as class
 use Rattle.css_tok.specs.Lengths.{is_quote, unit_len, run_from, run_len, is_newline, is_blank, is_name, hyphens, begins_name, ident_len, sign_len, fraction_len, unsigned_len, number_len, comment_len, with_backslash, escape_len}
-use Rattle.css_tok.specs.Front.{string_at, numeric_at, url_len, word_at, sign_at, token_at}
+use Rattle.css_tok.specs.Kind.{string_at, numeric_at, url_len, word_at, sign_at, token_at}
 use Rattle.css_tok.specs.Readings.{quoted_run, part_byte, two_parts, byte_part, word_len, string_len, bad_string_len, reading_len, NoneIsLonger, OnlyDelimTies}
 use Rattle.css_tok.proofs.ReadingLemmas.{is_reading, not_none, some_of}
 

@@ -1,15 +1,15 @@
--- The token at the front of a text is a reading of its kind.
+-- The token at the start of a text is a reading of its kind.
 use Rattle.std.proofs.Common.{◌≡◌, inl, inr, ℕ, zero, suc, ◌+◌, ◌<◌, Bool, true, false, cond, ◌&&◌, eqb, ltb, List, [], ◌∷◌, drop, take, length, get_or, refl, ◌∙◌, ap, subst, arith, codes, length-drop, get_or-drop}
 use Rattle.std.proofs.lemmas.Bool.{cases_Bool, cond_both, and_parts, eqb-false, ne_eqb}
 use Rattle.std.proofs.lemmas.Bool.Decides.{nat_tests}
 use Rattle.std.proofs.Math.Seq.{drop-cons}
 use Rattle.std.specs.Str.{bytes_eq}
-use Rattle.css_tok.specs.declared.front.CssKind.{CssKind}
-use Rattle.css_tok.specs.declared.front.CssKind.TheVariants as kind
+use Rattle.css_tok.specs.declared.kind.CssKind.{CssKind}
+use Rattle.css_tok.specs.declared.kind.CssKind.TheVariants as kind
 use Rattle.css_tok.specs.declared.lengths.Class.{Class}
 use Rattle.css_tok.specs.declared.lengths.Class.TheVariants as class
 use Rattle.css_tok.specs.Lengths.{is_quote, unit_len, run_from, run_len, with_first, one_less, is_newline, is_blank, ident_len, number_len, comment_len, quoted_len}
-use Rattle.css_tok.specs.Front.{string_at, numeric_at, url_len, word_at, sign_at, token_at}
+use Rattle.css_tok.specs.Kind.{string_at, numeric_at, url_len, word_at, sign_at, token_at}
 use Rattle.css_tok.specs.Readings.{quoted_run, reading_len, TokenIsReading}
 use Rattle.css_tok.proofs.Runs.{blank_run}
 use Rattle.css_tok.proofs.Boundaries.{run_cut, quoted_stops, quote_low}

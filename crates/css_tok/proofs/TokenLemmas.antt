@@ -1,6 +1,6 @@
 use Rattle.std.proofs.Common.{◌≡◌, ℕ, zero, suc, ◌-◌, ◌<◌, ◌≤◌, List, [], ◌∷◌, take, drop, length, refl, ap, subst, ◌∙◌, arith}
-use Rattle.css_tok.specs.declared.front.CssKind.{CssKind}
-use Rattle.css_tok.specs.Front.{token_at}
+use Rattle.css_tok.specs.declared.kind.CssKind.{CssKind}
+use Rattle.css_tok.specs.Kind.{token_at}
 use Rattle.css_tok.specs.Tokens.{item_of, tokens_from, tokens_of}
 
 tokens_from-drop : (n : ℕ) (bs : List ℕ) → tokens_from n bs ≡ tokens_from 0 (drop n bs)

@@ -1,4 +1,4 @@
--- How long what stands at the front of a text is, in bytes. A place past the end reads as 0.
+-- How long what stands at the start of a text is, in bytes. A place past the end reads as 0.
 use Rattle.std.specs.Prelude.{ℕ, zero, suc, ◌+◌, Bool, not, ◌&&◌, ◌||◌, if◌then◌else◌, ◌==◌, nat_le, nat_lt, List, [], ◌∷◌, take, drop, slice_index}
 use Rattle.std.specs.Char.{is_ascii_digit, is_ascii_hexdigit, is_ascii_alphanumeric}
 use Rattle.std.specs.List.{prefix_len}

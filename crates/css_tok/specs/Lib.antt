@@ -1,5 +1,5 @@
 pub mod Lengths
-pub mod Front
+pub mod Kind
 pub mod Tokens
 pub mod Plain
 pub mod Value

@@ -2,8 +2,8 @@
 use Rattle.std.specs.Prelude.{ℕ, ◌+◌, ◌*◌, ◌^◌, Bool, true, false, ◌==◌, if◌then◌else◌, List, [], length, take, drop, slice_index, min, ℤ, pos, neg_ℤ}
 use Rattle.std.specs.Str.Parse.{digits_value}
 use Rattle.bk_num.specs.Numbers.{Number}
-use Rattle.css_tok.specs.declared.front.CssKind.{CssKind}
-use Rattle.css_tok.specs.declared.front.CssKind.TheVariants as kind
+use Rattle.css_tok.specs.declared.kind.CssKind.{CssKind}
+use Rattle.css_tok.specs.declared.kind.CssKind.TheVariants as kind
 use Rattle.css_tok.specs.declared.lengths.Class.TheVariants as class
 use Rattle.css_tok.specs.Lengths.{run_len, sign_len, number_len}
 
@@ -13,7 +13,7 @@ is_numeric_kind kind.Percent = true
 is_numeric_kind kind.Dimension = true
 is_numeric_kind _ = false
 
--- the digits at the front of a text, and what follows them
+-- the digits at the start of a text, and what follows them
 abbrev pub digits_at : List ℕ → List ℕ
 digits_at bs = take (run_len class.Digit bs) bs
 
@@ -44,7 +44,7 @@ signed minus n = if minus then neg_ℤ (pos n) else pos n
 abbrev pub scaled : List ℕ → List ℕ → ℕ
 scaled whole part = whole_of whole * 10 ^ length part + digits_value 10 part
 
--- The number at the front of a text. It has as many places as decimals are written, up to six.
+-- The number at the start of a text. It has as many places as decimals are written, up to six.
 unfoldable pub decimal_of : List ℕ → Number
 decimal_of bs = record { units = signed (is_minus bs) (scaled (digits_at (unsigned bs)) (decimals (unsigned bs))); places = length (decimals (unsigned bs)) }
 

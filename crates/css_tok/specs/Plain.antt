@@ -11,7 +11,7 @@ abbrev pub code_point : ℕ → ℕ
 code_point n = if n == 0 || is_in_range 0xD800 0xDFFF n || nat_lt 0x10FFFF n then 0xFFFD else n
 
 -- What a `\` and what follows it stand for: nothing before a newline, a character before hexadecimal digits,
--- and else the first byte of the character behind it. A `\` at the end stands for itself.
+-- and else the first byte of the character after it. A `\` at the end stands for itself.
 unfoldable pub escaped : List ℕ → List ℕ
 escaped [] = 92 ∷ []
 escaped (b ∷ bs) = if is_newline b then [] else (if is_ascii_hexdigit b then encode_utf8 (code_point (digits_value 16 (take (hex_len (b ∷ bs)) (b ∷ bs)))) else b ∷ [])
@@ -26,7 +26,7 @@ plain_from zero (b ∷ bs) = if b == 92 then escaped bs ++ plain_from (quoted_le
 unfoldable pub plain_of : List ℕ → List ℕ
 plain_of bs = plain_from 0 bs
 
--- what a character at the front of the answer adds, if there is one
+-- what a character at the start of the answer adds, if there is one
 abbrev pub bytes_of : Option ℕ → List ℕ
 bytes_of None = []
 bytes_of (Some c) = encode_utf8 c
@@ -35,6 +35,6 @@ bytes_of (Some c) = encode_utf8 c
 abbrev pub is_word : List ℕ → List ℕ → Bool
 is_word bs word = str_eq_ignore_ascii_case (plain_of bs) word
 
--- what is left of a word behind a part of a text, or none where the part isn't its beginning, ASCII case aside
+-- what is left of a word after a part of a text, or none where the part isn't its beginning, ASCII case aside
 abbrev pub Strips : Option (List ℕ) → List ℕ → List ℕ → Type 0
 Strips left part word = MatchOption left ((rest : List ℕ) → str_eq_ignore_ascii_case (part ++ rest) word ≡ false) (λ more. (rest : List ℕ) → str_eq_ignore_ascii_case (part ++ rest) word ≡ str_eq_ignore_ascii_case rest more)

@@ -1,17 +1,17 @@
--- How long a reading of each kind at the front of a text is, each by its own grammar, and 0 where none stands there (CSS 2.1, 4.1.1). Of these the longest counts.
+-- How long a reading of each kind at the start of a text is, each by its own grammar, and 0 where none stands there (CSS 2.1, 4.1.1). Of these the longest counts.
 use Rattle.std.specs.Prelude.{◌≡◌, ◌⊎◌, ℕ, ◌+◌, ◌<◌, ◌≤◌, ◌&&◌, ◌||◌, if◌then◌else◌, ◌==◌, List, drop, take, length, slice_index, codes}
 use Rattle.std.specs.Str.{bytes_eq}
-use Rattle.css_tok.specs.declared.front.CssKind.{CssKind}
-use Rattle.css_tok.specs.declared.front.CssKind.TheVariants as kind
+use Rattle.css_tok.specs.declared.kind.CssKind.{CssKind}
+use Rattle.css_tok.specs.declared.kind.CssKind.TheVariants as kind
 use Rattle.css_tok.specs.declared.lengths.Class.TheVariants as class
 use Rattle.css_tok.specs.Lengths.{is_quote, is_newline, run_len, ident_len, number_len, comment_len}
-use Rattle.css_tok.specs.Front.{url_len, token_at}
+use Rattle.css_tok.specs.Kind.{url_len, token_at}
 
--- a part that isn't empty, and this byte behind it
+-- a part that isn't empty, and this byte after it
 abbrev pub part_byte : ℕ → ℕ → List ℕ → ℕ
 part_byte n b bs = if n == 0 then 0 else if slice_index bs n == b then n + 1 else 0
 
--- this byte, and a part behind it that isn't empty
+-- this byte, and a part after it that isn't empty
 abbrev pub byte_part : ℕ → ℕ → List ℕ → ℕ
 byte_part b n bs = if slice_index bs 0 == b then (if n == 0 then 0 else 1 + n) else 0
 
@@ -54,7 +54,7 @@ reading_len kind.Delim bs = if length bs == 0 then 0 else 1
 
 -- ---- laws
 
--- no kind has a longer reading than the token at the front of a text
+-- no kind has a longer reading than the token at the start of a text
 abbrev pub NoneIsLonger : Type 0
 NoneIsLonger = (k : CssKind) (bs : List ℕ) → reading_len k bs ≤ (token_at bs).1
 

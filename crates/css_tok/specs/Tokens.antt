@@ -1,8 +1,8 @@
 -- The tokens of a text.
 use Rattle.std.specs.Prelude.{◌≡◌, ℕ, zero, suc, ◌-◌, List, [], ◌∷◌, take}
-use Rattle.css_tok.specs.declared.front.CssKind.{CssKind}
+use Rattle.css_tok.specs.declared.kind.CssKind.{CssKind}
 use Rattle.css_tok.specs.declared.tokens.CssToken.{CssToken}
-use Rattle.css_tok.specs.Front.{token_at}
+use Rattle.css_tok.specs.Kind.{token_at}
 
 -- a token without its place
 pub record Item : Type 0 where

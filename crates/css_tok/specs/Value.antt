@@ -1,8 +1,8 @@
 -- The part of a token that its value is written in (css-syntax, 4).
 use Rattle.std.specs.Prelude.{ℕ, ◌-◌, ◌&&◌, if◌then◌else◌, ◌==◌, List, take, drop, length, slice_index, codes}
 use Rattle.std.specs.Str.{str_eq_ignore_ascii_case}
-use Rattle.css_tok.specs.declared.front.CssKind.{CssKind}
-use Rattle.css_tok.specs.declared.front.CssKind.TheVariants as kind
+use Rattle.css_tok.specs.declared.kind.CssKind.{CssKind}
+use Rattle.css_tok.specs.declared.kind.CssKind.TheVariants as kind
 use Rattle.css_tok.specs.declared.lengths.Class.TheVariants as class
 use Rattle.css_tok.specs.Lengths.{is_quote, run_len}
 
@@ -12,7 +12,7 @@ without_first b bs = if slice_index bs 0 == b then drop 1 bs else bs
 abbrev pub without_last : ℕ → List ℕ → List ℕ
 without_last b bs = if slice_index bs (length bs - 1) == b then take (length bs - 1) bs else bs
 
--- what stands behind a quote, up to the one that closes it
+-- what stands after a quote, up to the one that closes it
 unfoldable pub in_quotes : List ℕ → List ℕ
 in_quotes bs = if is_quote (slice_index bs 0) then take (run_len (class.Quoted (slice_index bs 0)) (drop 1 bs)) (drop 1 bs) else bs
 

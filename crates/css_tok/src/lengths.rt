@@ -1,6 +1,6 @@
-//! How long what stands at the front of a text is.
+//! How long what stands at the start of a text is.
 
-ghost use Rattle.std.specs.Prelude.{◌≡◌, ◌<◌, ◌≤◌, ◌+◌, ◌^◌, length, slice_index, true};
+ghost use Rattle.std.specs.Prelude.{◌≡◌, ◌<◌, ◌≤◌, ◌+◌, ◌^◌, length, slice_index};
 ghost use Rattle.std.specs.Char.{is_ascii_hexdigit};
 ghost use Rattle.std.specs.List.{prefix_len};
 ghost use Rattle.css_tok.specs.Lengths as spec;
@@ -257,7 +257,7 @@ fn unsigned_len(text: &[u8]) -> usize
     whole + fraction_len(&text[whole..])
 }
 
-/// How long the number at the front of a text is; 0 where none stands there.
+/// How long the number at the start of a text is; 0 where none stands there.
 #[tactic(auto, unfolding(crate::specs::Lengths::number_len))]
 pub fn number_len(text: &[u8]) -> usize
     ensures value { result ≡ spec.number_len text.now }

@@ -1,7 +1,7 @@
 //! The tokens of a style sheet (CSS 2.1, 4.1), without memory, and their escapes undone.
 #![tactic(auto)]
 
-pub mod front;
+pub mod kind;
 pub mod laws;
 pub mod lengths;
 pub mod marks;

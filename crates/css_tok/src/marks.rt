@@ -4,7 +4,7 @@ ghost use Rattle.std.specs.Prelude.{◌≡◌};
 ghost use Rattle.css_tok.specs.Tokens.{item_in};
 ghost use Rattle.css_tok.specs.Marks as spec;
 
-use crate::front::CssKind;
+use crate::kind::CssKind;
 use crate::lengths::byte;
 use crate::tokens::CssToken;
 

@@ -1,6 +1,6 @@
 //! The numbers of tokens, and their units (css-syntax, 4.3.13).
 
-ghost use Rattle.std.specs.Prelude.{◌≡◌, ◌<◌, ◌≤◌, ◌^◌, ◌+◌, ◌*◌, length, take, drop, unsigned_abs, true, IsTrue};
+ghost use Rattle.std.specs.Prelude.{◌≡◌, ◌<◌, ◌≤◌, ◌^◌, ◌+◌, ◌*◌, length, unsigned_abs, true, IsTrue};
 ghost use Rattle.std.specs.Char.{is_ascii_digit, digit_value};
 ghost use Rattle.std.specs.List.{list_all};
 ghost use Rattle.std.specs.Str.Parse.{digits_value};
@@ -10,7 +10,7 @@ use crate::lengths::{Class, byte, number_len, run_len, sign_len};
 use crate::tokens::CssToken;
 use bk_num::decimal::Decimal;
 
-/// The digits at the front of a text.
+/// The digits at the start of a text.
 #[tactic(auto, using(crate::proofs::NumberLemmas::digits_are))]
 fn digits_at(text: &[u8]) -> &[u8]
     ensures value { result.now ≡ spec.digits_at text.now }
@@ -105,7 +105,7 @@ fn signed(minus: bool, value: u64) -> i64
     if minus { -(value as i64) } else { value as i64 }
 }
 
-/// The number at the front of a text.
+/// The number at the start of a text.
 #[tactic(auto, unfolding(crate::specs::Numbers::decimal_of))]
 fn decimal_of(text: &[u8]) -> Decimal
     ensures { result ≡ spec.decimal_of text.now }
@@ -116,7 +116,7 @@ fn decimal_of(text: &[u8]) -> Decimal
     Decimal::new(units, part.len() as u8)
 }
 
-/// What follows the number at the front of a text.
+/// What follows the number at the start of a text.
 #[tactic(auto, using(crate::proofs::Boundaries::number_cut), unfolding(crate::specs::Numbers::unit_of))]
 fn unit_of(text: &str) -> &str
     ensures { result.now ≡ spec.unit_of text.now }

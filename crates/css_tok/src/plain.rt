@@ -1,6 +1,6 @@
 //! Undoes the escapes of a text.
 
-ghost use Rattle.std.specs.Prelude.{◌≡◌, ◌++◌, ◌+◌, ◌≤◌, ◌<◌, [], length, take, drop, slice_index, string_bytes, IfOk, OnOk, MatchOption, true, false};
+ghost use Rattle.std.specs.Prelude.{◌≡◌, ◌++◌, ◌+◌, ◌≤◌, ◌<◌, length, take, drop, slice_index, string_bytes, IfOk, MatchOption, true};
 ghost use Rattle.std.specs.Char.{is_ascii_hexdigit};
 ghost use Rattle.std.specs.Str.{IsCharBoundary, IsUtf8};
 ghost use Rattle.std.specs.Str.Parse.{IsNumeral, digits_value};
@@ -16,11 +16,11 @@ pub(crate) fn until_escape(text: &str) -> (&str, Option<&str>)
     ensures parts { MatchOption result.1 (spec.plain_of text.now ≡ result.0.now) (λ after. spec.plain_of text.now ≡ result.0.now ++ (spec.escaped after.now ++ spec.plain_from (lengths.quoted_len after.now) after.now)) }
     ensures shorter { MatchOption result.1 (0 ≤ length text.now) (λ after. length after.now < length text.now) }
 {
-    let (front, rest) = text.split_at(run_len(Class::Plain, text.as_bytes()));
+    let (prefix, rest) = text.split_at(run_len(Class::Plain, text.as_bytes()));
     if rest.is_empty() {
-        return (front, None);
+        return (prefix, None);
     }
-    (front, Some(rest.split_at(1).1))
+    (prefix, Some(rest.split_at(1).1))
 }
 
 /// The character that hexadecimal digits name.
@@ -49,7 +49,7 @@ fn hex_escape(text: &str) -> (usize, usize)
     (escape_len(text.as_bytes()), hex_len(text.as_bytes()))
 }
 
-/// What a `\` and the text behind it stand for, and the place in that text where the plain text goes on.
+/// What a `\` and the text after it stand for, and the place in that text where the plain text goes on.
 pub(crate) fn escape(after: &str) -> (Option<char>, usize)
     ensures value { spec.escaped after.now ++ spec.plain_from (lengths.quoted_len after.now) after.now ≡ spec.bytes_of result.0 ++ spec.plain_of (drop result.1 after.now) }
     ensures cut { IsCharBoundary after.now result.1 }
@@ -71,7 +71,7 @@ pub(crate) fn escape(after: &str) -> (Option<char>, usize)
     (None, 0)
 }
 
-/// Appends what a `\` and the text behind it stand for, and answers the plain text that goes on.
+/// Appends what a `\` and the text after it stand for, and answers the plain text that goes on.
 fn push_escape<'a>(into: &mut String, after: &'a str) -> Result<&'a str, NoMem>
     ensures value { IfOk result (λ rest. string_bytes into.old ++ (spec.escaped after.now ++ spec.plain_from (lengths.quoted_len after.now) after.now) ≡ string_bytes into.new ++ spec.plain_of rest.now) }
     ensures within { IfOk result (λ rest. length rest.now ≤ length after.now) }
@@ -93,8 +93,8 @@ pub fn plain(alloc: Global, slice: &str) -> Result<Name, NoMem>
     let mut text = String::new(alloc);
     let mut rest = slice;
     'parts: loop {
-        let (front, after) = until_escape(rest);
-        text.push_str(front)?;
+        let (prefix, after) = until_escape(rest);
+        text.push_str(prefix)?;
         match after {
             None => return Ok(Name::from_string(text)),
             Some(after) => rest = push_escape(&mut text, after)?,

@@ -1,6 +1,6 @@
 //! Token texts, by the grammar of CSS 2.1, 4.1.1.
 
-use crate::front::CssKind;
+use crate::kind::CssKind;
 use crate::plain::plain;
 use crate::tokens::CssTokens;
 use crate::words::is_word;

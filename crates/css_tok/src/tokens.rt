@@ -1,12 +1,12 @@
 //! Hands out the tokens of a text, one after another.
 
-ghost use Rattle.std.specs.Prelude.{◌≡◌, ◌<◌, ◌≤◌, ◌+◌, ◌-◌, ◌^◌, ◌++◌, ◌↔◌, [], ◌∷◌, length, take, drop, slice_index, IfSome, IfNone, IsNone, MatchOption};
+ghost use Rattle.std.specs.Prelude.{◌≡◌, ◌<◌, ◌≤◌, ◌+◌, ◌-◌, ◌^◌, ◌++◌, ◌↔◌, [], length, IfSome, IfNone, IsNone, MatchOption};
 ghost use Rattle.std.specs.Str.{IsCharBoundary};
 ghost use Rattle.css_tok.specs.Tokens.{tokens_of, IsFirstToken};
-ghost use Rattle.css_tok.specs.Front as spec;
+ghost use Rattle.css_tok.specs.Kind as spec;
 
-use crate::front;
-use crate::front::CssKind;
+use crate::kind;
+use crate::kind::CssKind;
 
 /// A token: its place in the text in bytes, the part of the text that it is, and its kind.
 #[derive(Clone, Copy, Debug)]
@@ -24,14 +24,14 @@ pub struct CssTokens<'a> {
     ghost fits: { at + length rest.now ≤ 2 ^ 64 - 1 },
 }
 
-/// The token at the front of a text.
-fn front(text: &str) -> (CssKind, usize)
+/// The token at the start of a text.
+fn first(text: &str) -> (CssKind, usize)
     requires { 0 < length text.now }
     ensures value { result ≡ spec.token_at text.now }
     ensures within { (0 < result.1) × (result.1 ≤ length text.now) }
     ensures boundary { IsCharBoundary text.now result.1 }
 {
-    front::token_at(text.as_bytes())
+    kind::token_at(text.as_bytes())
 }
 
 impl<'a> CssTokens<'a> {
@@ -55,7 +55,7 @@ impl<'a> CssTokens<'a> {
         if self.rest.is_empty() {
             return None;
         }
-        let (kind, len) = front(self.rest);
+        let (kind, len) = first(self.rest);
         let at = self.at;
         let (slice, rest) = self.rest.split_at(len);
         self.at = at + len;

@@ -1,10 +1,10 @@
 //! The part of a token that its value is written in.
 
-ghost use Rattle.std.specs.Prelude.{◌≡◌, ◌<◌, ◌≤◌, ◌+◌, ◌-◌, length, drop, take};
+ghost use Rattle.std.specs.Prelude.{◌≡◌, ◌<◌, ◌-◌};
 ghost use Rattle.css_tok.specs.Lengths.{run_len};
 ghost use Rattle.css_tok.specs.Value as spec;
 
-use crate::front::CssKind;
+use crate::kind::CssKind;
 use crate::lengths::{Class, byte, is_quote, run_len};
 use crate::tokens::CssToken;
 

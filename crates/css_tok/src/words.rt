@@ -1,19 +1,19 @@
 //! Compares names with words of CSS, without memory.
 
-ghost use Rattle.std.specs.Prelude.{◌≡◌, ◌≤◌, length, option_map};
+ghost use Rattle.std.specs.Prelude.{◌≡◌, option_map};
 ghost use Rattle.css_tok.specs.Plain as spec;
 
 use crate::plain::{escape, until_escape};
 
-/// What is left of a word behind a part of a text, ASCII case aside.
+/// What is left of a word after a part of a text, ASCII case aside.
 fn strip_part<'w>(word: &'w [u8], part: &[u8]) -> Option<&'w [u8]>
     ensures { spec.Strips (option_map (λ w. w.now) result) part.now word.now }
 {
     if word.len() < part.len() {
         return None;
     }
-    let (front, left) = word.split_at(part.len());
-    if part.eq_ignore_ascii_case(front) {
+    let (prefix, left) = word.split_at(part.len());
+    if part.eq_ignore_ascii_case(prefix) {
         Some(left)
     } else {
         None
@@ -40,18 +40,18 @@ pub fn is_word(name: &str, word: &str) -> bool
     let mut rest = name;
     let mut left = word.as_bytes();
     'parts: loop {
-        let (front, after) = until_escape(rest);
-        let Some(behind_front) = strip_part(left, front.as_bytes()) else {
+        let (prefix, after) = until_escape(rest);
+        let Some(past_prefix) = strip_part(left, prefix.as_bytes()) else {
             return false;
         };
         let Some(after) = after else {
-            return behind_front.is_empty();
+            return past_prefix.is_empty();
         };
         let (character, len) = escape(after);
-        let Some(behind_escape) = strip_escape(behind_front, character) else {
+        let Some(past_escape) = strip_escape(past_prefix, character) else {
             return false;
         };
-        left = behind_escape;
+        left = past_escape;
         rest = after.split_at(len).1;
     }
 }

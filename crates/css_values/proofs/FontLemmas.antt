@@ -1,14 +1,7 @@
 -- Words joined by spaces, a word at a time.
-use Rattle.std.proofs.Common.{◌≡◌, ℕ, suc, ◌+◌, ◌<◌, List, [], ◌∷◌, ◌++◌, length, drop, get_or, refl, ap, sym, ◌∙◌, arith, append_assoc, append-nil}
+use Rattle.std.proofs.Common.{◌≡◌, ℕ, suc, ◌+◌, ◌<◌, List, [], ◌∷◌, ◌++◌, length, drop, get_or, ap, sym, ◌∙◌, arith, append_assoc, append-nil}
 use Rattle.std.proofs.Math.Seq.{drop-cons}
-use Rattle.std.specs.Prelude.{Some, None}
-use Rattle.css_words.specs.Parser.{Outcome}
-use Rattle.css_words.specs.Repeat.{with_front}
 use Rattle.css_values.specs.Fonts.{spaced}
-
-pub no_front : {A : Type 0} (o : Outcome (List A)) → with_front [] o ≡ o
-no_front None = refl
-no_front (Some r) = refl
 
 pub spaced_step : (text w : List ℕ) (ws : List (List ℕ)) → ((text ++ (32 ∷ [])) ++ w) ++ spaced ws ≡ text ++ spaced (w ∷ ws)
 unfolding spaced

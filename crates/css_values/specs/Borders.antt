@@ -2,7 +2,7 @@
 use Rattle.std.specs.Prelude.{Bool, ◌||◌, if◌then◌else◌, codes, Option, Some, None, ℤ, is_some}
 use Rattle.bk_num.specs.Units.{clamped}
 use Rattle.bk_num.specs.declared.values.Color.{Color}
-use Rattle.css_tok.specs.declared.front.CssKind.TheVariants as kind
+use Rattle.css_tok.specs.declared.kind.CssKind.TheVariants as kind
 use Rattle.css_tok.specs.Tokens.{Item}
 use Rattle.css_words.specs.Parser.{Parser, ◌>>=◌, ◌>>◌, pure, refuse, on_some, peek, advance}
 use Rattle.css_words.specs.Table.{find_word}

@@ -2,7 +2,7 @@
 use Rattle.std.specs.Prelude.{ℕ, ◌+◌, ◌*◌, ◌-◌, ◌==◌, if◌then◌else◌, List, length, slice_index, codes, Option, Some, None, ℤ, pos, unsigned_abs}
 use Rattle.std.specs.Int.{is_in_range, int_max, int_min}
 use Rattle.bk_num.specs.declared.values.Color.{Color}
-use Rattle.css_tok.specs.declared.front.CssKind.TheVariants as kind
+use Rattle.css_tok.specs.declared.kind.CssKind.TheVariants as kind
 use Rattle.css_words.specs.Parser.{Parser, ◌>>=◌, ◌>>◌, pure, refuse, on_some, peek, advance}
 use Rattle.css_words.specs.Words.{of_kind, is_named, value, expect, close}
 use Rattle.css_content.specs.Basics.{word_in, whole}

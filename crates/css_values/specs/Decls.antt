@@ -1,6 +1,6 @@
 -- Declarations: which longhands a property's value gives.
 use Rattle.std.specs.Prelude.{ℕ, if◌then◌else◌, List, [], ◌∷◌, codes, Option, Some, None}
-use Rattle.css_tok.specs.declared.front.CssKind.TheVariants as kind
+use Rattle.css_tok.specs.declared.kind.CssKind.TheVariants as kind
 use Rattle.css_tok.specs.Tokens.{Item, tokens_of}
 use Rattle.css_words.specs.Input.{kept}
 use Rattle.css_words.specs.Parser.{Parser, Outcome, ◌>>=◌, ◌>>◌, pure, refuse, on_some, peek, second, advance}

@@ -1,9 +1,9 @@
 -- Values of fonts and lines (CSS 2.1, 15 and 10.8.1).
 use Rattle.std.specs.Prelude.{ℕ, ◌==◌, ◌%◌, ◌||◌, if◌then◌else◌, List, [], ◌∷◌, ◌++◌, codes, Option, Some, None, pos, unsigned_abs, int_lt}
 use Rattle.bk_num.specs.Units.{clamped}
-use Rattle.css_tok.specs.declared.front.CssKind.TheVariants as kind
+use Rattle.css_tok.specs.declared.kind.CssKind.TheVariants as kind
 use Rattle.css_words.specs.Parser.{Parser, ◌>>=◌, ◌>>◌, pure, refuse, on_some, peek, advance}
-use Rattle.css_words.specs.Repeat.{many}
+use Rattle.css_words.specs.Repeat.{first_and, many}
 use Rattle.css_words.specs.Words.{of_kind, is_mark, is_named, ident, string}
 use Rattle.style.specs.declared.values.Measure.TheVariants as measure
 use Rattle.style.specs.declared.values.FontSize.{FontSize}
@@ -12,7 +12,7 @@ use Rattle.style.specs.declared.values.Weight.{Weight}
 use Rattle.style.specs.declared.values.Weight.TheVariants as weight
 use Rattle.style.specs.declared.values.GivenHeight.{GivenHeight}
 use Rattle.style.specs.declared.values.GivenHeight.TheVariants as height
-use Rattle.css_content.specs.Basics.{word_in, whole, first_and}
+use Rattle.css_content.specs.Basics.{word_in, whole}
 use Rattle.css_values.specs.Words.{sizes, weights}
 use Rattle.css_values.specs.Measures.{number_of, is_negative, read_measure, paddings}
 use Rattle.css_values.specs.declared.fonts.SizeWord.{SizeWord}

@@ -2,7 +2,7 @@
 use Rattle.std.specs.Prelude.{◌==◌, Bool, true, false, not, ◌&&◌, if◌then◌else◌, codes, Option, Some, None, option_map, pos, unsigned_abs, int_lt}
 use Rattle.bk_num.specs.Lengths.{part, units_per}
 use Rattle.bk_num.specs.Numbers.{Number}
-use Rattle.css_tok.specs.declared.front.CssKind.TheVariants as kind
+use Rattle.css_tok.specs.declared.kind.CssKind.TheVariants as kind
 use Rattle.css_tok.specs.Numbers.{is_numeric_kind, decimal_of, unit_of}
 use Rattle.css_tok.specs.Tokens.{Item}
 use Rattle.css_words.specs.Parser.{Parser, ◌>>=◌, ◌>>◌, pure, refuse, on_some, peek, advance}

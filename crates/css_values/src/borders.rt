@@ -11,7 +11,7 @@ use crate::colors::color_or;
 use crate::measures::{lengths, read_measure};
 use bk_num::px::Px;
 use bk_num::values::Color;
-use css_tok::front::CssKind;
+use css_tok::kind::CssKind;
 use css_tok::tokens::CssToken;
 use css_words::reader::Reader;
 use css_words::table::find_word;

@@ -8,7 +8,7 @@ ghost use Rattle.css_values.specs.Words as words;
 
 use bk_num::values::Color;
 use css_content::words::{whole, word_in};
-use css_tok::front::CssKind;
+use css_tok::kind::CssKind;
 use css_tok::lengths::byte;
 use css_words::reader::Reader;
 use css_words::unread::Unread;

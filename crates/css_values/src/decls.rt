@@ -13,7 +13,7 @@ use crate::shorthands::{read_shorthand, wide_shorthand};
 use crate::values::{Wide, read_value, wide_long};
 use bk_num::items::Items;
 use bk_num::name::NoMem;
-use css_tok::front::CssKind;
+use css_tok::kind::CssKind;
 use css_tok::tokens::CssToken;
 use css_words::reader::{Reader, Skipped};
 use css_words::table::find_word;

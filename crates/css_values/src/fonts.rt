@@ -2,7 +2,7 @@
 
 ghost use Rattle.std.specs.Prelude.{◌≡◌, ◌≤◌, ◌<◌, ◌∷◌, ◌++◌, [], length, IfOk, IfSome};
 ghost use Rattle.css_words.specs.Parser.{Reads, Owns};
-ghost use Rattle.css_words.specs.Repeat.{many, with_front};
+ghost use Rattle.css_words.specs.Repeat.{many, with_prefix};
 ghost use Rattle.css_content.specs.Basics.{word_in};
 ghost use Rattle.css_values.specs.Fonts as spec;
 ghost use Rattle.css_values.specs.Words as words;
@@ -12,7 +12,7 @@ use bk_num::decimal::Decimal;
 use bk_num::name::Name;
 use bk_num::px::Px;
 use css_content::words::{whole, word_in};
-use css_tok::front::CssKind;
+use css_tok::kind::CssKind;
 use css_words::reader::Reader;
 use css_words::unread::Unread;
 use css_words::words::{ident, is_mark, is_named, of_kind, string, value};
@@ -44,9 +44,9 @@ fn next_ident(alloc: Global, reader: &mut Reader<'_>) -> Result<Option<Name>, Un
 }
 
 /// The Idents that come next.
-#[tactic(auto, using(css_words::proofs::RepeatLemmas::many_goes, css_words::proofs::RepeatLemmas::many_stops, css_words::proofs::RepeatLemmas::many_fails))]
+#[tactic(auto, using(css_words::proofs::RepeatLemmas::many_turns))]
 fn idents(alloc: Global, reader: &mut Reader<'_>) -> Result<Vec<Name>, Unread>
-    ensures reads { Reads (λ x. x.items) (with_front [] (many spec.next_ident reader.old)) result reader.new }
+    ensures reads { Reads (λ x. x.items) (with_prefix [] (many spec.next_ident reader.old)) result reader.new }
     ensures within { length reader.new ≤ length reader.old }
 {
     let mut found = Vec::new(alloc);
@@ -74,7 +74,7 @@ fn joined(alloc: Global, first: &Name, more: &[Name]) -> Result<Name, Unread>
 }
 
 /// Reads a string, or Idents, which one space joins.
-#[tactic(auto, unfolding(crate::specs::Fonts::family), using(crate::proofs::FontLemmas::no_front))]
+#[tactic(auto, unfolding(crate::specs::Fonts::family), using(css_words::proofs::RepeatLemmas::no_prefix))]
 fn family(alloc: Global, reader: &mut Reader<'_>) -> Result<Name, Unread>
     ensures reads { Reads (λ x. x) (spec.family reader.old) result reader.new }
     ensures within { length reader.new ≤ length reader.old }
@@ -103,9 +103,9 @@ fn next_family(alloc: Global, reader: &mut Reader<'_>) -> Result<Option<Name>, U
 }
 
 /// Reads the families that follow a first one.
-#[tactic(auto, using(css_words::proofs::RepeatLemmas::many_goes, css_words::proofs::RepeatLemmas::many_stops, css_words::proofs::RepeatLemmas::many_fails))]
+#[tactic(auto, using(css_words::proofs::RepeatLemmas::many_turns))]
 fn more_families(alloc: Global, reader: &mut Reader<'_>, first: Name) -> Result<Families, Unread>
-    ensures { Reads (λ x. x) (with_front (first ∷ []) (many spec.next_family reader.old)) result reader.new }
+    ensures { Reads (λ x. x) (with_prefix (first ∷ []) (many spec.next_family reader.old)) result reader.new }
 {
     let mut found = Vec::new(alloc);
     found.push(first)?;

@@ -1,6 +1,5 @@
 //! Values that are words.
 
-ghost use Rattle.std.specs.Prelude.{◌≡◌};
 ghost use Rattle.css_words.specs.Parser.{Reads};
 ghost use Rattle.css_content.specs.Basics.{word_in};
 ghost use Rattle.css_values.specs.Words as spec;

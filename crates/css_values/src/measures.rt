@@ -10,7 +10,7 @@ ghost use Rattle.css_values.specs.Words.{scales};
 use bk_num::decimal::Decimal;
 use bk_num::length::{Unit, px_of};
 use bk_num::px::Px;
-use css_tok::front::CssKind;
+use css_tok::kind::CssKind;
 use css_tok::tokens::CssToken;
 use css_words::reader::Reader;
 use css_words::table::find_word;

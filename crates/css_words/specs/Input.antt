@@ -1,7 +1,7 @@
 -- What a reader has ahead: the tokens that are left, without those that separate and mean nothing else.
 use Rattle.std.specs.Prelude.{Bool, false, not, drop, List, Option, Some, None, filter}
 use Rattle.std.specs.List.{prefix_len}
-use Rattle.css_tok.specs.declared.front.CssKind.{CssKind}
+use Rattle.css_tok.specs.declared.kind.CssKind.{CssKind}
 use Rattle.css_tok.specs.Marks.{is_space_kind, is_comment_kind, is_gap_kind}
 use Rattle.css_tok.specs.Tokens.{Item}
 use Rattle.css_words.specs.declared.reader.Skipped.{Skipped}

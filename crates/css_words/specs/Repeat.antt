@@ -3,13 +3,17 @@ use Rattle.std.specs.Prelude.{ℕ, zero, suc, if◌then◌else◌, nat_lt, List,
 use Rattle.css_words.specs.Parser.{Outcome, Parser, and_then, ◌>>=◌, pure, refuse}
 
 -- values before those of an outcome
-abbrev pub with_front : {A : Type 0} → List A → Outcome (List A) → Outcome (List A)
-with_front xs None = None
-with_front xs (Some r) = Some (xs ++ r.0, r.1)
+abbrev pub with_prefix : {A : Type 0} → List A → Outcome (List A) → Outcome (List A)
+with_prefix xs None = None
+with_prefix xs (Some r) = Some (xs ++ r.0, r.1)
+
+-- a first value, and those that follow it
+abbrev pub first_and : {A : Type 0} → Parser A → Parser (List A) → Parser (List A)
+first_and p more = p >>= (λ x i. with_prefix (x ∷ []) (more i))
 
 abbrev pub found_then : {A : Type 0} → Parser (List A) → Option A → Parser (List A)
 found_then more None = pure []
-found_then more (Some x) = λ i. with_front (x ∷ []) (more i)
+found_then more (Some x) = λ i. with_prefix (x ∷ []) (more i)
 
 -- what a reader finds in a row until it finds none, and fewer than n of them: more have no reading
 unfoldable pub fewer_than : {A : Type 0} → ℕ → Parser (Option A) → Parser (List A)

@@ -1,8 +1,8 @@
 -- Tests on the next token, and words (css-syntax, 4).
 use Rattle.std.specs.Prelude.{ℕ, Bool, true, false, ◌&&◌, if◌then◌else◌, ◌==◌, List, [], slice_index, Option, Some, None}
 use Rattle.std.specs.Str.{str_to_ascii_lowercase}
-use Rattle.css_tok.specs.declared.front.CssKind.{CssKind}
-use Rattle.css_tok.specs.declared.front.CssKind.TheVariants as kind
+use Rattle.css_tok.specs.declared.kind.CssKind.{CssKind}
+use Rattle.css_tok.specs.declared.kind.CssKind.TheVariants as kind
 use Rattle.css_tok.specs.Tokens.{Item}
 use Rattle.css_tok.specs.Plain.{plain_of, is_word}
 use Rattle.css_tok.specs.Value.{value_slice}

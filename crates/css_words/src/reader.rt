@@ -6,7 +6,7 @@ ghost use Rattle.css_tok.specs.Tokens.{item_in, tokens_of};
 ghost use Rattle.css_words.specs.Ahead.{before, NoneEnds};
 ghost use Rattle.css_words.specs.Input as spec;
 
-use css_tok::front::CssKind;
+use css_tok::kind::CssKind;
 use css_tok::tokens::{CssToken, CssTokens};
 use std::marker::Model;
 

@@ -1,4 +1,4 @@
--- The trees whose solids are handed out so far.
+-- The trees of plain texts.
 use Rattle.std.specs.Prelude.{◌≡◌, ℕ, ◌<◌, List, length, Some, slice_get}
 use Rattle.metrics.specs.Face.{FontFace}
 use Rattle.boxes.specs.Tree.{Tree}

@@ -1,28 +1,54 @@
 -- The rows of a tree and the numbers of their parents.
-use Rattle.std.proofs.Common.{◌≡◌, ℕ, ◌+◌, ◌<◌, ◌≤◌, Bool, true, false, nat_le, ◌&&◌, IsTrue, List, [], ◌∷◌, ◌++◌, Option, None, Some, IfSome, map, length, length-append, length-drop, take, drop, slice_get, slice_set, get_or, option_map, cond, refl, sym, ◌∙◌, ap, subst, arith, ◌⊎◌, inl, inr, ◌==◌, add-zero, is_some, suc, zero, if◌then◌else◌}
+use Rattle.std.proofs.Common.{◌≡◌, ℕ, ◌+◌, ◌<◌, ◌≤◌, Bool, true, false, nat_le, ◌&&◌, IsTrue, List, [], ◌∷◌, ◌++◌, Option, None, Some, IfSome, length, length-append, length-drop, take, drop, slice_get, slice_set, get_or, option_map, cond, refl, sym, ◌∙◌, ap, subst, arith, ◌⊎◌, inl, inr, ◌==◌, add-zero, is_some, suc, zero, if◌then◌else◌}
 use Rattle.std.proofs.lemmas.Map.Views.{exact_unsigned_eq}
 use Rattle.std.proofs.lemmas.Bool.Decides.{nat_tests}
 use Rattle.std.proofs.lemmas.Bool.{eq-eqb}
 use Rattle.std.proofs.lemmas.List.{drop-append-le, take-append-le, map-append, length-map}
-use Rattle.std.proofs.Math.ListN.{drop_of_length-le}
+use Rattle.std.proofs.Math.ListN.{drop_of_length-le, length-set}
 use Rattle.std.proofs.Math.Seq.{take-length}
 use Rattle.std.proofs.lemmas.Option.{slice_get-map, slice_get_read, slice_get_within}
-use Rattle.dom.specs.Nodes.{Node, is_at, first_of, first_from, last_from, parents_of, parent_at, flat, first_child_of, last_child_of, next_under, prev_under, next_of, prev_of, depth_of, depth_at, reach_of, is_element, is_element_at, is_element_node, element_parent, element_parents_of, element_count, elements_under, elements_before_of, IsTree, HasPlace}
-use Rattle.dom.specs.declared.rows.NodeData.{NodeData}
+use Rattle.dom.specs.Nodes.{Node, NodeData, root, changed_at, is_at, first_of, first_from, last_from, parents_of, parent_at, flat, last_child_of, next_under, prev_under, depth_of, depth_at, reach_of, is_element, is_element_at, is_element_node, element_parent, element_parents_of, element_count, elements_under, IsTree, HasPlace}
 use Rattle.dom.specs.declared.rows.Row.{Row}
-use Rattle.dom.specs.Links.{change, changed, linked_before, linked_at}
-use Rattle.dom.specs.DomFields.{node_of, parents_in, elements_in, IsLinked, AreSound}
+use Rattle.dom.specs.Links.{IsRowOf, root_row, change, linked_before, linked_at}
+use Rattle.dom.specs.DomFields.{node_of, joined, IsLinked, AreSound}
 use Rattle.dom.specs.Answers.{is_too_deep}
 use Rattle.std.specs.List.{count_by}
 use Rattle.std.proofs.lemmas.List.Sums.{sum_by-append, count_by-le-length}
 
+abbrev pub parents_in : List Row → List NodeData → List (Option ℕ)
+parents_in rows whats = parents_of (joined rows whats)
+
+abbrev pub elements_in : List Row → List NodeData → List (Option ℕ)
+elements_in rows whats = element_parents_of (joined rows whats)
+
+pub length-joined : (rows : List Row) (whats : List NodeData) → length whats ≡ length rows → length (joined rows whats) ≡ length rows
+length-joined [] whats l = refl
+length-joined (r ∷ rows) [] l = absurd (omega arith)
+length-joined (r ∷ rows) (what ∷ whats) l = ap (λ n. suc n) (length-joined rows whats (omega arith))
+
+-- the node of a row
+pub get-joined : (rows : List Row) (whats : List NodeData) (k : ℕ) (r : Row) → length whats ≡ length rows → slice_get rows k ≡ Some r → (what : NodeData) × (slice_get whats k ≡ Some what) × (slice_get (joined rows whats) k ≡ Some (node_of r what))
+get-joined [] whats k r l h = cc
+get-joined (a ∷ rows) [] k r l h = absurd (omega arith)
+get-joined (a ∷ rows) (what ∷ whats) zero r l h = (let e : a ≡ r = cc in (what, refl, ap (λ x. Some (node_of x what)) e))
+get-joined (a ∷ rows) (what ∷ whats) (suc k) r l h = get-joined rows whats k r (omega arith) h
+
+pub joined-push : (rows : List Row) (whats : List NodeData) (r : Row) (what : NodeData) → length whats ≡ length rows → joined (rows ++ r ∷ []) (whats ++ what ∷ []) ≡ joined rows whats ++ node_of r what ∷ []
+joined-push [] [] r what l = refl
+joined-push [] (w ∷ whats) r what l = absurd (omega arith)
+joined-push (a ∷ rows) [] r what l = absurd (omega arith)
+joined-push (a ∷ rows) (w ∷ whats) r what l = ap (λ ns. node_of a w ∷ ns) (joined-push rows whats r what (omega arith))
+
 -- the parent's number of a row
-pub parent_of-row : (rows : List Row) (k : ℕ) (r : Row) → slice_get rows k ≡ Some r → parent_at (parents_in rows) k ≡ r.parent
-parent_of-row rows k r h = ap flat (slice_get-map (λ (n : Node). n.parent) (map node_of rows) k ∙ ap (option_map (λ (n : Node). n.parent)) (slice_get-map node_of rows k ∙ ap (option_map node_of) h))
+pub parent-in : (rows : List Row) (whats : List NodeData) (k : ℕ) (r : Row) → length whats ≡ length rows → slice_get rows k ≡ Some r → slice_get (parents_in rows whats) k ≡ Some r.parent
+parent-in rows whats k r l h = (let g = get-joined rows whats k r l h in slice_get-map (λ (n : Node). n.parent) (joined rows whats) k ∙ ap (option_map (λ (n : Node). n.parent)) g.2)
+
+pub parent_of-row : (rows : List Row) (whats : List NodeData) (k : ℕ) (r : Row) → length whats ≡ length rows → slice_get rows k ≡ Some r → parent_at (parents_in rows whats) k ≡ r.parent
+parent_of-row rows whats k r l h = ap flat (parent-in rows whats k r l h)
 
 -- the row that is read, with its links
-pub linked-row : (rows : List Row) (k : ℕ) (r : Row) → AreSound rows → k < length rows → r ≡ get_or rows k r → IsLinked (parents_in rows) (elements_in rows) k r
-linked-row rows k r sound h e = sound.linked k r (slice_get_read rows (length rows) k r refl h e)
+pub linked-row : (rows : List Row) (whats : List NodeData) (k : ℕ) (r : Row) → AreSound rows whats → k < length rows → r ≡ get_or rows k r → IsLinked (parents_in rows whats) (elements_in rows whats) k r
+linked-row rows whats k r sound h e = sound.linked k r (slice_get_read rows (length rows) k r refl h e)
 
 -- one more node: the first and the last of a parent's children
 pub first-push : (p : ℕ) (ps : List (Option ℕ)) (q : Option ℕ) (k : ℕ) → first_from p (ps ++ q ∷ []) k ≡ first_of (first_from p ps k) (cond (is_at p q) (Some (k + length ps)) None)
@@ -129,7 +155,7 @@ get-keep [] ys k x h = cc
 get-keep (a ∷ xs) ys zero x h = h
 get-keep (a ∷ xs) ys (suc k) x h = get-keep xs ys k x h
 
-get-end : {A : Type 0} (xs : List A) (x : A) → slice_get (xs ++ x ∷ []) (length xs) ≡ Some x
+pub get-end : {A : Type 0} (xs : List A) (x : A) → slice_get (xs ++ x ∷ []) (length xs) ≡ Some x
 get-end [] x = refl
 get-end (a ∷ xs) x = get-end xs x
 
@@ -240,7 +266,7 @@ next-step ps p k n (Some s) last old new len g l o change =
 pub get-change : (f : Row → Row) (rows : List Row) (i k : ℕ) (r : Row) → slice_get (change f rows i) k ≡ Some r → (old : Row) × (slice_get rows k ≡ Some old) × (((k ≡ i) × (r ≡ f old)) ⊎ ((k ≡ i → ⊥) × (r ≡ old)))
 get-change f rows i k r h = by (slice_get rows i) refl h
   where
-    by : (o : Option Row) → slice_get rows i ≡ o → slice_get (changed f rows i o) k ≡ Some r → (old : Row) × (slice_get rows k ≡ Some old) × (((k ≡ i) × (r ≡ f old)) ⊎ ((k ≡ i → ⊥) × (r ≡ old)))
+    by : (o : Option Row) → slice_get rows i ≡ o → slice_get (changed_at f rows i o) k ≡ Some r → (old : Row) × (slice_get rows k ≡ Some old) × (((k ≡ i) × (r ≡ f old)) ⊎ ((k ≡ i → ⊥) × (r ≡ old)))
     by None e g = (r, g, inr (λ s. let z : slice_get rows i ≡ Some r = subst (λ j. slice_get rows j ≡ Some r) s g in cc, refl))
     by (Some a) e g = of (get-set rows i k (f a) r g)
       where
@@ -249,27 +275,39 @@ get-change f rows i k r h = by (slice_get rows i) refl h
         of (old, at, inr (n, v)) = (old, at, inr (n, v))
 
 -- a change of links leaves the nodes
-pub nodes-set : (rows : List Row) (i : ℕ) (r y : Row) → slice_get rows i ≡ Some r → node_of y ≡ node_of r → map node_of (slice_set rows i y) ≡ map node_of rows
-nodes-set [] i r y h e = refl
-nodes-set (a ∷ rows) zero r y h e = let s : a ≡ r = cc in ap (λ n. n ∷ map node_of rows) (e ∙ ap node_of (sym s))
-nodes-set (a ∷ rows) (suc i) r y h e = ap (λ l. node_of a ∷ l) (nodes-set rows i r y h e)
+nodes-set : (rows : List Row) (whats : List NodeData) (i : ℕ) (r y : Row) → slice_get rows i ≡ Some r → ((what : NodeData) → node_of y what ≡ node_of r what) → joined (slice_set rows i y) whats ≡ joined rows whats
+nodes-set [] whats i r y h e = refl
+nodes-set (a ∷ rows) [] zero r y h e = refl
+nodes-set (a ∷ rows) [] (suc i) r y h e = refl
+nodes-set (a ∷ rows) (what ∷ whats) zero r y h e = let s : a ≡ r = cc in ap (λ n. n ∷ joined rows whats) (e what ∙ ap (λ x. node_of x what) (sym s))
+nodes-set (a ∷ rows) (what ∷ whats) (suc i) r y h e = ap (λ l. node_of a what ∷ l) (nodes-set rows whats i r y h e)
 
-pub nodes-change : (f : Row → Row) (rows : List Row) (i : ℕ) → ((r : Row) → node_of (f r) ≡ node_of r) → map node_of (change f rows i) ≡ map node_of rows
-nodes-change f rows i same = by (slice_get rows i) refl
+nodes-change : (f : Row → Row) (rows : List Row) (whats : List NodeData) (i : ℕ) → ((r : Row) (what : NodeData) → node_of (f r) what ≡ node_of r what) → joined (change f rows i) whats ≡ joined rows whats
+nodes-change f rows whats i same = by (slice_get rows i) refl
   where
-    by : (o : Option Row) → slice_get rows i ≡ o → map node_of (changed f rows i o) ≡ map node_of rows
+    by : (o : Option Row) → slice_get rows i ≡ o → joined (changed_at f rows i o) whats ≡ joined rows whats
     by None e = refl
-    by (Some r) e = nodes-set rows i r (f r) e (same r)
+    by (Some r) e = nodes-set rows whats i r (f r) e (same r)
 
-pub nodes-linked : (rows : List Row) (p : ℕ) (last : Option ℕ) (n m : ℕ) → map node_of (linked_at rows p last n m) ≡ map node_of rows
-nodes-linked rows p None n m = nodes-change (λ r. record r { last_child = Some n; elements = m }) (linked_before rows p None n) p (λ r. refl) ∙ nodes-change (λ r. record r { first_child = Some n }) rows p (λ r. refl)
-nodes-linked rows p (Some l) n m = nodes-change (λ r. record r { last_child = Some n; elements = m }) (linked_before rows p (Some l) n) p (λ r. refl) ∙ nodes-change (λ r. record r { next = Some n }) rows l (λ r. refl)
+pub nodes-linked : (rows : List Row) (whats : List NodeData) (p : ℕ) (last : Option ℕ) (n m : ℕ) → joined (linked_at rows p last n m) whats ≡ joined rows whats
+nodes-linked rows whats p None n m = nodes-change (λ r. record r { last_child = Some n; elements = m }) (linked_before rows p None n) whats p (λ r what. refl) ∙ nodes-change (λ r. record r { first_child = Some n }) rows whats p (λ r what. refl)
+nodes-linked rows whats p (Some l) n m = nodes-change (λ r. record r { last_child = Some n; elements = m }) (linked_before rows p (Some l) n) whats p (λ r what. refl) ∙ nodes-change (λ r. record r { next = Some n }) rows whats l (λ r what. refl)
+
+length-change : (f : Row → Row) (rows : List Row) (i : ℕ) → length (change f rows i) ≡ length rows
+length-change f rows i = by (slice_get rows i)
+  where
+    by : (o : Option Row) → length (changed_at f rows i o) ≡ length rows
+    by None = refl
+    by (Some r) = simp length-set
+
+pub length-linked : (rows : List Row) (p : ℕ) (last : Option ℕ) (n m : ℕ) → length (linked_at rows p last n m) ≡ length rows
+length-linked rows p None n m = length-change (λ r. record r { last_child = Some n; elements = m }) (linked_before rows p None n) p ∙ length-change (λ r. record r { first_child = Some n }) rows p
+length-linked rows p (Some l) n m = length-change (λ r. record r { last_child = Some n; elements = m }) (linked_before rows p (Some l) n) p ∙ length-change (λ r. record r { next = Some n }) rows l
 
 -- what an added child changes in a row
 pub record Changes (p : ℕ) (last : Option ℕ) (n m k : ℕ) (old new : Row) : Type 0 where
   pub parent : new.parent ≡ old.parent
   pub depth : new.depth ≡ old.depth
-  pub what : new.what ≡ old.what
   pub prev : new.prev ≡ old.prev
   pub before : new.elements_before ≡ old.elements_before
   pub elements : ((k ≡ p) × (new.elements ≡ m)) ⊎ ((k ≡ p → ⊥) × (new.elements ≡ old.elements))
@@ -289,7 +327,6 @@ get-linked rows p None n m k r h = by (get-change (λ r. record r { last_child =
           g,
           record {
             parent = ap (λ (x : Row). x.parent) v ∙ ap (λ (x : Row). x.parent) w;
-            what = ap (λ (x : Row). x.what) v ∙ ap (λ (x : Row). x.what) w;
             depth = ap (λ (x : Row). x.depth) v ∙ ap (λ (x : Row). x.depth) w;
             prev = ap (λ (x : Row). x.prev) v ∙ ap (λ (x : Row). x.prev) w;
             before = ap (λ (x : Row). x.elements_before) v ∙ ap (λ (x : Row). x.elements_before) w;
@@ -306,7 +343,6 @@ get-linked rows p None n m k r h = by (get-change (λ r. record r { last_child =
           g,
           record {
             parent = ap (λ (x : Row). x.parent) v ∙ ap (λ (x : Row). x.parent) w;
-            what = ap (λ (x : Row). x.what) v ∙ ap (λ (x : Row). x.what) w;
             depth = ap (λ (x : Row). x.depth) v ∙ ap (λ (x : Row). x.depth) w;
             prev = ap (λ (x : Row). x.prev) v ∙ ap (λ (x : Row). x.prev) w;
             before = ap (λ (x : Row). x.elements_before) v ∙ ap (λ (x : Row). x.elements_before) w;
@@ -327,7 +363,6 @@ get-linked rows p (Some l) n m k r h = by (get-change (λ r. record r { last_chi
           g,
           record {
             parent = ap (λ (x : Row). x.parent) v ∙ ap (λ (x : Row). x.parent) w;
-            what = ap (λ (x : Row). x.what) v ∙ ap (λ (x : Row). x.what) w;
             depth = ap (λ (x : Row). x.depth) v ∙ ap (λ (x : Row). x.depth) w;
             prev = ap (λ (x : Row). x.prev) v ∙ ap (λ (x : Row). x.prev) w;
             before = ap (λ (x : Row). x.elements_before) v ∙ ap (λ (x : Row). x.elements_before) w;
@@ -342,7 +377,6 @@ get-linked rows p (Some l) n m k r h = by (get-change (λ r. record r { last_chi
           g,
           record {
             parent = ap (λ (x : Row). x.parent) v ∙ ap (λ (x : Row). x.parent) w;
-            what = ap (λ (x : Row). x.what) v ∙ ap (λ (x : Row). x.what) w;
             depth = ap (λ (x : Row). x.depth) v ∙ ap (λ (x : Row). x.depth) w;
             prev = ap (λ (x : Row). x.prev) v ∙ ap (λ (x : Row). x.prev) w;
             before = ap (λ (x : Row). x.elements_before) v ∙ ap (λ (x : Row). x.elements_before) w;
@@ -357,7 +391,6 @@ get-linked rows p (Some l) n m k r h = by (get-change (λ r. record r { last_chi
           g,
           record {
             parent = ap (λ (x : Row). x.parent) v ∙ ap (λ (x : Row). x.parent) w;
-            what = ap (λ (x : Row). x.what) v ∙ ap (λ (x : Row). x.what) w;
             depth = ap (λ (x : Row). x.depth) v ∙ ap (λ (x : Row). x.depth) w;
             prev = ap (λ (x : Row). x.prev) v ∙ ap (λ (x : Row). x.prev) w;
             before = ap (λ (x : Row). x.elements_before) v ∙ ap (λ (x : Row). x.elements_before) w;
@@ -372,7 +405,6 @@ get-linked rows p (Some l) n m k r h = by (get-change (λ r. record r { last_chi
           g,
           record {
             parent = ap (λ (x : Row). x.parent) v ∙ ap (λ (x : Row). x.parent) w;
-            what = ap (λ (x : Row). x.what) v ∙ ap (λ (x : Row). x.what) w;
             depth = ap (λ (x : Row). x.depth) v ∙ ap (λ (x : Row). x.depth) w;
             prev = ap (λ (x : Row). x.prev) v ∙ ap (λ (x : Row). x.prev) w;
             before = ap (λ (x : Row). x.elements_before) v ∙ ap (λ (x : Row). x.elements_before) w;
@@ -384,34 +416,24 @@ get-linked rows p (Some l) n m k r h = by (get-change (λ r. record r { last_chi
         )
 
 -- the row of a new child
-pub record IsNewRow (nodes : List Node) (es : List (Option ℕ)) (p : ℕ) (behind : Option ℕ) (r : Row) : Type 0 where
+pub record IsNewRow (nodes : List Node) (es : List (Option ℕ)) (p : ℕ) (earlier : Option ℕ) (r : Row) : Type 0 where
   pub parent : r.parent ≡ Some p
   pub depth : r.depth ≡ depth_at nodes p + 1
-  pub deep : reach_of r.depth r.what ≤ 201
   pub first : r.first_child ≡ None
   pub last : r.last_child ≡ None
   pub next : r.next ≡ None
-  pub prev : r.prev ≡ behind
+  pub prev : r.prev ≡ earlier
   pub before : r.elements_before ≡ element_count es p
   pub elements : r.elements ≡ 0
 
-pub nodes-added : (rows : List Row) (p : ℕ) (last : Option ℕ) (n m : ℕ) (new : Row) → map node_of (linked_at (rows ++ new ∷ []) p last n m) ≡ map node_of rows ++ node_of new ∷ []
-nodes-added rows p last n m new = nodes-linked (rows ++ new ∷ []) p last n m ∙ map-append node_of rows (new ∷ [])
+pub nodes-added : (rows : List Row) (whats : List NodeData) (p : ℕ) (last : Option ℕ) (n m : ℕ) (new : Row) (what : NodeData) → length whats ≡ length rows → joined (linked_at (rows ++ new ∷ []) p last n m) (whats ++ what ∷ []) ≡ joined rows whats ++ node_of new what ∷ []
+nodes-added rows whats p last n m new what l = nodes-linked (rows ++ new ∷ []) (whats ++ what ∷ []) p last n m ∙ joined-push rows whats new what l
 
-pub parents-added : (rows : List Row) (p : ℕ) (last : Option ℕ) (n m : ℕ) (new : Row) → new.parent ≡ Some p → parents_in (linked_at (rows ++ new ∷ []) p last n m) ≡ parents_in rows ++ Some p ∷ []
-parents-added rows p last n m new e = ap parents_of (nodes-added rows p last n m new) ∙ map-append (λ (x : Node). x.parent) (map node_of rows) (node_of new ∷ []) ∙ ap (λ q. parents_in rows ++ q ∷ []) e
+pub length-parents : (rows : List Row) (whats : List NodeData) → length whats ≡ length rows → length (parents_in rows whats) ≡ length rows
+length-parents rows whats l = (let j = length-joined rows whats l in simp length-map j)
 
-pub elements-added : (rows : List Row) (p : ℕ) (last : Option ℕ) (n m : ℕ) (new : Row) → elements_in (linked_at (rows ++ new ∷ []) p last n m) ≡ elements_in rows ++ element_parent (node_of new) ∷ []
-elements-added rows p last n m new = ap element_parents_of (nodes-added rows p last n m new) ∙ map-append element_parent (map node_of rows) (node_of new ∷ [])
-
-pub length-parents : (rows : List Row) → length (parents_in rows) ≡ length rows
-length-parents rows = simp length-map
-
-pub length-elements : (rows : List Row) → length (elements_in rows) ≡ length rows
-length-elements rows = simp length-map
-
-pub parent-in : (rows : List Row) (k : ℕ) (r : Row) → slice_get rows k ≡ Some r → slice_get (parents_in rows) k ≡ Some r.parent
-parent-in rows k r h = slice_get-map (λ (n : Node). n.parent) (map node_of rows) k ∙ ap (option_map (λ (n : Node). n.parent)) (slice_get-map node_of rows k ∙ ap (option_map node_of) h)
+pub length-elements : (rows : List Row) (whats : List NodeData) → length whats ≡ length rows → length (elements_in rows whats) ≡ length rows
+length-elements rows whats l = (let j = length-joined rows whats l in simp length-map j)
 
 pub prev-step : (ps : List (Option ℕ)) (k : ℕ) (q x : Option ℕ) → k ≤ length ps → prev_under (ps ++ x ∷ []) k q ≡ prev_under ps k q
 prev-step ps k None x h = refl
@@ -486,7 +508,7 @@ parent-falls nodes t k q h = by (slice_get nodes k) refl (sym (slice_get-map (λ
     by None e g = cc
     by (Some n) e g = let parent : n.parent ≡ Some q = cc in (subst (λ o. HasPlace nodes k n o) parent (t.placed k n e)).0
 
-depth-push : (nodes : List Node) (x : Node) (p : ℕ) → p < length nodes → depth_at (nodes ++ x ∷ []) p ≡ depth_at nodes p
+pub depth-push : (nodes : List Node) (x : Node) (p : ℕ) → p < length nodes → depth_at (nodes ++ x ∷ []) p ≡ depth_at nodes p
 depth-push nodes x p h = ap depth_of (get-before nodes x p h)
 
 element-push : (nodes : List Node) (x : Node) (p : ℕ) → p < length nodes → is_element_at (nodes ++ x ∷ []) p ≡ is_element_at nodes p
@@ -582,83 +604,100 @@ linked-new nodes ps es p m added last new r falls within size h l n c = record {
     elements (inr (other, v)) = v ∙ n.elements ∙ sym (no-count (length ps) (es ++ added ∷ []) (λ j g. no-place ps p falls h j (within j (length ps) g)))
 
 -- what is asked of a new child of p, whose number of element children becomes m
-pub record IsAdded (rows : List Row) (p : ℕ) (last : Option ℕ) (m : ℕ) (new : Row) : Type 0 where
+pub record IsAdded (rows : List Row) (whats : List NodeData) (p : ℕ) (last : Option ℕ) (m : ℕ) (new : Row) (what : NodeData) : Type 0 where
   pub inside : p < length rows
   pub few : length rows < 400000
-  pub element : is_element_at (map node_of rows) p ≡ true
-  pub last_is : last ≡ last_child_of (parents_in rows) p
-  pub count : m ≡ element_count (elements_in rows) p + cond (is_element new.what) 1 0
-  pub new_row : IsNewRow (map node_of rows) (elements_in rows) p last new
+  pub element : is_element_at (joined rows whats) p ≡ true
+  pub last_is : last ≡ last_child_of (parents_in rows whats) p
+  pub count : m ≡ element_count (elements_in rows whats) p + cond (is_element what) 1 0
+  pub deep : reach_of new.depth what ≤ 201
+  pub new_row : IsNewRow (joined rows whats) (elements_in rows whats) p last new
 
-pub sound-add : (rows : List Row) (p : ℕ) (last : Option ℕ) (m : ℕ) (new : Row) → AreSound rows → IsAdded rows p last m new → AreSound (linked_at (rows ++ new ∷ []) p last (length rows) m)
-sound-add rows p last m new sound a = record {
-  tree = rw (nodes-added rows p last (length rows) m new) (tree-push (map node_of rows) p (node_of new) sound.tree (omega (arith, a.inside, nodes)) (omega (arith, a.few, nodes)) a.element a.new_row.parent a.new_row.depth a.new_row.deep);
-  linked = rw (ps, es) linked;
+pub sound-add : (rows : List Row) (whats : List NodeData) (p : ℕ) (last : Option ℕ) (m : ℕ) (new : Row) (what : NodeData) → AreSound rows whats → IsAdded rows whats p last m new what → AreSound (linked_at (rows ++ new ∷ []) p last (length rows) m) (whats ++ what ∷ [])
+sound-add rows whats p last m new what sound a = record {
+  count = length-append whats (what ∷ []) ∙ ap (λ n. n + 1) sound.count ∙ sym (length-append rows (new ∷ [])) ∙ sym (length-linked (rows ++ new ∷ []) p last (length rows) m);
+  tree = rw nodes (tree-push (joined rows whats) p (node_of new what) sound.tree (omega (arith, a.inside, size)) (omega (arith, a.few, size)) a.element a.new_row.parent a.new_row.depth a.deep);
+  linked = rw nodes (rw (ps, es) linked);
 }
   where
-    nodes : length (map node_of rows) ≡ length rows
-    nodes = simp length-map
+    nodes : joined (linked_at (rows ++ new ∷ []) p last (length rows) m) (whats ++ what ∷ []) ≡ joined rows whats ++ node_of new what ∷ []
+    nodes = nodes-added rows whats p last (length rows) m new what sound.count
 
-    ps : parents_in (linked_at (rows ++ new ∷ []) p last (length rows) m) ≡ parents_in rows ++ Some p ∷ []
-    ps = parents-added rows p last (length rows) m new a.new_row.parent
+    size : length (joined rows whats) ≡ length rows
+    size = length-joined rows whats sound.count
 
-    parent : element_parent (node_of new) ≡ (if is_element new.what then Some p else None)
-    parent = ap (λ (o : Option ℕ). if is_element new.what then o else None) a.new_row.parent
+    ps : parents_of (joined rows whats ++ node_of new what ∷ []) ≡ parents_in rows whats ++ Some p ∷ []
+    ps = map-append (λ (x : Node). x.parent) (joined rows whats) (node_of new what ∷ []) ∙ ap (λ q. parents_in rows whats ++ q ∷ []) a.new_row.parent
 
-    es : elements_in (linked_at (rows ++ new ∷ []) p last (length rows) m) ≡ elements_in rows ++ (if is_element new.what then Some p else None) ∷ []
-    es = elements-added rows p last (length rows) m new ∙ ap (λ q. elements_in rows ++ q ∷ []) parent
+    parent : element_parent (node_of new what) ≡ (if is_element what then Some p else None)
+    parent = ap (λ (o : Option ℕ). if is_element what then o else None) a.new_row.parent
 
-    size : length (elements_in rows) ≡ length (parents_in rows)
-    size = length-elements rows ∙ sym (length-parents rows)
+    es : element_parents_of (joined rows whats ++ node_of new what ∷ []) ≡ elements_in rows whats ++ (if is_element what then Some p else None) ∷ []
+    es = map-append element_parent (joined rows whats) (node_of new what ∷ []) ∙ ap (λ q. elements_in rows whats ++ q ∷ []) parent
 
-    linked : (k : ℕ) (r : Row) → slice_get (linked_at (rows ++ new ∷ []) p last (length rows) m) k ≡ Some r → IsLinked (parents_in rows ++ Some p ∷ []) (elements_in rows ++ (if is_element new.what then Some p else None) ∷ []) k r
+    same_size : length (elements_in rows whats) ≡ length (parents_in rows whats)
+    same_size = length-elements rows whats sound.count ∙ sym (length-parents rows whats sound.count)
+
+    linked : (k : ℕ) (r : Row) → slice_get (linked_at (rows ++ new ∷ []) p last (length rows) m) k ≡ Some r → IsLinked (parents_in rows whats ++ Some p ∷ []) (elements_in rows whats ++ (if is_element what then Some p else None) ∷ []) k r
     linked k r h = by (get-linked (rows ++ new ∷ []) p last (length rows) m k r h)
       where
-        by : ((old : Row) × (slice_get (rows ++ new ∷ []) k ≡ Some old) × Changes p last (length rows) m k old r) → IsLinked (parents_in rows ++ Some p ∷ []) (elements_in rows ++ (if is_element new.what then Some p else None) ∷ []) k r
+        by : ((old : Row) × (slice_get (rows ++ new ∷ []) k ≡ Some old) × Changes p last (length rows) m k old r) → IsLinked (parents_in rows whats ++ Some p ∷ []) (elements_in rows whats ++ (if is_element what then Some p else None) ∷ []) k r
         by (old, at, c) = of (get-push rows new old k at)
           where
-            count : length rows ≡ length (parents_in rows)
-            count = sym (length-parents rows)
+            count : length rows ≡ length (parents_in rows whats)
+            count = sym (length-parents rows whats sound.count)
 
-            same : Changes p last (length (parents_in rows)) m k old r
+            same : Changes p last (length (parents_in rows whats)) m k old r
             same = subst (λ i. Changes p last i m k old r) count c
 
-            of : ((k ≡ length rows) × (old ≡ new)) ⊎ (slice_get rows k ≡ Some old) → IsLinked (parents_in rows ++ Some p ∷ []) (elements_in rows ++ (if is_element new.what then Some p else None) ∷ []) k r
-            of (inl (e, v)) = subst (λ i. IsLinked (parents_in rows ++ Some p ∷ []) (elements_in rows ++ (if is_element new.what then Some p else None) ∷ []) i r) (sym (e ∙ count))
-                (linked-new (map node_of rows) (parents_in rows) (elements_in rows) p m (if is_element new.what then Some p else None) last new r (parent-falls (map node_of rows) sound.tree) (elements-push (map node_of rows) p (is_element new.what)) size (omega (arith, a.inside, length-parents rows)) a.last_is a.new_row
-                (subst (λ i. Changes p last (length (parents_in rows)) m i new r) (e ∙ count) (subst (λ o. Changes p last (length (parents_in rows)) m k o r) v same)))
-            of (inr g) = linked-old (parents_in rows) (elements_in rows) p k m (is_element new.what) last old r (parent-in rows k old g) size a.last_is a.count (sound.linked k old g) same
+            of : ((k ≡ length rows) × (old ≡ new)) ⊎ (slice_get rows k ≡ Some old) → IsLinked (parents_in rows whats ++ Some p ∷ []) (elements_in rows whats ++ (if is_element what then Some p else None) ∷ []) k r
+            of (inl (e, v)) = subst (λ i. IsLinked (parents_in rows whats ++ Some p ∷ []) (elements_in rows whats ++ (if is_element what then Some p else None) ∷ []) i r) (sym (e ∙ count))
+                (linked-new (joined rows whats) (parents_in rows whats) (elements_in rows whats) p m (if is_element what then Some p else None) last new r (parent-falls (joined rows whats) sound.tree) (elements-push (joined rows whats) p (is_element what)) same_size (omega (arith, a.inside, length-parents rows whats sound.count)) a.last_is a.new_row
+                (subst (λ i. Changes p last (length (parents_in rows whats)) m i new r) (e ∙ count) (subst (λ o. Changes p last (length (parents_in rows whats)) m k o r) v same)))
+            of (inr g) = linked-old (parents_in rows whats) (elements_in rows whats) p k m (is_element what) last old r (parent-in rows whats k old sound.count g) same_size a.last_is a.count (sound.linked k old g) same
+
+pub few-elements : (rows : List Row) (whats : List NodeData) (k : ℕ) → AreSound rows whats → element_count (elements_in rows whats) k ≤ 400000
+few-elements rows whats k s = let l = count_by-le-length (is_at k) (elements_in rows whats) in let n = s.tree.few in let m = length-joined rows whats s.count in omega (arith, length-elements rows whats s.count)
 
 -- what the readers of a node give
-pub read-parent : (rows : List Row) (k : ℕ) (r : Row) → k < length rows → r ≡ get_or rows k r → r.parent ≡ parent_at (parents_in rows) k
-read-parent rows k r h e = sym (parent_of-row rows k r (slice_get_read rows (length rows) k r refl h e))
+module _ (rows : List Row) (whats : List NodeData) (k : ℕ) (r : Row) (s : AreSound rows whats) (h : k < length rows) (e : r ≡ get_or rows k r) where
+  row-at : slice_get rows k ≡ Some r
+  row-at = slice_get_read rows (length rows) k r refl h e
 
-pub read-first : (rows : List Row) (k : ℕ) (r : Row) → AreSound rows → k < length rows → r ≡ get_or rows k r → r.first_child ≡ first_child_of (parents_in rows) k
-read-first rows k r s h e = (linked-row rows k r s h e).first
+  node-at : (what : NodeData) × (slice_get whats k ≡ Some what) × (slice_get (joined rows whats) k ≡ Some (node_of r what))
+  node-at = get-joined rows whats k r s.count row-at
 
-pub read-next : (rows : List Row) (k : ℕ) (r : Row) → AreSound rows → k < length rows → r ≡ get_or rows k r → r.next ≡ next_of (parents_in rows) k
-read-next rows k r s h e = (linked-row rows k r s h e).next ∙ ap (next_under (parents_in rows) k) (read-parent rows k r h e)
+  read-parent : r.parent ≡ parent_at (parents_in rows whats) k
+  read-parent = sym (parent_of-row rows whats k r s.count row-at)
 
-pub read-prev : (rows : List Row) (k : ℕ) (r : Row) → AreSound rows → k < length rows → r ≡ get_or rows k r → r.prev ≡ prev_of (parents_in rows) k
-read-prev rows k r s h e = (linked-row rows k r s h e).prev ∙ ap (prev_under (parents_in rows) k) (read-parent rows k r h e)
+  pub read-row : IsRowOf (joined rows whats) k r
+  read-row = record {
+    parent = read-parent;
+    depth = sym (ap depth_of node-at.2);
+    first = (s.linked k r row-at).first;
+    last = (s.linked k r row-at).last;
+    next = (s.linked k r row-at).next ∙ ap (next_under (parents_in rows whats) k) read-parent;
+    prev = (s.linked k r row-at).prev ∙ ap (prev_under (parents_in rows whats) k) read-parent;
+    before = (s.linked k r row-at).before ∙ ap (elements_under (elements_in rows whats) k) read-parent;
+    elements = (s.linked k r row-at).elements;
+  }
+
+  pub read-most : r.depth ≤ 201
+  read-most = (let d = s.tree.deep k (node_of r node-at.0) node-at.2 in omega (arith, d))
+
+  pub read-few : r.elements ≤ 400000
+  read-few = (let e = read-row.elements in let f = few-elements rows whats k s in omega arith)
+
+  pub read-element : IsTrue (is_element_at (joined rows whats) k) → r.depth ≤ 200
+  read-element t = by (is_element node-at.0) (subst (λ b. IsTrue b) (ap is_element_node node-at.2) t) (s.tree.deep k (node_of r node-at.0) node-at.2)
+    where
+      by : (b : Bool) → IsTrue b → r.depth + cond b 1 0 ≤ 201 → r.depth ≤ 200
+      by true u l = omega arith
+      by false u l = cc
 
 pub last-inside : (ps : List (Option ℕ)) (p : ℕ) (o : Option ℕ) → o ≡ last_from p ps 0 → IfSome o (λ l. l < length ps)
 last-inside ps p None e = tt
 last-inside ps p (Some l) e = let w = last-is p ps 0 l (sym e) in let u = w.1 in let i = slice_get_within ps w.0 (Some p) w.2 in omega arith
-
--- the depth of the row that is read
-pub read-depth : (rows : List Row) (k : ℕ) (r : Row) → k < length rows → r ≡ get_or rows k r → depth_at (map node_of rows) k ≡ r.depth
-read-depth rows k r h e = ap depth_of (slice_get-map node_of rows k ∙ ap (option_map node_of) (slice_get_read rows (length rows) k r refl h e))
-
-pub read-element : (rows : List Row) (k : ℕ) (r : Row) → AreSound rows → k < length rows → r ≡ get_or rows k r → IsTrue (is_element_at (map node_of rows) k) → r.depth ≤ 200
-read-element rows k r sound h e t =
-    let at = slice_get_read rows (length rows) k r refl h e in
-    let d = sound.tree.deep k (node_of r) (slice_get-map node_of rows k ∙ ap (option_map node_of) at) in
-    by (is_element r.what) (subst (λ b. IsTrue b) (ap is_element_node (slice_get-map node_of rows k ∙ ap (option_map node_of) at)) t) d
-  where
-    by : (b : Bool) → IsTrue b → r.depth + cond b 1 0 ≤ 201 → r.depth ≤ 200
-    by true u l = omega arith
-    by false u l = cc
 
 -- a new node that is not too deep
 pub reach-new : (depth : ℕ) (what : NodeData) → depth ≤ 200 → is_too_deep depth what ≡ false → reach_of (depth + 1) what ≤ 201
@@ -668,17 +707,23 @@ reach-new depth what h shallow = by (is_element what) shallow
     by true e = grind (arith, nat_tests)
     by false e = omega arith
 
-pub read-last : (rows : List Row) (k : ℕ) (r : Row) → AreSound rows → k < length rows → r ≡ get_or rows k r → r.last_child ≡ last_child_of (parents_in rows) k
-read-last rows k r s h e = (linked-row rows k r s h e).last
+-- ---- the first document
 
-pub read-before : (rows : List Row) (k : ℕ) (r : Row) → AreSound rows → k < length rows → r ≡ get_or rows k r → r.elements_before ≡ elements_before_of (map node_of rows) k
-read-before rows k r s h e = (linked-row rows k r s h e).before ∙ ap (elements_under (elements_in rows) k) (read-parent rows k r h e)
+pub sound-root : AreSound (root_row ∷ []) (root.what ∷ [])
+sound-root = record {
+  count = refl;
+  tree = record { few = omega arith; some = omega arith; deep = deep; placed = placed };
+  linked = linked;
+}
+  where
+    deep : (k : ℕ) (n : Node) → slice_get (root ∷ []) k ≡ Some n → reach_of n.depth n.what ≤ 201
+    deep zero n h = (let e : root ≡ n = cc in subst (λ (x : Node). reach_of x.depth x.what ≤ 201) e (omega arith))
+    deep (suc k) n h = cc
 
-pub read-elements : (rows : List Row) (k : ℕ) (r : Row) → AreSound rows → k < length rows → r ≡ get_or rows k r → r.elements ≡ element_count (elements_in rows) k
-read-elements rows k r s h e = (linked-row rows k r s h e).elements
+    placed : (k : ℕ) (n : Node) → slice_get (root ∷ []) k ≡ Some n → HasPlace (root ∷ []) k n n.parent
+    placed zero n h = (let e : root ≡ n = cc in subst (λ (x : Node). HasPlace (root ∷ []) 0 x x.parent) e (refl, refl, refl))
+    placed (suc k) n h = cc
 
-pub few-elements : (rows : List Row) (k : ℕ) → AreSound rows → element_count (elements_in rows) k ≤ 400000
-few-elements rows k s = let l = count_by-le-length (is_at k) (elements_in rows) in let n = s.tree.few in let m : length (map node_of rows) ≡ length rows = simp length-map in omega (arith, length-elements rows)
-
-pub read-most : (rows : List Row) (k : ℕ) (r : Row) → AreSound rows → k < length rows → r ≡ get_or rows k r → r.depth ≤ 201
-read-most rows k r sound h e = let d = sound.tree.deep k (node_of r) (slice_get-map node_of rows k ∙ ap (option_map node_of) (slice_get_read rows (length rows) k r refl h e)) in omega (arith, d)
+    linked : (k : ℕ) (r : Row) → slice_get (root_row ∷ []) k ≡ Some r → IsLinked (None ∷ []) (None ∷ []) k r
+    linked zero r h = (let e : root_row ≡ r = cc in subst (λ (x : Row). IsLinked (None ∷ []) (None ∷ []) 0 x) e (record { first = refl; last = refl; next = refl; prev = refl; before = refl; elements = refl }))
+    linked (suc k) r h = cc

@@ -1,5 +1,5 @@
 -- The way from the root to a node, and the first of some nodes in tree order.
-use Rattle.std.proofs.Common.{◌≡◌, inl, inr, ℕ, zero, suc, ◌+◌, ◌-◌, ◌<◌, ◌≤◌, true, false, List, [], ◌∷◌, ◌++◌, Option, None, Some, length, take, drop, slice_get, slice_set, option_map, refl, sym, ◌∙◌, ap, subst, arith, append_assoc}
+use Rattle.std.proofs.Common.{◌≡◌, inl, inr, ℕ, zero, suc, ◌-◌, ◌<◌, ◌≤◌, true, false, List, [], ◌∷◌, ◌++◌, Option, None, Some, length, take, drop, slice_get, slice_set, option_map, refl, sym, ◌∙◌, ap, subst, arith, append_assoc}
 use Rattle.std.proofs.lemmas.Bool.{cases_lt, both_ways}
 use Rattle.std.proofs.lemmas.Cmp.{nat_list_cmp_total}
 use Rattle.std.proofs.lemmas.Map.Lookups.{exact_bytes}
@@ -10,7 +10,7 @@ use Rattle.std.specs.declared.cmp.Ordering.{Ordering}
 use Rattle.std.specs.declared.cmp.Ordering.TheVariants.{Less, Equal, Greater}
 use Rattle.std.proofs.lemmas.Option.{slice_get-map}
 use Rattle.dom.specs.Nodes.{Node, parents_of, parent_at, flat, depth_at, depth_of, IsTree, HasPlace}
-use Rattle.dom.specs.Order.{way, way_to, comes_after, has_id, IsFirstOf, IsFirstBelow}
+use Rattle.dom.specs.Order.{way, way_to, comes_after, has_id, IsFirstOf}
 
 -- ---- the way to a node
 
@@ -19,12 +19,12 @@ abbrev pub IsStep : List Node → ℕ → Option ℕ → Type 0
 IsStep nodes d None = d ≡ 0
 IsStep nodes d (Some n) = (n < length nodes) × (depth_at nodes n ≡ d)
 
-slice_get_at : {A : Type 0} (xs : List A) (k : ℕ) → k < length xs → (x : A) × (slice_get xs k ≡ Some x)
+pub slice_get_at : {A : Type 0} (xs : List A) (k : ℕ) → k < length xs → (x : A) × (slice_get xs k ≡ Some x)
 slice_get_at [] k h = absurd (omega arith)
 slice_get_at (a ∷ xs) zero h = (a, refl)
 slice_get_at (a ∷ xs) (suc k) h = slice_get_at xs k (omega arith)
 
-get-past : {A : Type 0} (xs : List A) (k : ℕ) → length xs ≤ k → slice_get xs k ≡ None
+pub get-past : {A : Type 0} (xs : List A) (k : ℕ) → length xs ≤ k → slice_get xs k ≡ None
 get-past [] k h = refl
 get-past (a ∷ xs) zero h = absurd (omega arith)
 get-past (a ∷ xs) (suc k) h = get-past xs k (omega arith)
@@ -80,34 +80,16 @@ module _ (nodes : List Node) where
   pub after-one-way : (a b : ℕ) → comes_after nodes a b ≡ true → comes_after nodes b a ≡ false
   after-one-way a b h = reverse-gt (slice_cmp nat_cmp (way_to nodes a) (way_to nodes b)) (slice_cmp nat_cmp (way_to nodes b) (way_to nodes a)) (nat_list_cmp_total.antisymm (way_to nodes b) (way_to nodes a)) h
 
-  after-trans : (a b c : ℕ) → comes_after nodes a b ≡ false → comes_after nodes b c ≡ false → comes_after nodes a c ≡ false
+  pub after-trans : (a b c : ℕ) → comes_after nodes a b ≡ false → comes_after nodes b c ≡ false → comes_after nodes a c ≡ false
   after-trans a b c = upto nat_list_cmp_total (way_to nodes a) (way_to nodes b) (way_to nodes c)
 
   module _ (id : List ℕ) where
-    -- a node below i + 1 is one below i, or i
-    below : (P : ℕ → Type 0) (i : ℕ) → ((m : ℕ) → m < i → P m) → P i → (m : ℕ) → m < i + 1 → P m
-    below P i f g m l = elim (cases_lt m i) [ inl h ↦ f m h | inr h ↦ subst P (let e : i ≡ m = omega arith in e) g ]
-
-    pub first-without : (i : ℕ) (o : Option ℕ) → has_id nodes id i ≡ false → IsFirstBelow nodes id i o → IsFirstBelow nodes id (i + 1) o
-    first-without i None un h = below (λ m. has_id nodes id m ≡ false) i h un
-    first-without i (Some n) un h = (let l = h.0 in omega arith, h.1, below (λ m. has_id nodes id m ≡ true → comes_after nodes n m ≡ false) i h.2 (λ y. absurd (both_ways _ un y)))
-
-    pub first-kept : (i n : ℕ) → comes_after nodes n i ≡ false → IsFirstBelow nodes id i (Some n) → IsFirstBelow nodes id (i + 1) (Some n)
-    first-kept i n le h = (let l = h.0 in omega arith, h.1, below (λ m. has_id nodes id m ≡ true → comes_after nodes n m ≡ false) i h.2 (λ y. le))
-
-    pub first-found : (i : ℕ) → has_id nodes id i ≡ true → IsFirstBelow nodes id i None → IsFirstBelow nodes id (i + 1) (Some i)
-    first-found i is h = (omega arith, is, below (λ m. has_id nodes id m ≡ true → comes_after nodes i m ≡ false) i (λ m l y. absurd (both_ways _ (h m l) y)) (λ y. after-self i))
-
-    pub first-before : (i n : ℕ) → has_id nodes id i ≡ true → comes_after nodes n i ≡ true → IsFirstBelow nodes id i (Some n) → IsFirstBelow nodes id (i + 1) (Some i)
-    first-before i n is gt h = (omega arith, is, below (λ m. has_id nodes id m ≡ true → comes_after nodes i m ≡ false) i (λ m l y. after-trans i n m (after-one-way n i gt) (h.2 m l y)) (λ y. after-self i))
-
     pub beyond : (m : ℕ) → length nodes ≤ m → has_id nodes id m ≡ false
     beyond m h = rw (get-past nodes m h) refl
 
-    -- none is past the end
-    pub first-of : (o : Option ℕ) → IsFirstBelow nodes id (length nodes) o → IsFirstOf nodes id o
-    first-of None h = λ m. elim (cases_lt m (length nodes)) [ inl l ↦ h m l | inr g ↦ beyond m g ]
-    first-of (Some n) h = (h.1, λ m y. elim (cases_lt m (length nodes)) [ inl l ↦ h.2 m l y | inr g ↦ absurd (both_ways _ (beyond m g) y) ])
+    -- an element of an id is a node
+    pub inside : (n : ℕ) → has_id nodes id n ≡ true → n < length nodes
+    inside n h = elim (cases_lt n (length nodes)) [ inl l ↦ l | inr g ↦ absurd (both_ways _ (beyond n g) h) ]
 
 -- ---- one first element
 

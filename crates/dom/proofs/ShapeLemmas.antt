@@ -1,12 +1,13 @@
 -- A document keeps its shape where only a node's attributes change.
-use Rattle.std.proofs.Common.{◌≡◌, ℕ, zero, suc, ◌+◌, ◌<◌, ◌≤◌, Bool, true, false, List, [], ◌∷◌, Option, None, Some, map, length, slice_get, slice_set, get_or, option_map, cond, Result, Ok, Err, IfOk, refl, sym, ◌∙◌, ap, subst, if◌then◌else◌}
+use Rattle.std.proofs.Common.{◌≡◌, ℕ, zero, suc, ◌+◌, ◌≤◌, Bool, true, false, List, [], ◌∷◌, Option, None, Some, map, length, slice_get, option_map, Result, Ok, Err, IfOk, OnErr, cond, refl, sym, ◌∙◌, ap, subst, arith, if◌then◌else◌}
 use Rattle.std.proofs.lemmas.List.{length-map}
-use Rattle.std.proofs.lemmas.Option.{slice_get-map, slice_get_read}
-use Rattle.dom.specs.Nodes.{Node, parents_of, element_parents_of, element_parent, depth_of, depth_at, is_element, is_element_at, is_element_node, IsTree, HasPlace, attributed, attribute_in, attribute_at, part_of, changed_at, with_attribute}
-use Rattle.dom.specs.declared.rows.NodeData.{NodeData}
-use Rattle.dom.specs.declared.rows.NodeData.TheVariants.{Element, Text}
+use Rattle.std.proofs.Math.ListN.{length-set}
+use Rattle.std.proofs.lemmas.Option.{slice_get-map}
+use Rattle.std.specs.Option.{option_and_then}
+use Rattle.dom.specs.Nodes.{Node, NodeData, Element, Text, parents_of, element_parents_of, element_parent, depth_of, depth_at, is_element, is_element_at, is_element_node, IsTree, HasPlace, attributed, part_of, changed_at, with_attribute}
+use Rattle.dom.specs.Order.{comes_after}
 use Rattle.dom.specs.declared.rows.Row.{Row}
-use Rattle.dom.specs.DomFields.{node_of, parents_in, elements_in, IsLinked, AreSound}
+use Rattle.dom.specs.DomFields.{node_of, joined, AreSound}
 
 -- what a document's shape knows of a node
 pub record Shape : Type 0 where
@@ -28,7 +29,7 @@ abbrev element_in : Option Shape → Bool
 element_in None = false
 element_in (Some s) = s.element
 
-parents-shape : (nodes : List Node) → parents_of nodes ≡ map (λ (s : Shape). s.parent) (map shape nodes)
+pub parents-shape : (nodes : List Node) → parents_of nodes ≡ map (λ (s : Shape). s.parent) (map shape nodes)
 parents-shape [] = refl
 parents-shape (n ∷ nodes) = ap (λ ps. n.parent ∷ ps) (parents-shape nodes)
 
@@ -36,7 +37,7 @@ elements-shape : (nodes : List Node) → element_parents_of nodes ≡ map parent
 elements-shape [] = refl
 elements-shape (n ∷ nodes) = ap (λ ps. element_parent n ∷ ps) (elements-shape nodes)
 
-depth-shape : (nodes : List Node) (k : ℕ) → depth_at nodes k ≡ depth_in (slice_get (map shape nodes) k)
+pub depth-shape : (nodes : List Node) (k : ℕ) → depth_at nodes k ≡ depth_in (slice_get (map shape nodes) k)
 depth-shape nodes k = by (slice_get nodes k) ∙ ap depth_in (sym (slice_get-map shape nodes k))
   where
     by : (o : Option Node) → depth_of o ≡ depth_in (option_map shape o)
@@ -78,74 +79,105 @@ module _ (xs ys : List Node) (same : map shape xs ≡ map shape ys) where
     placed = λ k y h. let w = shape-get k y h in place-same k w.0 y y.parent w.2 (subst (λ o. HasPlace xs k w.0 o) (ap (λ (s : Shape). s.parent) w.2) (t.placed k w.0 w.1));
   }
 
--- a row in the place of another of the same shape
-shape-set : (rows : List Row) (i : ℕ) (r y : Row) → slice_get rows i ≡ Some r → shape (node_of y) ≡ shape (node_of r) → map shape (map node_of rows) ≡ map shape (map node_of (slice_set rows i y))
-shape-set [] i r y h e = refl
-shape-set (a ∷ rows) zero r y h e = let s : a ≡ r = cc in ap (λ n. n ∷ map shape (map node_of rows)) (ap (λ (x : Row). shape (node_of x)) s ∙ sym e)
-shape-set (a ∷ rows) (suc i) r y h e = ap (λ l. shape (node_of a) ∷ l) (shape-set rows i r y h e)
+  pub parents-same : parents_of xs ≡ parents_of ys
+  parents-same = parents-shape xs ∙ ap (map (λ (s : Shape). s.parent)) same ∙ sym (parents-shape ys)
 
--- what is read after a write
-get-set : {A : Type 0} (xs : List A) (i k : ℕ) (y x r : A) → slice_get xs i ≡ Some r → slice_get (slice_set xs i y) k ≡ Some x → (old : A) × (slice_get xs k ≡ Some old) × ((b : Bool) × (old ≡ cond b r old) × (x ≡ cond b y old))
-get-set [] i k y x r g h = cc
-get-set (a ∷ xs) zero zero y x r g h = let e : a ≡ r = cc in let f : y ≡ x = cc in (a, refl, (true, e, sym f))
-get-set (a ∷ xs) zero (suc k) y x r g h = (x, h, (false, refl, refl))
-get-set (a ∷ xs) (suc i) zero y x r g h = let f : a ≡ x = cc in (a, refl, (false, refl, sym f))
-get-set (a ∷ xs) (suc i) (suc k) y x r g h = get-set xs i k y x r g h
+  pub elements-same : element_parents_of xs ≡ element_parents_of ys
+  elements-same = elements-shape xs ∙ ap (map parent_in) same ∙ sym (elements-shape ys)
 
--- a row with another node in it
-abbrev pub row_with : NodeData → Row → Row
-row_with what r = record r { what = what }
+  depth-same : (k : ℕ) → depth_at xs k ≡ depth_at ys k
+  depth-same k = depth-shape xs k ∙ ap (λ l. depth_in (slice_get l k)) same ∙ sym (depth-shape ys k)
 
-linked-with : (ps es : List (Option ℕ)) (k : ℕ) (what : NodeData) (r : Row) → IsLinked ps es k r → IsLinked ps es k (row_with what r)
-linked-with ps es k what r h = record { first = h.first; last = h.last; next = h.next; prev = h.prev; before = h.before; elements = h.elements }
+  -- tree order is one of shapes
+  pub after-same : (a b : ℕ) → comes_after ys a b ≡ comes_after xs a b
+  after-same a b = rw (sym parents-same, sym (depth-same a), sym (depth-same b)) refl
 
-pub sound-set : (rows : List Row) (i : ℕ) (r : Row) (what : NodeData) → AreSound rows → slice_get rows i ≡ Some r → is_element what ≡ is_element r.what → AreSound (slice_set rows i (row_with what r))
-sound-set rows i r what sound at e = record {
-  tree = tree-same (map node_of rows) (map node_of (slice_set rows i (row_with what r))) same sound.tree;
-  linked = λ k x h. rw (sym parents, sym elements) (linked k x (get-set rows i k (row_with what r) x r at h));
+-- ---- a row and what its node is
+
+pub part-read : (part : NodeData → Option (List ℕ)) (rows : List Row) (whats : List NodeData) (k : ℕ) → length whats ≡ length rows → part_of part (slice_get (joined rows whats) k) ≡ option_and_then part (slice_get whats k)
+part-read part [] [] k l = refl
+part-read part [] (w ∷ whats) k l = absurd (omega arith)
+part-read part (r ∷ rows) [] k l = absurd (omega arith)
+part-read part (r ∷ rows) (w ∷ whats) zero l = refl
+part-read part (r ∷ rows) (w ∷ whats) (suc k) l = part-read part rows whats k (omega arith)
+
+pub element-read : (rows : List Row) (whats : List NodeData) (k : ℕ) → length whats ≡ length rows → is_element_at (joined rows whats) k ≡ true → option_map is_element (slice_get whats k) ≡ Some true
+element-read [] [] k l h = cc
+element-read [] (w ∷ whats) k l h = absurd (omega arith)
+element-read (r ∷ rows) [] k l h = absurd (omega arith)
+element-read (r ∷ rows) (w ∷ whats) zero l h = ap (λ b. Some b) h
+element-read (r ∷ rows) (w ∷ whats) (suc k) l h = element-read rows whats k (omega arith) h
+
+-- ---- one more attribute
+
+attributed-element : (key value : List ℕ) (what : NodeData) → is_element (attributed key value what) ≡ is_element what
+attributed-element key value (Element name attrs) = refl
+attributed-element key value (Text text) = refl
+
+shape-attributed : (key value : List ℕ) (n : Node) → shape (record n { what = attributed key value n.what }) ≡ shape n
+shape-attributed key value n = ap (λ b. record { parent = n.parent; depth = n.depth; element = b }) (attributed-element key value n.what)
+
+shape-change : (f : Node → Node) (nodes : List Node) (i : ℕ) → ((n : Node) → shape (f n) ≡ shape n) → map shape nodes ≡ map shape (changed_at f nodes i (slice_get nodes i))
+shape-change f [] i same = refl
+shape-change f (n ∷ nodes) zero same = ap (λ x. x ∷ map shape nodes) (sym (same n))
+shape-change f (n ∷ nodes) (suc i) same = by (slice_get nodes i) (shape-change f nodes i same)
+  where
+    by : (o : Option Node) → map shape nodes ≡ map shape (changed_at f nodes i o) → map shape (n ∷ nodes) ≡ map shape (changed_at f (n ∷ nodes) (suc i) o)
+    by None h = refl
+    by (Some x) h = ap (λ l. shape n ∷ l) h
+
+pub shape-with : (nodes : List Node) (i : ℕ) (key value : List ℕ) → map shape nodes ≡ map shape (with_attribute nodes i key value)
+shape-with nodes i key value = shape-change (λ a. record a { what = attributed key value a.what }) nodes i (shape-attributed key value)
+
+pub length-changed : {A : Type 0} (f : A → A) (xs : List A) (i : ℕ) → length (changed_at f xs i (slice_get xs i)) ≡ length xs
+length-changed {A} f xs i = by (slice_get xs i)
+  where
+    by : (o : Option A) → length (changed_at f xs i o) ≡ length xs
+    by None = refl
+    by (Some x) = simp length-set
+
+-- the nodes, where one of them has one more attribute
+pub joined-with : (rows : List Row) (whats : List NodeData) (i : ℕ) (key value : List ℕ) → length whats ≡ length rows → joined rows (changed_at (attributed key value) whats i (slice_get whats i)) ≡ with_attribute (joined rows whats) i key value
+joined-with [] [] i key value l = refl
+joined-with [] (w ∷ whats) i key value l = absurd (omega arith)
+joined-with (r ∷ rows) [] i key value l = absurd (omega arith)
+joined-with (r ∷ rows) (w ∷ whats) zero key value l = refl
+joined-with (r ∷ rows) (w ∷ whats) (suc i) key value l = left (slice_get whats i) ∙ ap (λ ns. node_of r w ∷ ns) (joined-with rows whats i key value (omega arith)) ∙ right (slice_get (joined rows whats) i)
+  where
+    left : (o : Option NodeData) → joined (r ∷ rows) (changed_at (attributed key value) (w ∷ whats) (suc i) o) ≡ node_of r w ∷ joined rows (changed_at (attributed key value) whats i o)
+    left None = refl
+    left (Some x) = refl
+
+    right : (o : Option Node) → node_of r w ∷ changed_at (λ a. record a { what = attributed key value a.what }) (joined rows whats) i o ≡ changed_at (λ a. record a { what = attributed key value a.what }) (node_of r w ∷ joined rows whats) (suc i) o
+    right None = refl
+    right (Some x) = refl
+
+pub sound-with : (rows : List Row) (whats : List NodeData) (i : ℕ) (key value : List ℕ) → AreSound rows whats → AreSound rows (changed_at (attributed key value) whats i (slice_get whats i))
+sound-with rows whats i key value s = record {
+  count = length-changed (attributed key value) whats i ∙ s.count;
+  tree = rw nodes (tree-same (joined rows whats) (with_attribute (joined rows whats) i key value) same s.tree);
+  linked = rw nodes (rw (sym (parents-same (joined rows whats) (with_attribute (joined rows whats) i key value) same), sym (elements-same (joined rows whats) (with_attribute (joined rows whats) i key value) same)) s.linked);
 }
   where
-    same : map shape (map node_of rows) ≡ map shape (map node_of (slice_set rows i (row_with what r)))
-    same = shape-set rows i r (row_with what r) at (ap (λ b. record { parent = r.parent; depth = r.depth; element = b }) e)
+    nodes : joined rows (changed_at (attributed key value) whats i (slice_get whats i)) ≡ with_attribute (joined rows whats) i key value
+    nodes = joined-with rows whats i key value s.count
 
-    parents : parents_in rows ≡ parents_in (slice_set rows i (row_with what r))
-    parents = parents-shape (map node_of rows) ∙ ap (map (λ (s : Shape). s.parent)) same ∙ sym (parents-shape (map node_of (slice_set rows i (row_with what r))))
+    same : map shape (joined rows whats) ≡ map shape (with_attribute (joined rows whats) i key value)
+    same = shape-with (joined rows whats) i key value
 
-    elements : elements_in rows ≡ elements_in (slice_set rows i (row_with what r))
-    elements = elements-shape (map node_of rows) ∙ ap (map parent_in) same ∙ sym (elements-shape (map node_of (slice_set rows i (row_with what r))))
+-- the nodes after an attribute was added or refused
+pub joined-if : (rows : List Row) (whats : List NodeData) (i : ℕ) (key value : List ℕ) (b : Bool) → length whats ≡ length rows
+    → joined rows (if b then changed_at (attributed key value) whats i (slice_get whats i) else whats) ≡ (if b then with_attribute (joined rows whats) i key value else joined rows whats)
+joined-if rows whats i key value true l = joined-with rows whats i key value l
+joined-if rows whats i key value false l = refl
 
-    linked : (k : ℕ) (x : Row) → ((old : Row) × (slice_get rows k ≡ Some old) × ((b : Bool) × (old ≡ cond b r old) × (x ≡ cond b (row_with what r) old))) → IsLinked (parents_in rows) (elements_in rows) k x
-    linked k x (old, g, (true, s, v)) = subst (λ y. IsLinked (parents_in rows) (elements_in rows) k y) (sym v) (linked-with (parents_in rows) (elements_in rows) k what r (subst (λ y. IsLinked (parents_in rows) (elements_in rows) k y) s (sound.linked k old g)))
-    linked k x (old, g, (false, s, v)) = subst (λ y. IsLinked (parents_in rows) (elements_in rows) k y) (sym v) (sound.linked k old g)
+pub joined-ok : {E : Type 0} (rows : List Row) (whats whats' : List NodeData) (i : ℕ) (key value : List ℕ) (r : Result Bool E) → length whats ≡ length rows
+    → IfOk r (λ b. whats' ≡ (if b then changed_at (attributed key value) whats i (slice_get whats i) else whats))
+    → IfOk r (λ b. joined rows whats' ≡ (if b then with_attribute (joined rows whats) i key value else joined rows whats))
+joined-ok rows whats whats' i key value (Ok b) l h = ap (joined rows) h ∙ joined-if rows whats i key value b l
+joined-ok rows whats whats' i key value (Err e) l h = tt
 
-pub attributed-element : (key value : List ℕ) (b : Bool) (what : NodeData) → is_element (if b then attributed key value what else what) ≡ is_element what
-attributed-element key value true (Element name attrs) = refl
-attributed-element key value true (Text text) = refl
-attributed-element key value false what = refl
-
-nodes-set : (rows : List Row) (i : ℕ) (y : Row) → map node_of (slice_set rows i y) ≡ slice_set (map node_of rows) i (node_of y)
-nodes-set [] i y = refl
-nodes-set (a ∷ rows) zero y = refl
-nodes-set (a ∷ rows) (suc i) y = ap (λ l. node_of a ∷ l) (nodes-set rows i y)
-
-set-same : (nodes : List Node) (i : ℕ) (n : Node) → slice_get nodes i ≡ Some n → slice_set nodes i n ≡ nodes
-set-same [] i n h = refl
-set-same (a ∷ nodes) zero n h = let e : a ≡ n = cc in ap (λ x. x ∷ nodes) (sym e)
-set-same (a ∷ nodes) (suc i) n h = ap (λ l. a ∷ l) (set-same nodes i n h)
-
-pub node-at : (rows : List Row) (i : ℕ) (r : Row) → slice_get rows i ≡ Some r → slice_get (map node_of rows) i ≡ Some (node_of r)
-node-at rows i r h = slice_get-map node_of rows i ∙ ap (option_map node_of) h
-
-pub attributed-nodes : (rows : List Row) (i : ℕ) (r : Row) (key value : List ℕ) (b : Bool) → slice_get rows i ≡ Some r → map node_of (slice_set rows i (row_with (if b then attributed key value r.what else r.what) r)) ≡ (if b then with_attribute (map node_of rows) i key value else map node_of rows)
-attributed-nodes rows i r key value true h = nodes-set rows i (row_with (attributed key value r.what) r) ∙ sym (ap (changed_at (λ a. record a { what = attributed key value a.what }) (map node_of rows) i) (node-at rows i r h))
-attributed-nodes rows i r key value false h = nodes-set rows i (row_with r.what r) ∙ set-same (map node_of rows) i (node_of r) (node-at rows i r h)
-
-pub attribute-read : (rows : List Row) (i : ℕ) (r : Row) (key : List ℕ) → slice_get rows i ≡ Some r → attribute_at (map node_of rows) i key ≡ attribute_in key r.what
-attribute-read rows i r key h = ap (part_of (attribute_in key)) (node-at rows i r h)
-
-pub row-at : (rows : List Row) (i : ℕ) (r : Row) → i < length rows → r ≡ get_or rows i r → slice_get rows i ≡ Some r
-row-at rows i r h e = slice_get_read rows (length rows) i r refl h e
-
-pub attributed-ok : {E : Type 0} (rows : List Row) (i : ℕ) (r : Row) (key value : List ℕ) (new : NodeData) (result : Result Bool E) → slice_get rows i ≡ Some r → IfOk result (λ b. new ≡ (if b then attributed key value r.what else r.what)) → IfOk result (λ b. map node_of (slice_set rows i (row_with new r)) ≡ (if b then with_attribute (map node_of rows) i key value else map node_of rows))
-attributed-ok rows i r key value new (Ok b) at e = ap (λ w. map node_of (slice_set rows i (row_with w r))) e ∙ attributed-nodes rows i r key value b at
-attributed-ok rows i r key value new (Err x) at e = tt
+-- what is kept, where an answer is Err as where it is false
+pub answer-of : {E : Type 0} {A : Type 0} (new more old : A) (r : Result Bool E) → IfOk r (λ b. new ≡ (if b then more else old)) → OnErr r (new ≡ old) → (b : Bool) × (new ≡ (if b then more else old))
+answer-of new more old (Ok b) h g = (b, h)
+answer-of new more old (Err e) h g = (false, g)

@@ -192,7 +192,7 @@ pub leave-parent : (ps : List (Option ℕ)) (n p : ℕ) → AreFalling ps → pa
 leave-parent ps n p falls up h = (falls n p (parent-child ps n p up), rw (after-child ps n p falls up, no-children p (drop (n + 1) ps) (n + 1) h) refl)
 
 -- the root's tour is the whole walk
-root-parent : (nodes : List Node) → IsTree nodes → parent_at (parents_of nodes) 0 ≡ None
+pub root-parent : (nodes : List Node) → IsTree nodes → parent_at (parents_of nodes) 0 ≡ None
 root-parent nodes t = by (parent_at (parents_of nodes) 0) refl
   where
     by : (o : Option ℕ) → parent_at (parents_of nodes) 0 ≡ o → o ≡ None

@@ -3,8 +3,7 @@ use Rattle.std.specs.Prelude.{◌≡◌, ℕ, ◌<◌, ◌≤◌, nat_le, ◌&&�
 use Rattle.bk_num.specs.Limits.{most_nodes, most_depth}
 use Rattle.dom.specs.declared.dom.DomErr.{DomErr}
 use Rattle.dom.specs.declared.dom.DomErr.TheVariants.{Nodes, Depth, NoMemory}
-use Rattle.dom.specs.declared.rows.NodeData.{NodeData}
-use Rattle.dom.specs.Nodes.{Node, depth_at, is_element}
+use Rattle.dom.specs.Nodes.{Node, NodeData, depth_at, is_element}
 
 -- whether an element (or a text) can't stand below a node of a depth
 abbrev pub is_below_all : Bool → ℕ → Bool

@@ -1,20 +1,22 @@
--- What the rows of a document keep, and what is seen of them.
-use Rattle.std.specs.Prelude.{◌≡◌, ℕ, List, Option, Some, map, slice_get}
-use Rattle.dom.specs.Nodes.{Node, parents_of, element_parents_of, first_child_of, last_child_of, next_under, prev_under, elements_under, element_count, IsTree}
+-- What a document keeps, and what is seen of it.
+use Rattle.std.specs.Prelude.{◌≡◌, ℕ, List, [], ◌∷◌, Option, Some, length, slice_get}
+use Rattle.dom.specs.Nodes.{Node, NodeData, parents_of, element_parents_of, first_child_of, last_child_of, next_under, prev_under, elements_under, element_count, IsTree}
+use Rattle.dom.specs.Order.{IsFirstOf}
+use Rattle.dom.specs.Ids.{first_in}
 use Rattle.dom.specs.declared.rows.Row.{Row}
 use Rattle.dom.specs.declared.dom.Dom.TheInside.{Inside}
 
-abbrev pub node_of : Row → Node
-node_of r = record { parent = r.parent; depth = r.depth; what = r.what }
+abbrev pub node_of : Row → NodeData → Node
+node_of r what = record { parent = r.parent; depth = r.depth; what = what }
+
+-- the nodes: where each stands, with what it is
+abbrev pub joined : List Row → List NodeData → List Node
+joined [] whats = []
+joined (r ∷ rows) [] = []
+joined (r ∷ rows) (what ∷ whats) = node_of r what ∷ joined rows whats
 
 abbrev pub nodes_of : Inside → List Node
-nodes_of a = map node_of a.rows.items
-
-abbrev pub parents_in : List Row → List (Option ℕ)
-parents_in rows = parents_of (map node_of rows)
-
-abbrev pub elements_in : List Row → List (Option ℕ)
-elements_in rows = element_parents_of (map node_of rows)
+nodes_of a = joined a.rows.items a.store
 
 -- a row's links and counts are those that the parents' numbers determine
 pub record IsLinked (ps es : List (Option ℕ)) (k : ℕ) (r : Row) : Type 0 where
@@ -25,9 +27,11 @@ pub record IsLinked (ps es : List (Option ℕ)) (k : ℕ) (r : Row) : Type 0 whe
   pub before : r.elements_before ≡ elements_under es k r.parent
   pub elements : r.elements ≡ element_count es k
 
-pub record AreSound (rows : List Row) : Type 0 where
-  pub tree : IsTree (map node_of rows)
-  pub linked : (k : ℕ) (r : Row) → slice_get rows k ≡ Some r → IsLinked (parents_in rows) (elements_in rows) k r
+pub record AreSound (rows : List Row) (whats : List NodeData) : Type 0 where
+  pub count : length whats ≡ length rows
+  pub tree : IsTree (joined rows whats)
+  pub linked : (k : ℕ) (r : Row) → slice_get rows k ≡ Some r → IsLinked (parents_of (joined rows whats)) (element_parents_of (joined rows whats)) k r
 
-abbrev pub IsSound : Inside → Type 0
-IsSound a = AreSound a.rows.items
+pub record IsSound (a : Inside) : Type 0 where
+  pub rows : AreSound a.rows.items a.store
+  pub firsts : (id : List ℕ) → IsFirstOf (nodes_of a) id (first_in a.ids id)

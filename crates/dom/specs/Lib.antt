@@ -1,7 +1,13 @@
 pub mod Pairs
-pub mod AttrFields
 pub mod Nodes
 pub mod Order
+pub mod Spans
+pub mod NameLists
+pub mod NameFields
+pub mod Keys
+pub mod StoreFields
+pub mod Ids
+pub mod LinkFields
 pub mod DomFields
 pub mod Links
 pub mod Answers

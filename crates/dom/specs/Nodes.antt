@@ -2,8 +2,11 @@
 use Rattle.std.specs.Prelude.{◌≡◌, ℕ, ◌+◌, ◌<◌, ◌≤◌, Bool, false, true, List, [], ◌∷◌, ◌++◌, Option, None, Some, if◌then◌else◌, ◌==◌, take, drop, map, length, slice_get, slice_set, count_by, codes}
 use Rattle.bk_num.specs.Limits.{most_nodes, most_depth}
 use Rattle.dom.specs.Pairs.{pair_value}
-use Rattle.dom.specs.declared.rows.NodeData.{NodeData}
-use Rattle.dom.specs.declared.rows.NodeData.TheVariants.{Element, Text}
+
+-- an element with its name and its attributes, or a text
+pub data NodeData : Type 0 where
+  Element : List ℕ → List (List ℕ × List ℕ) → NodeData
+  Text : List ℕ → NodeData
 
 -- a node: its parent's number, its depth, and an element or a text
 pub record Node : Type 0 where
@@ -139,9 +142,10 @@ abbrev pub attributed : List ℕ → List ℕ → NodeData → NodeData
 attributed key value (Element name attrs) = Element name (attrs ++ (key, value) ∷ [])
 attributed key value (Text text) = Text text
 
-abbrev pub changed_at : (Node → Node) → List Node → ℕ → Option Node → List Node
-changed_at f nodes n None = nodes
-changed_at f nodes n (Some a) = slice_set nodes n (f a)
+-- a list, with one of its items changed
+abbrev pub changed_at : {A : Type 0} → (A → A) → List A → ℕ → Option A → List A
+changed_at f xs n None = xs
+changed_at f xs n (Some a) = slice_set xs n (f a)
 
 -- the nodes, with one more attribute at one of them
 abbrev pub with_attribute : List Node → ℕ → List ℕ → List ℕ → List Node

@@ -1,5 +1,5 @@
 -- Tree order, and the first element of an id in it.
-use Rattle.std.specs.Prelude.{◌≡◌, ℕ, zero, suc, ◌<◌, Bool, true, false, List, [], ◌∷◌, ◌++◌, Option, None, Some, MatchOption}
+use Rattle.std.specs.Prelude.{◌≡◌, ℕ, zero, suc, Bool, true, false, List, [], ◌∷◌, ◌++◌, Option, None, Some, MatchOption}
 use Rattle.std.specs.Str.{bytes_eq}
 use Rattle.std.specs.Ordering.{nat_cmp, is_gt}
 use Rattle.std.specs.Cmp.Lexicographic.{slice_cmp}
@@ -31,9 +31,10 @@ has_id nodes id n = is_text id (attribute_at nodes n (105 ∷ 100 ∷ []))
 abbrev pub IsFirstOf : List Node → List ℕ → Option ℕ → Type 0
 IsFirstOf nodes id r = MatchOption r ((m : ℕ) → has_id nodes id m ≡ false) (λ n. (has_id nodes id n ≡ true) × ((m : ℕ) → has_id nodes id m ≡ true → comes_after nodes n m ≡ false))
 
--- the same among the first i nodes
-abbrev pub IsFirstBelow : List Node → List ℕ → ℕ → Option ℕ → Type 0
-IsFirstBelow nodes id i r = MatchOption r ((m : ℕ) → m < i → has_id nodes id m ≡ false) (λ n. (n < i) × (has_id nodes id n ≡ true) × ((m : ℕ) → m < i → has_id nodes id m ≡ true → comes_after nodes n m ≡ false))
+-- whether a node comes before the first of an id, if there is one
+abbrev pub leads : List Node → ℕ → Option ℕ → Bool
+leads nodes n None = true
+leads nodes n (Some m) = comes_after nodes m n
 
 -- ---- law
 

@@ -1,18 +1,21 @@
 //! The document.
-ghost use Rattle.std.specs.Prelude.{vec_len, IfSome, IfErr, IsTrue, ◌≡◌, ◌+◌, ◌<◌, ◌≤◌, List, [], ◌∷◌, ◌++◌, Option, Some, IfOk, OnErr, OnOk, length, slice_get, option_map, true, false, not, is_some, if◌then◌else◌};
-ghost use Rattle.dom.specs.Nodes.{Node, IsTree, parents_of, element_parents_of, parent_at, first_child_of, next_of, prev_of, is_element, child_of, depth_at, is_element_at, last_child_of, element_count, elements_before_of, name_at, text_at, attribute_at, root, with_attribute};
-ghost use Rattle.std.specs.Prelude.{take};
+ghost use Rattle.std.specs.Prelude.{IfErr, IsTrue, ◌≡◌, ◌+◌, ◌<◌, ◌≤◌, List, [], ◌∷◌, ◌++◌, Option, Some, IfOk, OnErr, OnOk, length, option_map, true, false, not, is_some, if◌then◌else◌};
+ghost use Rattle.dom.specs.Nodes.{Element, Text, IsTree, parents_of, element_parents_of, parent_at, first_child_of, next_of, prev_of, is_element, child_of, depth_at, is_element_at, last_child_of, element_count, elements_before_of, name_at, text_at, attribute_at, root, with_attribute};
+ghost use Rattle.std.specs.Prelude.{take, codes, IfSome};
+ghost use Rattle.dom.specs.StoreFields.{made_of};
+ghost use Rattle.dom.specs.Links.{IsRowOf};
 ghost use Rattle.std.specs.Ordering.{nat_cmp, is_gt};
 ghost use Rattle.std.specs.Cmp.Lexicographic.{slice_cmp};
-ghost use Rattle.dom.specs.Order.{IsFirstOf, IsFirstBelow, has_id, comes_after, way_to};
+ghost use Rattle.dom.specs.Order.{IsFirstOf, comes_after, leads, way_to};
 ghost use Rattle.dom.specs.Answers.{AddAnswers, HasRoom, is_below_all};
-ghost use Rattle.dom.specs.declared.rows.NodeData.TheVariants.{Element, Text};
 
-use crate::attrs::Attributes;
-use crate::rows::{NodeData, Row, link, put_attribute};
+use crate::ids::{Ids, first, make_room, set_first};
+use crate::rows::{Row, child_row, link, root_row};
+use crate::store::{New, Store};
 use bk_num::ids::NodeId;
 use bk_num::limits::{MOST_DEPTH, MOST_NODES};
-use bk_num::name::{Name, NoMem};
+use bk_num::name::NoMem;
+use indexmap::IndexMap;
 use std::alloc::Global;
 use std::cmp::Ordering;
 use std::marker::Model;
@@ -34,6 +37,8 @@ pub enum DomErr {
 #[derive(Drop)]
 pub struct Dom {
     rows: Vec<Row>,
+    store: Store,
+    ids: Ids,
 }
 
 impl Model for Dom {
@@ -55,26 +60,19 @@ impl Dom {
         ensures ok { IfOk result (λ dom. dom ≡ root ∷ []) }
         ensures err { IfErr result (λ e. e ≡ DomErr.NoMemory) }
     {
-        let Ok(name) = Name::new(alloc, "html") else {
-            return Err(DomErr::NoMemory);
-        };
-        let what = NodeData::Element(name, Attributes::new(alloc));
-        let mut rows = Vec::new(alloc);
-        let row = Row {
-            parent: None,
-            depth: 1,
-            first_child: None,
-            last_child: None,
-            next: None,
-            prev: None,
-            elements_before: 0,
-            elements: 0,
-            what,
-        };
-        if rows.push(row).is_err() {
+        let mut store = Store::new(alloc);
+        if store.add_element(alloc, "html").is_err() {
             return Err(DomErr::NoMemory);
         }
-        Ok(Dom { rows })
+        let mut rows = Vec::new(alloc);
+        if rows.push(root_row()).is_err() {
+            return Err(DomErr::NoMemory);
+        }
+        Ok(Dom {
+            rows,
+            store,
+            ids: IndexMap::new(alloc),
+        })
     }
 
     /// How many nodes there are.
@@ -100,35 +98,35 @@ impl Dom {
         requires { node.0 < length self.now }
         ensures { option_map (λ n. n.0) result ≡ parent_at (parents_of self.now) node.0 }
     {
-        named(self.rows[node.0 as usize].parent)
+        named(self.row(node).parent.get())
     }
 
     pub fn first_child(&self, node: NodeId) -> Option<NodeId>
         requires { node.0 < length self.now }
         ensures { option_map (λ n. n.0) result ≡ first_child_of (parents_of self.now) node.0 }
     {
-        named(self.rows[node.0 as usize].first_child)
+        named(self.row(node).first_child.get())
     }
 
     pub fn last_child(&self, node: NodeId) -> Option<NodeId>
         requires { node.0 < length self.now }
         ensures { option_map (λ n. n.0) result ≡ last_child_of (parents_of self.now) node.0 }
     {
-        named(self.rows[node.0 as usize].last_child)
+        named(self.row(node).last_child.get())
     }
 
     pub fn next_sibling(&self, node: NodeId) -> Option<NodeId>
         requires { node.0 < length self.now }
         ensures { option_map (λ n. n.0) result ≡ next_of (parents_of self.now) node.0 }
     {
-        named(self.rows[node.0 as usize].next)
+        named(self.row(node).next.get())
     }
 
     pub fn prev_sibling(&self, node: NodeId) -> Option<NodeId>
         requires { node.0 < length self.now }
         ensures { option_map (λ n. n.0) result ≡ prev_of (parents_of self.now) node.0 }
     {
-        named(self.rows[node.0 as usize].prev)
+        named(self.row(node).prev.get())
     }
 
     /// How deep a node is: 1 for node 0, and one more than its parent for each other.
@@ -139,7 +137,7 @@ impl Dom {
         ensures most { result ≤ 201 }
         ensures tree { IsTree self.now }
     {
-        self.rows[node.0 as usize].depth
+        self.row(node).depth
     }
 
     /// How many elements among a node's siblings come before it.
@@ -147,7 +145,7 @@ impl Dom {
         requires { node.0 < length self.now }
         ensures { result ≡ elements_before_of self.now node.0 }
     {
-        self.rows[node.0 as usize].elements_before
+        self.row(node).elements_before
     }
 
     /// How many children of a node are elements, at most 400,000.
@@ -156,7 +154,7 @@ impl Dom {
         ensures count { result ≡ element_count (element_parents_of self.now) node.0 }
         ensures few { result ≤ 400000 }
     {
-        self.rows[node.0 as usize].elements
+        self.row(node).elements
     }
 
     /// An element's name; None exactly for a text.
@@ -164,10 +162,7 @@ impl Dom {
         requires { node.0 < length self.now }
         ensures { option_map (λ s. s.now) result ≡ name_at self.now node.0 }
     {
-        match &self.rows[node.0 as usize].what {
-            NodeData::Element(name, _) => Some(name.as_str()),
-            NodeData::Text(_) => None,
-        }
+        self.store.name(node.0)
     }
 
     /// A text's text; None exactly for an element.
@@ -175,10 +170,7 @@ impl Dom {
         requires { node.0 < length self.now }
         ensures { option_map (λ s. s.now) result ≡ text_at self.now node.0 }
     {
-        match &self.rows[node.0 as usize].what {
-            NodeData::Element(_, _) => None,
-            NodeData::Text(text) => Some(text.as_str()),
-        }
+        self.store.text(node.0)
     }
 
     /// The value of an element's attribute of this name.
@@ -186,10 +178,7 @@ impl Dom {
         requires { node.0 < length self.now }
         ensures { option_map (λ s. s.now) result ≡ attribute_at self.now node.0 name.now }
     {
-        match &self.rows[node.0 as usize].what {
-            NodeData::Element(_, attributes) => attributes.get(name),
-            NodeData::Text(_) => None,
-        }
+        self.store.attr(node.0, name)
     }
 
     /// Adds an element without attributes as the last child of an element.
@@ -209,11 +198,7 @@ impl Dom {
         if let Err(e) = self.room(parent, true) {
             return Err(e);
         }
-        let Ok(name) = Name::new(alloc, name) else {
-            return Err(DomErr::NoMemory);
-        };
-        let what = NodeData::Element(name, Attributes::new(alloc));
-        match self.add(parent, what) {
+        match self.add(alloc, parent, New::Element(name)) {
             Ok(node) => Ok(node),
             Err(_) => Err(DomErr::NoMemory),
         }
@@ -231,10 +216,7 @@ impl Dom {
         if let Err(e) = self.room(parent, false) {
             return Err(e);
         }
-        let Ok(text) = Name::new(alloc, text) else {
-            return Err(DomErr::NoMemory);
-        };
-        match self.add(parent, NodeData::Text(text)) {
+        match self.add(alloc, parent, New::Text(text)) {
             Ok(node) => Ok(node),
             Err(_) => Err(DomErr::NoMemory),
         }
@@ -254,49 +236,47 @@ impl Dom {
         ensures ok { IfOk result (λ b. self.new ≡ (if b then with_attribute self.old node.0 name.now value.now else self.old)) }
         ensures err { OnErr result (self.new ≡ self.old) }
     {
-        let row = &mut self.rows[node.0 as usize];
-        put_attribute(&mut row.what, alloc, name, value)
+        if name == "id" {
+            return self.add_id(alloc, node, value);
+        }
+        self.store.add_attr(alloc, node.0, name, value)
     }
 
-    /// The first element in tree order whose attribute `id` is this text. It looks at each node once; whoever asks for many makes a map.
+    /// Adds the attribute `id`, and notes the element where it is the first of the id.
+    fn add_id(&mut self, alloc: Global, node: NodeId, value: &str) -> Result<bool, NoMem>
+        requires node { node.0 < length self.old }
+        requires element { IsTrue (is_element_at self.old node.0) }
+        ensures added { IfOk result (λ b. b ≡ not (is_some (attribute_at self.old node.0 (codes "id")))) }
+        ensures ok { IfOk result (λ b. self.new ≡ (if b then with_attribute self.old node.0 (codes "id") value.now else self.old)) }
+        ensures err { OnErr result (self.new ≡ self.old) }
+    {
+        let leads = self.leads(node, first(&self.ids, value));
+        make_room(&mut self.ids, alloc, value)?;
+        if !self.store.add_attr(alloc, node.0, "id", value)? {
+            return Ok(false);
+        }
+        if leads {
+            set_first(&mut self.ids, value, node.0);
+        }
+        Ok(true)
+    }
+
+    /// The first element in tree order whose attribute `id` is this text. It takes one look-up.
     pub fn by_id(&self, id: &str) -> Option<NodeId>
         ensures { IsFirstOf self.now id.now (option_map (λ n. n.0) result) }
     {
-        let mut first = None;
-        for index in 0..self.len() {
-            first = self.earlier(first, NodeId(index), id);
-        }
-        first
+        named(first(&self.ids, id))
     }
 
-    /// The first element of an id, where `first` was that among the nodes before this one.
-    fn earlier(&self, first: Option<NodeId>, node: NodeId, id: &str) -> Option<NodeId>
+    /// Whether a node comes before the first of an id.
+    fn leads(&self, node: NodeId, first: Option<u32>) -> bool
         requires node { node.0 < length self.now }
-        requires first { IsFirstBelow self.now id.now node.0 (option_map (λ n. n.0) first) }
-        ensures { IsFirstBelow self.now id.now (node.0 + 1) (option_map (λ n. n.0) result) }
+        requires first { IfSome first (λ n. n < length self.now) }
+        ensures { result ≡ leads self.now node.0 first }
     {
-        if !self.has_id(node, id) {
-            return first;
-        }
         match first {
-            None => Some(node),
-            Some(other) => {
-                if self.comes_after(other, node) {
-                    Some(node)
-                } else {
-                    first
-                }
-            }
-        }
-    }
-
-    fn has_id(&self, node: NodeId, id: &str) -> bool
-        requires { node.0 < length self.now }
-        ensures { result ≡ has_id self.now id.now node.0 }
-    {
-        match self.attr(node, "id") {
-            Some(value) => value == id,
-            None => false,
+            None => true,
+            Some(other) => self.comes_after(NodeId(other), node),
         }
     }
 
@@ -330,6 +310,18 @@ impl Dom {
         depth
     }
 
+    /// The row of a node.
+    fn row(&self, node: NodeId) -> &Row
+        requires { node.0 < length self.now }
+        ensures row { IsRowOf self.now node.0 result.now }
+        ensures most { result.now.depth ≤ 201 }
+        ensures element { IsTrue (is_element_at self.now node.0) → result.now.depth ≤ 200 }
+        ensures few { result.now.elements ≤ 400000 }
+        ensures tree { IsTree self.now }
+    {
+        &self.rows[node.0 as usize]
+    }
+
     /// Whether there is room for one more node under a parent.
     fn room(&self, parent: NodeId, element: bool) -> Result<(), DomErr>
         requires { parent.0 < length self.now }
@@ -345,12 +337,12 @@ impl Dom {
     }
 
     /// Adds a node as the last child of an element.
-    fn add(&mut self, parent: NodeId, what: NodeData) -> Result<NodeId, NoMem>
+    fn add(&mut self, alloc: Global, parent: NodeId, what: New<'_>) -> Result<NodeId, NoMem>
         requires parent { parent.0 < length self.old }
         requires element { IsTrue (is_element_at self.old parent.0) }
-        requires room { HasRoom self.old parent.0 (is_element what) }
+        requires room { HasRoom self.old parent.0 (is_element (made_of what)) }
         ensures number { IfOk result (λ n. n.0 ≡ length self.old) }
-        ensures ok { OnOk result (self.new ≡ self.old ++ child_of self.old parent.0 what ∷ []) }
+        ensures ok { OnOk result (self.new ≡ self.old ++ child_of self.old parent.0 (made_of what.entry) ∷ []) }
         ensures err { OnErr result (self.new ≡ self.old) }
     {
         let index = self.len();
@@ -358,18 +350,12 @@ impl Dom {
         let last = unnamed(self.last_child(parent));
         let before = self.element_count(parent);
         let elements = count_after(before, what.is_element());
-        let row = Row {
-            parent: Some(parent.0),
-            depth: depth + 1,
-            first_child: None,
-            last_child: None,
-            next: None,
-            prev: last,
-            elements_before: before,
-            elements: 0,
-            what,
-        };
+        let row = child_row(parent.0, depth, last, before);
         if self.rows.push(row).is_err() {
+            return Err(NoMem);
+        }
+        if self.store.add(alloc, what).is_err() {
+            self.rows.truncate(index as usize);
             return Err(NoMem);
         }
         link(&mut self.rows, parent.0, last, index, elements);

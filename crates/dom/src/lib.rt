@@ -1,15 +1,16 @@
 //! A document as a tree of elements and texts, kept in one list of nodes.
 #![tactic(auto)]
 
-mod attrs;
 mod dom;
+mod ids;
 pub mod laws;
+mod names;
 mod rows;
+mod store;
 #[cfg(test)]
 mod tests;
+mod texts;
 mod walk;
 
-pub use attrs::Attributes;
 pub use dom::{Dom, DomErr};
-pub use rows::NodeData;
 pub use walk::{Step, Walk};

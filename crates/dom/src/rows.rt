@@ -1,80 +1,115 @@
-//! The rows of a document: a node each, with its links.
-ghost use Rattle.std.specs.Prelude.{vec_len, IfSome, IsTrue, IfOk, true, OnErr, ◌≡◌, ◌<◌, not, is_some, if◌then◌else◌};
-ghost use Rattle.dom.specs.Links.{linked_at};
-ghost use Rattle.dom.specs.Nodes.{is_element, attribute_in, attributed};
+//! The rows of a document: where each node stands.
+ghost use Rattle.std.specs.Prelude.{vec_len, IfSome, ◌≡◌, ◌<◌, Some};
+ghost use Rattle.dom.specs.Links.{linked_at, root_row, child_row};
 
-use crate::attrs::Attributes;
-use bk_num::name::{Name, NoMem};
-use std::alloc::Global;
+use std::marker::Model;
 
-/// What a node is: an element with its name and attributes, or a text.
+/// The number of no node.
+const NONE: u32 = 0xFFFF_FFFF;
+
+/// A node's number, or none, in four bytes. Contracts see the number.
 #[derive(Drop)]
-pub enum NodeData {
-    Element(Name, Attributes),
-    Text(Name),
+pub(crate) struct NodeLink {
+    number: u32,
 }
 
-impl NodeData {
-    pub(crate) fn is_element(&self) -> bool
-        ensures { result ≡ is_element self.now }
+impl Model for NodeLink {
+    ghost use Rattle.std.specs.Prelude.{Option, ℕ};
+
+    ghost Value = { Option ℕ };
+
+    ghost use Rattle.dom.specs.LinkFields.{number_of};
+
+    ghost view = { number_of };
+}
+
+impl NodeLink {
+    pub(crate) fn new(number: Option<u32>) -> NodeLink
+        requires { IfSome number (λ n. n < 4294967295) }
+        ensures { result ≡ number }
     {
-        match self {
-            NodeData::Element(_, _) => true,
-            NodeData::Text(_) => false,
+        match number {
+            Some(n) => NodeLink { number: n },
+            None => NodeLink { number: NONE },
         }
+    }
+
+    pub(crate) fn get(&self) -> Option<u32>
+        ensures { result ≡ self.now }
+    {
+        if self.number == NONE {
+            return None;
+        }
+        Some(self.number)
     }
 }
 
-/// A node, its links, and the counts of the elements before it among its siblings and among its children.
+/// Where a node stands: its parent, its depth, its links, and the counts of the elements before it among its siblings and among its children.
 #[derive(Drop)]
 pub(crate) struct Row {
-    pub(crate) parent: Option<u32>,
-    pub(crate) depth: u8,
-    pub(crate) first_child: Option<u32>,
-    pub(crate) last_child: Option<u32>,
-    pub(crate) next: Option<u32>,
-    pub(crate) prev: Option<u32>,
+    pub(crate) parent: NodeLink,
+    pub(crate) first_child: NodeLink,
+    pub(crate) last_child: NodeLink,
+    pub(crate) next: NodeLink,
+    pub(crate) prev: NodeLink,
     pub(crate) elements_before: u32,
     pub(crate) elements: u32,
-    pub(crate) what: NodeData,
+    pub(crate) depth: u8,
+}
+
+/// Where node 0 stands.
+pub(crate) fn root_row() -> Row
+    ensures { result ≡ root_row }
+{
+    Row {
+        parent: NodeLink::new(None),
+        first_child: NodeLink::new(None),
+        last_child: NodeLink::new(None),
+        next: NodeLink::new(None),
+        prev: NodeLink::new(None),
+        elements_before: 0,
+        elements: 0,
+        depth: 1,
+    }
+}
+
+/// Where the next child of an element of this depth stands, after its last child and the element children that it has.
+pub(crate) fn child_row(parent: u32, depth: u8, last: Option<u32>, before: u32) -> Row
+    requires parent { parent < 4294967295 }
+    requires depth { depth < 255 }
+    requires last { IfSome last (λ l. l < 4294967295) }
+    ensures { result ≡ child_row parent depth last before }
+{
+    Row {
+        parent: NodeLink::new(Some(parent)),
+        first_child: NodeLink::new(None),
+        last_child: NodeLink::new(None),
+        next: NodeLink::new(None),
+        prev: NodeLink::new(last),
+        elements_before: before,
+        elements: 0,
+        depth: depth + 1,
+    }
 }
 
 /// Makes the node at `index` known to the node before it and to its parent, which then has this many element children.
 pub(crate) fn link(rows: &mut Vec<Row>, parent: u32, last: Option<u32>, index: u32, elements: u32)
     requires parent { parent < vec_len rows.old }
     requires last { IfSome last (λ l. l < vec_len rows.old) }
+    requires index { index < 4294967295 }
     ensures { rows.new.items ≡ linked_at rows.old.items parent last index elements }
 {
     match last {
         Some(before) => {
             let row = &mut rows[before as usize];
-            row.next = Some(index);
+            row.next = NodeLink::new(Some(index));
         }
         None => {
             let row = &mut rows[parent as usize];
-            row.first_child = Some(index);
+            row.first_child = NodeLink::new(Some(index));
         }
     }
     let row = &mut rows[parent as usize];
-    row.last_child = Some(index);
+    row.last_child = NodeLink::new(Some(index));
     row.elements = elements;
-}
-
-/// Adds an attribute to an element, unless there is one of the name.
-pub(crate) fn put_attribute(
-    what: &mut NodeData,
-    alloc: Global,
-    name: &str,
-    value: &str,
-) -> Result<bool, NoMem>
-    requires { IsTrue (is_element what.old) }
-    ensures added { IfOk result (λ b. b ≡ not (is_some (attribute_in name.now what.old))) }
-    ensures ok { IfOk result (λ b. what.new ≡ (if b then attributed name.now value.now what.old else what.old)) }
-    ensures err { OnErr result (what.new ≡ what.old) }
-    ensures element { is_element what.new ≡ true }
-{
-    match what {
-        NodeData::Element(_, attributes) => attributes.add(alloc, name, value),
-        NodeData::Text(_) => Ok(false),
-    }
 }

@@ -1,11 +1,10 @@
 -- How many pages a flow has at most: each flow page takes an edge or a character, and blank pages stand before sides that are asked.
-use Rattle.std.proofs.Common.{◌≡◌, ◌≢◌, ◌<◌, ◌≤◌, ◌+◌, ◌-◌, ◌*◌, ◌==◌, ℕ, zero, suc, ℤ, pos, Bool, true, false, not, cond, eqb, List, [], ◌∷◌, Option, None, Some, length, max, drop, slice_get, refl, sym, ap, ◌∙◌, subst, arith, add-one, ◌⊎◌, ⊎_elim, inl, inr, suc-mul}
+use Rattle.std.proofs.Common.{◌≡◌, ◌≢◌, ◌<◌, ◌≤◌, ◌+◌, ◌-◌, ◌*◌, ◌==◌, ℕ, zero, suc, ℤ, pos, Bool, true, false, cond, eqb, List, [], ◌∷◌, Option, None, Some, length, max, drop, slice_get, refl, sym, ap, ◌∙◌, subst, arith, add-one, ◌⊎◌, ⊎_elim, inl, inr, suc-mul}
 use Rattle.std.specs.Prelude.{◌&&◌}
 use Rattle.std.proofs.Math.Nat.{mul-le-mul_right, max-eq_right, le-max_left}
-use Rattle.std.proofs.lemmas.Bool.{cases_lt, eq-eqb}
+use Rattle.std.proofs.lemmas.Bool.{cases_lt}
 use Rattle.std.proofs.lemmas.Bool.Decides.{eqb_tells}
 use Rattle.std.proofs.lemmas.List.{length-map}
-use Rattle.std.proofs.lemmas.Option.{slice_get_within}
 use Rattle.metrics.specs.Face.{FontFace}
 use Rattle.boxes.specs.Steps.{IsRun}
 use Rattle.boxes.specs.Tree.{Tree, IsTree}
@@ -14,7 +13,6 @@ use Rattle.boxes.specs.declared.frames.Frame.{Frame}
 use Rattle.boxes.specs.declared.frames.PageKind.TheVariants as kind
 use Rattle.boxes.specs.declared.leaf.Leaf.{Leaf as LeafData}
 use Rattle.boxes.specs.declared.page.Page.{Page}
-use Rattle.boxes.specs.declared.page.SolidKind.{SolidKind}
 use Rattle.boxes.specs.declared.page.SolidKind.TheVariants.{OpenEdge, CloseEdge}
 use Rattle.boxes.specs.declared.place.Event.{Event}
 use Rattle.boxes.specs.declared.place.Event.TheVariants.{Opens, Closes, Leaf}
@@ -28,8 +26,8 @@ use Rattle.seams.specs.declared.seam_info.SeamInfo.{SeamInfo}
 use Rattle.seams.proofs.RunLemmas.{after_solid}
 use Rattle.cursor.specs.Remainder.{SolidView, IsSolid, IsContent, IsLineSolid, IsRemainder, leaf_measure, end_of}
 use Rattle.cursor.specs.Remainder.IsContent.{of_line, of_open, of_close}
-use Rattle.cursor.proofs.RemLemmas.{Stands, solid_stands, begins_of, found_of, solid_within}
-use Rattle.fragment.specs.Bounds.{is_sided, sided_among, sided_in, parts_in, most_pages}
+use Rattle.cursor.proofs.RemLemmas.{Stands, solid_stands, begins_of, found_of}
+use Rattle.fragment.specs.Bounds.{is_sided, sided_among, sided_in, most_pages_of}
 use Rattle.fragment.specs.Pages.{CutsSolids, IsEnded, IsFlowCut, IsPaged, IsStep, PageFrames, State, after_flow, meets_at, name_at, place_after, rows_of, row_of, first_gap, start_of, text_size}
 use Rattle.fragment.specs.Pages.IsStep.{blank, flow}
 use Rattle.fragment.specs.Parted.{edges_among}
@@ -436,16 +434,16 @@ module _ (free : Demand → Bool) (bound : ℕ) (faces : List FontFace) (t : Tre
               omega arith
 
   -- a page list has no more pages than these
-  pub page_bound : (pages : List Page) → IsPaged faces t frames pages → length pages ≤ most_pages free bound t
+  pub page_bound : (pages : List Page) → IsPaged faces t frames pages → length pages ≤ most_pages_of free bound t
   page_bound pages paged =
       let demand : Option Demand = (start_of t).demand in
       let first = near 1 demand in
       by (asks_at free t (start_of t).at) refl first.1 (λ n sided. bound_on (start_of t) pages first.0 n (start_stands t) refl refl first.2 sided paged)
     where
-      by : {j : ℕ} (b : Bool) → asks_at free t (start_of t).at ≡ b → j ≤ cond b bound 0 → ((n : ℕ) → sided_from free t 0 ≤ bit free t (asks_at free t (start_of t).at) + n → length pages ≤ j + (max 1 (rest_at t (start_of t).at) + n * bound)) → length pages ≤ most_pages free bound t
+      by : {j : ℕ} (b : Bool) → asks_at free t (start_of t).at ≡ b → j ≤ cond b bound 0 → ((n : ℕ) → sided_from free t 0 ≤ bit free t (asks_at free t (start_of t).at) + n → length pages ≤ j + (max 1 (rest_at t (start_of t).at) + n * bound)) → length pages ≤ most_pages_of free bound t
       by {j} false h small rest = let size = rest (sided_from free t 0) (omega arith) in omega arith
       by {j} true h small rest = go (sided_from free t 0) refl
         where
-          go : (n : ℕ) → sided_from free t 0 ≡ n → length pages ≤ most_pages free bound t
+          go : (n : ℕ) → sided_from free t 0 ≡ n → length pages ≤ most_pages_of free bound t
           go zero e = absurd (let low = start_sided free t h in omega arith)
           go (suc n) e = let size = rest n (rw h (omega arith)) in let step : suc n * bound ≡ n * bound + bound = suc-mul n bound in let all : sided_in free t * bound ≡ suc n * bound = ap (λ (m : ℕ). m * bound) e in omega arith

@@ -19,7 +19,7 @@ use Rattle.seams.specs.Seams.{seam_of, seam_before, seam_between, solid_behind, 
 use Rattle.seams.specs.declared.seam_info.SeamInfo.{SeamInfo}
 use Rattle.seams.proofs.RunLemmas.{after_solid}
 use Rattle.cursor.specs.Remainder.{SolidView, IsSolid, IsRemainder}
-use Rattle.cursor.proofs.RemLemmas.{Stands, solid_stands, begins_of, place_stands}
+use Rattle.cursor.proofs.RemLemmas.{Stands, begins_of}
 use Rattle.fragment.specs.declared.row.Row.{Row}
 use Rattle.fragment.specs.Rows.{is_free, limit_of}
 use Rattle.fragment.specs.declared.next_cut.Cut.{Cut}

@@ -1,13 +1,11 @@
 -- What a page places by a point that fits ends no lower than its frame.
-use Rattle.std.proofs.Common.{◌≡◌, ◌<◌, ◌≤◌, ◌+◌, ℕ, zero, suc, ℤ, pos, ◌≤ℤ◌, ◌+ℤ◌, All, List, [], ◌∷◌, Option, None, Some, length, map, take, drop, ◌++◌, Bool, slice_get, refl, sym, ap, ◌∙◌, subst, arith, add-suc, add-zero}
-use Rattle.std.specs.Int.{int_max}
+use Rattle.std.proofs.Common.{◌≡◌, ◌≤◌, ◌+◌, ℕ, suc, ℤ, ◌≤ℤ◌, ◌+ℤ◌, All, List, [], ◌∷◌, Option, Some, length, map, take, drop, ◌++◌, Bool, slice_get, refl, sym, ap, ◌∙◌, subst, arith, add-zero}
 use Rattle.std.proofs.lemmas.Int.{ints, clamps}
 use Rattle.std.proofs.lemmas.List.Elements.{All-nil, All-cons}
 use Rattle.std.proofs.lemmas.Option.{slice_get-map}
 use Rattle.std.specs.Option.{option_map}
 use Rattle.std.proofs.lemmas.List.{length-take-le, length-map, take-append-drop, map-append}
 use Rattle.boxes.specs.Tree.{Tree}
-use Rattle.boxes.specs.declared.page.Placed.{Placed}
 use Rattle.cursor.specs.Remainder.{SolidView}
 use Rattle.fragment.specs.declared.row.Row.{Row}
 use Rattle.fragment.specs.Rows.{gap_of, height_of, bottom_of, extent_of, Fits}
@@ -24,7 +22,7 @@ use Rattle.boxes.specs.declared.place.Position.{Position}
 use Rattle.fragment.specs.Inside.{EndsBy, EndInside}
 use Rattle.fragment.specs.Pages.{CutsSolids, IsEnded, IsFlowCut, IsPaged, IsStep, PageFrames, State, name_at, start_of}
 use Rattle.fragment.specs.Pages.IsStep.{blank, flow}
-use Rattle.fragment.proofs.FrontLemmas.{extent-append}
+use Rattle.fragment.proofs.PrefixLemmas.{extent-append}
 use Rattle.fragment.proofs.CutLemmas.{extent-mono, limit_within}
 
 -- the rows of a list from a place on are those of some solids

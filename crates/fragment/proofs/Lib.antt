@@ -3,10 +3,11 @@ pub mod BreakLemmas
 pub mod CutLemmas
 pub mod ExistLemmas
 pub mod FlowLemmas
-pub mod FrontLemmas
 pub mod InsideLemmas
 pub mod NearLemmas
 pub mod PageLemmas
 pub mod PartLemmas
+pub mod PlainLemmas
+pub mod PrefixLemmas
 pub mod SizeLemmas
 pub mod TextLemmas

@@ -1,8 +1,8 @@
 -- Solids by place, and the steps of a page list.
-use Rattle.std.proofs.Common.{◌≡◌, ◌≢◌, ◌<◌, ◌≤◌, ◌+◌, ◌-◌, ◌==◌, ℕ, zero, suc, ℤ, pos, Bool, true, false, cond, eqb, All, length, List, [], ◌∷◌, ◌++◌, Option, None, Some, is_some, option_map, ◌^◌, Result, Ok, Err, IfOk, map, take, drop, slice_get, refl, sym, ap, ◌∙◌, subst, arith, get_or, ◌⊎◌, inl, inr, ⊎_elim, add-one, append-nil, append_assoc, length-append}
+use Rattle.std.proofs.Common.{◌≡◌, ◌≢◌, ◌<◌, ◌≤◌, ◌+◌, ◌-◌, ◌==◌, ℕ, zero, suc, ℤ, Bool, true, false, cond, eqb, All, length, List, [], ◌∷◌, ◌++◌, Option, None, Some, is_some, option_map, ◌^◌, Result, Ok, Err, IfOk, map, take, drop, slice_get, refl, sym, ap, ◌∙◌, subst, arith, get_or, ◌⊎◌, inl, inr, ⊎_elim, add-one, append-nil, append_assoc, length-append}
 use Rattle.std.proofs.lemmas.Bool.{cases_lt, eq-eqb}
 use Rattle.std.proofs.lemmas.Bool.Decides.{eqb_tells}
-use Rattle.std.proofs.lemmas.Option.{slice_get_within, slice_get-get_or, slice_get-map}
+use Rattle.std.proofs.lemmas.Option.{get_or_from_slice_get, slice_get-get_or, slice_get-map, slice_get_within}
 use Rattle.std.proofs.Math.ListN.{get_or-map}
 use Rattle.std.proofs.lemmas.List.{length-map}
 use Rattle.boxes.specs.Steps.{IsRun}
@@ -17,18 +17,17 @@ use Rattle.boxes.specs.declared.leaf.Leaf.{Leaf as LeafData}
 use Rattle.boxes.specs.declared.place.Event.{Event}
 use Rattle.boxes.specs.declared.place.Event.TheVariants.{Opens, Closes, Leaf}
 use Rattle.boxes.specs.declared.place.Position.{Position}
-use Rattle.seams.specs.Runs.{solid_after, solid_before, solid_from, is_solid, run_start, run_end, events_in, has_block_seam, is_solid_at}
-use Rattle.seams.specs.Seams.{seam_of, seam_before, line_seam, solid_behind, seam_between, class_by, forced_by}
+use Rattle.seams.specs.Runs.{solid_after, solid_before, solid_from, run_start, run_end, events_in, has_block_seam, is_solid_at}
+use Rattle.seams.specs.Seams.{seam_before, line_seam, solid_behind, seam_between, class_by, forced_by}
 use Rattle.seams.specs.Meets.{values_from, name_at as solid_name}
 use Rattle.seams.specs.declared.seam_info.Class.TheVariants.{A}
-use Rattle.seams.proofs.RunLemmas.{after_solid, before_solid}
+use Rattle.seams.proofs.RunLemmas.{after_solid}
 use Rattle.line_fill.proofs.EndLemmas.{lines_go_on}
 use Rattle.cursor.specs.declared.solid.Solid.{Solid}
 use Rattle.cursor.specs.Fields.{solid_view}
-use Rattle.cursor.specs.Plain.{HasPlainLeaves}
 use Rattle.cursor.specs.Remainder.{SolidView, IsSolid, IsContent, IsLineSolid, IsRemainder, IsSmallSolid, HaveOneRemainder, leaf_measure, end_of}
 use Rattle.cursor.specs.Remainder.IsContent.{of_line, of_open, of_close}
-use Rattle.cursor.proofs.RemLemmas.{Stands, stands, solid_stands, solid_holds, begins_of, found_of, solid_within}
+use Rattle.cursor.proofs.RemLemmas.{Stands, stands, solid_stands, place_stands, begins_of, found_of, solid_within}
 use Rattle.fragment.specs.declared.row.Row.{Row}
 use Rattle.fragment.specs.Rows.{IsSmall, AreForcedBetween, limit_of}
 use Rattle.fragment.specs.Cuts.{IsRowCut}
@@ -39,7 +38,7 @@ use Rattle.boxes.specs.declared.page.Placed.{Placed}
 use Rattle.boxes.specs.declared.frames.PageKind.TheVariants as kind
 use Rattle.boxes.proofs.RunLemmas.{run_unique}
 use Rattle.fragment.specs.Cuts.IsCut.{at_level, at_loose, at_first}
-use Rattle.fragment.specs.Pages.{State, PageFrames, IsStep, IsEnded, IsPaged, HasOnePageList, LeavesNothing, CutsAt, CutsSolids, IsFlowCut, start_of, start_place, name_at, flow_page_of, flow_page, meets_at, blank_page, blank_at, AreBlanks, AddsBlanks, after_flow, is_forced, first_gap, placed_from, row_of, rows_of, place_after, forced_after, text_size, size_of}
+use Rattle.fragment.specs.Pages.{State, PageFrames, IsStep, IsEnded, IsPaged, HasOnePageList, LeavesNothing, LeavesSome, CutsAt, CutsSolids, IsFlowCut, start_of, name_at, flow_page_of, flow_page, meets_at, blank_page, blank_at, AreBlanks, AddsBlanks, after_flow, is_forced, first_gap, placed_from, row_of, rows_of, place_after, forced_after, text_size, size_of}
 use Rattle.fragment.specs.declared.next_cut.Cut.{Cut}
 use Rattle.boxes.specs.declared.frames.Frame.{Frame}
 use Rattle.seams.specs.declared.seam_info.SeamInfo.{SeamInfo}
@@ -71,27 +70,23 @@ cut_within first height rows level j cut = by cut (limit_within rows)
     by (at_first e n n2 own o p g) all = let w = p.within in (p.some, omega arith)
 
 -- what holds of each solid of a remainder
-pub each_solid : (faces : List FontFace) (t : Tree) (w : ℤ) → IsTree t → HasPlainLeaves faces t → (P : SolidView → Type 0) → ((at : Position) (s : SolidView) → Holds t at → IsSolid faces t w at s → P s) →
-    (from : Position) (xs : List SolidView) → Holds t from → IsRemainder faces t w from xs → (k : ℕ) (s : SolidView) → slice_get xs k ≡ Some s → P s
-each_solid faces t w tree leaves P h from [] st r k s e = absurd (cc)
-each_solid faces t w tree leaves P h from (x ∷ xs) st r zero s e = let same : x ≡ s = cc in subst P same (h from x st r.1.0)
-each_solid faces t w tree leaves P h from (x ∷ xs) st r (suc k) s e =
-    each_solid faces t w tree leaves P h r.0 xs (subst (Holds t) (sym r.1.1) (solid_holds faces t w from x tree leaves st r.1.0)) r.2 k s e
+pub each_solid : (faces : List FontFace) (t : Tree) (w : ℤ) → IsTree t → (P : SolidView → Type 0) → ((at : Position) (s : SolidView) → Stands t at → IsSolid faces t w at s → P s) →
+    (from : Position) (xs : List SolidView) → Stands t from → IsRemainder faces t w from xs → (k : ℕ) (s : SolidView) → slice_get xs k ≡ Some s → P s
+each_solid faces t w tree P h from [] st r k s e = absurd (cc)
+each_solid faces t w tree P h from (x ∷ xs) st r zero s e = let same : x ≡ s = cc in subst P same (h from x st r.1.0)
+each_solid faces t w tree P h from (x ∷ xs) st r (suc k) s e =
+    each_solid faces t w tree P h r.0 xs (subst (Stands t) (sym r.1.1) (solid_stands faces t w from x tree st r.1.0)) r.2 k s e
 
--- a solid's place is a place of the tree
-pub placed_holds : (faces : List FontFace) (t : Tree) (w : ℤ) (at : Position) (s : SolidView) → Holds t at → IsSolid faces t w at s → Holds t s.placed_at
-placed_holds faces t w at s h is =
-    let low = solid_within t at.event s.placed_at.event is.found in
-    by (eqb_tells s.placed_at.event at.event) (omega arith)
+-- where a cut ends is a place of the tree, where its solids stand at such places
+pub holds_after : (t : Tree) (views : List SolidView) → All (λ (v : SolidView). Holds t v.placed_at) views → (k : ℕ) → Holds t (place_after t (slice_get views k))
+holds_after t views all k = by (slice_get views k) refl
   where
-    by : ((eqb s.placed_at.event at.event ≡ true) × (s.placed_at.event ≡ at.event)) ⊎ ((eqb s.placed_at.event at.event ≡ false) × (s.placed_at.event ≢ at.event)) → s.placed_at.event ≤ length t.events → Holds t s.placed_at
-    by (inl e) low =
-        let offset : s.placed_at.offset ≡ at.offset = begins_of faces t w at s (stands t at h) is ∙ ap (λ (x : Bool). cond x at.offset 0) e.0 in
-        let same : s.placed_at ≡ at = ap (λ (n : ℕ). place n s.placed_at.offset) e.1 ∙ ap (place at.event) offset in
-        subst (Holds t) (sym same) h
-    by (inr e) low =
-        let offset : s.placed_at.offset ≡ 0 = begins_of faces t w at s (stands t at h) is ∙ ap (λ (x : Bool). cond x at.offset 0) e.0 in
-        record { within = low; offset = λ o. absurd (omega arith) }
+    by : (o : Option SolidView) → slice_get views k ≡ o → Holds t (place_after t o)
+    by None e = record { within = omega arith; offset = λ o. absurd (omega arith) }
+    by (Some s) e =
+        let low = slice_get_within views k s e in
+        let same : get_or views k s ≡ s = get_or_from_slice_get views k s s e in
+        subst (λ (v : SolidView). Holds t v.placed_at) same (all k s low)
 
 -- later events have no more text
 size_mono : (leaves : List LeafData) (es : List Event) (j : ℕ) → text_size leaves (drop j es) ≤ text_size leaves es
@@ -311,17 +306,17 @@ pub run_push : {S X : Type 0} (step : S → X → S → Type 0) (ended going : S
 run_push step ended going [] ys s r next = next s r
 run_push step ended going (x ∷ xs) ys s r next = (r.0, r.1, run_push step ended going xs ys r.0 r.2 next)
 
-module _ (faces : List FontFace) (t : Tree) (w : ℤ) (from : Position) (tree : IsTree t) (leaves : HasPlainLeaves faces t) (holds : Holds t from) where
+module _ (faces : List FontFace) (t : Tree) (w : ℤ) (from : Position) (tree : IsTree t) (st : Stands t from) where
   -- the solids of a remainder are few, and stand in the tree
   pub rest_few : (xs : List SolidView) → IsRemainder faces t w from xs → text_size t.leaves t.events ≤ 2 ^ 25 → length xs ≤ 2 ^ 26
   rest_few xs r small =
-      let few = solids_few faces t w tree from xs (stands t from holds) r in
+      let few = solids_few faces t w tree from xs st r in
       let all : text_size t.leaves (drop from.event t.events) ≤ text_size t.leaves t.events = size_later t.leaves t.events 0 from.event (omega arith) in
       let events = few_events t tree in
       omega arith
 
   pub rest_within : (xs : List SolidView) → IsRemainder faces t w from xs → (k : ℕ) (s : SolidView) → slice_get xs k ≡ Some s → s.placed_at.event ≤ length t.events
-  rest_within xs r = each_solid faces t w tree leaves (λ v. v.placed_at.event ≤ length t.events) (λ at s h is. let low = solid_within t at.event s.placed_at.event is.found in omega arith) from xs holds r
+  rest_within xs r = each_solid faces t w tree (λ v. v.placed_at.event ≤ length t.events) (λ at s h is. let low = solid_within t at.event s.placed_at.event is.found in omega arith) from xs st r
 
   -- its forced seams stand between blocks
   pub rest_between : (views : List SolidView) → IsRemainder faces t w from views → AreForcedBetween (rows_of t views)
@@ -332,22 +327,22 @@ module _ (faces : List FontFace) (t : Tree) (w : ℤ) (from : Position) (tree : 
       by (Some s) e f =
           let g : Some (row_of t s) ≡ Some row = sym (ap (option_map (row_of t)) e) ∙ f in
           let same : row_of t s ≡ row = cc in
-          ap (λ (q : Row). q.seam.class) (sym same) ∙ neighbours faces t w tree from views (stands t from holds) r k s e (ap (λ (q : Row). is_some q.seam.forced) same ∙ forced)
+          ap (λ (q : Row). q.seam.class) (sym same) ∙ neighbours faces t w tree from views st r k s e (ap (λ (q : Row). is_some q.seam.forced) same ∙ forced)
 
   -- a cut of the remainder is a cut of the flow, and ends at a place of the tree
-  pub flow_cut : (frame : Frame) (kept : Bool) (views : List SolidView) (cut : Cut) → frame.width ≡ w → IsRemainder faces t w from views → 0 < length views → ((count : ℕ) × CutsAt t frame.height kept views cut count) → IsFlowCut faces t frame from kept cut × Holds t cut.to
+  pub flow_cut : (frame : Frame) (kept : Bool) (views : List SolidView) (cut : Cut) → frame.width ≡ w → IsRemainder faces t w from views → 0 < length views → ((count : ℕ) × CutsAt t frame.height kept views cut count) → IsFlowCut faces t frame from kept cut × Stands t cut.to
   flow_cut frame kept views cut same r some cuts = (
     record { solids = views; rest = subst (λ (z : ℤ). IsRemainder faces t z from views) (sym same) r; cuts = solid_cuts views some cuts },
-    subst (Holds t) (sym cuts.1.to_is) (place_holds (slice_get views cuts.0) refl),
+    subst (Stands t) (sym cuts.1.to_is) (stands_after (slice_get views cuts.0) refl),
   )
     where
       solid_cuts : (vs : List SolidView) → 0 < length vs → ((count : ℕ) × CutsAt t frame.height kept vs cut count) → CutsSolids t frame.height kept vs cut
       solid_cuts [] h c = absurd (omega arith)
       solid_cuts (v ∷ vs) h c = c
 
-      place_holds : (o : Option SolidView) → slice_get views cuts.0 ≡ o → Holds t (place_after t o)
-      place_holds None e = record { within = omega arith; offset = λ o. absurd (omega arith) }
-      place_holds (Some s) e = each_solid faces t w tree leaves (λ v. Holds t v.placed_at) (λ at x h is. placed_holds faces t w at x h is) from views holds r cuts.0 s e
+      stands_after : (o : Option SolidView) → slice_get views cuts.0 ≡ o → Stands t (place_after t o)
+      stands_after None e = record { within = omega arith; offset = λ o. absurd (omega arith) }
+      stands_after (Some s) e = each_solid faces t w tree (λ v. Stands t v.placed_at) (λ at x h is. place_stands faces t w at x tree h is) from views st r cuts.0 s e
 
 pub if_ok : {A E : Type 0} (P Q : A → Type 0) (r : Result A E) → ((x : A) → P x → Q x) → IfOk r P → IfOk r Q
 if_ok P Q (Ok x) h p = h x p
@@ -473,12 +468,20 @@ module _ (one : HaveOneRemainder) (faces : List FontFace) (t : Tree) (frames : P
 pub paged_unique : HaveOneRemainder → HasOnePageList
 paged_unique one faces t frames ps qs = run_unique (IsStep faces t frames) IsEnded (step_unique one faces t frames) (step_stops one faces t frames) (start_of t) ps qs
 
+-- pages that lead to a state leave something unplaced
+pub leaves_some : (faces : List FontFace) (t : Tree) (frames : PageFrames) (at : Position) (kept : Bool) (index : ℕ) (demand : Option Demand) (pages : List Page) (n : ℕ) → length pages ≡ n → Leads faces t frames (state_at at kept index demand) pages → LeavesSome faces t frames n
+leaves_some faces t frames at kept index demand pages n size run = (pages, size, state_at at kept index demand, on (start_of t) pages run)
+  where
+    on : (u : State) (ps : List Page) → IsRun (IsStep faces t frames) (IsAt (state_at at kept index demand)) u ps → IsRun (IsStep faces t frames) (λ v. (v ≡ state_at at kept index demand) × ¬ (IsEnded v)) u ps
+    on u [] r = (r.0, λ ended. let e : true ≡ false = sym ended ∙ r.1 in cc)
+    on u (p ∷ ps) r = (r.0, r.1, on r.0 ps r.2)
+
 -- a run that ends is no longer than one that goes on
 pub leaves_nothing : HaveOneRemainder → LeavesNothing
-leaves_nothing one faces t frames pages n paged few (front, size, s, run) = go (start_of t) pages front paged run (omega arith)
+leaves_nothing one faces t frames pages n paged few (prefix, size, s, run) = go (start_of t) pages prefix paged run (omega arith)
   where
-    go : (u : State) (ps qs : List Page) → IsRun (IsStep faces t frames) IsEnded u ps → IsRun (IsStep faces t frames) (IsAt s) u qs → length ps ≤ length qs → ⊥
-    go u [] [] ended at low = let f : true ≡ false = sym ended ∙ at.1 in cc
+    go : (u : State) (ps qs : List Page) → IsRun (IsStep faces t frames) IsEnded u ps → IsRun (IsStep faces t frames) (λ v. (v ≡ s) × ¬ (IsEnded v)) u qs → length ps ≤ length qs → ⊥
+    go u [] [] ended at low = at.1 ended
     go u [] (q ∷ qs) ended r low = step_stops one faces t frames u q r.0 ended r.1
     go u (p ∷ ps) [] r at low = absurd (omega arith)
     go u (p ∷ ps) (q ∷ qs) r r' low =

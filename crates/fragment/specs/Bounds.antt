@@ -1,5 +1,5 @@
 -- How many pages a flow without notes has at most.
-use Rattle.std.specs.Prelude.{ℕ, zero, suc, ◌+◌, ◌*◌, pos, List, [], ◌∷◌, Option, None, Some, Bool, false, not, ◌&&◌, length, max, if◌then◌else◌}
+use Rattle.std.specs.Prelude.{ℕ, suc, ◌+◌, ◌*◌, pos, List, [], ◌∷◌, Option, None, Some, Bool, false, not, ◌&&◌, length, max, if◌then◌else◌}
 use Rattle.boxes.specs.Tree.{Tree}
 use Rattle.boxes.specs.declared.frames.Demand.{Demand}
 use Rattle.boxes.specs.declared.place.Event.{Event}
@@ -22,10 +22,10 @@ sided_among free t k (e ∷ es) = (if is_solid t.boxes e && is_sided free (seam_
 abbrev pub sided_in : (Demand → Bool) → Tree → ℕ
 sided_in free t = sided_among free t 0 t.events
 
--- the edges that a tree has, and its characters, each of which is a byte in the texts that are built so far
+-- the edges that a tree has, and the bytes of its text
 abbrev pub parts_in : Tree → ℕ
 parts_in t = text_size t.leaves t.events + length (edges_among t.boxes t.events)
 
 -- as many pages as parts, at least one, and before each side that is asked as many blank ones as frames need at most
-abbrev pub most_pages : (Demand → Bool) → ℕ → Tree → ℕ
-most_pages free bound t = max 1 (parts_in t) + sided_in free t * bound
+abbrev pub most_pages_of : (Demand → Bool) → ℕ → Tree → ℕ
+most_pages_of free bound t = max 1 (parts_in t) + sided_in free t * bound

@@ -1,6 +1,7 @@
 pub mod Bounds
+pub mod Conditions
 pub mod Cuts
-pub mod Fronts
+pub mod Prefixes
 pub mod Inside
 pub mod Notes
 pub mod Pages

@@ -1,18 +1,19 @@
 //! The cut of the next page.
 
-ghost use Rattle.std.specs.Prelude.{◌≡◌, ℕ, ℤ, List, pos, neg_ℤ, ◌<◌, ◌≤◌, ◌^◌, ◌≤ℤ◌, ◌+ℤ◌, length, All, map, take, slice_get, None, is_some, IfOk, true, false, ◌∷◌, ◌++◌, []};
+ghost use Rattle.std.specs.Prelude.{◌≡◌, ℕ, ℤ, List, pos, neg_ℤ, ◌<◌, ◌≤◌, ◌^◌, ◌≤ℤ◌, ◌+ℤ◌, length, All, map, take, slice_get, None, is_some, IfOk, true, false, ◌∷◌, []};
+ghost use Rattle.bk_num.specs.Limits.{most_entries};
 ghost use Rattle.boxes.specs.Frames.{IsGoodFrame};
-ghost use Rattle.boxes.specs.Tree.{IsTree, IsWhole, Holds, depth_of};
-ghost use Rattle.cursor.specs.Plain.{HasPlainLeaves};
+ghost use Rattle.boxes.specs.Tree.{Holds};
 ghost use Rattle.cursor.specs.Fields.{solid_view};
 ghost use Rattle.cursor.specs.Remainder.{SolidView, IsSmallSolid};
-ghost use Rattle.fragment.specs.Pages.{CutsAt, IsFlowCut, IsFront, IsNear, text_size, row_of, rows_of, placed_at, placed_from, first_gap, place_after, forced_after, end_cut};
+ghost use Rattle.fragment.specs.Conditions.{CanBeCut, CanBePaged};
+ghost use Rattle.fragment.specs.Pages.{CutsAt, IsFlowCut, IsPagePrefix, IsNear, row_of, rows_of, placed_at, placed_from, first_gap, place_after, forced_after, end_cut};
 ghost use Rattle.fragment.specs.Inside.{EndsBy};
 ghost use Rattle.fragment.specs.Rows.{AreForcedBetween};
 ghost use Rattle.seams.specs.Levels.{block_at, widows_in, orphans_in};
 
 use crate::cut::cut_rows;
-use crate::front::Look;
+use crate::prefix::Look;
 use crate::row::Row;
 use bk_num::items::Items;
 use bk_num::name::NoMem;
@@ -24,6 +25,7 @@ use boxes::place::Position;
 use boxes::tree::BoxTree;
 use cursor::{Solid, next_solid};
 use metrics::Faces;
+use seams::seam::widths_at;
 use std::alloc::Global;
 use std::sync::ledger::Ledger;
 
@@ -114,7 +116,7 @@ fn place(solid: &Solid<'_>, top: i64) -> Placed
 /// The solids of a page with their tops, where a gap stands above the first.
 fn place_all(alloc: Global, solids: &[Solid<'_>], first: i64) -> Result<Items<Placed>, NoMem>
     requires some { 0 < length solids.now }
-    requires few { length solids.now ≤ 2 ^ 26 }
+    requires few { length solids.now ≤ most_entries }
     requires small { All (λ s. IsSmallSolid (solid_view s)) solids.now }
     requires first_low { neg_ℤ (pos (2 ^ 32)) ≤ℤ first }
     requires first_high { first ≤ℤ pos (2 ^ 32) }
@@ -219,7 +221,7 @@ fn ends_page(solid: &Solid<'_>, is_first: bool) -> bool
 
 /// The solids of a flow that tell a page's cut: those up to the first forced seam behind the first one, or up to the
 /// first point that misses, and as many lines behind it as widows ask for; else all that are left.
-fn front<'t, L: Ledger>(
+fn prefix<'t, L: Ledger>(
     alloc: Global,
     tree: &'t BoxTree,
     faces: &Faces,
@@ -227,20 +229,19 @@ fn front<'t, L: Ledger>(
     frame: Frame,
     steps: &mut Steps<L>,
 ) -> Result<Vec<Solid<'t>>, NoMem>
-    requires whole { IsWhole tree.now.events }
+    requires tree { CanBeCut faces.now tree.now }
     requires holds { Holds tree.now from.at }
-    requires depth { depth_of tree.now.events ≤ 2048 }
-    requires bytes { text_size tree.now.leaves tree.now.events ≤ 2 ^ 25 }
     requires frame { IsGoodFrame frame }
-    requires leaves { HasPlainLeaves faces.now tree.now }
-    ensures front { IfOk result (λ v. IsFront faces.now tree.now frame from.at from.kept (map solid_view v.items)) }
+    ensures prefix { IfOk result (λ v. IsPagePrefix faces.now tree.now frame from.at from.kept (map solid_view v.items)) }
     ensures small { IfOk result (λ v. All IsSmallSolid (map solid_view v.items)) }
+    ensures placed { IfOk result (λ v. All (λ s. Holds tree.now s.placed_at) (map solid_view v.items)) }
 {
     let _count = tree.count();
     let mut solids = Vec::new(alloc);
     let mut look = Look::start();
+    let mut widths = widths_at(tree, from.at, frame.width);
     let mut at = from.at;
-    while let Some(solid) = next_solid(tree, faces, at, frame.width, steps) {
+    while let Some(solid) = next_solid(tree, faces, at, frame.width, &mut widths, steps) {
         at = solid.end;
         let is_first = solids.is_empty();
         let gap = gap_on_page(&solid, is_first, from.kept);
@@ -286,7 +287,7 @@ fn cut_solids(
     height: i64,
 ) -> Result<Cut, NoMem>
     requires some { 0 < length solids.now }
-    requires few { length solids.now ≤ 2 ^ 26 }
+    requires few { length solids.now ≤ most_entries }
     requires within { All (λ s. s.placed_at.event ≤ length tree.now.events) solids.now }
     requires small { All (λ s. IsSmallSolid (solid_view s)) solids.now }
     requires between { AreForcedBetween (rows_of tree.now (map solid_view solids.now)) }
@@ -317,18 +318,15 @@ pub(crate) fn cut_tree<L: Ledger>(
     frame: Frame,
     steps: &mut Steps<L>,
 ) -> Result<Cut, NoMem>
-    requires whole { IsWhole tree.now.events }
+    requires tree { CanBeCut faces.now tree.now }
     requires holds { Holds tree.now from.at }
-    requires depth { depth_of tree.now.events ≤ 2048 }
-    requires bytes { text_size tree.now.leaves tree.now.events ≤ 2 ^ 25 }
     requires frame { IsGoodFrame frame }
-    requires leaves { HasPlainLeaves faces.now tree.now }
     ensures cut { IfOk result (λ cut. IsFlowCut faces.now tree.now frame from.at from.kept cut) }
     ensures holds { IfOk result (λ cut. Holds tree.now cut.to) }
     ensures near { IfOk result (λ cut. All IsNear cut.solids) }
 {
     let _count = tree.count();
-    let solids = front(alloc, tree, faces, from, frame, steps)?;
+    let solids = prefix(alloc, tree, faces, from, frame, steps)?;
     if solids.is_empty() {
         return Ok(end_cut(alloc, tree));
     }
@@ -346,14 +344,10 @@ pub fn next_cut<L: Ledger>(
     frame: Frame,
     steps: &mut Steps<L>,
 ) -> Result<Cut, NoMem>
-    requires whole { IsWhole flow.now.main.events }
+    requires flow { CanBePaged faces.now flow.now }
     requires holds { Holds flow.now.main from.at }
-    requires depth { depth_of flow.now.main.events ≤ 2048 }
-    requires bytes { text_size flow.now.main.leaves flow.now.main.events ≤ 2 ^ 25 }
     requires frame { IsGoodFrame frame }
-    requires notes { flow.now.notes ≡ [] }
     requires carried { carried.now ≡ [] }
-    requires leaves { HasPlainLeaves faces.now flow.now.main }
     ensures cut { IfOk result (λ cut. IsFlowCut faces.now flow.now.main frame from.at from.kept cut) }
     ensures inside { IfOk result (λ cut. cut.level ≤ 2 → All (EndsBy frame.height) cut.solids) }
     ensures near { IfOk result (λ cut. All IsNear cut.solids) }

@@ -1,17 +1,18 @@
 //! The pages of a flow.
 
-ghost use Rattle.std.specs.Prelude.{◌≡◌, ℕ, ◌+◌, ◌<◌, ◌≤◌, ◌^◌, [], length, true, false, IfOk, IfErr};
-ghost use Rattle.boxes.specs.Tree.{IsWhole, depth_of};
-ghost use Rattle.cursor.specs.Plain.{HasPlainLeaves};
-ghost use Rattle.fragment.specs.Bounds.{most_pages};
+ghost use Rattle.std.specs.Prelude.{◌≡◌, ℕ, ◌+◌, ◌<◌, ◌≤◌, [], length, true, false, IfOk, IfErr};
+ghost use Rattle.bk_num.specs.Limits.{most_pages};
+ghost use Rattle.fragment.specs.Bounds.{most_pages_of};
+ghost use Rattle.fragment.specs.Conditions.{CanBePaged};
 ghost use Rattle.fragment.specs.Inside.{EndInside};
-ghost use Rattle.fragment.specs.Pages.{HasOnePageList, HasSomePageList, HaveNearTops, IsPaged, LeavesNothing, LeavesSome, text_size, flow_page_of, blank_of, meets_at, AddsBlanks};
+ghost use Rattle.fragment.specs.Pages.{HasOnePageList, HasSomePageList, HaveNearTops, IsPaged, LeavesNothing, LeavesSome, flow_page_of, blank_of, meets_at, AddsBlanks};
 ghost use Rattle.fragment.specs.Parted.{HoldsAll, HoldsBreaks, HoldsEdges, HoldsText, solids_of};
 
 use crate::cut::one_cut;
 use crate::next_cut::{Cut, CutFrom, cut_tree};
 use bk_num::ids::NameId;
 use bk_num::items::Items;
+use bk_num::limits::MOST_PAGES;
 use bk_num::steps::Steps;
 use boxes::flow::Flow;
 use boxes::frames::{Demand, Frame, Frames, PageKind};
@@ -69,7 +70,7 @@ fn blank_of(alloc: Global, index: u32, name: NameId, frame: Frame) -> Page
 /// How many blank pages stand before the page that meets a demand.
 fn empty_before<Fr: Frames>(frames: &Fr, index: u32, demand: Option<Demand>) -> u32
     requires low { 1 ≤ index }
-    requires high { index ≤ 100001 }
+    requires high { index ≤ most_pages + 1 }
     ensures meets { meets_at (record { meets = Fr.meets frames.now; frame_of = Fr.frame_of frames.now }) (index + result) demand ≡ true }
     ensures least { (k : ℕ) → k < result → meets_at (record { meets = Fr.meets frames.now; frame_of = Fr.frame_of frames.now }) (index + k) demand ≡ false }
 {
@@ -90,16 +91,16 @@ fn add_blanks<Fr: Frames>(
     demand: Option<Demand>,
 ) -> Result<u32, PageErr>
     requires count { length pages.old.items + 1 ≡ index }
-    requires high { index ≤ 100001 }
+    requires high { index ≤ most_pages + 1 }
     ensures count { IfOk result (λ to. length pages.new.items + 1 ≡ to) }
-    ensures few { IfOk result (λ to. to ≤ 100000) }
+    ensures few { IfOk result (λ to. to ≤ most_pages) }
     ensures meets { IfOk result (λ to. meets_at (record { meets = Fr.meets frames.now; frame_of = Fr.frame_of frames.now }) to demand ≡ true) }
     ensures blanks { IfOk result (λ to. AddsBlanks (record { meets = Fr.meets frames.now; frame_of = Fr.frame_of frames.now }) name demand index to pages.old.items pages.new.items) }
-    ensures many { IfErr result (λ err. err ≡ PageErr.Pages → AddsBlanks (record { meets = Fr.meets frames.now; frame_of = Fr.frame_of frames.now }) name demand index 100001 pages.old.items pages.new.items) }
+    ensures many { IfErr result (λ err. err ≡ PageErr.Pages → AddsBlanks (record { meets = Fr.meets frames.now; frame_of = Fr.frame_of frames.now }) name demand index (most_pages + 1) pages.old.items pages.new.items) }
 {
     let empty = empty_before(frames, index, demand);
     for k in 0..empty {
-        if pages.len() >= 100_000 {
+        if pages.len() >= MOST_PAGES as usize {
             return Err(PageErr::Pages);
         }
         let at = index + k;
@@ -108,7 +109,7 @@ fn add_blanks<Fr: Frames>(
             return Err(PageErr::NoMemory);
         }
     }
-    if pages.len() >= 100_000 {
+    if pages.len() >= MOST_PAGES as usize {
         return Err(PageErr::Pages);
     }
     Ok(index + empty)
@@ -122,7 +123,7 @@ pub fn one_page_list()
     one_cut();
 }
 
-/// A flow whose leaves are plain has a page list, however long it is, over frames that meet each demand. By
+/// A flow has a page list, however long it is, over frames that meet each demand. By
 /// `one_page_list` it has no other.
 pub fn page_list_is_there()
     ensures { HasSomePageList }
@@ -147,21 +148,17 @@ pub fn paginate<Fr: Frames, L: Ledger>(
     frames: &Fr,
     steps: &mut Steps<L>,
 ) -> Result<PageList, PageErr>
-    requires whole { IsWhole flow.now.main.events }
-    requires depth { depth_of flow.now.main.events ≤ 2048 }
-    requires bytes { text_size flow.now.main.leaves flow.now.main.events ≤ 2 ^ 25 }
-    requires notes { flow.now.notes ≡ [] }
-    requires leaves { HasPlainLeaves faces.now flow.now.main }
+    requires flow { CanBePaged faces.now flow.now }
     ensures pages { IfOk result (λ list. IsPaged faces.now flow.now.main (record { meets = Fr.meets frames.now; frame_of = Fr.frame_of frames.now }) list.pages) }
     ensures whole { IfOk result (λ list. HoldsAll flow.now.main (solids_of list.pages)) }
     ensures text { IfOk result (λ list. HoldsText flow.now.main (solids_of list.pages)) }
     ensures edges { IfOk result (λ list. HoldsEdges flow.now.main (solids_of list.pages)) }
     ensures breaks { IfOk result (λ list. HoldsBreaks flow.now.main (record { meets = Fr.meets frames.now; frame_of = Fr.frame_of frames.now }) list.pages) }
     ensures inside { IfOk result (λ list. EndInside list.pages) }
-    ensures bound { IfOk result (λ list. length list.pages ≤ most_pages (Fr.is_free frames.now) (Fr.bound frames.now) flow.now.main) }
+    ensures bound { IfOk result (λ list. length list.pages ≤ most_pages_of (Fr.is_free frames.now) (Fr.bound frames.now) flow.now.main) }
     ensures tops { IfOk result (λ list. HaveNearTops list.pages) }
-    ensures few { IfOk result (λ list. length list.pages ≤ 100000) }
-    ensures many { IfErr result (λ err. err ≡ PageErr.Pages → LeavesSome faces.now flow.now.main (record { meets = Fr.meets frames.now; frame_of = Fr.frame_of frames.now }) 100000) }
+    ensures few { IfOk result (λ list. length list.pages ≤ most_pages) }
+    ensures many { IfErr result (λ err. err ≡ PageErr.Pages → LeavesSome faces.now flow.now.main (record { meets = Fr.meets frames.now; frame_of = Fr.frame_of frames.now }) most_pages) }
 {
     let tree = &flow.main;
     let _count = tree.count();
@@ -175,7 +172,7 @@ pub fn paginate<Fr: Frames, L: Ledger>(
     };
     let mut index = 1;
     let mut demand = seam(tree, from.at, 0).forced;
-    for turn in 0..100_000_u32 {
+    for turn in 0..MOST_PAGES {
         let _turn = turn;
         let name = seam(tree, from.at, 0).name;
         index = match add_blanks(alloc, &mut pages, frames, index, name, demand) {

@@ -1,3 +1,4 @@
+pub mod ArrowLemmas
 pub mod Ends
 pub mod ListLemmas
 pub mod PieceLemmas

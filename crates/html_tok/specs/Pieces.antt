@@ -1,5 +1,5 @@
 -- What a token is, by what the rest of the text begins.
-use Rattle.std.specs.Prelude.{ℕ, zero, suc, ◌+◌, Bool, true, false, not, List, [], ◌∷◌, Option, None, Some, length, take, drop, nat_eq, ◌==◌, ◌&&◌, ◌||◌, if◌then◌else◌, codes, slice_index}
+use Rattle.std.specs.Prelude.{ℕ, zero, suc, ◌+◌, ◌-◌, nat_le, Bool, true, false, not, List, [], ◌∷◌, Option, None, Some, length, take, drop, nat_eq, ◌==◌, ◌&&◌, ◌||◌, if◌then◌else◌, codes, slice_index}
 use Rattle.std.specs.List.{starts_with, before_first}
 use Rattle.std.specs.Str.{str_eq_ignore_ascii_case}
 use Rattle.std.specs.Char.{is_ascii_alphabetic}
@@ -68,6 +68,10 @@ text_len u (b ∷ bs) = if ends_at u (b ∷ bs) then 0 else suc (text_len u bs)
 unfoldable pub len_through : List ℕ → List ℕ → ℕ
 len_through needle [] = 0
 len_through needle (b ∷ bs) = if occurs_at (b ∷ bs) needle 0 then length needle else suc (len_through needle bs)
+
+-- whether `--` comes before a place
+abbrev pub dashes : List ℕ → ℕ → Bool
+dashes bs at = nat_le 2 at && slice_index bs (at - 1) == 45 && slice_index bs (at - 2) == 45
 
 -- a kind of token, with the bytes of its parts
 pub data KindView : Type 0 where

@@ -1,6 +1,6 @@
 //! What begins at a place, and where text ends.
-ghost use Rattle.std.specs.Prelude.{◌≡◌, ◌<◌, length};
-ghost use Rattle.html_tok.specs.Pieces.{opening_of, is_text, ends_at, text_len, len_through};
+ghost use Rattle.std.specs.Prelude.{◌≡◌, ◌<◌, length, codes};
+ghost use Rattle.html_tok.specs.Pieces.{opening_of, ends_at, text_len, len_through, dashes};
 
 use crate::raw::{RawElement, ends_raw};
 use memchr::{memchr, memmem};
@@ -76,4 +76,27 @@ pub(crate) fn length_through(rest: &[u8], needle: &[u8]) -> usize
         Some(at) => at + needle.len(),
         None => rest.len(),
     }
+}
+
+/// How many bytes there are up to and with the first `-->`, or to the end.
+pub(crate) fn length_through_comment(rest: &[u8]) -> usize
+    ensures { result ≡ len_through (codes "-->") rest.now }
+{
+    let mut from = 0;
+    while let Some(found) = memchr(b'>', &rest[from..]) {
+        let at = from + found;
+        if ends_comment(rest, at) {
+            return at + 1;
+        }
+        from = at + 1;
+    }
+    rest.len()
+}
+
+/// Whether the `>` at a place ends a comment: `--` comes before it.
+fn ends_comment(rest: &[u8], at: usize) -> bool
+    requires { at < length rest.now }
+    ensures { result ≡ dashes rest.now at }
+{
+    at >= 2 && rest[at - 1] == b'-' && rest[at - 2] == b'-'
 }

@@ -2,14 +2,16 @@
 ghost use Rattle.std.specs.Prelude.{◌≡◌, ◌+◌, ◌<◌, List, [], ◌∷◌, length, IfSome, IfNone};
 ghost use Rattle.std.specs.List.{flat_map};
 ghost use Rattle.std.specs.Str.{IsCharBoundary};
-ghost use Rattle.std.specs.Prelude.{IsTrue, slice_index, ◌-◌};
+ghost use Rattle.std.specs.Prelude.{IsTrue, slice_index, codes, ◌-◌};
 ghost use Rattle.html_tok.specs.Pieces.{is_start, is_end, raw_after, start_at, close_at, piece_of, opening_of, piece_at, len_through};
 ghost use Rattle.html_tok.specs.Listed.{tokens_of, kind_of, view_of, ArePlaced};
 
 use crate::attrs::end_of_tag;
 use crate::classes::{Stop, split_before};
 use crate::raw::{RawElement, raw_element};
-use crate::scan::{Opening, Until, length_of_text, length_through, what_begins};
+use crate::scan::{
+    Opening, Until, length_of_text, length_through, length_through_comment, what_begins,
+};
 use std::marker::Model;
 
 /// A token of a text, which it borrows from.
@@ -128,7 +130,7 @@ fn markup<'a>(rest: &'a str) -> (TokenKind<'a>, usize)
     ensures some { 0 < result.1 }
 {
     match what_begins(rest.as_bytes()) {
-        Opening::Comment => (TokenKind::Skip, 4 + length_through_ascii(&rest[4..], "-->")),
+        Opening::Comment => (TokenKind::Skip, 4 + length_of_comment(&rest[4..])),
         Opening::Bogus => (TokenKind::Skip, length_through_ascii(rest, ">")),
         Opening::End => end_tag(rest),
         Opening::Start => start_tag(rest),
@@ -178,7 +180,15 @@ fn end_tag<'a>(rest: &'a str) -> (TokenKind<'a>, usize)
     }
 }
 
-/// The same of text, where the needle ends in an ASCII character.
+/// How many bytes of a text there are up to and with the first `-->`, or to the end.
+fn length_of_comment(rest: &str) -> usize
+    ensures len { result ≡ len_through (codes "-->") rest.now }
+    ensures boundary { IsCharBoundary rest.now result }
+{
+    length_through_comment(rest.as_bytes())
+}
+
+/// The same of a needle that ends in an ASCII character.
 fn length_through_ascii(rest: &str, needle: &str) -> usize
     requires some { 0 < length needle.now }
     requires ascii { slice_index needle.now (length needle.now - 1) < 128 }

@@ -3,9 +3,7 @@ use Rattle.std.proofs.Common.{◌≡◌, ℕ, suc, zero, ◌+◌, ◌-◌, ◌<�
 use Rattle.std.proofs.lemmas.Option.{slice_get_within}
 use Rattle.std.specs.Str.{bytes_eq}
 use Rattle.bk_num.specs.declared.ids.NodeId.{NodeId}
-use Rattle.dom.specs.Nodes.{Node, child_of, name_at, is_element_at, is_element_node, is_element, part_of, attributed, changed_at, with_attribute, attribute_at, is_at, depth_at}
-use Rattle.dom.specs.declared.rows.NodeData.{NodeData}
-use Rattle.dom.specs.declared.rows.NodeData.TheVariants.{Element, Text}
+use Rattle.dom.specs.Nodes.{Node, NodeData, Element, Text, child_of, is_element_at, is_element_node, is_element, part_of, attributed, changed_at, with_attribute, attribute_at, depth_at}
 use Rattle.dom.specs.declared.dom.DomErr.{DomErr}
 use Rattle.dom.specs.declared.dom.DomErr.TheVariants.{Nodes, Depth, NoMemory}
 use Rattle.html_tree.specs.Rules.{Rule, rules, has_name, names_tag, void_names}
@@ -19,7 +17,7 @@ get-keep [] ys k x h = cc
 get-keep (a ∷ xs) ys zero x h = h
 get-keep (a ∷ xs) ys (suc k) x h = get-keep xs ys k x h
 
-get-end : {A : Type 0} (xs : List A) (x : A) → slice_get (xs ++ x ∷ []) (length xs) ≡ Some x
+pub get-end : {A : Type 0} (xs : List A) (x : A) → slice_get (xs ++ x ∷ []) (length xs) ≡ Some x
 get-end [] x = refl
 get-end (a ∷ xs) x = get-end xs x
 
@@ -43,7 +41,7 @@ grow-element nodes more m h = ap is_element_node (grow-get nodes more m h) ∙ h
 pub elements-grow : (nodes more : List Node) (opened : List NodeId) → AreElements nodes opened → AreElements (nodes ++ more) opened
 elements-grow nodes more opened h k o g = grow-element nodes more o.0 (h k o g)
 
-name-grow : (nodes more : List Node) (opened : List NodeId) (n : ℕ) → AreElements nodes opened → name_in (nodes ++ more) (slice_get opened n) ≡ name_in nodes (slice_get opened n)
+pub name-grow : (nodes more : List Node) (opened : List NodeId) (n : ℕ) → AreElements nodes opened → name_in (nodes ++ more) (slice_get opened n) ≡ name_in nodes (slice_get opened n)
 name-grow nodes more opened n h = by (slice_get opened n) refl
   where
     by : (o : Option NodeId) → slice_get opened n ≡ o → name_in (nodes ++ more) o ≡ name_in nodes o

@@ -9,3 +9,4 @@ pub mod TextLemmas
 pub mod TokenLemmas
 mod TreeOrderLemmas
 mod NameLemmas
+pub mod KeptLemmas

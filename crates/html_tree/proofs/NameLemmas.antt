@@ -1,11 +1,11 @@
 -- A named reference is letters with a `;`.
-use Rattle.std.proofs.Common.{◌≡◌, ℕ, zero, suc, ◌+◌, ◌==◌, ◌&&◌, Bool, true, false, not, List, [], ◌∷◌, length, take, drop, nat_eq, slice_index, cond, refl, sym, ◌∙◌, ap, arith}
+use Rattle.std.proofs.Common.{◌≡◌, ℕ, suc, ◌+◌, ◌==◌, ◌&&◌, Bool, true, false, not, List, [], ◌∷◌, length, drop, nat_eq, cond, refl, ◌∙◌, arith}
 use Rattle.std.proofs.lemmas.Map.Views.{exact_unsigned_eq}
 use Rattle.std.proofs.lemmas.Bool.{both_ways}
-use Rattle.std.specs.List.{starts_with, list_all, position_or_len}
+use Rattle.std.specs.List.{starts_with, list_all}
 use Rattle.std.specs.Char.{is_ascii_alphabetic}
 use Rattle.html_tok.proofs.Places.{place-cons}
-use Rattle.html_tree.specs.Texts.{Reference, plain, named, named_references, closing_len}
+use Rattle.html_tree.specs.Texts.{plain, named, named_references, closing_len}
 use Rattle.html_tree.specs.Words.{letters_len}
 
 -- letters with a `;`

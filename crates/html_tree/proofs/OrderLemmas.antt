@@ -4,12 +4,10 @@ use Rattle.std.proofs.lemmas.Option.{slice_get_within, slice_get-map}
 use Rattle.std.specs.Str.{bytes_eq}
 use Rattle.bk_num.specs.declared.ids.NodeId.{NodeId}
 use Rattle.bk_num.specs.Limits.{most_nodes}
-use Rattle.dom.specs.Nodes.{Node, root, child_of, depth_at, depth_of, attribute_at, attributed, changed_at, with_attribute}
+use Rattle.dom.specs.Nodes.{Node, NodeData, Element, Text, root, child_of, depth_at, depth_of, attribute_at, attributed, changed_at, with_attribute}
 use Rattle.dom.specs.Answers.{is_below_all}
 use Rattle.dom.specs.declared.dom.DomErr.{DomErr}
 use Rattle.dom.specs.declared.dom.DomErr.TheVariants.{Nodes, Depth}
-use Rattle.dom.specs.declared.rows.NodeData.{NodeData}
-use Rattle.dom.specs.declared.rows.NodeData.TheVariants.{Element, Text}
 use Rattle.html_tok.specs.Listed.{TokenView, tokens_of}
 use Rattle.html_tok.specs.Pieces.{KindView, text, raw, start, close, skip}
 use Rattle.html_tok.specs.Tags.{attributes_of}

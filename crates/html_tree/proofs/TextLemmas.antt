@@ -1,16 +1,22 @@
 -- The normalized text, and the text with its references read, piece by piece.
-use Rattle.std.proofs.Common.{◌≡◌, ◌⊎◌, inl, inr, ℕ, zero, suc, ◌+◌, ◌-◌, ◌<◌, ◌≤◌, true, false, not, List, [], ◌∷◌, ◌++◌, length, take, drop, get_or, eqb, nat_eq, ◌==◌, ◌&&◌, ◌||◌, refl, ap, sym, ◌∙◌, arith, subst, append_assoc, append-nil, length-drop, encode_utf8}
-use Rattle.std.specs.List.{starts_with}
-use Rattle.std.specs.Char.{is_digit}
+use Rattle.std.proofs.Common.{◌≡◌, ◌⊎◌, inl, inr, ℕ, zero, suc, ◌+◌, ◌-◌, ◌<◌, ◌≤◌, Bool, true, false, not, List, [], ◌∷◌, ◌++◌, Option, None, Some, is_some, length, take, drop, get_or, eqb, nat_eq, ◌==◌, ◌&&◌, ◌||◌, refl, ap, sym, ◌∙◌, arith, subst, append_assoc, append-nil, length-drop, encode_utf8}
+use Rattle.std.specs.List.{starts_with, list_all}
+use Rattle.std.specs.Char.{is_digit, to_ascii_lowercase}
 use Rattle.std.specs.Str.{IsCharBoundary, IsUtf8}
 use Rattle.std.proofs.lemmas.Str.{IsCharBoundary-after_ascii}
 use Rattle.std.proofs.lemmas.List.{get_or-drop}
 use Rattle.std.proofs.Math.Seq.{take-length}
 use Rattle.std.proofs.lemmas.Bool.{cases_Bool, cases_eq, both_ways, false_from_ne_true, eqb-true, and_parts}
 use Rattle.std.proofs.lemmas.Bool.Decides.{nat_tests}
-use Rattle.memchr.specs.Find.{Nowhere, Passes, is_byte, is_byte2}
+use Rattle.memchr.specs.Find.{Nowhere, Passes, IsFirstByte, is_byte, is_byte2}
 use Rattle.html_tok.proofs.Places.{place-le, place-fails}
-use Rattle.html_tree.specs.Texts.{normalized, normalized_byte, digits_len, closing_len, numeric, named, named_references, reference_at, referred_after}
+use Rattle.html_tree.specs.Texts.{normalized, normalized_byte, digits_len, closing_len, numeric, named, named_references, reference_at, referred_after, name_of}
+use Rattle.html_tree.specs.Words.{stays}
+
+-- where none is found there is none
+pub found-none : (test : ℕ → Bool) (bs : List ℕ) (o : Option ℕ) → is_some o ≡ false → IsFirstByte test bs o → Nowhere (Passes test bs) 0 (length bs)
+found-none test bs None e f = f
+found-none test bs (Some k) e f = cc
 
 -- ---- mending
 
@@ -48,6 +54,27 @@ module _ (rest : List ℕ) where
   normalize-end out new base none e h =
       let all : normalized rest ≡ rest = normalized-plain (length rest) rest (omega arith) (λ k m. false_from_ne_true _ (none k (omega arith) m)) ∙ ap (λ r. take (length rest) rest ++ r) (normalized-none (drop (length rest) rest) (let d = length-drop (length rest) rest in omega arith)) ∙ append-nil (take (length rest) rest) ∙ take-length rest in
       e ∙ ap (λ r. out ++ r) (sym all) ∙ h
+
+  -- a text with nothing to mend is its own
+  pub normalized-same : Nowhere (Passes (is_byte2 13 0) rest) 0 (length rest) → rest ≡ normalized rest
+  normalized-same none = normalize-end [] rest (normalized rest) none refl refl
+
+-- a name whose bytes stay is its own
+pub name-same : (bs : List ℕ) → list_all stays bs ≡ true → bs ≡ name_of bs
+unfolding normalized
+name-same [] h = refl
+name-same (b ∷ bs) h =
+    let t = and_parts _ _ h in
+    let u = and_parts _ _ t.0 in
+    let lower : to_ascii_lowercase b ≡ b = eqb-true _ _ u.0 in
+    let other : is_byte2 13 0 b ≡ false = not-true _ u.1 in
+    let rest = name-same bs t.1 in
+    let byte = plain-byte b (get_or bs 0 0) other in
+    rw byte (let e : b ∷ bs ≡ to_ascii_lowercase b ∷ name_of bs = ap (λ x. x ∷ bs) (sym lower) ∙ ap (λ l. to_ascii_lowercase b ∷ l) rest in e)
+  where
+    not-true : (x : Bool) → not x ≡ true → x ≡ false
+    not-true true e = cc
+    not-true false e = refl
 
 -- ---- references
 
@@ -160,6 +187,10 @@ module _ (rest : List ℕ) where
   refer-end out new base none e h =
       let all : referred_after 0 rest ≡ rest = referred-plain (length rest) rest (omega arith) (λ k m. false_from_ne_true _ (none k (omega arith) m)) ∙ ap (λ r. take (length rest) rest ++ r) (referred-none (drop (length rest) rest) (let d = length-drop (length rest) rest in omega arith)) ∙ append-nil (take (length rest) rest) ∙ take-length rest in
       e ∙ ap (λ r. out ++ r) (sym all) ∙ h
+
+  -- a text without `&` is its own
+  pub referred-same : Nowhere (Passes (is_byte 38) rest) 0 (length rest) → rest ≡ referred_after 0 rest
+  referred-same none = refer-end [] rest (referred_after 0 rest) none refl refl
 
 pub special-small : (b : ℕ) → is_byte2 13 0 b ≡ true → b < 128
 special-small b h = grind (arith, nat_tests)

@@ -6,10 +6,9 @@ use Rattle.std.proofs.lemmas.Option.{slice_get_within, slice_get_past}
 use Rattle.std.specs.Str.{bytes_eq}
 use Rattle.bk_num.specs.declared.ids.NodeId.{NodeId}
 use Rattle.bk_num.specs.Limits.{most_nodes}
-use Rattle.dom.specs.Nodes.{Node, parents_of, child_of, depth_at}
+use Rattle.dom.specs.Nodes.{Node, Element, Text, parents_of, child_of, depth_at}
 use Rattle.dom.specs.Answers.{is_below_all}
 use Rattle.dom.specs.declared.dom.DomErr.TheVariants.{Nodes, Depth}
-use Rattle.dom.specs.declared.rows.NodeData.TheVariants.{Element, Text}
 use Rattle.html_tok.specs.Pieces.{KindView, text, raw, start, close, skip}
 use Rattle.html_tok.specs.Tags.{attributes_of}
 use Rattle.html_tree.specs.Rules.{rules, has_name, void_names}

@@ -3,12 +3,12 @@ use Rattle.std.specs.Prelude.{◌≡◌, ℕ, ◌<◌, ◌-◌, true, List, [], 
 use Rattle.std.specs.String.{string_bytes}
 use Rattle.bk_num.specs.declared.ids.NodeId.{NodeId}
 use Rattle.bk_num.specs.Limits.{most_nodes}
-use Rattle.dom.specs.Nodes.{Node, child_of, is_element_at}
+use Rattle.dom.specs.Nodes.{Node, Text, child_of, is_element_at}
 use Rattle.dom.specs.declared.dom.DomErr.{DomErr}
 use Rattle.dom.specs.declared.dom.DomErr.TheVariants.{Nodes, Depth, NoMemory}
-use Rattle.dom.specs.declared.rows.NodeData.TheVariants.{Text}
 use Rattle.html_tree.specs.declared.tree.Builder.{Builder}
 use Rattle.html_tree.specs.Tree.{State}
+use Rattle.html_tree.specs.Scopes.{HaveScopes}
 
 -- what is expected comes, but for want of memory
 abbrev pub Answers : {A B : Type 0} → Result A DomErr → Result B DomErr → (B → A) → Type 0
@@ -31,6 +31,7 @@ AreElements nodes opened = (k : ℕ) (o : NodeId) → slice_get opened k ≡ Som
 pub record IsBuilt (b : Builder) : Type 0 where
   pub root : is_element_at b.dom 0 ≡ true
   pub opened : AreElements b.dom b.opened.items
+  pub scopes : HaveScopes b.dom b.opened.items b.scopes.items
   pub parent : is_element_at b.dom b.parent.0 ≡ true
   pub few : 0 < length (string_bytes b.text) → length b.dom < most_nodes
   pub last : length (string_bytes b.text) ≡ 0 → is_element_at b.dom (length b.dom - 1) ≡ true

@@ -5,3 +5,4 @@ pub mod Order
 pub mod Built
 pub mod Open
 pub mod Words
+pub mod Scopes

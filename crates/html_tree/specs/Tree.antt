@@ -5,12 +5,10 @@ use Rattle.std.specs.Str.{bytes_eq}
 use Rattle.std.specs.Char.{is_ascii_whitespace}
 use Rattle.bk_num.specs.Limits.{most_nodes}
 use Rattle.bk_num.specs.declared.ids.NodeId.{NodeId}
-use Rattle.dom.specs.Nodes.{Node, root, child_of, depth_at, name_at, attribute_at, with_attribute, is_element, is_at, changed_at}
+use Rattle.dom.specs.Nodes.{Node, NodeData, Element, Text, root, child_of, depth_at, name_at, attribute_at, with_attribute, is_element, is_at, changed_at}
 use Rattle.dom.specs.Answers.{is_below_all}
 use Rattle.dom.specs.declared.dom.DomErr.{DomErr}
 use Rattle.dom.specs.declared.dom.DomErr.TheVariants.{Nodes, Depth}
-use Rattle.dom.specs.declared.rows.NodeData.{NodeData}
-use Rattle.dom.specs.declared.rows.NodeData.TheVariants.{Element, Text}
 use Rattle.html_tok.specs.Listed.{TokenView, tokens_of}
 use Rattle.html_tok.specs.Pieces.{KindView, text, raw, start, close, skip}
 use Rattle.html_tok.specs.Tags.{attributes_of}

@@ -5,6 +5,7 @@ pub mod laws;
 mod opened;
 mod references;
 mod rules;
+mod scopes;
 #[cfg(test)]
 mod tests;
 mod text;

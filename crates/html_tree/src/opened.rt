@@ -1,11 +1,13 @@
 //! The open elements.
-ghost use Rattle.std.specs.Prelude.{◌≡◌, ◌≤◌, ◌<◌, ◌++◌, ◌∷◌, [], length, ℕ, map, fold, unwrap_or, codes, IsTrue, true};
+ghost use Rattle.std.specs.Prelude.{◌≡◌, ◌<◌, [], Some, fold, unwrap_or, slice_get, IsTrue};
 ghost use Rattle.dom.specs.Nodes.{name_at, is_element_at};
-ghost use Rattle.html_tree.specs.Rules.{has_name, texts, rule_of, void_names};
-ghost use Rattle.html_tree.specs.Tree.{closed_by, after_rule, without, current, name_in, number_of};
+ghost use Rattle.html_tree.specs.Rules.{rules, rule_of, has_name, texts};
+ghost use Rattle.html_tree.specs.Tree.{closed_by, after_rule, without, current};
 ghost use Rattle.html_tree.specs.Built.{AreElements};
+ghost use Rattle.html_tree.specs.Scopes.{HaveScopes};
 
-use crate::rules::has;
+use crate::rules::{has, row_at};
+use crate::scopes::{ROWS, last_scopes};
 use bk_num::ids::NodeId;
 use dom::Dom;
 
@@ -44,32 +46,44 @@ pub(crate) fn close_by(dom: &Dom, opened: &mut Vec<NodeId>, closes: &[&str], sco
 fn close_row(
     dom: &Dom,
     opened: &mut Vec<NodeId>,
+    scopes: &mut Vec<[bool; ROWS]>,
     name: &str,
+    index: usize,
     row: &(bool, &[&str], &[&str], &[&str]),
 )
-    requires { AreElements dom.now opened.old.items }
+    requires elements { AreElements dom.now opened.old.items }
+    requires scopes { HaveScopes dom.now opened.old.items scopes.old.items }
+    requires index { index < 8 }
+    requires row { slice_get rules index ≡ Some (rule_of row.now) }
     ensures closed { opened.new.items ≡ after_rule name.now dom.now opened.old.items (rule_of row.now) }
     ensures elements { AreElements dom.now opened.new.items }
+    ensures scopes { HaveScopes dom.now opened.new.items scopes.new.items }
 {
+    if !last_scopes(scopes)[index] {
+        return;
+    }
     let (all_but, tags, closes, scope) = *row;
     if has(tags, name) != all_but {
         close_by(dom, opened, closes, scope);
+        scopes.truncate(opened.len());
     }
 }
 
-/// Closes what the rows of a table close at a start tag.
+/// Closes what the rows of the table close at a start tag.
 pub(crate) fn close_rows(
     dom: &Dom,
     opened: &mut Vec<NodeId>,
+    scopes: &mut Vec<[bool; ROWS]>,
     name: &str,
-    rows: &[(bool, &[&str], &[&str], &[&str])],
 )
-    requires { AreElements dom.now opened.old.items }
-    ensures closed { opened.new.items ≡ fold (after_rule name.now dom.now) opened.old.items (map rule_of rows.now) }
+    requires elements { AreElements dom.now opened.old.items }
+    requires scopes { HaveScopes dom.now opened.old.items scopes.old.items }
+    ensures closed { opened.new.items ≡ fold (after_rule name.now dom.now) opened.old.items rules }
     ensures elements { AreElements dom.now opened.new.items }
+    ensures scopes { HaveScopes dom.now opened.new.items scopes.new.items }
 {
-    for row in rows {
-        close_row(dom, opened, name, row);
+    for index in 0..ROWS {
+        close_row(dom, opened, scopes, name, index, row_at(index));
     }
 }
 

@@ -1,9 +1,9 @@
 //! Character references.
-ghost use Rattle.std.specs.Prelude.{◌≡◌, ◌+◌, ◌<◌, ◌≤◌, length, take, map, min, nat_eq, IsTrue, not, drop, slice_index, ◌&&◌, ◌==◌};
+ghost use Rattle.std.specs.Prelude.{◌≡◌, ◌+◌, ◌<◌, ◌≤◌, length, map, min, nat_eq, IsTrue, not, drop, slice_index, ◌&&◌, ◌==◌};
 ghost use Rattle.std.specs.List.{starts_with, position};
 ghost use Rattle.std.specs.Char.{is_digit, digit_value, is_ascii_alphabetic};
 ghost use Rattle.html_tree.specs.Words.{letters_len};
-ghost use Rattle.html_tree.specs.Texts.{Reference, character_of, digits_len, number_of, numeric, counted, closing_len, named, named_references, reference_at};
+ghost use Rattle.html_tree.specs.Texts.{character_of, digits_len, number_of, numeric, closing_len, named, named_references, reference_at};
 
 /// The named references that are read, each with its `;` (HTML, 13.5).
 const REFERENCES: [(&str, char); 37] = [

@@ -1,11 +1,11 @@
 //! What a start tag closes, and which elements have no content.
-ghost use Rattle.std.specs.Prelude.{◌≡◌, Bool};
+ghost use Rattle.std.specs.Prelude.{◌<◌, Some, length, map, slice_get, ◌≡◌};
 ghost use Rattle.std.specs.List.{list_any};
 ghost use Rattle.std.specs.Str.{bytes_eq};
-ghost use Rattle.html_tree.specs.Rules.{has_name, texts, void_names};
+ghost use Rattle.html_tree.specs.Rules.{has_name, texts, rules, rule_of, void_names};
 
 /// A row has true where it counts for all start tags but those that it names; then the start tags, the elements of which the innermost closes, and those that keep it open from inside.
-pub(crate) const RULES: [(bool, &[&str], &[&str], &[&str]); 8] = [
+const RULES: [(bool, &[&str], &[&str], &[&str]); 8] = [
     (
         true,
         &[
@@ -80,6 +80,42 @@ const VOID: [&str; 13] = [
     "area", "base", "br", "col", "embed", "hr", "img", "input", "link", "meta", "source", "track",
     "wbr",
 ];
+
+/// A row of the table.
+#[tactic(auto, unfolding(crate::specs::Rules::rules))]
+pub(crate) fn row_at(
+    row: usize,
+) -> &'static (
+    bool,
+    &'static [&'static str],
+    &'static [&'static str],
+    &'static [&'static str],
+)
+    requires { row < 8 }
+    ensures { slice_get rules row ≡ Some (rule_of result.now) }
+{
+    row_of(&RULES, row)
+}
+
+fn row_of(
+    rows: &'static [(
+        bool,
+        &'static [&'static str],
+        &'static [&'static str],
+        &'static [&'static str],
+    )],
+    row: usize,
+) -> &'static (
+    bool,
+    &'static [&'static str],
+    &'static [&'static str],
+    &'static [&'static str],
+)
+    requires row { row < length rows.now }
+    ensures { slice_get (map rule_of rows.now) row ≡ Some (rule_of result.now) }
+{
+    &rows[row]
+}
 
 /// Whether an element has no content.
 #[tactic(auto, unfolding(crate::specs::Rules::void_names))]

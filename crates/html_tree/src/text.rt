@@ -1,37 +1,74 @@
 //! The texts that the bytes of tokens stand for.
-ghost use Rattle.std.specs.Prelude.{◌≡◌, ◌++◌, ◌<◌, length, IfOk, OnOk, slice_index, string_bytes, IsTrue};
+ghost use Rattle.std.specs.Prelude.{◌≡◌, ◌++◌, ◌<◌, IfOk, OnOk, slice_index, string_bytes, IsTrue};
 ghost use Rattle.memchr.specs.Find.{is_byte2};
-ghost use Rattle.std.specs.Str.{IsCharBoundary};
+ghost use Rattle.std.specs.List.{list_all};
+ghost use Rattle.std.specs.Cow.{cow_str_bytes};
+ghost use Rattle.html_tree.specs.Words.{stays};
 ghost use Rattle.html_tree.specs.Texts.{normalized, normalized_byte, referred_after, text_of, name_of, reference_at};
 
 use crate::references::reference_at;
 use bk_num::name::NoMem;
 use memchr::{memchr, memchr2};
 use std::alloc::Global;
+use std::borrow::CowStr;
 
-/// The text of these bytes, with references read where there are any.
+/// The text of these bytes, with references read where there are any. It is copied only where it has something to mend.
 #[tactic(auto, unfolding(crate::specs::Texts::text_of))]
-pub(crate) fn text_of(alloc: Global, text: &str, references: bool) -> Result<String, NoMem>
-    ensures { IfOk result (λ s. string_bytes s ≡ text_of references text.now) }
+pub(crate) fn text_of<'t>(
+    alloc: Global,
+    text: &'t str,
+    references: bool,
+) -> Result<CowStr<'t>, NoMem>
+    ensures { IfOk result (λ s. cow_str_bytes s ≡ text_of references text.entry.now) }
 {
-    let mut normalized = String::new(alloc);
-    normalize(&mut normalized, text)?;
+    let normalized = normalized_of(alloc, text)?;
     if !references {
+        return Ok(normalized);
+    }
+    if memchr(b'&', normalized.as_str().as_bytes()).is_none() {
         return Ok(normalized);
     }
     let mut read = String::new(alloc);
     read_references(&mut read, normalized.as_str())?;
-    Ok(read)
+    Ok(CowStr::Owned(read))
 }
 
-/// The name that these bytes stand for, in lower case.
-pub(crate) fn name_of(alloc: Global, name: &str) -> Result<String, NoMem>
-    ensures { IfOk result (λ s. string_bytes s ≡ name_of name.now) }
+/// The text with its line ends normalized and without U+0000.
+fn normalized_of<'t>(alloc: Global, text: &'t str) -> Result<CowStr<'t>, NoMem>
+    ensures { IfOk result (λ s. cow_str_bytes s ≡ normalized text.entry.now) }
 {
-    let mut normalized = String::new(alloc);
-    normalize(&mut normalized, name)?;
-    normalized.make_ascii_lowercase();
-    Ok(normalized)
+    if memchr2(b'\r', 0, text.as_bytes()).is_none() {
+        return Ok(CowStr::Borrowed(text));
+    }
+    let mut out = String::new(alloc);
+    normalize(&mut out, text)?;
+    Ok(CowStr::Owned(out))
+}
+
+/// The name that these bytes stand for, in lower case. It is copied only where it isn't so already.
+pub(crate) fn name_of<'t>(alloc: Global, name: &'t str) -> Result<CowStr<'t>, NoMem>
+    ensures { IfOk result (λ s. cow_str_bytes s ≡ name_of name.entry.now) }
+{
+    if stays(name.as_bytes()) {
+        return Ok(CowStr::Borrowed(name));
+    }
+    let mut lower = String::new(alloc);
+    normalize(&mut lower, name)?;
+    lower.make_ascii_lowercase();
+    Ok(CowStr::Owned(lower))
+}
+
+/// Whether each byte of a name stays.
+fn stays(name: &[u8]) -> bool
+    ensures { result ≡ list_all stays name.now }
+{
+    name.iter().all(|b| byte_stays(*b))
+}
+
+fn byte_stays(b: u8) -> bool
+    ensures { result ≡ stays b }
+{
+    b.to_ascii_lowercase() == b && !(b == b'\r' || b == 0)
 }
 
 /// Appends the text with its line ends normalized and without U+0000.

@@ -1,18 +1,20 @@
 //! The builder of a tree.
-ghost use Rattle.std.specs.Prelude.{◌≡◌, ◌<◌, ◌≤◌, ◌++◌, ◌∷◌, [], length, ℕ, IfOk, IfErr, OnOk, IsTrue, true, false, string_bytes, Ok};
+ghost use Rattle.std.specs.Prelude.{List, Some, codes, ◌≡◌, ◌<◌, ◌++◌, [], length, IfOk, IfErr, OnOk, IsTrue, true, false, string_bytes, Ok};
 ghost use Rattle.bk_num.specs.Limits.{most_nodes};
 ghost use Rattle.dom.specs.Nodes.{Node, is_element_at};
 ghost use Rattle.html_tok.specs.Tags.{attributes_of};
-ghost use Rattle.html_tok.specs.Listed.{TokenView, view_of};
+ghost use Rattle.html_tok.specs.Listed.{view_of};
 ghost use Rattle.html_tree.specs.Texts.{text_of, name_of};
-ghost use Rattle.html_tree.specs.Tree.{put_all, State, add_text, add_element, after_start, after_text, after_kind, without, is_blank, is_escapable, current_name, appended, new_text, is_text_under, last_of, opened_after, begun, after_rule, tree_of};
+ghost use Rattle.html_tree.specs.Scopes.{HaveScopes};
+ghost use Rattle.html_tree.specs.Tree.{name_in, put_all, add_text, add_element, after_start, after_text, after_kind, without, is_blank, is_escapable, current_name, appended, new_text, is_text_under, last_of, opened_after, begun, after_rule, tree_of};
 ghost use Rattle.html_tree.specs.Rules.{rules};
 ghost use Rattle.std.specs.Prelude.{fold};
 ghost use Rattle.html_tree.specs.Order.{AreInOrder};
 ghost use Rattle.html_tree.specs.Built.{Answers, waiting, state_of, IsBuilt};
 
 use crate::opened::{close_named, close_rows, current, name_of_element};
-use crate::rules::{RULES, is_void};
+use crate::rules::is_void;
+use crate::scopes::{HEAD, ROWS, last_scopes, scopes_within};
 use crate::text::{name_of, text_of};
 use bk_num::ids::NodeId;
 use bk_num::limits::MOST_NODES;
@@ -21,11 +23,13 @@ use dom::{Dom, DomErr};
 use html_tok::{Attrs, Token, TokenKind, Tokens};
 use std::alloc::Global;
 
-/// A tree that is being built: its nodes, the open elements other than node 0, and the text that waits for more, with the element that it belongs to.
+/// A tree that is being built: its nodes, the open elements other than node 0, each with the rows that have an element in scope up
+/// to it, and the text that waits for more, with the element that it belongs to.
 #[derive(Drop)]
 pub(crate) struct Builder {
     pub(crate) dom: Dom,
     pub(crate) opened: Vec<NodeId>,
+    pub(crate) scopes: Vec<[bool; ROWS]>,
     pub(crate) text: String,
     pub(crate) parent: NodeId,
 }
@@ -75,6 +79,7 @@ impl Builder {
         Ok(Builder {
             dom,
             opened: Vec::new(alloc),
+            scopes: Vec::new(alloc),
             text: String::new(alloc),
             parent: NodeId(0),
         })
@@ -119,7 +124,7 @@ impl Builder {
             return Err(DomErr::NoMemory);
         };
         if !is_blank(text.as_bytes()) {
-            self.close("head");
+            self.close_head();
         }
         self.add_text(alloc, text.as_str())
     }
@@ -179,6 +184,18 @@ impl Builder {
         ensures state { state_of self.new ≡ record (state_of self.old) { opened = without name.now (state_of self.old).nodes (state_of self.old).opened } }
     {
         close_named(&self.dom, &mut self.opened, name);
+        self.scopes.truncate(self.opened.len());
+    }
+
+    /// Closes an open `head`.
+    fn close_head(&mut self)
+        requires { IsBuilt self.old }
+        ensures built { IsBuilt self.new }
+        ensures state { state_of self.new ≡ record (state_of self.old) { opened = without (codes "head") (state_of self.old).nodes (state_of self.old).opened } }
+    {
+        if last_scopes(&self.scopes)[HEAD] {
+            self.close("head");
+        }
     }
 
     /// Closes what a start tag closes.
@@ -187,7 +204,7 @@ impl Builder {
         ensures built { IsBuilt self.new }
         ensures state { state_of self.new ≡ record (state_of self.old) { opened = fold (after_rule name.now (state_of self.old).nodes) (state_of self.old).opened rules } }
     {
-        close_rows(&self.dom, &mut self.opened, name, &RULES);
+        close_rows(&self.dom, &mut self.opened, &mut self.scopes, name);
     }
 
     /// Whether references are read in the raw text of the current element.
@@ -293,7 +310,7 @@ impl Builder {
         if put_attributes(&mut self.dom, alloc, node, attrs).is_err() {
             return Err(DomErr::NoMemory);
         }
-        if keep_open(&mut self.opened, name, node).is_err() {
+        if keep_open(&mut self.opened, &mut self.scopes, name, node).is_err() {
             return Err(DomErr::NoMemory);
         }
         Ok(())
@@ -301,11 +318,21 @@ impl Builder {
 }
 
 /// Opens an element that isn't void.
-fn keep_open(opened: &mut Vec<NodeId>, name: &str, node: NodeId) -> Result<(), NoMem>
-    ensures { OnOk result (opened.new.items ≡ opened_after name.now node.0 opened.old.items) }
+fn keep_open(
+    opened: &mut Vec<NodeId>,
+    scopes: &mut Vec<[bool; ROWS]>,
+    name: &str,
+    node: NodeId,
+) -> Result<(), NoMem>
+    ensures opened { OnOk result (opened.new.items ≡ opened_after name.now node.0 opened.old.items) }
+    ensures scopes { (nodes : List Node) → HaveScopes nodes opened.old.items scopes.old.items → name_in nodes (Some node) ≡ name.now → OnOk result (HaveScopes nodes opened.new.items scopes.new.items) }
 {
     if is_void(name) {
         return Ok(());
+    }
+    let inner = scopes_within(last_scopes(scopes), name);
+    if scopes.push(inner).is_err() {
+        return Err(NoMem);
     }
     if opened.push(node).is_err() {
         return Err(NoMem);

@@ -1,5 +1,5 @@
 -- Widths, stops and ends of lines of plain text.
-use Rattle.std.proofs.Common.{◌≡◌, ◌≢◌, ℕ, zero, suc, ◌+◌, ◌-◌, ◌<◌, ◌≤◌, ℤ, pos, Bool, true, false, cond, ◌||◌, ◌+ℤ◌, eqb, List, length, get_or, drop, refl, sym, ◌∙◌, arith, ⊎_elim, inl, inr, ◌⊎◌, add-suc, add-zero, add-one, drop-cons}
+use Rattle.std.proofs.Common.{◌≡◌, ◌≢◌, ℕ, zero, suc, ◌+◌, ◌-◌, ◌<◌, ◌≤◌, ℤ, pos, Bool, true, false, cond, ltb, min, ◌||◌, ◌+ℤ◌, eqb, List, length, get_or, drop, refl, sym, ◌∙◌, arith, ⊎_elim, inl, inr, ◌⊎◌, add-suc, add-zero, add-one, drop-cons}
 use Rattle.std.proofs.Math.Seq.{drop-length}
 use Rattle.std.specs.List.{Contains}
 use Rattle.std.specs.List.Sorted.{IsStrictlyIncreasing}
@@ -7,9 +7,10 @@ use Rattle.std.proofs.lemmas.Bool.Decides.{nat_tests, eqb_tells}
 use Rattle.std.proofs.lemmas.Int.{ints}
 use Rattle.std.proofs.lemmas.Bool.{cases_lt}
 use Rattle.std.proofs.lemmas.Grind.{get_or_default_zero}
+use Rattle.std.specs.Bool.{MatchBool}
 use Rattle.line_fill.specs.Widths.{sum_from}
-use Rattle.line_fill.specs.Plain.{FitsPlainly}
-use Rattle.line_fill.specs.LineEnd.{line_len, stop_of, spaceless_len, shown_len, IsOrdinary, IsLineEnd, at_ordinary, at_least}
+use Rattle.line_fill.specs.Fill.{IsNext}
+use Rattle.line_fill.specs.LineEnd.{line_len, stop_of, spaceless_len, shown_len}
 
 -- widths grow
 pub sum_from-le : (unit : ℕ → ℕ) (a m k : ℕ) → sum_from unit a m ≤ sum_from unit a (m + k)
@@ -54,15 +55,13 @@ pub shown-mono : (text : List ℕ) (from m k : ℕ) → shown_len text from m �
 shown-mono text from m zero = rw add-zero (omega arith)
 shown-mono text from m (suc k) = rw add-suc (omega (arith, shown-mono text from m k, shown-below text from (m + k), shown-above text from (m + k)))
 
--- a range is no narrower than one that it begins with
-pub fits-mono : (unit : ℕ → ℕ) (text : List ℕ) (from : ℕ) (measure : ℤ) (p q : ℕ) → from ≤ p → p ≤ q → FitsPlainly unit text from measure q → FitsPlainly unit text from measure p
-fits-mono unit text from measure p q h k f =
+-- a range shows no less width than one that it begins with
+pub widths-mono : (unit : ℕ → ℕ) (text : List ℕ) (from p q : ℕ) → from ≤ p → p ≤ q → sum_from unit from (shown_len text from (p - from)) ≤ sum_from unit from (shown_len text from (q - from))
+widths-mono unit text from p q h k =
     let e : (p - from) + (q - p) ≡ q - from = omega arith in
     let s : shown_len text from (p - from) ≤ shown_len text from (q - from) = rw (← e) (shown-mono text from (p - from) (q - p)) in
-    let w : sum_from unit from (shown_len text from (p - from)) ≤ sum_from unit from (shown_len text from (q - from)) =
     let d : shown_len text from (p - from) + (shown_len text from (q - from) - shown_len text from (p - from)) ≡ shown_len text from (q - from) = omega arith in
-    rw (← d) (sum_from-le unit from (shown_len text from (p - from)) (shown_len text from (q - from) - shown_len text from (p - from))) in
-    omega (arith, ints)
+    rw (← d) (sum_from-le unit from (shown_len text from (p - from)) (shown_len text from (q - from) - shown_len text from (p - from)))
 
 -- where the segment stops
 pub stop-step : (text : List ℕ) (at : ℕ) → at < length text → get_or text at 0 ≢ 10 → stop_of text at ≡ stop_of text (suc at)
@@ -133,21 +132,6 @@ module _ (unit : ℕ → ℕ) (text : List ℕ) (from at : ℕ) (low : from ≤ 
       by (inl g) (inr h) = rw (shown-other text from at low h.1, spaceless-space text from at low g.1) (now_shown ∙ rw (is, g.0) was_shown)
       by (inr g) (inr h) = rw (shown-other text from at low h.1, spaceless-other text from at low g.1) (now_shown ∙ rw (is, g.0, h.0) next_total)
 
--- the end of the line, where its places up to `best` are known
-module _ (unit : ℕ → ℕ) (text places : List ℕ) (from : ℕ) (measure : ℤ) (at best : ℕ) where
-  pub ends_fit : IsOrdinary text places from (suc at) → suc at ≡ stop_of text from → FitsPlainly unit text from measure (suc at) → IsLineEnd (FitsPlainly unit text from measure) (IsOrdinary text places from) (λ q. ⊥) (suc at)
-  ends_fit o e f = at_ordinary o f (λ q r _. let w = r.within in omega arith)
-
-  pub ends_first : ((q : ℕ) → IsOrdinary text places from q → q ≤ at → q ≤ best) → best ≡ from → IsOrdinary text places from (suc at) → (FitsPlainly unit text from measure (suc at) → ⊥) → IsLineEnd (FitsPlainly unit text from measure) (IsOrdinary text places from) (λ q. ⊥) (suc at)
-  ends_first greatest b o misfit = at_least (λ q r f. misfit (fits-mono unit text from measure (suc at) q (let a = o.after in omega arith) (later q r) f)) (inl o) later
-    where
-      later : (q : ℕ) → IsOrdinary text places from q ⊎ ⊥ → suc at ≤ q
-      later q (inl r) = ⊎_elim (λ h. absurd (let g = greatest q r h in let a = r.after in omega arith)) (λ h. h) (cases_le q at)
-      later q (inr r) = absurd r
-
-  pub ends_best : from ≤ at → ((q : ℕ) → IsOrdinary text places from q → q ≤ at → q ≤ best) → IsOrdinary text places from best × FitsPlainly unit text from measure best → (FitsPlainly unit text from measure (suc at) → ⊥) → IsLineEnd (FitsPlainly unit text from measure) (IsOrdinary text places from) (λ q. ⊥) best
-  ends_best low greatest b misfit = at_ordinary b.0 b.1 (λ q r f. ⊎_elim (λ h. greatest q r h) (λ h. absurd (misfit (fits-mono unit text from measure (suc at) q (omega arith) h f))) (cases_le q at))
-
 -- a strictly increasing list never falls
 pub increasing : (xs : List ℕ) (i d : ℕ) → IsStrictlyIncreasing xs → i + d < length xs → get_or xs i 0 ≤ get_or xs (i + d) 0
 increasing xs i zero s h = rw add-zero (omega arith)
@@ -165,26 +149,72 @@ rising xs i k s h l =
     let up' : get_or xs (i + 1) 0 ≤ get_or xs k 0 = rw e at up in
     omega arith
 
--- the places up to the next one, where the next one is reached and where it is not
-module _ (xs : List ℕ) (at next : ℕ) (s : IsStrictlyIncreasing xs)
-    (done : (k : ℕ) → k < next → get_or xs k 0 ≤ at)
-    (coming : (k : ℕ) → next ≤ k → k < length xs → at < get_or xs k 0) where
-  pub done-reached : next < length xs → get_or xs next 0 ≡ at + 1 → (k : ℕ) → k < next + 1 → get_or xs k 0 ≤ at + 1
-  done-reached l e k h = ⊎_elim (λ (g : k < next). let d = done k g in omega arith) (λ (g : next ≤ k). let i : k ≡ next = omega arith in rw i (omega arith)) (cases_lt k next)
+-- the places up to `to`, where none stands between
+module _ (xs : List ℕ) (at to next : ℕ) (s : IsStrictlyIncreasing xs) (is : IsNext xs at next) (low : at < to) (below : next < length xs → to ≤ get_or xs next 0) where
+  after_at : (k : ℕ) → next ≤ k → k < length xs → to ≤ get_or xs k 0
+  after_at k h l = ⊎_elim (λ (g : next < k). let r = rising xs next k s g l in let b = below (omega arith) in omega arith) (λ (g : k ≤ next). let i : k ≡ next = omega arith in rw i (below (omega arith))) (cases_lt next k)
 
-  pub coming-reached : next < length xs → get_or xs next 0 ≡ at + 1 → (k : ℕ) → next + 1 ≤ k → k < length xs → at + 1 < get_or xs k 0
-  coming-reached l e k h m = let r = rising xs next k s (omega arith) m in omega arith
+  pub between_places : (q : ℕ) → Contains xs q → (q ≤ at) ⊎ (to ≤ q)
+  between_places q (k, l, e) =
+      let e' : get_or xs k 0 ≡ q = sym (get_or_default_zero xs k q l) ∙ e in
+      ⊎_elim (λ (g : k < next). let d = is.passed k g in inl (omega arith)) (λ (g : next ≤ k). let b = after_at k g l in inr (omega arith)) (cases_lt k next)
 
-  pub done-other : (k : ℕ) → k < next → get_or xs k 0 ≤ at + 1
-  done-other k h = let d = done k h in omega arith
+  pub none_there : (next < length xs → get_or xs next 0 ≢ to) → Contains xs to → ⊥
+  none_there n (k, l, e) =
+      let e' : get_or xs k 0 ≡ to = sym (get_or_default_zero xs k to l) ∙ e in
+      ⊎_elim (λ (g : k < next). let d = is.passed k g in omega arith)
+      (λ (g : next ≤ k). ⊎_elim
+      (λ (h : next < k). let r = rising xs next k s h l in let b = below (omega arith) in omega arith)
+      (λ (h : k ≤ next). let i : k ≡ next = omega arith in let d : get_or xs next 0 ≢ to = n (omega arith) in absurd (d (rw i at e')))
+      (cases_lt next k)) (cases_lt k next)
 
-  pub coming-other : (next < length xs → get_or xs next 0 ≢ at + 1) → (k : ℕ) → next ≤ k → k < length xs → at + 1 < get_or xs k 0
-  coming-other n k h m =
-      let a = coming next (omega arith) (omega arith) in
-      let d : get_or xs next 0 ≢ at + 1 = n (omega arith) in
-      ⊎_elim (λ (g : next < k). let r = rising xs next k s g m in omega arith) (λ (g : k ≤ next). let i : k ≡ next = omega arith in rw i (omega arith)) (cases_lt next k)
+  pub next_met : next < length xs → get_or xs next 0 ≡ to → IsNext xs to (next + 1)
+  next_met l e = record {
+    within = omega arith;
+    passed = λ k h. ⊎_elim (λ (g : k < next). let d = is.passed k g in omega arith) (λ (g : next ≤ k). let i : k ≡ next = omega arith in rw i (omega arith)) (cases_lt k next);
+    coming = λ k h m. let r = rising xs next k s (omega arith) m in omega arith;
+  }
 
-  pub none-between : (next < length xs → get_or xs next 0 ≢ at + 1) → Contains xs (at + 1) → ⊥
-  none-between n (k, l, e) =
-      let e' : get_or xs k 0 ≡ at + 1 = sym (get_or_default_zero xs k (at + 1) l) ∙ e in
-      ⊎_elim (λ (g : k < next). let d = done k g in omega arith) (λ (g : next ≤ k). let c = coming-other n k g l in omega arith) (cases_lt k next)
+  pub next_other : (next < length xs → get_or xs next 0 ≢ to) → IsNext xs to next
+  next_other n = record {
+    within = is.within;
+    passed = λ k h. let d = is.passed k h in omega arith;
+    coming = λ k h m.
+        let b = after_at k h m in
+        ⊎_elim (λ (g : next < k). let r = rising xs next k s g m in let c = below (omega arith) in omega arith)
+        (λ (g : k ≤ next). let i : k ≡ next = omega arith in let d : get_or xs next 0 ≢ to = n (omega arith) in rw i (omega (arith, rw i at b)))
+        (cases_lt next k);
+  }
+
+  pub next_after : (met : Bool) → MatchBool met ((next < length xs) × (get_or xs next 0 ≡ to)) (next < length xs → get_or xs next 0 ≢ to) → IsNext xs to (cond met (next + 1) next)
+  next_after true h = next_met h.0 h.1
+  next_after false h = next_other h
+
+-- a mark stands no later than the next place, and after the place that is reached
+module _ (xs : List ℕ) (at next end m : ℕ) (is : IsNext xs at next) (e : m ≡ cond (ltb next (length xs)) (min (get_or xs next 0) end) end) where
+  pub mark_end : m ≤ end
+  mark_end = ⊎_elim (λ (h : next < length xs). let t : ltb next (length xs) ≡ true = grind (arith, nat_tests) in let g : m ≡ min (get_or xs next 0) end = rw t at e in omega arith) (λ (h : length xs ≤ next). let t : ltb next (length xs) ≡ false = grind (arith, nat_tests) in let g : m ≡ end = rw t at e in omega arith) (cases_lt next (length xs))
+
+  pub mark_next : next < length xs → m ≤ get_or xs next 0
+  mark_next h = let t : ltb next (length xs) ≡ true = grind (arith, nat_tests) in let g : m ≡ min (get_or xs next 0) end = rw t at e in omega arith
+
+  pub mark_past : at < end → at < m
+  mark_past l = ⊎_elim (λ (h : next < length xs). let t : ltb next (length xs) ≡ true = grind (arith, nat_tests) in let g : m ≡ min (get_or xs next 0) end = rw t at e in let c = is.coming next (omega arith) h in omega arith) (λ (h : length xs ≤ next). let t : ltb next (length xs) ≡ false = grind (arith, nat_tests) in let g : m ≡ end = rw t at e in omega arith) (cases_lt next (length xs))
+
+-- a mark over two lists
+pub record IsMark (xs ys : List ℕ) (at next next' end m : ℕ) : Type 0 where
+  pub after_at : at < m
+  pub most : m ≤ end
+  pub first : next < length xs → m ≤ get_or xs next 0
+  pub second : next' < length ys → m ≤ get_or ys next' 0
+
+pub marked : (xs ys : List ℕ) (at next next' end m m' : ℕ) → at < end → IsNext xs at next → IsNext ys at next' → m ≡ cond (ltb next (length xs)) (min (get_or xs next 0) end) end → m' ≡ cond (ltb next' (length ys)) (min (get_or ys next' 0) m) m → IsMark xs ys at next next' end m'
+marked xs ys at next next' end m m' low i j e e' =
+    let a = mark_end xs at next end m i e in
+    let b = mark_end ys at next' m m' j e' in
+    record {
+      after_at = mark_past ys at next' m m' j e' (mark_past xs at next end m i e low);
+      most = omega arith;
+      first = λ h. let p = mark_next xs at next end m i e h in omega arith;
+      second = mark_next ys at next' m m' j e';
+    }

@@ -1,3 +1,4 @@
+pub mod Fill
 pub mod LineEnd
 pub mod Plain
 pub mod Widths

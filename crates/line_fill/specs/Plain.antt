@@ -1,11 +1,8 @@
 -- The leaves whose lines are filled so far: printable ASCII and newlines, in one style that wraps.
-use Rattle.std.specs.Prelude.{◌≡◌, ℕ, ◌<◌, ◌≤◌, ◌-◌, ◌⊎◌, ℤ, pos, ◌≤ℤ◌, List, length, slice_index, true, false, Some}
+use Rattle.std.specs.Prelude.{◌≡◌, ℕ, ◌<◌, ◌≤◌, ◌⊎◌, length, slice_index, true, false}
 use Rattle.std.specs.List.{All}
-use Rattle.metrics.specs.Face.{FontFace}
 use Rattle.boxes.specs.declared.leaf.Leaf.{Leaf}
 use Rattle.boxes.specs.declared.leaf.Span.{Span}
-use Rattle.line_fill.specs.LineEnd.{shown_len}
-use Rattle.line_fill.specs.Widths.{sum_from, width_in}
 
 -- a newline, or a character from U+0020 to U+007E
 abbrev pub IsPlainByte : ℕ → Type 0
@@ -22,11 +19,3 @@ pub record IsPlainSpan (strut s : Span) : Type 0 where
 pub record IsPlainLeaf (leaf : Leaf) : Type 0 where
   pub text : (k : ℕ) → k < length leaf.text → IsPlainByte (slice_index leaf.text k)
   pub spans : All (IsPlainSpan leaf.strut) leaf.spans
-
--- what a byte adds to a width, where all text is ASCII in one span
-unfoldable pub plain_unit : List FontFace → Span → List ℕ → ℕ → ℕ
-plain_unit faces strut text k = width_in faces (Some strut) (slice_index text k)
-
--- whether a line is no wider than a measure, where no hyphen is shown
-abbrev pub FitsPlainly : (ℕ → ℕ) → List ℕ → ℕ → ℤ → ℕ → Type 0
-FitsPlainly unit text from measure to = pos (sum_from unit from (shown_len text from (to - from))) ≤ℤ measure

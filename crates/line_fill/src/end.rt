@@ -1,16 +1,27 @@
-//! Where a line of a plain leaf ends.
+//! Where a line of a leaf ends.
 
-ghost use Rattle.std.specs.Prelude.{◌≡◌, ℕ, ◌<◌, ◌≤◌, ◌^◌, pos, ◌≤ℤ◌, length, slice_index, unsigned_abs};
-ghost use Rattle.std.specs.List.Sorted.{IsStrictlyIncreasing};
-ghost use Rattle.boxes.specs.Contents.{IsGoodLeaf};
-ghost use Rattle.line_fill.specs.LineEnd.{IsLineEnd, IsOrdinary, line_measure};
-ghost use Rattle.line_fill.specs.Plain.{FitsPlainly, plain_unit};
+ghost use Rattle.std.specs.Prelude.{◌≡◌, ◌≢◌, ℕ, ◌<◌, ◌≤◌, ◌+◌, ◌-◌, ◌*◌, ◌^◌, pos, ◌≤ℤ◌, ◌<ℤ◌, ◌+ℤ◌, length, slice_index, slice_index_or, unsigned_abs, max, Some, MatchOption, MatchBool, ◌⊎◌, ◌||◌, if◌then◌else◌};
+ghost use Rattle.std.specs.List.{All};
+ghost use Rattle.std.specs.Str.{IsCharBoundary};
+ghost use Rattle.boxes.specs.Contents.{AreSpans, IsGoodLeaf};
+ghost use Rattle.boxes.specs.declared.leaf.Span.{Span};
+ghost use Rattle.line_fill.specs.LineEnd.{IsLineEnd, IsOrdinary, IsEmergency, line_measure};
+ghost use Rattle.line_fill.specs.Widths.{span_at, is_hyphened};
+ghost use Rattle.line_fill.specs.Fill.{FitsIn, IsFilled, pen_width};
 
-use crate::bytes::{Reach, is_stop, width_of};
-use crate::places::{count_up_to, is_place};
+use crate::found::Found;
+use crate::line_width::{LineWidth, ascii_width, pass_run};
+use crate::places::{after, count_up_to, emergencies, is_place, mark};
 use boxes::leaf::{Leaf, Span};
 use boxes::span::used_units;
-use metrics::Faces;
+use metrics::{Faces, Pen};
+
+/// Where a line begins, and the units that it has.
+#[derive(Clone, Copy, Debug)]
+pub(crate) struct Room {
+    pub from: usize,
+    pub units: i64,
+}
 
 /// The measure of the line that begins at a place.
 #[tactic(auto, unfolding(crate::specs::LineEnd::line_measure))]
@@ -25,6 +36,139 @@ pub(crate) fn measure_at(leaf: &Leaf, from: u32, measure: i64) -> i64
     }
 }
 
+/// Whether a line that holds the byte before a place ends there in any case.
+fn is_stop(bytes: &[u8], to: usize) -> bool
+    requires some { 0 < to }
+    requires within { to ≤ length bytes.now }
+    ensures { MatchBool result ((slice_index bytes.now (to - 1) ≡ 10) ⊎ (to ≡ length bytes.now)) ((slice_index bytes.now (to - 1) ≢ 10) × (to < length bytes.now)) }
+{
+    bytes[to - 1] == b'\n' || to == bytes.len()
+}
+
+fn is_any(stops: bool, ordinary: bool, emergency: bool) -> bool
+    ensures { result ≡ (stops || ordinary || emergency) }
+{
+    stops || ordinary || emergency
+}
+
+/// Whether a line that ends at a place shows a hyphen.
+#[tactic(auto, unfolding(crate::specs::Widths::is_hyphened))]
+pub(crate) fn is_hyphened(bytes: &[u8], to: usize) -> bool
+    ensures { result ≡ is_hyphened bytes.now to }
+{
+    to < bytes.len() && 2 <= to && bytes[to - 2] == 194 && bytes[to - 1] == 173
+}
+
+/// The width of the hyphen that is shown at a place.
+fn hyphen_width(pen: &Pen<'_>, bytes: &[u8], to: usize) -> u32
+    ensures value { result ≡ (if is_hyphened bytes.now to then pen_width pen.now 45 else 0) }
+    ensures most { result ≤ 2 ^ 27 }
+{
+    if is_hyphened(bytes, to) {
+        ascii_width(pen, b'-')
+    } else {
+        0
+    }
+}
+
+/// Whether a line of a width and a hyphen is no wider than its room.
+fn fits(shown: LineWidth, hyphen: u32, room: Room) -> bool
+    requires low { pos 0 ≤ℤ shown.shown }
+    requires high { shown.shown ≤ℤ pos (2 ^ 60) }
+    ensures { MatchBool result ((shown.shown +ℤ pos hyphen) ≤ℤ room.units) (room.units <ℤ (shown.shown +ℤ pos hyphen)) }
+{
+    shown.shown + i64::from(hyphen) <= room.units
+}
+
+/// Passes a span, and answers where the line ends if it ends in it.
+fn pass_span(
+    faces: &Faces,
+    leaf: &Leaf,
+    span: &Span,
+    room: Room,
+    line_width: &mut LineWidth,
+    found: &mut Found,
+) -> Option<usize>
+    requires good { IsGoodLeaf leaf.now }
+    requires few { length leaf.now.text < 2 ^ 32 }
+    requires face { span.now.face.0 < length faces.now }
+    requires size { pos 0 ≤ℤ span.now.size }
+    requires begins { IsCharBoundary leaf.now.text span.now.from }
+    requires ends { span.now.to ≤ length leaf.now.text }
+    requires order { max room.from span.now.from ≤ span.now.to }
+    requires here { (k : ℕ) → span.now.from ≤ k → k < span.now.to → span_at leaf.now.spans k ≡ Some span.now }
+    requires filled { IsFilled faces.now leaf.now room.from room.units (max room.from span.now.from) line_width.old found.old }
+    ensures { MatchOption result (IsFilled faces.now leaf.now room.from room.units span.now.to line_width.new found.new) (λ to. IsLineEnd (FitsIn faces.now leaf.now room.from room.units) (IsOrdinary leaf.now.text leaf.now.places room.from) (IsEmergency leaf.now room.from) to) }
+{
+    let text = leaf.text.as_str();
+    let bytes = text.as_bytes();
+    let places = leaf.places.as_slice();
+    let graphemes = emergencies(leaf, span);
+    let pen = faces.pen(span.face, span.size);
+    let end = span.to as usize;
+    let mut at = room.from.max(span.from as usize);
+    let mut next = count_up_to(places, at);
+    let mut next_grapheme = count_up_to(graphemes, at);
+    while at < end {
+        let stretch = mark(graphemes, next_grapheme, mark(places, next, end));
+        let run = pass_run(&pen, text, at, stretch, *line_width);
+        *line_width = run.line_width;
+        at = run.to;
+        let stops = is_stop(bytes, at);
+        let ordinary = is_place(places, next, at);
+        let emergency = is_place(graphemes, next_grapheme, at);
+        if is_any(stops, ordinary, emergency) {
+            if line_width.shown > room.units {
+                return Some(found.choose(room.from, at));
+            }
+            if stops {
+                return Some(at);
+            }
+            let fits = fits(*line_width, hyphen_width(&pen, bytes, at), room);
+            *found = found.note(fits, ordinary, emergency, room.from, at);
+        }
+        next = after(next, ordinary);
+        next_grapheme = after(next_grapheme, emergency);
+    }
+    None
+}
+
+/// The span that has a place below a text's end.
+fn first_span(text: &str, spans: &[Span], from: usize) -> usize
+    requires spans { AreSpans text.now 0 spans.now }
+    requires from { from < length text.now }
+    ensures within { result < length spans.now }
+    ensures begins { (d : Span) → (slice_index_or spans.now result d).from ≤ from }
+    ensures ends { (d : Span) → from < (slice_index_or spans.now result d).to }
+{
+    spans.partition_point(|span| span.to as usize <= from)
+}
+
+/// Where a line ends.
+pub(crate) fn line_end(faces: &Faces, leaf: &Leaf, room: Room) -> usize
+    requires good { IsGoodLeaf leaf.now }
+    requires few { length leaf.now.text < 2 ^ 32 }
+    requires faced { All (λ s. s.face.0 < length faces.now) leaf.now.spans }
+    requires from { room.from < length leaf.now.text }
+    ensures { IsLineEnd (FitsIn faces.now leaf.now room.from room.units) (IsOrdinary leaf.now.text leaf.now.places room.from) (IsEmergency leaf.now room.from) result }
+{
+    let text = leaf.text.as_str();
+    let spans = leaf.spans.as_slice();
+    let mut line_width = LineWidth { total: 0, shown: 0 };
+    let mut found = Found {
+        best: room.from,
+        emergency: room.from,
+        least: room.from,
+    };
+    for k in first_span(text, spans, room.from)..spans.len() {
+        let end = pass_span(faces, leaf, &spans[k], room, &mut line_width, &mut found);
+        if let Some(to) = end {
+            return to;
+        }
+    }
+    text.len()
+}
+
 /// How many bytes a leaf's text has: where its last span ends.
 pub(crate) fn text_len(leaf: &Leaf) -> u32
     requires { IsGoodLeaf leaf.now }
@@ -34,43 +178,4 @@ pub(crate) fn text_len(leaf: &Leaf) -> u32
         Some(span) => span.to,
         None => 0,
     }
-}
-
-/// Where a line of ASCII text in one span ends, at its own measure.
-pub(crate) fn line_end(
-    faces: &Faces,
-    strut: &Span,
-    bytes: &[u8],
-    places: &[u32],
-    from: usize,
-    measure: i64,
-) -> usize
-    requires face { strut.now.face.0 < length faces.now }
-    requires size { pos 0 ≤ℤ strut.now.size }
-    requires few { length bytes.now < 2 ^ 32 }
-    requires ascii { (k : ℕ) → k < length bytes.now → slice_index bytes.now k < 128 }
-    requires from { from < length bytes.now }
-    requires ascending { IsStrictlyIncreasing places.now }
-    ensures { IsLineEnd (FitsPlainly (plain_unit faces.now strut.now bytes.now) bytes.now from measure) (IsOrdinary bytes.now places.now from) (λ q. ⊥) result }
-{
-    let mut next = count_up_to(places, from);
-    let mut reach = Reach { total: 0, shown: 0 };
-    let mut best = from;
-    for at in from..bytes.len() {
-        let byte = bytes[at];
-        reach.pass(byte, width_of(faces, strut, byte));
-        let to = at + 1;
-        let stops = is_stop(bytes, at);
-        if stops || is_place(places, next, to) {
-            if reach.shown > measure {
-                return if best == from { to } else { best };
-            }
-            if stops {
-                return to;
-            }
-            best = to;
-            next += 1;
-        }
-    }
-    bytes.len()
 }

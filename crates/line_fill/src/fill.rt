@@ -1,12 +1,12 @@
 //! The next line of a leaf.
 
 ghost use Rattle.std.specs.Prelude.{◌≡◌, ℕ, ◌+◌, ◌<◌, ◌≤◌, ◌^◌, length, unsigned_abs};
+ghost use Rattle.std.specs.List.{All};
 ghost use Rattle.std.specs.Str.{IsCharBoundary};
 ghost use Rattle.boxes.specs.Contents.{IsGoodLeaf};
 ghost use Rattle.line_fill.specs.LineEnd.{IsLine};
-ghost use Rattle.line_fill.specs.Plain.{IsPlainLeaf};
 
-use crate::end::{line_end, measure_at, text_len};
+use crate::end::{Room, is_hyphened, line_end, measure_at, text_len};
 use bk_num::steps::Steps;
 use boxes::laws::make_line;
 use boxes::leaf::Leaf;
@@ -29,12 +29,11 @@ pub fn next_line<L: Ledger>(
     steps: &mut Steps<L>,
 ) -> Line
     requires good { IsGoodLeaf leaf.now }
-    requires plain { IsPlainLeaf leaf.now }
-    requires face { leaf.now.strut.face.0 < length faces.now }
+    requires faced { All (λ s. s.face.0 < length faces.now) leaf.now.spans }
     requires from { from < length leaf.now.text }
-    requires boundary { IsCharBoundary leaf.now.text from }
     requires measure { unsigned_abs measure ≤ 2 ^ 40 }
     ensures line { IsLine faces.now leaf.now from measure result }
+    ensures end { IsCharBoundary leaf.now.text result.to }
     ensures step { steps.new ≡ steps.old + 1 }
 {
     steps.tick();
@@ -42,23 +41,22 @@ pub fn next_line<L: Ledger>(
 }
 
 /// The line, without the step.
-fn fill(faces: &Faces, leaf: &Leaf, from: u32, measure: i64) -> Line
+pub(crate) fn fill(faces: &Faces, leaf: &Leaf, from: u32, measure: i64) -> Line
     requires good { IsGoodLeaf leaf.now }
-    requires plain { IsPlainLeaf leaf.now }
-    requires face { leaf.now.strut.face.0 < length faces.now }
+    requires faced { All (λ s. s.face.0 < length faces.now) leaf.now.spans }
     requires from { from < length leaf.now.text }
     requires measure { unsigned_abs measure ≤ 2 ^ 40 }
-    ensures { IsLine faces.now leaf.now from measure result }
+    ensures line { IsLine faces.now leaf.now from measure result }
+    ensures end { IsCharBoundary leaf.now.text result.to }
 {
     // The last span ends at the text's end, so a place in the text is a `u32`.
     let _end = text_len(leaf);
-    let to = line_end(
-        faces,
-        &leaf.strut,
-        leaf.text.as_str().as_bytes(),
-        leaf.places.as_slice(),
-        from as usize,
-        measure_at(leaf, from, measure),
-    );
-    make_line(from, to as u32, false)
+    let room = Room {
+        from: from as usize,
+        units: measure_at(leaf, from, measure),
+    };
+    let to = line_end(faces, leaf, room);
+    let text = leaf.text.as_str();
+    let hyphen = is_hyphened(text.as_bytes(), to);
+    make_line(from, to as u32, hyphen)
 }

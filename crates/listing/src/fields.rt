@@ -1,6 +1,6 @@
 //! Appends the fields of a record.
 
-ghost use Rattle.std.specs.Prelude.{◌≡◌, ℕ, ◌++◌, OnOk, ◌<◌};
+ghost use Rattle.std.specs.Prelude.{◌≡◌, ◌++◌, OnOk, ◌<◌};
 ghost use Rattle.std.specs.Char.{digit_char};
 ghost use Rattle.listing.specs.Records.{escape, quoted, field, word, string_field, hex_pair, color_field, style_name, face_field};
 

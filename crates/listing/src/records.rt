@@ -1,6 +1,6 @@
 //! Appends the records of a listing.
 
-ghost use Rattle.std.specs.Prelude.{◌≡◌, ℕ, ◌++◌, OnOk, ℤ, pos};
+ghost use Rattle.std.specs.Prelude.{◌≡◌, ◌++◌, OnOk};
 ghost use Rattle.listing.specs.Records.{book_record, page_record, line_record, text_record, end_record, face_field, side_name, kind_name};
 
 use crate::fields::{push_color, push_face, push_field, push_string, push_word};

@@ -1,82 +1,74 @@
-//! Matches selectors against the nodes of a tree, so that the work can be timed: the word is how many list items the tree
-//! has, and each line of standard input is a list of selectors.
+//! Matches selectors against the nodes of a document, so that the work can be timed: the first line of standard input is
+//! the document, and each other line is a list of selectors.
 #![tactic(auto)]
 
-ghost use Rattle.std.specs.Prelude.{◌<◌, length};
+ghost use Rattle.std.specs.Prelude.{◌≡◌, length};
 
 use bk_num::ids::NodeId;
 use dom::Dom;
 use html_tree::read_html;
+use match_table::all::{MatchTable, match_all};
 use selectors::grammar::read_selectors;
-use selectors::matching::matches;
-use selectors::types::SelectorList;
-use std::alloc::{AllocError, Global};
-use std::env;
+use selectors::types::{Selector, SelectorList};
+use std::alloc::{AllocError, AllocFailed, Global};
 use std::io::{Error, ErrorKind};
 
-/// How many elements stand round the list.
-const DEPTH: u32 = 100;
-
-/// A list of items, each with one of seven classes and an element, deep inside of others. Without items there is no list.
-fn document(alloc: Global, items: u32) -> Result<String, AllocError> {
-    let mut html = String::new(alloc);
-    if items == 0 {
-        return Ok(html);
+/// The selectors of all lists.
+fn all_of<'l>(
+    alloc: Global,
+    lists: &'l [SelectorList],
+) -> Result<Vec<&'l Selector>, AllocFailed<&'l Selector>> {
+    let mut selectors = Vec::new(alloc);
+    for list in lists {
+        put_all(&mut selectors, list)?;
     }
-    for _ in 0..DEPTH {
-        html.push_str("<div>")?;
-    }
-    html.push_str("<ul>")?;
-    for number in 0..items {
-        html.push_str(&format!(in alloc; "<li class=c{}><b></b>", number % 7)?)?;
-    }
-    Ok(html)
+    Ok(selectors)
 }
 
-/// How many selectors of a list match a node.
-fn count_at(dom: &Dom, node: NodeId, list: &SelectorList) -> u64
-    requires { node.0 < length dom.now }
+/// Puts the selectors of a list at the end.
+fn put_all<'l>(
+    selectors: &mut Vec<&'l Selector>,
+    list: &'l SelectorList,
+) -> Result<(), AllocFailed<&'l Selector>> {
+    for selector in list.items.as_slice() {
+        selectors.push(selector)?;
+    }
+    Ok(())
+}
+
+/// How many pairs of a selector and a node match.
+fn count(dom: &Dom, table: &MatchTable) -> u64
+    requires { length table.now ≡ length dom.now }
 {
     let mut count = 0u64;
-    for selector in list.items.as_slice() {
-        if matches(dom, node, selector) {
-            count = count.saturating_add(1);
-        }
+    for node in 0..dom.len() {
+        count = count.saturating_add(table.of(NodeId(node)).len() as u64);
     }
     count
-}
-
-/// How many nodes a list matches.
-fn count_in(dom: &Dom, list: &SelectorList) -> u64 {
-    let mut count = 0u64;
-    for index in 0..dom.len() {
-        count = count.saturating_add(count_at(dom, NodeId(index), list));
-    }
-    count
-}
-
-/// The number of a word.
-fn number(word: Option<&String>) -> Result<u32, Error> {
-    match word.and_then(|word| word.as_str().parse::<u32>().ok()) {
-        Some(number) => Ok(number),
-        None => Err(Error::from(ErrorKind::InvalidInput)),
-    }
 }
 
 fn main(rt: HostRuntime) -> Result<(), Error> {
     let alloc = rt.alloc();
-    let words: Vec<String> = env::args(&rt)?.skip(1).collect(alloc)?;
-    let html = document(alloc, number(words.get(0))?)?;
-    let Ok(dom) = read_html(alloc, &html) else {
+    let mut lines = rt.lines(alloc);
+    let html = match lines.next() {
+        Some(line) => line?,
+        None => String::new(alloc),
+    };
+    let Ok(dom) = read_html(alloc, html.as_str()) else {
         return Err(Error::from(ErrorKind::InvalidInput));
     };
-    let (mut matched, mut unread) = (0u64, 0u64);
-    for line in rt.lines(alloc) {
+    let (mut lists, mut unread) = (Vec::new(alloc), 0u64);
+    for line in lines {
         match read_selectors(alloc, line?.as_str()) {
-            Ok(Some(list)) => matched = matched.saturating_add(count_in(&dom, &list)),
+            Ok(Some(list)) => lists.push(list)?,
             Ok(None) => unread = unread.saturating_add(1),
             Err(_) => return Err(Error::from(ErrorKind::OutOfMemory)),
         }
     }
-    println!(rt; "matches: {matched}, without a reading: {unread}")
+    let selectors = all_of(alloc, &lists)?;
+    let Ok(table) = match_all(alloc, &dom, &selectors) else {
+        return Err(Error::from(ErrorKind::OutOfMemory));
+    };
+    let matches = count(&dom, &table);
+    println!(rt; "matches: {matches}, without a reading: {unread}")
 }

@@ -3,3 +3,5 @@ pub mod ColumnLemmas
 pub mod WordLemmas
 pub mod IndexLemmas
 pub mod AllLemmas
+pub mod SiblingLemmas
+pub mod TypeLemmas

@@ -1,7 +1,6 @@
 //! Matches many selectors against all nodes of a document in one pass.
 
-ghost use Rattle.std.specs.Prelude.{◌≡◌, ◌<◌, ◌-◌, ◌↔◌, ℕ, [], get_or, length, map, slice_get, Some, IfOk, IfSome, OnOk, OnErr, IsTrue};
-ghost use Rattle.std.specs.List.{Contains};
+ghost use Rattle.std.specs.Prelude.{◌≡◌, ◌<◌, ◌-◌, ◌↔◌, ℕ, length, map, slice_get, Some, IfOk, IfSome, OnOk, IsTrue};
 ghost use Rattle.match_table.specs.All.{AreMatchLists};
 ghost use Rattle.match_table.specs.Index.{AreNoted, IsKeyNumber};
 ghost use Rattle.selectors.specs.Match.{Matches};
@@ -9,11 +8,13 @@ ghost use Rattle.match_table.specs.Rows as spec;
 
 use crate::columns::{all_cells, cell_of};
 use crate::index::{Words, empty_lists, key_of, nodes_by_word, words_of_keys};
+use crate::types::wanted_places;
 use bk_num::ids::NodeId;
 use bk_num::items::Items;
 use bk_num::name::NoMem;
 use dom::Dom;
-use selectors::matching::matches;
+use selectors::document::Document;
+use selectors::matching::matches_in;
 use selectors::sets::has;
 use selectors::types::{Join, Selector};
 use std::alloc::Global;
@@ -85,11 +86,11 @@ fn put_if(rows: &mut Vec<Items<u32>>, hit: bool, node: usize, place: u32) -> Res
 }
 
 /// Whether there is a node of this number which a selector matches.
-fn is_matched(dom: &Dom, node: u32, selector: &Selector) -> bool
-    ensures { IsTrue result ↔ ((node < length dom.now) × Matches dom.now selector.now node) }
+fn is_matched(document: &Document<'_>, node: u32, selector: &Selector) -> bool
+    ensures { IsTrue result ↔ ((node < length document.now) × Matches document.now selector.now node) }
 {
-    if node < dom.len() {
-        matches(dom, NodeId(node), selector)
+    if node < document.dom().len() {
+        matches_in(document, NodeId(node), selector)
     } else {
         false
     }
@@ -98,19 +99,19 @@ fn is_matched(dom: &Dom, node: u32, selector: &Selector) -> bool
 /// Puts a selector's place into the lists of those nodes, among some candidates, that it matches.
 fn mark_listed(
     rows: &mut Vec<Items<u32>>,
-    dom: &Dom,
+    document: &Document<'_>,
     selector: &Selector,
     place: u32,
     nodes: &[u32],
 ) -> Result<(), NoMem>
-    requires count { length rows.old.items ≡ length dom.now }
+    requires count { length rows.old.items ≡ length document.now }
     requires below { spec.AreBelow place rows.old.items }
-    requires candidates { spec.HasCandidates dom.now selector.now nodes.now }
-    ensures marked { OnOk result (spec.AreMarked dom.now selector.now place rows.old.items rows.new.items) }
+    requires candidates { spec.HasCandidates document.now selector.now nodes.now }
+    ensures marked { OnOk result (spec.AreMarked document.now selector.now place rows.old.items rows.new.items) }
     ensures count { length rows.new.items ≡ length rows.old.items }
 {
     for node in nodes {
-        let hit = is_matched(dom, *node, selector);
+        let hit = is_matched(document, *node, selector);
         put_if(rows, hit, *node as usize, place)?;
     }
     Ok(())
@@ -120,18 +121,18 @@ fn mark_listed(
 fn mark_column(
     alloc: Global,
     rows: &mut Vec<Items<u32>>,
-    dom: &Dom,
+    document: &Document<'_>,
     selector: &Selector,
     place: u32,
 ) -> Result<(), NoMem>
-    requires count { length rows.old.items ≡ length dom.now }
+    requires count { length rows.old.items ≡ length document.now }
     requires below { spec.AreBelow place rows.old.items }
-    ensures marked { OnOk result (spec.AreMarked dom.now selector.now place rows.old.items rows.new.items) }
+    ensures marked { OnOk result (spec.AreMarked document.now selector.now place rows.old.items rows.new.items) }
     ensures count { length rows.new.items ≡ length rows.old.items }
 {
-    let cells = all_cells(alloc, dom, selector)?;
+    let cells = all_cells(alloc, document, selector)?;
     let last = selector.parts().len() - 1;
-    for node in 0..dom.len() {
+    for node in 0..document.dom().len() {
         let cell = cell_of(&cells, Some(NodeId(node)));
         let hit = has(cell.reach, last);
         put_if(rows, hit, node as usize, place)?;
@@ -164,25 +165,25 @@ fn number_of_key(selector: &Selector, words: &Words<'_>) -> Option<usize>
 fn mark(
     alloc: Global,
     rows: &mut Vec<Items<u32>>,
-    dom: &Dom,
+    document: &Document<'_>,
     selector: &Selector,
     place: u32,
     words: &Words<'_>,
     lists: &[Items<u32>],
 ) -> Result<(), NoMem>
-    requires count { length rows.old.items ≡ length dom.now }
+    requires count { length rows.old.items ≡ length document.now }
     requires below { spec.AreBelow place rows.old.items }
     requires lists { length lists.now ≡ length words.now }
-    requires noted { AreNoted dom.now words.now lists.now (length dom.now) }
-    ensures marked { OnOk result (spec.AreMarked dom.now selector.now place rows.old.items rows.new.items) }
+    requires noted { AreNoted document.now words.now lists.now (length document.now) }
+    ensures marked { OnOk result (spec.AreMarked document.now selector.now place rows.old.items rows.new.items) }
     ensures count { length rows.new.items ≡ length rows.old.items }
 {
     if !has_later(selector) {
         if let Some(number) = number_of_key(selector, words) {
-            return mark_listed(rows, dom, selector, place, lists[number].as_slice());
+            return mark_listed(rows, document, selector, place, lists[number].as_slice());
         }
     }
-    mark_column(alloc, rows, dom, selector, place)
+    mark_column(alloc, rows, document, selector, place)
 }
 
 /// For each node the places of the selectors that match it (Selectors 3, 8), each once and in ascending order. Selectors
@@ -192,6 +193,8 @@ pub fn match_all(alloc: Global, dom: &Dom, selectors: &[&Selector]) -> Result<Ma
     ensures count { IfOk result (λ t. length t ≡ length dom.now) }
     ensures lists { IfOk result (λ t. AreMatchLists dom.now (map (λ s. s.now) selectors.now) t) }
 {
+    let places = wanted_places(alloc, dom, selectors)?;
+    let document = Document::with_places(dom, &places);
     let words = words_of_keys(alloc, selectors)?;
     let lists = nodes_by_word(alloc, dom, &words)?;
     let mut rows = empty_lists(alloc, dom.len() as usize)?;
@@ -200,7 +203,7 @@ pub fn match_all(alloc: Global, dom: &Dom, selectors: &[&Selector]) -> Result<Ma
     };
     for place in 0..count {
         let selector = selectors[place as usize];
-        mark(alloc, &mut rows, dom, selector, place, &words, &lists)?;
+        mark(alloc, &mut rows, &document, selector, place, &words, &lists)?;
     }
     Ok(MatchTable { rows })
 }

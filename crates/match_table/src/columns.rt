@@ -1,14 +1,14 @@
 //! Which nodes a selector matches: one pass over the nodes in the order of their numbers.
 
-ghost use Rattle.std.specs.Prelude.{◌≡◌, ◌<◌, ◌≤◌, ◌+◌, ◌&&◌, ◌||◌, ◌↔◌, ℕ, suc, zero, true, false, length, IfOk, IfSome, IfNone, option_map, Some, None, slice_get, IsTrue};
-ghost use Rattle.selectors.specs.Match.{Matches, fits, joins_by, parent_of};
+ghost use Rattle.std.specs.Prelude.{◌≡◌, ◌<◌, ◌&&◌, ℕ, suc, false, length, IfOk, IfSome, IfNone, option_map, Some, None, slice_get};
+ghost use Rattle.selectors.specs.Match.{joins_by, parent_of};
 ghost use Rattle.selectors.specs.Sets as sets;
 ghost use Rattle.selectors.specs.Walk.{prev_element};
 ghost use Rattle.match_table.specs.Columns.{IsCell, AreCells};
 
 use bk_num::ids::NodeId;
 use bk_num::name::NoMem;
-use dom::Dom;
+use selectors::document::Document;
 use selectors::matching::{count, fitting, joins_by};
 use selectors::sets::{has, union, with};
 use selectors::types::{Join, Selector};
@@ -58,24 +58,34 @@ pub(crate) fn cell_of(cells: &[Cell], node: Option<NodeId>) -> Cell
 }
 
 /// The element sibling just before a node, which has a lesser number.
-fn prev(dom: &Dom, node: NodeId) -> Option<NodeId>
-    requires { node.0 < length dom.now }
-    ensures value { option_map (λ n. n.0) result ≡ prev_element dom.now node.0 }
+fn prev(document: &Document<'_>, node: NodeId) -> Option<NodeId>
+    requires { node.0 < length document.now }
+    ensures value { option_map (λ n. n.0) result ≡ prev_element document.now node.0 }
     ensures below { IfSome result (λ p. p.0 < node.0) }
 {
+    let dom = document.dom();
     let _len = dom.len();
     prev_element(dom, node)
 }
 
-/// What reaches a node, by the cells of the nodes before it.
-fn reach_node(dom: &Dom, selector: &Selector, cells: &[Cell], node: NodeId) -> Cell
-    requires node { node.0 < length dom.now }
-    requires count { length cells.now ≡ node.0 }
-    requires cells { AreCells dom.now selector.now cells.now }
-    ensures { IsCell dom.now selector.now node.0 result }
+/// The parent of a node, which has a lesser number.
+fn outer(document: &Document<'_>, node: NodeId) -> Option<NodeId>
+    requires { node.0 < length document.now }
+    ensures value { option_map (λ n. n.0) result ≡ parent_of document.now node.0 }
+    ensures below { IfSome result (λ p. p.0 < node.0) }
 {
-    let outer = cell_of(cells, parent(dom, node));
-    let beside = cell_of(cells, prev(dom, node));
+    parent(document.dom(), node)
+}
+
+/// What reaches a node, by the cells of the nodes before it.
+fn reach_node(document: &Document<'_>, selector: &Selector, cells: &[Cell], node: NodeId) -> Cell
+    requires node { node.0 < length document.now }
+    requires count { length cells.now ≡ node.0 }
+    requires cells { AreCells document.now selector.now cells.now }
+    ensures { IsCell document.now selector.now node.0 result }
+{
+    let outer = cell_of(cells, outer(document, node));
+    let beside = cell_of(cells, prev(document, node));
     let above = union(outer.above, outer.reach);
     let before = union(beside.before, beside.reach);
     let vertical = union(
@@ -88,20 +98,24 @@ fn reach_node(dom: &Dom, selector: &Selector, cells: &[Cell], node: NodeId) -> C
     );
     let wanted = with(union(vertical, level), 0);
     Cell {
-        reach: fitting(selector, dom, node, wanted),
+        reach: fitting(selector, document, node, wanted),
         above,
         before,
     }
 }
 
 /// The cells of all nodes.
-pub(crate) fn all_cells(alloc: Global, dom: &Dom, selector: &Selector) -> Result<Vec<Cell>, NoMem>
-    ensures count { IfOk result (λ v. length v.items ≡ length dom.now) }
-    ensures cells { IfOk result (λ v. AreCells dom.now selector.now v.items) }
+pub(crate) fn all_cells(
+    alloc: Global,
+    document: &Document<'_>,
+    selector: &Selector,
+) -> Result<Vec<Cell>, NoMem>
+    ensures count { IfOk result (λ v. length v.items ≡ length document.now) }
+    ensures cells { IfOk result (λ v. AreCells document.now selector.now v.items) }
 {
     let mut cells = Vec::new(alloc);
-    for index in 0..dom.len() {
-        let next = reach_node(dom, selector, &cells, NodeId(index));
+    for index in 0..document.dom().len() {
+        let next = reach_node(document, selector, &cells, NodeId(index));
         cells.push(next)?;
     }
     Ok(cells)

@@ -4,7 +4,6 @@ ghost use Rattle.std.specs.Prelude.{◌≡◌, ◌<◌, [], get_or, length, map,
 ghost use Rattle.std.specs.List.{Contains};
 ghost use Rattle.std.specs.Str.{bytes_eq};
 ghost use Rattle.std.specs.Prelude.{slice_get};
-ghost use Rattle.dom.specs.Nodes.{attribute_at};
 ghost use Rattle.match_table.specs.Index as spec;
 ghost use Rattle.selectors.specs.declared.types.Test.TheVariants as test;
 

@@ -6,3 +6,4 @@ mod columns;
 mod index;
 #[cfg(test)]
 mod tests;
+mod types;

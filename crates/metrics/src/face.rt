@@ -1,6 +1,6 @@
 //! A face that is looked up fast.
 
-ghost use Rattle.std.specs.Prelude.{◌≡◌, ℕ, ◌<◌, ◌≤◌, pos, ◌≤ℤ◌, slice_index};
+ghost use Rattle.std.specs.Prelude.{◌≡◌, ◌<◌, ◌≤◌, pos, ◌≤ℤ◌};
 ghost use Rattle.metrics.specs.Face.{advance_number, scaled};
 ghost use Rattle.metrics.specs.Table.{IsTable};
 
@@ -8,14 +8,14 @@ use crate::face_lines::FaceLines;
 use bk_num::px::{Px, scale_floor};
 use std::marker::Model;
 
-/// How many characters the table has: those of ASCII.
-const ASCII: usize = 128;
+/// How many characters the table has: those of one or two bytes in UTF-8.
+const TWO_BYTES: usize = 2048;
 
-/// A face, and its advances of ASCII characters.
+/// A face, and a table of its advances.
 #[derive(Drop)]
 pub(crate) struct Face {
     lines: FaceLines,
-    ascii: [u16; ASCII],
+    table: [u16; TWO_BYTES],
 }
 
 impl Model for Face {
@@ -26,7 +26,7 @@ impl Model for Face {
 
     ghost view = { λ f. f.lines };
 
-    ghost invariant = { λ f. IsWithinLimits f.lines × IsTable f.lines f.ascii };
+    ghost invariant = { λ f. IsWithinLimits f.lines × IsTable f.lines f.table };
 }
 
 impl Face {
@@ -34,8 +34,8 @@ impl Face {
     pub(crate) fn new(lines: FaceLines) -> Face
         ensures { result ≡ lines }
     {
-        let ascii = ascii_table(&lines);
-        Face { lines, ascii }
+        let table = advance_table(&lines);
+        Face { lines, table }
     }
 
     /// The lines.
@@ -70,14 +70,34 @@ impl Face {
         self.at_size(self.lines.descent(), size)
     }
 
+    /// How many units the em has.
+    pub(crate) fn units(&self) -> u16
+        ensures value { result ≡ self.now.units }
+        ensures some { 0 < result }
+        ensures most { result ≤ 16384 }
+    {
+        self.lines.units()
+    }
+
+    /// The advance of an ASCII character, in units of the em.
     #[inline]
-    fn number(&self, c: char) -> u16
+    pub(crate) fn ascii(&self, byte: u8) -> u16
+        requires { byte < 128 }
+        ensures value { result ≡ advance_number self.now byte }
+        ensures most { result ≤ 16384 }
+    {
+        self.table[byte as usize]
+    }
+
+    /// The advance of a character, in units of the em.
+    #[inline]
+    pub(crate) fn number(&self, c: char) -> u16
         ensures value { result ≡ advance_number self.now c }
         ensures most { result ≤ 16384 }
     {
         let code = c as u32;
-        if (code as usize) < ASCII {
-            self.ascii[code as usize]
+        if (code as usize) < TWO_BYTES {
+            self.table[code as usize]
         } else {
             self.lines.number(code)
         }
@@ -96,12 +116,12 @@ impl Face {
     }
 }
 
-/// The advances of the ASCII characters.
-fn ascii_table(lines: &FaceLines) -> [u16; ASCII]
+/// The advances of the characters that the table has.
+fn advance_table(lines: &FaceLines) -> [u16; TWO_BYTES]
     ensures { IsTable lines.now result }
 {
-    let mut table = [0; ASCII];
-    for c in 0..ASCII {
+    let mut table = [0; TWO_BYTES];
+    for c in 0..TWO_BYTES {
         table[c] = lines.number(c as u32);
     }
     table

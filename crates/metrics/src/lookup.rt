@@ -1,6 +1,6 @@
 //! The faces of a metrics text.
 
-ghost use Rattle.std.specs.Prelude.{◌≡◌, ℕ, ◌<◌, ◌≤◌, ◌^◌, pos, ◌≤ℤ◌, length, IfOk};
+ghost use Rattle.std.specs.Prelude.{◌≡◌, ◌<◌, ◌≤◌, ◌^◌, pos, ◌≤ℤ◌, length, IfOk};
 ghost use Rattle.metrics.specs.Choice.{Chooses};
 ghost use Rattle.metrics.specs.Face.{FontFace, advance_of, ascent_of, descent_of, face_at};
 ghost use Rattle.metrics.specs.Text.{AreFaces};
@@ -8,6 +8,7 @@ ghost use Rattle.metrics.specs.Text.{AreFaces};
 use crate::choice::choose;
 use crate::face::Face;
 use crate::face_lines::FaceLines;
+use crate::pen::Pen;
 use bk_num::ids::FaceId;
 use bk_num::name::Name;
 use bk_num::px::Px;
@@ -73,6 +74,15 @@ impl Faces {
         ensures most { result ≤ℤ pos (2 ^ 27) }
     {
         self.faces[face.0 as usize].advance(size, c)
+    }
+
+    /// A face at a size, for many characters.
+    pub fn pen(&self, face: FaceId, size: Px) -> Pen<'_>
+        requires face { face.0 < length self.now }
+        requires size { pos 0 ≤ℤ size }
+        ensures { result ≡ record { face = face_at self.now face; size = size } }
+    {
+        Pen::new(&self.faces[face.0 as usize], size)
     }
 
     #[tactic(auto, using(crate::proofs::ScaleLemmas::bounds))]

@@ -1,6 +1,6 @@
 //! The area of notes, and how many solids of a list stand on a page.
 
-ghost use Rattle.std.specs.Prelude.{◌≡◌, ℕ, pos, ◌+◌, ◌<◌, ◌≤◌, ◌^◌, ◌≤ℤ◌, ◌+ℤ◌, length, All, slice_get, Some, ◌⊎◌};
+ghost use Rattle.std.specs.Prelude.{◌≡◌, pos, ◌+◌, ◌<◌, ◌≤◌, ◌^◌, ◌≤ℤ◌, ◌+ℤ◌, length, All, slice_get, Some, ◌⊎◌};
 ghost use Rattle.std.specs.Int.{int_max};
 ghost use Rattle.bk_num.specs.Limits.{most_entries};
 ghost use Rattle.bk_num.specs.Numbers.{IsWithin};

@@ -1,7 +1,6 @@
 //! Worked lists. The expected numbers are sums done by hand.
 
-ghost use Rattle.std.specs.Prelude.{◌≡◌, ◌^◌, ◌≤◌, ◌≤ℤ◌, pos, All};
-ghost use Rattle.bk_num.specs.Numbers.{IsWithin};
+ghost use Rattle.std.specs.Prelude.{◌≡◌, All};
 ghost use Rattle.notes.specs.Notes.{IsSmallNote};
 
 use crate::area::{area, carry_count, must, placed};

@@ -1,28 +1,32 @@
--- Leaves stay plain while a tree is built.
-use Rattle.std.proofs.Common.{◌≡◌, ◌<◌, ℕ, List, Some, length, slice_get, sym, ap, ◌∙◌, ◌⊎◌, inl, inr, subst}
+-- The faces of trees in short are there, and they have as many bytes of text as their leaves.
+use Rattle.std.proofs.Common.{◌≡◌, ◌<◌, ◌≤◌, ◌+◌, ◌∙◌, ◌^◌, ℕ, zero, suc, List, [], ◌∷◌, Some, All, length, slice_get, refl, sym, ap, subst, arith}
+use Rattle.std.proofs.lemmas.List.Sums.{sum_by_push}
 use Rattle.metrics.specs.Face.{FontFace}
-use Rattle.boxes.specs.Tree.{Tree, with_leaf}
+use Rattle.boxes.specs.Tree.{Tree, IsTree}
+use Rattle.boxes.specs.Tree.IsTree.{empty, opened, filled, closed}
 use Rattle.boxes.specs.declared.leaf.Leaf.{Leaf}
-use Rattle.boxes.proofs.ListLemmas.{get-push}
-use Rattle.line_fill.specs.Plain.{IsPlainLeaf}
-use Rattle.cursor.specs.Plain.{HasPlainLeaves}
+use Rattle.line_place.specs.Conditions.{HasFaces}
+use Rattle.fragment.specs.Pages.{text_size}
+use Rattle.fragment.proofs.SizeLemmas.{bytes_opened, bytes_filled, bytes_closed}
+use Rattle.tree_fixtures.specs.Leaves.{IsShortLeaf, bytes_of}
 
--- a tree has plain leaves by its leaves alone
-pub leaves_by : (faces : List FontFace) (t u : Tree) → u.leaves ≡ t.leaves → HasPlainLeaves faces t → HasPlainLeaves faces u
-leaves_by faces t u same h = record {
-  plain = λ l leaf e. h.plain l leaf (there l leaf e);
-  faced = λ l leaf e. h.faced l leaf (there l leaf e);
-}
-  where
-    there : (l : ℕ) (leaf : Leaf) → slice_get u.leaves l ≡ Some leaf → slice_get t.leaves l ≡ Some leaf
-    there l leaf e = ap (λ (leaves : List Leaf). slice_get leaves l) (sym same) ∙ e
+of_all : {X : Type 0} (P : X → Type 0) (xs : List X) (k : ℕ) (x : X) → All P xs → slice_get xs k ≡ Some x → P x
+of_all P [] k x all e = absurd (cc)
+of_all {X} P (y ∷ ys) zero x all e = let same : y ≡ x = cc in subst P same (all 0 y (omega arith))
+of_all P (y ∷ ys) (suc k) x all e = of_all P ys k x (λ j d less. all (suc j) d (omega arith)) e
 
-pub leaves_push : (faces : List FontFace) (t : Tree) (leaf : Leaf) → HasPlainLeaves faces t → IsPlainLeaf leaf → leaf.strut.face.0 < length faces → HasPlainLeaves faces (with_leaf t leaf)
-leaves_push faces t leaf h plain face = record {
-  plain = λ l x e. each IsPlainLeaf h.plain plain l x (get-push t.leaves leaf x l e);
-  faced = λ l x e. each (λ y. y.strut.face.0 < length faces) h.faced face l x (get-push t.leaves leaf x l e);
-}
-  where
-    each : (P : Leaf → Type 0) → ((l : ℕ) (x : Leaf) → slice_get t.leaves l ≡ Some x → P x) → P leaf → (l : ℕ) (x : Leaf) → ((l ≡ length t.leaves) × (x ≡ leaf)) ⊎ (slice_get t.leaves l ≡ Some x) → P x
-    each P old new l x (inl (at, is)) = subst P (sym is) new
-    each P old new l x (inr there) = old l x there
+pub short_faces : (faces : List FontFace) (t : Tree) → 0 < length faces → All IsShortLeaf t.leaves → (l : ℕ) (leaf : Leaf) → slice_get t.leaves l ≡ Some leaf → HasFaces faces leaf
+short_faces faces t some all l leaf is =
+    let short = of_all IsShortLeaf t.leaves l leaf all is in
+    let strut : leaf.strut.face.0 < length faces = subst (λ (n : ℕ). n < length faces) (sym short.face) some in
+    record { strut = strut; spans = λ k d less. rw (short.spans k d less).face strut }
+
+-- each leaf of a tree stands in it once
+text_once : (t : Tree) → IsTree t → text_size t.leaves t.events ≡ bytes_of t.leaves
+text_once t empty = refl
+text_once t (opened u p tree few place good) = bytes_opened u p ∙ text_once u tree
+text_once t (filled u leaf tree few place good owners) = bytes_filled u leaf tree ∙ ap (λ (n : ℕ). n + length leaf.text) (text_once u tree) ∙ sym (sum_by_push (λ (l : Leaf). length l.text) u.leaves leaf)
+text_once t (closed u b tree few inner) = bytes_closed u b ∙ text_once u tree
+
+pub few_bytes : (t : Tree) → IsTree t → bytes_of t.leaves ≤ 2 ^ 25 → text_size t.leaves t.events ≤ 2 ^ 25
+few_bytes t tree few = subst (λ (n : ℕ). n ≤ 2 ^ 25) (sym (text_once t tree)) few

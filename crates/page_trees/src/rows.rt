@@ -1,71 +1,22 @@
 //! The pages of trees by hand.
 
-ghost use Rattle.std.specs.Prelude.{◌≡◌, ◌<◌, ◌≤◌, ◌^◌, []};
-ghost use Rattle.boxes.specs.Frames.{IsGoodFrame};
-ghost use Rattle.boxes.specs.Tree.{IsWhole, depth_of};
-ghost use Rattle.cursor.specs.Plain.{HasPlainLeaves};
-ghost use Rattle.fragment.specs.Pages.{text_size};
-
-use crate::build::Piece::{Close, Open, Text};
-use crate::build::{BLOCK, METRICS, Piece, Style, flow_of, tree_of};
-use bk_num::steps::Steps;
+use crate::flows::{METRICS, flow_of, paged};
 use bk_num::values::BreakAt;
-use boxes::flow::Flow;
-use boxes::frames::{Frame, OneFrame, PageKind};
-use boxes::page::{Page, PageList};
-use fragment::paginate::paginate;
-use metrics::{Faces, read_metrics};
-use std::alloc::{AllocError, Global};
-use std::marker::Brand;
-use std::sync::ledger::{Blank, Ledger};
+use boxes::frames::PageKind;
+use boxes::page::Page;
+use metrics::read_metrics;
+use std::alloc::AllocError;
 use std::test::Fail;
+use tree_fixtures::shape::{PLAIN, Shape, Space};
+use tree_fixtures::tree::Step;
+use tree_fixtures::tree::Step::{Close, Open, Text};
 
-/// A frame of 80 px and a height.
-pub(crate) fn frame(height: u16) -> Frame
-    ensures { IsGoodFrame result }
-{
-    Frame {
-        left: 0,
-        top: 0,
-        width: 5120,
-        height: i64::from(height),
-    }
-}
-
-/// The pages of a flow in frames of 80 px and a height.
-fn pages_of<L: Ledger>(
-    alloc: Global,
-    flow: &Flow,
-    faces: &Faces,
-    height: u16,
-    token: Blank,
-) -> Option<PageList>
-    requires name { token.name ≡ L.name }
-    requires parts { token.parts ≡ L.parts }
-    requires counted { 0 < L.parts }
-    requires whole { IsWhole flow.now.main.events }
-    requires depth { depth_of flow.now.main.events ≤ 2048 }
-    requires bytes { text_size flow.now.main.leaves flow.now.main.events ≤ 2 ^ 25 }
-    requires notes { flow.now.notes ≡ [] }
-    requires leaves { HasPlainLeaves faces.now flow.now.main }
-{
-    let mut steps = Steps::<L>::zero(token);
-    let frames = OneFrame {
-        frame: frame(height),
-    };
-    paginate(alloc, flow, faces, &frames, &mut steps).ok()
-}
-
-/// The same, with a counter of its own.
-fn paged(alloc: Global, flow: &Flow, faces: &Faces, height: u16) -> Option<PageList>
-    requires whole { IsWhole flow.now.main.events }
-    requires depth { depth_of flow.now.main.events ≤ 2048 }
-    requires bytes { text_size flow.now.main.leaves flow.now.main.events ≤ 2 ^ 25 }
-    requires notes { flow.now.notes ≡ [] }
-    requires leaves { HasPlainLeaves faces.now flow.now.main }
-{
-    pages_of::<Brand>(alloc, flow, faces, height, Blank::new(1))
-}
+/// A block without margins, which keeps two lines together.
+const BLOCK: Shape = Shape {
+    orphans: 2,
+    widows: 2,
+    ..PLAIN
+};
 
 /// What a page has to be: its level, and the event, offset and top of each solid. None is a blank page.
 type Want = Option<(u8, &'static [(u32, u32, i64)])>;
@@ -92,31 +43,25 @@ fn is_page(page: &Page, want: &Want) -> bool {
 /// A tree by hand, the height of its pages, and what they have to be.
 struct Row {
     name: &'static str,
-    pieces: &'static [Piece<'static>],
+    steps: &'static [Step<'static>],
     height: u16,
     pages: &'static [Want],
 }
 
-const ROOT: Piece<'static> = Open(BLOCK);
+const ROOT: Step<'static> = Open(BLOCK);
 
-const P: Piece<'static> = Open(BLOCK);
+const P: Step<'static> = Open(BLOCK);
 
-const TWO: Piece<'static> = Text("aaaaaaaaaa bbbbbbbbbb");
+const TWO: Step<'static> = Text("aaaaaaaaaa bbbbbbbbbb");
 
 const ROWS: [Row; 12] = [
     Row {
         name: "avoid is dropped before widows and orphans",
-        pieces: &[
+        steps: &[
             ROOT,
-            Open(Style {
-                margin: (0, 0),
-                border: (0, 0),
-                before: BreakAt::Auto,
-                after: BreakAt::Auto,
-                keep: true,
-                name: 0,
-                orphans: 2,
-                widows: 2,
+            Open(Shape {
+                avoid_inside: true,
+                ..BLOCK
             }),
             P,
             TWO,
@@ -135,7 +80,7 @@ const ROWS: [Row; 12] = [
     },
     Row {
         name: "nothing is kept at a page's top",
-        pieces: &[
+        steps: &[
             ROOT,
             P,
             Text("a"),
@@ -146,15 +91,9 @@ const ROWS: [Row; 12] = [
             P,
             Text("c"),
             Close,
-            Open(Style {
-                margin: (1280, 0),
-                border: (0, 0),
-                before: BreakAt::Auto,
-                after: BreakAt::Auto,
-                keep: false,
-                name: 0,
-                orphans: 2,
-                widows: 2,
+            Open(Shape {
+                margin_top: Space::Units(1280),
+                ..BLOCK
             }),
             Text("d"),
             Close,
@@ -168,7 +107,7 @@ const ROWS: [Row; 12] = [
     },
     Row {
         name: "the margin after a forced break is kept",
-        pieces: &[
+        steps: &[
             ROOT,
             P,
             Text("a"),
@@ -179,15 +118,10 @@ const ROWS: [Row; 12] = [
             P,
             Text("c"),
             Close,
-            Open(Style {
-                margin: (1280, 0),
-                border: (0, 0),
+            Open(Shape {
+                margin_top: Space::Units(1280),
                 before: BreakAt::Page,
-                after: BreakAt::Auto,
-                keep: false,
-                name: 0,
-                orphans: 2,
-                widows: 2,
+                ..BLOCK
             }),
             Text("d"),
             Close,
@@ -201,40 +135,22 @@ const ROWS: [Row; 12] = [
     },
     Row {
         name: "margins collapse through an empty block",
-        pieces: &[
+        steps: &[
             ROOT,
-            Open(Style {
-                margin: (0, 1280),
-                border: (0, 0),
-                before: BreakAt::Auto,
-                after: BreakAt::Auto,
-                keep: false,
-                name: 0,
-                orphans: 2,
-                widows: 2,
+            Open(Shape {
+                margin_bottom: Space::Units(1280),
+                ..BLOCK
             }),
             Text("a"),
             Close,
-            Open(Style {
-                margin: (-512, 0),
-                border: (0, 0),
-                before: BreakAt::Auto,
-                after: BreakAt::Auto,
-                keep: false,
-                name: 0,
-                orphans: 2,
-                widows: 2,
+            Open(Shape {
+                margin_top: Space::Units(-512),
+                ..BLOCK
             }),
             Close,
-            Open(Style {
-                margin: (768, 0),
-                border: (0, 0),
-                before: BreakAt::Auto,
-                after: BreakAt::Auto,
-                keep: false,
-                name: 0,
-                orphans: 2,
-                widows: 2,
+            Open(Shape {
+                margin_top: Space::Units(768),
+                ..BLOCK
             }),
             Text("b"),
             Close,
@@ -245,7 +161,7 @@ const ROWS: [Row; 12] = [
     },
     Row {
         name: "no break after a heading",
-        pieces: &[
+        steps: &[
             ROOT,
             P,
             Text("a"),
@@ -253,15 +169,9 @@ const ROWS: [Row; 12] = [
             P,
             Text("b"),
             Close,
-            Open(Style {
-                margin: (0, 0),
-                border: (0, 0),
-                before: BreakAt::Auto,
+            Open(Shape {
                 after: BreakAt::Avoid,
-                keep: false,
-                name: 0,
-                orphans: 2,
-                widows: 2,
+                ..BLOCK
             }),
             Text("c"),
             Close,
@@ -278,17 +188,11 @@ const ROWS: [Row; 12] = [
     },
     Row {
         name: "a block that is kept together and too high",
-        pieces: &[
+        steps: &[
             ROOT,
-            Open(Style {
-                margin: (0, 0),
-                border: (0, 0),
-                before: BreakAt::Auto,
-                after: BreakAt::Auto,
-                keep: true,
-                name: 0,
-                orphans: 2,
-                widows: 2,
+            Open(Shape {
+                avoid_inside: true,
+                ..BLOCK
             }),
             Text("aaaaaaaaaa bbbbbbbbbb cccccccccc dddddddddd eeeeeeeeee"),
             Close,
@@ -302,20 +206,14 @@ const ROWS: [Row; 12] = [
     },
     Row {
         name: "a right page after a right page",
-        pieces: &[
+        steps: &[
             ROOT,
             P,
             Text("a"),
             Close,
-            Open(Style {
-                margin: (0, 0),
-                border: (0, 0),
+            Open(Shape {
                 before: BreakAt::Right,
-                after: BreakAt::Auto,
-                keep: false,
-                name: 0,
-                orphans: 2,
-                widows: 2,
+                ..BLOCK
             }),
             Text("b"),
             Close,
@@ -326,29 +224,17 @@ const ROWS: [Row; 12] = [
     },
     Row {
         name: "right and then left ask left",
-        pieces: &[
+        steps: &[
             ROOT,
-            Open(Style {
-                margin: (0, 0),
-                border: (0, 0),
-                before: BreakAt::Auto,
+            Open(Shape {
                 after: BreakAt::Right,
-                keep: false,
-                name: 0,
-                orphans: 2,
-                widows: 2,
+                ..BLOCK
             }),
             Text("a"),
             Close,
-            Open(Style {
-                margin: (0, 0),
-                border: (0, 0),
+            Open(Shape {
                 before: BreakAt::Left,
-                after: BreakAt::Auto,
-                keep: false,
-                name: 0,
-                orphans: 2,
-                widows: 2,
+                ..BLOCK
             }),
             Text("b"),
             Close,
@@ -359,29 +245,17 @@ const ROWS: [Row; 12] = [
     },
     Row {
         name: "left and then right ask right",
-        pieces: &[
+        steps: &[
             ROOT,
-            Open(Style {
-                margin: (0, 0),
-                border: (0, 0),
-                before: BreakAt::Auto,
+            Open(Shape {
                 after: BreakAt::Left,
-                keep: false,
-                name: 0,
-                orphans: 2,
-                widows: 2,
+                ..BLOCK
             }),
             Text("a"),
             Close,
-            Open(Style {
-                margin: (0, 0),
-                border: (0, 0),
+            Open(Shape {
                 before: BreakAt::Right,
-                after: BreakAt::Auto,
-                keep: false,
-                name: 0,
-                orphans: 2,
-                widows: 2,
+                ..BLOCK
             }),
             Text("b"),
             Close,
@@ -392,17 +266,11 @@ const ROWS: [Row; 12] = [
     },
     Row {
         name: "the start asks a left page",
-        pieces: &[
+        steps: &[
             ROOT,
-            Open(Style {
-                margin: (0, 0),
-                border: (0, 0),
+            Open(Shape {
                 before: BreakAt::Left,
-                after: BreakAt::Auto,
-                keep: false,
-                name: 0,
-                orphans: 2,
-                widows: 2,
+                ..BLOCK
             }),
             Text("a"),
             Close,
@@ -413,7 +281,7 @@ const ROWS: [Row; 12] = [
     },
     Row {
         name: "an edge goes with its first line",
-        pieces: &[
+        steps: &[
             ROOT,
             P,
             Text("a"),
@@ -421,15 +289,10 @@ const ROWS: [Row; 12] = [
             P,
             Text("b"),
             Close,
-            Open(Style {
-                margin: (0, 0),
-                border: (128, 64),
-                before: BreakAt::Auto,
-                after: BreakAt::Auto,
-                keep: false,
-                name: 0,
-                orphans: 2,
-                widows: 2,
+            Open(Shape {
+                border_top: 128,
+                border_bottom: 64,
+                ..BLOCK
             }),
             Text("c"),
             Close,
@@ -443,20 +306,15 @@ const ROWS: [Row; 12] = [
     },
     Row {
         name: "names that differ part pages",
-        pieces: &[
+        steps: &[
             ROOT,
             P,
             Text("a"),
             Close,
-            Open(Style {
-                margin: (640, 0),
-                border: (0, 0),
-                before: BreakAt::Auto,
-                after: BreakAt::Auto,
-                keep: false,
+            Open(Shape {
+                margin_top: Space::Units(640),
                 name: 3,
-                orphans: 2,
-                widows: 2,
+                ..BLOCK
             }),
             Text("b"),
             Close,
@@ -473,11 +331,8 @@ fn trees_by_hand_have_these_pages(rt: HostRuntime) -> Result<(), Fail> {
     assert!(rt; faces.len() > 0);
     for row in &ROWS {
         let name = row.name;
-        assert!(rt; row.pieces.len() <= 1000);
-        let tree = tree_of(rt.alloc(), &faces, row.pieces)?;
-        assert!(rt; tree.is_whole() && tree.depth() <= 2048);
-        let flow = flow_of(rt.alloc(), tree);
-        let list = paged(rt.alloc(), &flow, &faces, row.height).ok_or(AllocError)?;
+        let flow = flow_of(rt.alloc(), &faces, row.steps)?;
+        let list = paged(rt.alloc(), &flow, &faces, (5120, row.height)).ok_or(AllocError)?;
         let pages = list.pages.as_slice();
         assert_eq!(rt; pages.len(), row.pages.len(), "{name}");
         for (page, want) in pages.iter().zip(row.pages) {

@@ -1,41 +1,36 @@
 //! The solids of a tree by hand, and cuts of pages that begin inside it.
 
 ghost use Rattle.std.specs.Prelude.{◌≡◌, ◌<◌, ◌≤◌, ◌^◌, []};
-ghost use Rattle.boxes.specs.Tree.{IsWhole, depth_of};
-ghost use Rattle.cursor.specs.Plain.{HasPlainLeaves};
-ghost use Rattle.fragment.specs.Pages.{text_size};
+ghost use Rattle.cursor.specs.Conditions.{CanBeLaidOut};
+ghost use Rattle.fragment.specs.Conditions.{CanBePaged};
 
-use crate::build::{BLOCK, METRICS, Piece, Style, flow_of, tree_of};
-use crate::rows::frame;
+use crate::flows::{METRICS, flow_of, frame};
 use bk_num::steps::Steps;
-use bk_num::values::BreakAt;
 use boxes::flow::Flow;
 use boxes::place::Position;
 use boxes::tree::BoxTree;
 use cursor::{Solid, next_solid, remainder};
 use fragment::next_cut::{CutFrom, next_cut};
 use metrics::{Faces, read_metrics};
+use seams::seam::widths_at;
 use std::alloc::{AllocError, Global};
 use std::marker::Brand;
 use std::sync::ledger::{Blank, Ledger};
 use std::test::Fail;
+use tree_fixtures::shape::{PLAIN, Shape};
+use tree_fixtures::tree::Step;
 
 /// A block of two lines between two edges.
-const PIECES: [Piece<'static>; 5] = [
-    Piece::Open(BLOCK),
-    Piece::Open(Style {
-        margin: (0, 0),
-        border: (128, 64),
-        before: BreakAt::Auto,
-        after: BreakAt::Auto,
-        keep: false,
-        name: 0,
-        orphans: 1,
-        widows: 1,
+const STEPS: [Step<'static>; 5] = [
+    Step::Open(PLAIN),
+    Step::Open(Shape {
+        border_top: 128,
+        border_bottom: 64,
+        ..PLAIN
     }),
-    Piece::Text("aaaaaaaaaa bbbbbbbbbb"),
-    Piece::Close,
-    Piece::Close,
+    Step::Text("aaaaaaaaaa bbbbbbbbbb"),
+    Step::Close,
+    Step::Close,
 ];
 
 /// A solid's event and offset, its height and its text.
@@ -68,15 +63,14 @@ fn are_rows<L: Ledger>(
     requires name { token.name ≡ L.name }
     requires parts { token.parts ≡ L.parts }
     requires some { 0 < L.parts }
-    requires whole { IsWhole tree.now.events }
-    requires depth { depth_of tree.now.events ≤ 2048 }
-    requires leaves { HasPlainLeaves faces.now tree.now }
+    requires tree { CanBeLaidOut faces.now tree.now }
 {
     let mut steps = Steps::<L>::zero(token);
     if !tree.holds(from) {
         return false;
     }
-    let head = match next_solid(tree, faces, from, 5120, &mut steps) {
+    let mut widths = widths_at(tree, from, 5120);
+    let head = match next_solid(tree, faces, from, 5120, &mut widths, &mut steps) {
         None => rows.is_empty(),
         Some(solid) => !rows.is_empty() && is_row(&solid, &rows[0]),
     };
@@ -94,9 +88,7 @@ fn are_rows<L: Ledger>(
 
 /// The same, with a counter of its own.
 fn have_rows(alloc: Global, tree: &BoxTree, faces: &Faces, from: Position, rows: &[Row]) -> bool
-    requires whole { IsWhole tree.now.events }
-    requires depth { depth_of tree.now.events ≤ 2048 }
-    requires leaves { HasPlainLeaves faces.now tree.now }
+    requires tree { CanBeLaidOut faces.now tree.now }
 {
     are_rows::<Brand>(alloc, tree, faces, from, rows, Blank::new(1))
 }
@@ -105,12 +97,11 @@ fn have_rows(alloc: Global, tree: &BoxTree, faces: &Faces, from: Position, rows:
 fn the_solids_of_a_tree_are_its_lines_and_edges(rt: HostRuntime) -> Result<(), Fail> {
     let faces = read_metrics(rt.alloc(), METRICS).map_err(|_| AllocError)?;
     assert!(rt; faces.len() > 0);
-    let tree = tree_of(rt.alloc(), &faces, &PIECES)?;
-    assert!(rt; tree.is_whole() && tree.depth() <= 2048);
+    let flow = flow_of(rt.alloc(), &faces, &STEPS)?;
     for (event, offset, first) in [(0, 0, 0), (2, 0, 1), (2, 11, 2), (3, 0, 3), (4, 0, 4)] {
         let from = Position { event, offset };
         assert!(rt;
-            have_rows(rt.alloc(), &tree, &faces, from, &ROWS[first..]),
+            have_rows(rt.alloc(), &flow.main, &faces, from, &ROWS[first..]),
             "from {event} {offset}"
         );
     }
@@ -131,29 +122,21 @@ fn cut_of<L: Ledger>(
     requires name { token.name ≡ L.name }
     requires parts { token.parts ≡ L.parts }
     requires counted { 0 < L.parts }
-    requires whole { IsWhole flow.now.main.events }
-    requires depth { depth_of flow.now.main.events ≤ 2048 }
-    requires bytes { text_size flow.now.main.leaves flow.now.main.events ≤ 2 ^ 25 }
-    requires notes { flow.now.notes ≡ [] }
-    requires leaves { HasPlainLeaves faces.now flow.now.main }
+    requires flow { CanBePaged faces.now flow.now }
 {
     if !flow.main.holds(at) {
         return None;
     }
     let mut steps = Steps::<L>::zero(token);
     let from = CutFrom { at, kept: false };
-    let cut = next_cut(alloc, flow, faces, from, &[], frame(2560), &mut steps).ok()?;
+    let cut = next_cut(alloc, flow, faces, from, &[], frame(5120, 2560), &mut steps).ok()?;
     let to = (cut.to.event, cut.to.offset);
     Some((to, cut.ended, cut.level, cut.solids.as_slice().len()))
 }
 
 /// The same, with a counter of its own.
 fn cut_from(alloc: Global, flow: &Flow, faces: &Faces, at: Position) -> Option<CutRow>
-    requires whole { IsWhole flow.now.main.events }
-    requires depth { depth_of flow.now.main.events ≤ 2048 }
-    requires bytes { text_size flow.now.main.leaves flow.now.main.events ≤ 2 ^ 25 }
-    requires notes { flow.now.notes ≡ [] }
-    requires leaves { HasPlainLeaves faces.now flow.now.main }
+    requires flow { CanBePaged faces.now flow.now }
 {
     cut_of::<Brand>(alloc, flow, faces, at, Blank::new(1))
 }
@@ -162,9 +145,7 @@ fn cut_from(alloc: Global, flow: &Flow, faces: &Faces, at: Position) -> Option<C
 fn a_cut_begins_at_any_place_of_the_tree(rt: HostRuntime) -> Result<(), Fail> {
     let faces = read_metrics(rt.alloc(), METRICS).map_err(|_| AllocError)?;
     assert!(rt; faces.len() > 0);
-    let tree = tree_of(rt.alloc(), &faces, &PIECES)?;
-    assert!(rt; tree.is_whole() && tree.depth() <= 2048);
-    let flow = flow_of(rt.alloc(), tree);
+    let flow = flow_of(rt.alloc(), &faces, &STEPS)?;
     for (event, offset, want) in [
         (0, 0, ((2, 11), false, 0, 2)),
         (2, 11, ((5, 0), true, 0, 2)),

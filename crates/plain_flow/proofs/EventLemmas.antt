@@ -10,9 +10,8 @@ use Rattle.boxes.specs.declared.place.Event.TheVariants.{Opens, Closes, Leaf}
 use Rattle.boxes.proofs.ListLemmas.{get-end}
 use Rattle.boxes.proofs.TreeLemmas.{open-append}
 use Rattle.fragment.specs.Pages.{text_size, size_of}
-use Rattle.plain_flow.specs.declared.style.ParagraphStyle.{ParagraphStyle}
-use Rattle.plain_flow.specs.Leaves.{leaf_of}
-use Rattle.plain_flow.specs.Tree.{paragraph_events, events_of}
+use Rattle.plain_flow.specs.Texts.{ParagraphOf}
+use Rattle.plain_flow.specs.Tree.{paragraph_events, events_of, leaf_in}
 use Rattle.plain_flow.proofs.PlaceLemmas.{range-more}
 
 -- one paragraph more
@@ -56,19 +55,23 @@ pub length-events : (n : ℕ) → length (events_of n) ≡ 3 * n
 length-events zero = refl
 length-events (suc n) = (let more = length-append (events_of n) (paragraph_events n) in let less = length-events n in ap (λ (l : List Event). length l) (events-more n) ∙ omega arith)
 
+-- how many bytes a paragraph has
+abbrev pub bytes_of : ParagraphOf → ℕ
+bytes_of p = length p.text
+
 -- the bytes of paragraphs from a number on
-size-from : (style : ParagraphStyle) (leaves : List LeafData) (a : ℕ) (texts : List (List ℕ)) (es : List Event) → ((k : ℕ) → slice_get leaves (a + k) ≡ slice_get (map (leaf_of style) texts) k) →
-    text_size leaves (flat_map paragraph_events (range_with_len a (length texts)) ++ es) ≡ sum_by length texts + text_size leaves es
-size-from style leaves a [] es have = omega arith
-size-from style leaves a (text ∷ texts) es have =
+size-from : (leaves : List LeafData) (a : ℕ) (ps : List ParagraphOf) (es : List Event) → ((k : ℕ) → slice_get leaves (a + k) ≡ slice_get (map leaf_in ps) k) →
+    text_size leaves (flat_map paragraph_events (range_with_len a (length ps)) ++ es) ≡ sum_by bytes_of ps + text_size leaves es
+size-from leaves a [] es have = omega arith
+size-from leaves a (p ∷ ps) es have =
     let here : a + 0 ≡ a = omega arith in
-    let leaf : slice_get leaves a ≡ Some (leaf_of style text) = ap (slice_get leaves) (sym here) ∙ have 0 in
-    let size : size_of (slice_get leaves a) ≡ length text = ap size_of leaf in
-    let rest = size-from style leaves (a + 1) texts es (λ k. let next : a + 1 + k ≡ a + suc k = omega arith in ap (slice_get leaves) next ∙ have (suc k)) in
-    let sum = sum_by-cons length text texts in
+    let leaf : slice_get leaves a ≡ Some (leaf_in p) = ap (slice_get leaves) (sym here) ∙ have 0 in
+    let size : size_of (slice_get leaves a) ≡ length p.text = ap size_of leaf in
+    let rest = size-from leaves (a + 1) ps es (λ k. let next : a + 1 + k ≡ a + suc k = omega arith in ap (slice_get leaves) next ∙ have (suc k)) in
+    let sum = sum_by-cons bytes_of p ps in
     omega (arith, size, rest, sum)
 
-pub size-events : (style : ParagraphStyle) (texts : List (List ℕ)) → text_size (map (leaf_of style) texts) (Opens 0 ∷ events_of (length texts) ++ Closes 0 ∷ []) ≡ sum_by length texts
-size-events style texts =
-    let all = size-from style (map (leaf_of style) texts) 0 texts (Closes 0 ∷ []) (λ k. let same : 0 + k ≡ k = omega arith in ap (slice_get (map (leaf_of style) texts)) same) in
+pub size-events : (ps : List ParagraphOf) → text_size (map leaf_in ps) (Opens 0 ∷ events_of (length ps) ++ Closes 0 ∷ []) ≡ sum_by bytes_of ps
+size-events ps =
+    let all = size-from (map leaf_in ps) 0 ps (Closes 0 ∷ []) (λ k. let same : 0 + k ≡ k = omega arith in ap (slice_get (map leaf_in ps)) same) in
     omega (arith, all)

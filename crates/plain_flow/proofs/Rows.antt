@@ -1,9 +1,9 @@
 -- Worked rows of the definitions.
-use Rattle.std.proofs.Common.{◌≡◌, ℕ, List, [], ◌∷◌, refl}
+use Rattle.std.proofs.Common.{◌≡◌, [], ◌∷◌, refl}
 use Rattle.std.specs.Prelude.{codes}
 use Rattle.boxes.specs.declared.place.Event.TheVariants.{Opens, Closes, Leaf}
-use Rattle.plain_flow.specs.declared.style.ParagraphStyle.{ParagraphStyle}
 use Rattle.plain_flow.specs.Places.{places_of}
+use Rattle.plain_flow.specs.Texts.{ParagraphOf}
 use Rattle.plain_flow.specs.Tree.{tree_of}
 
 behind_each : places_of (codes "a-b c") ≡ 2 ∷ 4 ∷ []
@@ -30,10 +30,10 @@ in_no_text : places_of [] ≡ []
 unfolding places_of
 in_no_text = refl
 
-no_paragraph : (style : ParagraphStyle) → (tree_of style []).events ≡ Opens 0 ∷ Closes 0 ∷ []
+no_paragraph : (tree_of []).events ≡ Opens 0 ∷ Closes 0 ∷ []
 unfolding tree_of
-no_paragraph style = refl
+no_paragraph = refl
 
-two_paragraphs : (style : ParagraphStyle) (one two : List ℕ) → (tree_of style (one ∷ two ∷ [])).events ≡ Opens 0 ∷ Opens 1 ∷ Leaf 0 ∷ Closes 1 ∷ Opens 2 ∷ Leaf 1 ∷ Closes 2 ∷ Closes 0 ∷ []
+two_paragraphs : (one two : ParagraphOf) → (tree_of (one ∷ two ∷ [])).events ≡ Opens 0 ∷ Opens 1 ∷ Leaf 0 ∷ Closes 1 ∷ Opens 2 ∷ Leaf 1 ∷ Closes 2 ∷ Closes 0 ∷ []
 unfolding tree_of
-two_paragraphs style one two = refl
+two_paragraphs one two = refl

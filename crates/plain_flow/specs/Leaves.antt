@@ -1,7 +1,5 @@
 -- The leaf of a text: the whole text in one span that wraps at spaces and hyphens.
-use Rattle.std.specs.Prelude.{ℕ, pos, List, [], ◌∷◌, length, true, false}
-use Rattle.bk_num.specs.declared.length.Len.TheVariants.{Px}
-use Rattle.bk_num.specs.declared.values.Align.TheVariants.{Left}
+use Rattle.std.specs.Prelude.{ℕ, List, [], ◌∷◌, length, true, false}
 use Rattle.bk_num.specs.declared.values.Color.{Color}
 use Rattle.boxes.specs.declared.leaf.Leaf.{Leaf}
 use Rattle.boxes.specs.declared.leaf.Span.{Span}
@@ -14,8 +12,8 @@ black = record { red = 0; green = 0; blue = 0 }
 
 -- a span over so many bytes, from the first one on
 abbrev pub span_of : ParagraphStyle → ℕ → Span
-span_of style len = record { from = 0; to = len; face = style.face; size = style.size; line_height = style.line_height; color = black; wrap = true; anywhere = false }
+span_of style len = record { from = 0; to = len; face = style.face; size = style.size; line_height = style.line_height; color = style.color; wrap = true; anywhere = false }
 
 -- the leaf of a text. Its strut is its span
 abbrev pub leaf_of : ParagraphStyle → List ℕ → Leaf
-leaf_of style text = record { text = text; spans = span_of style (length text) ∷ []; places = places_of text; graphemes = []; leads = []; indent = Px (pos 0); align = Left; strut = span_of style (length text) }
+leaf_of style text = record { text = text; spans = span_of style (length text) ∷ []; places = places_of text; graphemes = []; leads = []; indent = style.indent; align = style.align; strut = span_of style (length text) }

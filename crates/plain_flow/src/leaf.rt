@@ -4,10 +4,9 @@ ghost use Rattle.std.specs.Prelude.{◌≡◌, ◌<◌, ◌^◌, IfOk, string_by
 ghost use Rattle.plain_flow.specs.Leaves.{leaf_of, span_of};
 
 use crate::places::places_of;
-use crate::style::{ParagraphStyle, black, zero};
+use crate::style::ParagraphStyle;
 use bk_num::items::{Items, Text};
 use bk_num::name::NoMem;
-use bk_num::values::Align;
 use boxes::leaf::{Leaf, Span};
 use std::alloc::Global;
 
@@ -21,7 +20,7 @@ fn span_of(style: &ParagraphStyle, len: u32) -> Span
         face: style.face,
         size: style.size,
         line_height: style.line_height,
-        color: black(),
+        color: style.color,
         wrap: true,
         anywhere: false,
     }
@@ -42,8 +41,8 @@ pub(crate) fn leaf_of(alloc: Global, style: &ParagraphStyle, text: String) -> Re
         places: Items::of(places),
         graphemes: Items::of(Vec::new(alloc)),
         leads: Items::of(Vec::new(alloc)),
-        indent: zero(),
-        align: Align::Left,
+        indent: style.indent,
+        align: style.align,
         strut: span_of(style, len),
     })
 }

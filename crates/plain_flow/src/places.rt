@@ -1,6 +1,6 @@
 //! Where the lines of a text may end.
 
-ghost use Rattle.std.specs.Prelude.{◌≡◌, ◌<◌, ◌≤◌, ◌^◌, length, IfOk};
+ghost use Rattle.std.specs.Prelude.{◌≡◌, ◌<◌, ◌^◌, length, IfOk};
 ghost use Rattle.plain_flow.specs.Places.{is_opportunity, places_of};
 
 use bk_num::name::NoMem;

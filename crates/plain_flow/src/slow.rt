@@ -3,7 +3,7 @@
 ghost use Rattle.std.specs.Prelude.{◌≡◌, ◌<◌};
 
 use crate::flow::flow_of;
-use crate::tests::{FACES, style, texts_of};
+use crate::tests::{FACES, paragraphs_of, style};
 use bk_num::steps::Steps;
 use boxes::frames::{Frame, OneFrame};
 use boxes::page::{PageList, Placed};
@@ -305,7 +305,8 @@ fn counted<L: Ledger>(alloc: Global, setting: Setting<'_>, token: Blank) -> Opti
         return None;
     }
     let style = style(setting.margin, setting.widows, setting.orphans);
-    let Ok(flow) = flow_of(alloc, &style, texts_of(alloc, setting.texts)?) else {
+    let paragraphs = paragraphs_of(alloc, &style, setting.texts)?;
+    let Ok(flow) = flow_of(alloc, paragraphs) else {
         return None;
     };
     let frames = OneFrame {

@@ -1,30 +1,43 @@
 //! How paragraphs are set.
 
 ghost use Rattle.std.specs.Prelude.{◌≡◌, pos};
-ghost use Rattle.plain_flow.specs.Boxes.{block_props, root_props, paragraph_props};
+ghost use Rattle.plain_flow.specs.Boxes.{root_props, paragraph_props};
 ghost use Rattle.plain_flow.specs.Leaves.{black};
 
 use bk_num::ids::{FaceId, NameId};
 use bk_num::length::Len;
 use bk_num::px::Px;
-use bk_num::values::{BreakAt, Color};
+use bk_num::values::{Align, BreakAt, Color};
 use boxes::props::BoxProps;
 
-/// How the paragraphs of a flow are set, all alike. Lengths are in units of 1/64 px; `margin` stands above and below
-/// each paragraph, and may be negative; `widows` and `orphans` are the least numbers of lines after and before a
-/// break (CSS 2.1, 8.3, 10.8, 13.3.2 and 15.7).
-#[derive(Clone, Copy, Debug, PartialEq, Eq)]
+/// How a paragraph is set (CSS 2.1, 8.3, 10.8, 13.3, 15.7 and 16.1). Lengths are in units of 1/64 px; `widows` and
+/// `orphans` are the least numbers of lines after and before a break, and `avoid_inside` keeps all lines together.
+#[derive(Clone, Copy, Debug)]
 pub struct ParagraphStyle {
     pub face: FaceId,
     pub size: Px,
     pub line_height: Px,
-    pub margin: Px,
+    pub color: Color,
+    pub indent: Len,
+    pub align: Align,
+    pub margin_top: Len,
+    pub margin_bottom: Len,
+    pub before: BreakAt,
+    pub after: BreakAt,
+    pub avoid_inside: bool,
     pub widows: u32,
     pub orphans: u32,
 }
 
+/// A text of visible ASCII characters and how it is set.
+#[derive(Drop)]
+pub struct Paragraph {
+    pub style: ParagraphStyle,
+    pub text: String,
+}
+
 /// Black.
-pub(crate) fn black() -> Color
+fn black() -> Color
     ensures { result ≡ black }
 {
     Color {
@@ -36,26 +49,26 @@ pub(crate) fn black() -> Color
 
 /// A length of 0.
 #[tactic(auto, unfolding(bk_num::specs::Units::clamped))]
-pub(crate) fn zero() -> Len
+fn zero() -> Len
     ensures { result ≡ Len.Px (pos 0) }
 {
     Len::Px(Px::from_units(0))
 }
 
-/// A block with a margin above and below it.
-fn block_props(margin: Px, widows: u32, orphans: u32) -> BoxProps
-    ensures { result ≡ block_props margin widows orphans }
+/// The box of the root.
+pub(crate) fn root_props() -> BoxProps
+    ensures { result ≡ root_props }
 {
     BoxProps {
-        margin: [Len::Px(margin), zero(), Len::Px(margin), zero()],
+        margin: [zero(); 4],
         border: [Px::from_units(0); 4],
         padding: [zero(); 4],
         width: Len::Auto,
         before: BreakAt::Auto,
         after: BreakAt::Auto,
         avoid_inside: false,
-        widows,
-        orphans,
+        widows: 2,
+        orphans: 2,
         name: NameId(0),
         background: None,
         colors: [black(); 4],
@@ -63,16 +76,17 @@ fn block_props(margin: Px, widows: u32, orphans: u32) -> BoxProps
     }
 }
 
-/// The box of the root.
-pub(crate) fn root_props() -> BoxProps
-    ensures { result ≡ root_props }
-{
-    block_props(Px::from_units(0), 2, 2)
-}
-
 /// The box of a paragraph.
 pub(crate) fn paragraph_props(style: &ParagraphStyle) -> BoxProps
     ensures { result ≡ paragraph_props style.now }
 {
-    block_props(style.margin, style.widows, style.orphans)
+    BoxProps {
+        margin: [style.margin_top, zero(), style.margin_bottom, zero()],
+        before: style.before,
+        after: style.after,
+        avoid_inside: style.avoid_inside,
+        widows: style.widows,
+        orphans: style.orphans,
+        ..root_props()
+    }
 }

@@ -2,15 +2,17 @@
 
 ghost use Rattle.std.specs.Prelude.{◌≡◌, ◌<◌, ◌≤◌, ◌≤ℤ◌, pos, length, string_bytes, string_len, IfSome};
 ghost use Rattle.std.specs.List.{All, sum_by};
-ghost use Rattle.plain_flow.specs.Texts.{IsParagraphText};
+ghost use Rattle.boxes.specs.Contents.{IsNotAuto};
+ghost use Rattle.plain_flow.specs.Texts.{IsParagraphText, IsGoodParagraph, paragraph_in};
 
 use crate::flow::flow_of;
-use crate::style::ParagraphStyle;
+use crate::style::{Paragraph, ParagraphStyle};
 use crate::text::is_paragraph_text;
 use bk_num::ids::FaceId;
 use bk_num::length::Len;
 use bk_num::px::Px;
 use bk_num::steps::Steps;
+use bk_num::values::{Align, BreakAt, Color};
 use boxes::flow::Flow;
 use boxes::frames::{Frame, OneFrame};
 use boxes::leaf::Leaf;
@@ -31,12 +33,24 @@ pub(crate) fn style(margin: i64, widows: u32, orphans: u32) -> ParagraphStyle
     ensures face { result.face.0 ≡ 0 }
     ensures size { pos 0 ≤ℤ result.size }
     ensures line_height { pos 0 ≤ℤ result.line_height }
+    ensures indent { IsNotAuto result.indent }
 {
     ParagraphStyle {
         face: FaceId(0),
         size: Px::from_units(1024),
         line_height: Px::from_units(1280),
-        margin: Px::from_units(margin),
+        color: Color {
+            red: 255,
+            green: 0,
+            blue: 0,
+        },
+        indent: Len::Px(Px::from_units(0)),
+        align: Align::Left,
+        margin_top: Len::Px(Px::from_units(margin)),
+        margin_bottom: Len::Px(Px::from_units(margin)),
+        before: BreakAt::Auto,
+        after: BreakAt::Auto,
+        avoid_inside: false,
         widows,
         orphans,
     }
@@ -53,21 +67,34 @@ fn text_of(alloc: Global, text: &str) -> Option<String>
     String::from_str(alloc, text).ok()
 }
 
-/// The texts of paragraphs.
-pub(crate) fn texts_of(alloc: Global, list: &[&str]) -> Option<Vec<String>>
-    requires { length list.now ≤ 100 }
-    ensures texts { IfSome result (λ v. All (λ t. IsParagraphText (string_bytes t)) v.items) }
+/// Paragraphs of one style.
+pub(crate) fn paragraphs_of(
+    alloc: Global,
+    style: &ParagraphStyle,
+    list: &[&str],
+) -> Option<Vec<Paragraph>>
+    requires face { style.now.face.0 ≡ 0 }
+    requires size { pos 0 ≤ℤ style.now.size }
+    requires line_height { pos 0 ≤ℤ style.now.line_height }
+    requires indent { IsNotAuto style.now.indent }
+    requires few { length list.now ≤ 100 }
+    ensures good { IfSome result (λ v. All (λ p. IsGoodParagraph (paragraph_in p)) v.items) }
+    ensures faces { IfSome result (λ v. All (λ p. p.style.face.0 ≡ 0) v.items) }
     ensures count { IfSome result (λ v. length v.items ≡ length list.now) }
-    ensures bytes { IfSome result (λ v. sum_by (λ t. string_len t) v.items ≤ 100000) }
+    ensures bytes { IfSome result (λ v. sum_by (λ p. string_len p.text) v.items ≤ 100000) }
 {
-    let mut texts = Vec::new(alloc);
+    let mut paragraphs = Vec::new(alloc);
     for &text in list {
         let text = text_of(alloc, text)?;
-        if texts.push(text).is_err() {
+        let paragraph = Paragraph {
+            style: *style,
+            text,
+        };
+        if paragraphs.push(paragraph).is_err() {
             return None;
         }
     }
-    Some(texts)
+    Some(paragraphs)
 }
 
 #[test]
@@ -84,14 +111,18 @@ fn paragraphs_are_printable_ascii_and_newlines(rt: HostRuntime) {
     }
 }
 
-/// A flow of two texts.
+/// A flow of two paragraphs in two styles.
 fn two_paragraphs(alloc: Global) -> Option<Flow>
     ensures events { IfSome result (λ f. length f.main.events ≡ 8) }
     ensures boxes { IfSome result (λ f. length f.main.boxes ≡ 3) }
     ensures leaves { IfSome result (λ f. length f.main.leaves ≡ 2) }
 {
-    let texts = texts_of(alloc, &["a-b c", "d"])?;
-    let Ok(flow) = flow_of(alloc, &style(640, 3, 4), texts) else {
+    let mut paragraphs = paragraphs_of(alloc, &style(640, 3, 4), &["a-b c"])?;
+    let mut last = paragraphs_of(alloc, &style(320, 1, 2), &["d"])?;
+    if paragraphs.append(&mut last).is_err() {
+        return None;
+    }
+    let Ok(flow) = flow_of(alloc, paragraphs) else {
         return None;
     };
     Some(flow)
@@ -132,7 +163,7 @@ fn each_paragraph_is_a_block_under_the_root(rt: HostRuntime) {
     for at in 0..8 {
         assert_eq!(rt; tree.event(at), events[at as usize]);
     }
-    let boxes = [(0, 2, 2), (640, 3, 4), (640, 3, 4)];
+    let boxes = [(0, 2, 2), (640, 3, 4), (320, 1, 2)];
     for index in 0..3 {
         let (margin, widows, orphans) = boxes[index as usize];
         let props = tree.props(index);
@@ -157,6 +188,7 @@ fn is_set(leaf: &Leaf, text: &str, places: &[u32]) -> bool {
         && span.to as usize == text.len()
         && span.size.units() == 1024
         && span.line_height.units() == 1280
+        && span.color.red == 255
         && span.wrap
         && !span.anywhere
 }
@@ -185,6 +217,7 @@ fn counted<L: Ledger>(
     requires face { style.now.face.0 ≡ 0 }
     requires size { pos 0 ≤ℤ style.now.size }
     requires line_height { pos 0 ≤ℤ style.now.line_height }
+    requires indent { IsNotAuto style.now.indent }
     requires name { token.name ≡ L.name }
     requires parts { token.parts ≡ L.parts }
     requires some { 0 < L.parts }
@@ -193,7 +226,8 @@ fn counted<L: Ledger>(
     if faces.len() == 0 || list.len() > 100 || height < 0 || height > 1 << 40 {
         return None;
     }
-    let Ok(flow) = flow_of(alloc, style, texts_of(alloc, list)?) else {
+    let paragraphs = paragraphs_of(alloc, style, list)?;
+    let Ok(flow) = flow_of(alloc, paragraphs) else {
         return None;
     };
     let frames = OneFrame {

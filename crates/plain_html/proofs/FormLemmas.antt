@@ -2,13 +2,11 @@
 use Rattle.std.proofs.Common.{◌≡◌, inl, inr, ℕ, zero, suc, ◌+◌, ◌-◌, ◌<◌, ◌≤◌, Bool, true, false, not, cond, List, [], ◌∷◌, ◌++◌, Option, None, Some, length, slice_get, get_or, refl, ap, ◌∙◌, arith, subst, append_assoc, All, if◌then◌else◌, drop, add-one, codes}
 use Rattle.std.proofs.Math.Seq.{drop-cons}
 use Rattle.std.specs.List.{list_all}
-use Rattle.std.proofs.lemmas.Bool.{cases_Bool, both_ways, and_parts}
+use Rattle.std.proofs.lemmas.Bool.{and_parts}
 use Rattle.std.proofs.lemmas.Bool.Decides.{nat_tests}
-use Rattle.dom.specs.Nodes.{Node, name_at, text_at, part_of, text_in}
-use Rattle.dom.specs.declared.rows.NodeData.{NodeData}
-use Rattle.dom.specs.declared.rows.NodeData.TheVariants.{Element, Text}
+use Rattle.dom.specs.Nodes.{Node, NodeData, Element, Text, text_at, part_of, text_in}
 use Rattle.plain_html.specs.Form.{is_blank, is_plain, is_named, above, is_fit, is_unbuilt, is_unbuilt_node, first_from, first_unbuilt}
-use Rattle.plain_html.specs.Texts.{left_of, collapsed, collapsed_after, if_some, texts_in, texts_at, texts_from, paragraph_texts, IsPlainText, ArePlainTexts}
+use Rattle.plain_html.specs.Texts.{left_of, collapsed, collapsed_after, if_some, texts_in, texts_at, texts_from, paragraph_texts, IsPlainText, ArePlainTexts, ElementText}
 
 module _ (nodes : List Node) where
   pub first-step : (i : ℕ) → i < length nodes → first_from nodes i (length nodes - i) ≡ cond (is_unbuilt nodes i) (Some i) (first_from nodes (i + 1) (length nodes - (i + 1)))
@@ -94,22 +92,29 @@ collapsed-plain : (spaced : Bool) (bs : List ℕ) → list_all is_plain bs ≡ t
 collapsed-plain spaced [] h = all-nil IsVisible
 collapsed-plain spaced (b ∷ bs) h = let p = all-cons is_plain b bs h in left-plain spaced b (collapsed_after (is_blank b) bs) p.0 (collapsed-plain (is_blank b) bs p.1)
 
-some-plain : (bs : List ℕ) → All (λ x. (32 ≤ x) × (x ≤ 126)) bs → ArePlainTexts (if_some bs)
-some-plain [] h = all-nil IsPlainText
-some-plain (b ∷ bs) h = all-more IsPlainText (b ∷ bs) [] (record { some = omega arith; plain = h }) (all-nil IsPlainText)
+abbrev IsPlain : ElementText → Type 0
+IsPlain t = IsPlainText t.text
+
+some-plain : (element : ℕ) (bs : List ℕ) → All (λ x. (32 ≤ x) × (x ≤ 126)) bs → ArePlainTexts (if_some element bs)
+some-plain element [] h = all-nil IsPlain
+some-plain element (b ∷ bs) h = all-more IsPlain (record { element = element; text = b ∷ bs }) [] (record { some = omega arith; plain = h }) (all-nil IsPlain)
 
 at-plain : (nodes : List Node) (k : ℕ) → is_unbuilt nodes k ≡ false → ArePlainTexts (texts_at nodes k)
 unfolding collapsed
-at-plain nodes k u = by (text_at nodes k) (is_named nodes (codes "p") (above nodes k)) refl refl
+at-plain nodes k u = by (text_at nodes k) (above nodes k) refl refl
   where
-    by : (o : Option (List ℕ)) (b : Bool) → text_at nodes k ≡ o → is_named nodes (codes "p") (above nodes k) ≡ b → ArePlainTexts (texts_in nodes (above nodes k) o)
-    by None b e f = all-nil IsPlainText
-    by (Some t) true e f = rw f (some-plain (collapsed_after true t) (collapsed-plain true t (fit-at nodes k t u e f)))
-    by (Some t) false e f = rw f (all-nil IsPlainText)
+    named : (t : List ℕ) (element : ℕ) (b : Bool) → text_at nodes k ≡ Some t → above nodes k ≡ Some element → is_named nodes (codes "p") (Some element) ≡ b → ArePlainTexts (cond b (if_some element (collapsed_after true t)) [])
+    named t element true e p f = some-plain element (collapsed_after true t) (collapsed-plain true t (fit-at nodes k t u e (ap (is_named nodes (codes "p")) p ∙ f)))
+    named t element false e p f = all-nil IsPlain
+
+    by : (o : Option (List ℕ)) (parent : Option ℕ) → text_at nodes k ≡ o → above nodes k ≡ parent → ArePlainTexts (texts_in nodes parent o)
+    by None parent e p = all-nil IsPlain
+    by (Some t) None e p = all-nil IsPlain
+    by (Some t) (Some element) e p = named t element (is_named nodes (codes "p") (Some element)) e p refl
 
 from-plain : (nodes : List Node) (n k : ℕ) → ((j : ℕ) → j < k + n → is_unbuilt nodes j ≡ false) → ArePlainTexts (texts_from nodes k n)
-from-plain nodes zero k h = all-nil IsPlainText
-from-plain nodes (suc n) k h = all-both IsPlainText (texts_at nodes k) (texts_from nodes (k + 1) n) (at-plain nodes k (h k (omega arith))) (from-plain nodes n (k + 1) (λ j l. h j (omega arith)))
+from-plain nodes zero k h = all-nil IsPlain
+from-plain nodes (suc n) k h = all-both IsPlain (texts_at nodes k) (texts_from nodes (k + 1) n) (at-plain nodes k (h k (omega arith))) (from-plain nodes n (k + 1) (λ j l. h j (omega arith)))
 
 pub plain-texts : (nodes : List Node) → first_unbuilt nodes ≡ None → ArePlainTexts (paragraph_texts nodes)
 plain-texts nodes h = from-plain nodes (length nodes) 0 (λ j l. all-built nodes h j (omega arith))

@@ -1,7 +1,7 @@
 //! Whether a document has the form that is built.
-ghost use Rattle.std.specs.Prelude.{◌≡◌, ◌<◌, length, option_map, is_some, codes, Some};
+ghost use Rattle.std.specs.Prelude.{◌≡◌, ◌<◌, length, option_map, is_some, Some};
 ghost use Rattle.std.specs.List.{list_all};
-ghost use Rattle.dom.specs.Nodes.{name_at, text_at, parents_of, parent_at};
+ghost use Rattle.dom.specs.Nodes.{name_at};
 ghost use Rattle.plain_html.specs.Form.{is_blank, is_plain, is_named, is_text, above, is_zero, is_top_name, is_head_name, is_inner_name, is_inner_allowed, is_allowed, is_unbuilt_text, is_free, is_fit, is_unbuilt, first_unbuilt};
 
 use bk_num::ids::NodeId;

@@ -6,4 +6,4 @@ mod form;
 mod tests;
 mod texts;
 
-pub use texts::read_paragraphs;
+pub use texts::{ParagraphText, read_paragraphs};

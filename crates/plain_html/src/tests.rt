@@ -32,8 +32,9 @@ fn paragraphs_have_their_texts_collapsed(rt: HostRuntime) -> Result<(), Fail> {
         return Err(Fail::new("another form"));
     };
     assert_eq!(rt; texts.len(), 1);
-    for text in &texts {
-        assert_eq!(rt; text.as_str(), "a b ");
+    for paragraph in &texts {
+        assert_eq!(rt; paragraph.element.0, 6);
+        assert_eq!(rt; paragraph.text.as_str(), "a b ");
     }
     Ok(())
 }

@@ -1,10 +1,9 @@
 //! The texts of the paragraphs.
-ghost use Rattle.std.specs.Prelude.{◌≡◌, ◌++◌, ◌+◌, ◌≤◌, ◌<◌, [], length, map, All, IfOk, IfSome, IsTrue, MatchResult, OnOk, None, Some, true, string_bytes, option_map};
+ghost use Rattle.std.specs.Prelude.{◌≡◌, ◌++◌, ◌+◌, ◌≤◌, ◌<◌, length, map, IfOk, OnOk, None, Some, true, string_bytes, option_map};
 ghost use Rattle.std.specs.List.{list_all};
-ghost use Rattle.dom.specs.Nodes.{text_at};
 ghost use Rattle.std.specs.Result.{result_err};
 ghost use Rattle.plain_html.specs.Form.{is_blank, is_plain, is_named, above, first_unbuilt};
-ghost use Rattle.plain_html.specs.Texts.{left_of, collapsed, texts_at, texts_in, if_some, paragraph_texts, IsPlainText, ArePlainTexts};
+ghost use Rattle.plain_html.specs.Texts.{left_of, collapsed, texts_at, if_some, paragraph_texts, element_text_in, ArePlainTexts};
 
 use crate::form::{above, first_unbuilt, is_blank, is_named};
 use bk_num::ids::NodeId;
@@ -12,11 +11,21 @@ use bk_num::name::NoMem;
 use dom::Dom;
 use std::alloc::Global;
 
-/// The texts of the paragraphs of a document, or the first node that has another form than the one that is built.
-pub fn read_paragraphs(alloc: Global, dom: &Dom) -> Result<Result<Vec<String>, NodeId>, NoMem>
-    ensures texts { IfOk result (λ r. IfOk r (λ v. map (λ t. string_bytes t) v.items ≡ paragraph_texts dom.now)) }
+/// A text of a `p` element, its white space collapsed.
+#[derive(Drop)]
+pub struct ParagraphText {
+    pub element: NodeId,
+    pub text: String,
+}
+
+/// The texts of the paragraphs of a document with their elements, in tree order, or the first node that has another form than the one that is built.
+pub fn read_paragraphs(
+    alloc: Global,
+    dom: &Dom,
+) -> Result<Result<Vec<ParagraphText>, NodeId>, NoMem>
+    ensures texts { IfOk result (λ r. IfOk r (λ v. map element_text_in v.items ≡ paragraph_texts dom.now)) }
     ensures first { IfOk result (λ r. first_unbuilt dom.now ≡ option_map (λ n. n.0) (result_err r)) }
-    ensures plain { IfOk result (λ r. IfOk r (λ v. ArePlainTexts (map (λ t. string_bytes t) v.items))) }
+    ensures plain { IfOk result (λ r. IfOk r (λ v. ArePlainTexts (map element_text_in v.items))) }
     ensures count { IfOk result (λ r. IfOk r (λ v. length v.items ≤ length dom.now)) }
 {
     match first_unbuilt(dom) {
@@ -26,10 +35,10 @@ pub fn read_paragraphs(alloc: Global, dom: &Dom) -> Result<Result<Vec<String>, N
 }
 
 /// The texts of the paragraphs of a document of the form that is built.
-fn texts_of(alloc: Global, dom: &Dom) -> Result<Vec<String>, NoMem>
+fn texts_of(alloc: Global, dom: &Dom) -> Result<Vec<ParagraphText>, NoMem>
     requires { first_unbuilt dom.now ≡ None }
-    ensures texts { IfOk result (λ v. map (λ t. string_bytes t) v.items ≡ paragraph_texts dom.now) }
-    ensures plain { IfOk result (λ v. ArePlainTexts (map (λ t. string_bytes t) v.items)) }
+    ensures texts { IfOk result (λ v. map element_text_in v.items ≡ paragraph_texts dom.now) }
+    ensures plain { IfOk result (λ v. ArePlainTexts (map element_text_in v.items)) }
     ensures count { IfOk result (λ v. length v.items ≤ length dom.now) }
 {
     let mut texts = Vec::new(alloc);
@@ -40,30 +49,43 @@ fn texts_of(alloc: Global, dom: &Dom) -> Result<Vec<String>, NoMem>
 }
 
 /// Adds what a node gives.
-fn push_texts(alloc: Global, texts: &mut Vec<String>, dom: &Dom, node: NodeId) -> Result<(), NoMem>
+fn push_texts(
+    alloc: Global,
+    texts: &mut Vec<ParagraphText>,
+    dom: &Dom,
+    node: NodeId,
+) -> Result<(), NoMem>
     requires node { node.0 < length dom.now }
     requires built { first_unbuilt dom.now ≡ None }
-    ensures texts { OnOk result (map (λ t. string_bytes t) texts.new.items ≡ map (λ t. string_bytes t) texts.old.items ++ texts_at dom.now node.0) }
+    ensures texts { OnOk result (map element_text_in texts.new.items ≡ map element_text_in texts.old.items ++ texts_at dom.now node.0) }
     ensures count { OnOk result (length texts.new.items ≤ length texts.old.items + 1) }
 {
     let Some(text) = dom.text(node) else {
         return Ok(());
     };
-    if is_named(dom, "p", above(dom, node)) {
-        push_text(alloc, texts, text.as_bytes())?;
+    let Some(element) = above(dom, node) else {
+        return Ok(());
+    };
+    if is_named(dom, "p", Some(element)) {
+        push_text(alloc, texts, element, text.as_bytes())?;
     }
     Ok(())
 }
 
 /// Adds a text of a paragraph, where a character is left of it.
-fn push_text(alloc: Global, texts: &mut Vec<String>, text: &[u8]) -> Result<(), NoMem>
+fn push_text(
+    alloc: Global,
+    texts: &mut Vec<ParagraphText>,
+    element: NodeId,
+    text: &[u8],
+) -> Result<(), NoMem>
     requires { list_all is_plain text.now ≡ true }
-    ensures texts { OnOk result (map (λ t. string_bytes t) texts.new.items ≡ map (λ t. string_bytes t) texts.old.items ++ if_some (collapsed text.now)) }
+    ensures texts { OnOk result (map element_text_in texts.new.items ≡ map element_text_in texts.old.items ++ if_some element.0 (collapsed text.now)) }
     ensures count { OnOk result (length texts.new.items ≤ length texts.old.items + 1) }
 {
     let text = collapse(alloc, text)?;
     if !text.is_empty() {
-        texts.push(text)?;
+        texts.push(ParagraphText { element, text })?;
     }
     Ok(())
 }

@@ -9,7 +9,7 @@ use boxes::frames::Demand;
 use boxes::place::Position;
 use std::alloc::Global;
 use std::test::Fail;
-use tree_fixtures::shape::{PLAIN, Shape};
+use tree_fixtures::shape::{PLAIN, Shape, Space};
 use tree_fixtures::tree::{Step, tree_of};
 
 /// The seam before an event of a tree, or inside the leaf there.
@@ -82,16 +82,16 @@ fn a_break_is_what_the_values_that_meet_ask(rt: HostRuntime) {
 #[test]
 fn a_seam_has_the_gaps_and_the_name_of_its_run(rt: HostRuntime) {
     let low = Shape {
-        margin_bottom: 1280,
+        margin_bottom: Space::Units(1280),
         ..PLAIN
     };
     let high = Shape {
-        margin_top: 768,
+        margin_top: Space::Units(768),
         ..PLAIN
     };
     let named = Shape { name: 5, ..PLAIN };
     let pulled = Shape {
-        margin_top: -512,
+        margin_top: Space::Units(-512),
         ..PLAIN
     };
     let gaps = SeamInfo {
@@ -130,7 +130,7 @@ fn a_seam_has_the_gaps_and_the_name_of_its_run(rt: HostRuntime) {
 /// be kept together and followed by a right page.
 fn edged() -> [Step<'static>; 13] {
     let root = Shape {
-        margin_top: 640,
+        margin_top: Space::Units(640),
         ..PLAIN
     };
     let first = Shape {

@@ -2,6 +2,5 @@ pub mod SetLemmas
 pub mod TextLemmas
 pub mod WalkLemmas
 pub mod Pending
-pub mod ReadLemmas
 pub mod NthLemmas
 pub mod LoopLemmas

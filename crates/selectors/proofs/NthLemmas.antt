@@ -1,7 +1,5 @@
 -- Numbers, a digit at a time.
-use Rattle.std.proofs.Common.{◌≡◌, ℕ, zero, suc, ◌+◌, ◌-◌, ◌*◌, ◌<◌, ◌≤◌, min, List, [], ◌∷◌, drop, length, get_or, refl, arith, Bool, true, false, ◌&&◌, take, ap, ◌∙◌, eqb}
-use Rattle.std.specs.Str.{str_eq_ignore_ascii_case}
-use Rattle.std.specs.Char.{to_ascii_lowercase}
+use Rattle.std.proofs.Common.{◌≡◌, ℕ, zero, suc, ◌+◌, ◌-◌, ◌*◌, ◌<◌, ◌≤◌, min, List, [], ◌∷◌, drop, length, get_or, refl, arith}
 use Rattle.selectors.specs.AnPlusB.{number_from}
 
 pub number_step : (n : ℕ) (ds : List ℕ) (at : ℕ) → at < length ds → number_from n (drop at ds) ≡ number_from (min 999999999 (n * 10 + (get_or ds at 0 - 48))) (drop (at + 1) ds)

@@ -68,10 +68,10 @@ chain_step next f steps turn m o more is lacks =
     let e : steps - turn ≡ suc (steps - (turn + 1)) = omega arith in
     rw (e, is, lacks)
 
-abbrev Row : List (Option ℕ) → ℕ → ℕ → Type 0
+abbrev pub Row : List (Option ℕ) → ℕ → ℕ → Type 0
 Row ps n m = (m < n) × (parent_at ps m ≡ parent_at ps n)
 
-chain_row : (nodes : List Node) (f : ℕ → Bool) (steps n m : ℕ) (o : Option ℕ) → ((k : ℕ) → o ≡ Some k → Row (parents_of nodes) n k) → first_such f (chain (beside nodes way.Before) steps o) ≡ Some m → Row (parents_of nodes) n m
+pub chain_row : (nodes : List Node) (f : ℕ → Bool) (steps n m : ℕ) (o : Option ℕ) → ((k : ℕ) → o ≡ Some k → Row (parents_of nodes) n k) → first_such f (chain (beside nodes way.Before) steps o) ≡ Some m → Row (parents_of nodes) n m
 chain_row nodes f zero n m o rows e = absurd (cc)
 chain_row nodes f (suc steps) n m None rows e = absurd (cc)
 chain_row nodes f (suc steps) n m (Some k) rows e = elim (cases_Bool (f k)) [

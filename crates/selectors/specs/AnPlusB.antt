@@ -1,14 +1,15 @@
 -- The argument of `:nth-child`: An+B (css-syntax, 6), over tokens. Escapes are undone in each token by itself.
-use Rattle.std.specs.Prelude.{ℕ, ◌-◌, ◌*◌, ◌+◌, min, Bool, true, false, not, ◌&&◌, ◌||◌, if◌then◌else◌, ◌==◌, ℤ, pos, neg_ℤ, List, [], ◌∷◌, take, drop, length, slice_index, codes, Option, Some, None}
+use Rattle.std.specs.Prelude.{ℕ, ◌-◌, ◌*◌, ◌+◌, min, Bool, false, not, ◌&&◌, ◌||◌, if◌then◌else◌, ◌==◌}
+use Rattle.std.specs.Prelude.{ℤ, pos, neg_ℤ, List, [], ◌∷◌, take, drop, length, slice_index, codes, Option, Some, None}
 use Rattle.std.specs.Char.{is_ascii_digit}
 use Rattle.std.specs.List.{list_all, list_any}
-use Rattle.css_tok.specs.declared.front.CssKind.{CssKind}
-use Rattle.css_tok.specs.declared.front.CssKind.TheVariants as kind
+use Rattle.css_tok.specs.declared.kind.CssKind.TheVariants as kind
 use Rattle.css_tok.specs.Lengths.{sign_len, number_len}
 use Rattle.css_tok.specs.Numbers.{unit_of}
 use Rattle.css_tok.specs.Plain.{plain_of}
 use Rattle.css_tok.specs.Tokens.{Item}
-use Rattle.selectors.specs.Parser.{Parser, ◌>>=◌, ◌>>◌, pure, refuse, on_some, peek, second, advance, spaces, of_kind, is_ident_kind, is_mark, is_named, value}
+use Rattle.css_words.specs.Parser.{Parser, ◌>>=◌, ◌>>◌, pure, refuse, on_some, peek, second, advance, spaces}
+use Rattle.css_words.specs.Words.{is_kind, of_kind, is_mark, is_named, value}
 use Rattle.selectors.specs.declared.an_plus_b.AfterN.{AfterN}
 use Rattle.selectors.specs.declared.an_plus_b.AfterN.TheVariants as after
 
@@ -18,24 +19,19 @@ number_from n [] = n
 number_from n (d ∷ ds) = number_from (min 999999999 (n * 10 + (d - 48))) ds
 
 -- the whole number of a sign, if there is one, and digits
+abbrev pub size_of : List ℕ → ℕ
+size_of bs = number_from 0 (drop (sign_len bs) bs)
+
 unfoldable pub whole_of : List ℕ → ℤ
-whole_of bs = if slice_index bs 0 == 45 then neg_ℤ (pos (number_from 0 (drop (sign_len bs) bs))) else pos (number_from 0 (drop (sign_len bs) bs))
+whole_of bs = if slice_index bs 0 == 45 then neg_ℤ (pos (size_of bs)) else pos (size_of bs)
 
 abbrev pub has_point : List ℕ → Bool
 has_point bs = list_any (λ b. b == 46) bs
 
-abbrev pub is_number_kind : CssKind → Bool
-is_number_kind kind.Number = true
-is_number_kind _ = false
-
-abbrev pub is_dimension_kind : CssKind → Bool
-is_dimension_kind kind.Dimension = true
-is_dimension_kind _ = false
-
 -- <integer>, and whether it has a sign (<signed-integer>, <signless-integer>)
 unfoldable pub is_integer : Option Item → Bool
 is_integer None = false
-is_integer (Some t) = is_number_kind t.kind && not (has_point t.slice)
+is_integer (Some t) = is_kind kind.Number t.kind && not (has_point t.slice)
 
 unfoldable pub is_signed : Option Item → Bool
 is_signed None = false
@@ -55,7 +51,7 @@ number_in bs = take (number_len bs) bs
 
 unfoldable pub is_step : Option Item → Bool
 is_step None = false
-is_step (Some t) = is_dimension_kind t.kind && not (has_point (number_in t.slice))
+is_step (Some t) = is_kind kind.Dimension t.kind && not (has_point (number_in t.slice))
 
 unfoldable pub step : Option Item → ℤ
 step None = pos 0
@@ -69,7 +65,9 @@ unfoldable pub unit : Option Item → List ℕ
 unit t = plain_of (unit_slice t)
 
 abbrev pub after_minus : List ℕ → Option AfterN
-after_minus bs = if length bs == 0 then Some after.Digits else (if list_all is_ascii_digit bs then Some (after.Nothing (neg_ℤ (pos (number_from 0 bs)))) else None)
+after_minus bs =
+    if length bs == 0 then Some after.Digits
+    else (if list_all is_ascii_digit bs then Some (after.Nothing (neg_ℤ (pos (number_from 0 bs)))) else None)
 
 abbrev pub after_letter : List ℕ → Option AfterN
 after_letter bs = if length bs == 0 then Some after.Anything else (if slice_index bs 0 == 45 then after_minus (drop 1 bs) else None)
@@ -108,17 +106,14 @@ with_n a text = on_some (after_n text) refuse (λ n. advance >> rest_of_b a n)
 unfoldable pub named_n : List ℕ → Parser (ℤ × ℤ)
 named_n text = if slice_index text 0 == 45 then with_n (neg_ℤ (pos 1)) (drop 1 text) else with_n (pos 1) text
 
-abbrev pub is_keyword : Option Item → List ℕ → Bool
-is_keyword t word = of_kind is_ident_kind t && is_named t word
-
--- `odd`, `even`, <integer>, or An+B; after a `+` in front of `n` stands no white space
+-- `odd`, `even`, <integer>, or An+B; between a `+` and `n` stands no white space
 unfoldable pub an_plus_b : Parser (ℤ × ℤ)
 an_plus_b = do
   t ← peek
   s ← second
-  if is_keyword t (codes "odd") then (advance >> pure (pos 2, pos 1))
-      else (if is_keyword t (codes "even") then (advance >> pure (pos 2, pos 0))
-      else (if of_kind is_ident_kind t then named_n (value t)
-      else (if is_mark 43 t && of_kind is_ident_kind s then (advance >> with_n (pos 1) (value s))
+  if is_named kind.Ident t (codes "odd") then (advance >> pure (pos 2, pos 1))
+      else (if is_named kind.Ident t (codes "even") then (advance >> pure (pos 2, pos 0))
+      else (if of_kind kind.Ident t then named_n (value t)
+      else (if is_mark 43 t && of_kind kind.Ident s then (advance >> with_n (pos 1) (value s))
       else (if is_step t then with_n (step t) (unit t)
       else (if is_integer t then (advance >> pure (pos 0, integer t)) else refuse)))))

@@ -1,11 +1,13 @@
 -- Whether an element fits a compound (Selectors 3, 6).
-use Rattle.std.specs.Prelude.{ℕ, ◌+◌, Bool, true, false, not, ◌&&◌, ◌||◌, if◌then◌else◌, ◌==◌, ℤ, pos, ◌-ℤ◌, List, [], ◌∷◌, Option, None, Some, length, slice_index, nat_eq, int_lt, codes, is_some}
+use Rattle.std.specs.Prelude.{ℕ, ◌+◌, Bool, true, false, not, ◌&&◌, ◌||◌, if◌then◌else◌, ◌==◌, ℤ, pos, ◌-ℤ◌, int_lt}
+use Rattle.std.specs.Prelude.{List, [], ◌∷◌, Option, None, Some, length, slice_index, nat_eq, codes, is_some}
 use Rattle.std.specs.Ordering.{int_eq}
 use Rattle.std.specs.Int.{int_rem_euclid}
 use Rattle.std.specs.List.{list_any, list_all, starts_with, ends_with}
 use Rattle.std.specs.Str.{bytes_eq}
 use Rattle.css_tok.specs.Lengths.{is_blank}
-use Rattle.dom.specs.Nodes.{Node, parents_of, element_parents_of, parent_at, is_element_at, element_count, elements_before_of, name_at, attribute_at}
+use Rattle.dom.specs.Nodes.{Node, parents_of, element_parents_of, parent_at, is_element_at, element_count}
+use Rattle.dom.specs.Nodes.{elements_before_of, name_at, attribute_at}
 use Rattle.selectors.specs.Walk.{first_such, siblings_before, siblings_after, children, name_is, same_type, is_content, has_text}
 use Rattle.selectors.specs.declared.types.AttrTest.{AttrTest}
 use Rattle.selectors.specs.declared.types.AttrTest.TheVariants as by
@@ -20,7 +22,7 @@ use Rattle.selectors.specs.declared.types.Compound.{Compound}
 unfoldable pub begins_word : List ℕ → List ℕ → Bool
 begins_word v x = starts_with nat_eq x v && (length v == length x || is_blank (slice_index x (length v)))
 
--- a word stands in a text; the test tells whether a word may begin at its front
+-- a word stands in a text; the test tells whether a word may begin at its start
 unfoldable pub has_word_from : Bool → List ℕ → List ℕ → Bool
 has_word_from start v [] = false
 has_word_from start v (b ∷ bs) = (start && begins_word v (b ∷ bs)) || has_word_from (is_blank b) v bs
@@ -65,10 +67,19 @@ abbrev pub is_zero : ℤ → Bool
 is_zero z = int_eq z (pos 0)
 
 abbrev pub is_place : ℤ → ℤ → Bool
-is_place a rest = if is_zero a || is_zero rest then is_zero rest else (is_zero (int_rem_euclid rest a) && (if int_lt rest (pos 0) then int_lt a (pos 0) else not (int_lt a (pos 0))))
+is_place a rest =
+    if is_zero a || is_zero rest then is_zero rest
+    else (is_zero (int_rem_euclid rest a) && (if int_lt rest (pos 0) then int_lt a (pos 0) else not (int_lt a (pos 0))))
 
 unfoldable pub nth_is : ℤ → ℤ → ℕ → Bool
 nth_is a b p = is_place a (pos p -ℤ b)
+
+-- no sibling of its type stands before it, and none after it
+abbrev pub is_first_of_type : List Node → ℕ → Bool
+is_first_of_type nodes n = not (is_some (first_such (same_type nodes n) (siblings_before nodes n)))
+
+abbrev pub is_last_of_type : List Node → ℕ → Bool
+is_last_of_type nodes n = not (is_some (first_such (same_type nodes n) (siblings_after nodes n)))
 
 -- ---- simple selectors
 
@@ -81,8 +92,8 @@ passes_test nodes n test.Root = not (is_some (parent_at (parents_of nodes) n))
 passes_test nodes n test.FirstChild = elements_before_of nodes n == 0
 passes_test nodes n test.LastChild = is_last nodes n
 passes_test nodes n test.OnlyChild = elements_before_of nodes n == 0 && is_last nodes n
-passes_test nodes n test.FirstOfType = not (is_some (first_such (same_type nodes n) (siblings_before nodes n)))
-passes_test nodes n test.LastOfType = not (is_some (first_such (same_type nodes n) (siblings_after nodes n)))
+passes_test nodes n test.FirstOfType = is_first_of_type nodes n
+passes_test nodes n test.LastOfType = is_last_of_type nodes n
 passes_test nodes n test.Empty = not (is_some (first_such (is_content nodes) (children nodes n)))
 passes_test nodes n test.Link = name_is (Some (codes "a")) (name_at nodes n) && is_some (attribute_at nodes n (codes "href"))
 

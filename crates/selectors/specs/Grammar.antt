@@ -1,16 +1,18 @@
 -- The grammar of selectors (Selectors 3, 10.1), over the tokens without comments.
-use Rattle.std.specs.Prelude.{◌≡◌, ℕ, zero, suc, Bool, true, false, ◌&&◌, if◌then◌else◌, ◌==◌, ◌+◌, List, [], ◌∷◌, ◌++◌, length, slice_index, codes, Option, Some, None, option_map, Result, Ok, Err}
-use Rattle.std.specs.Str.{str_to_ascii_lowercase}
+use Rattle.std.specs.Prelude.{ℕ, zero, suc, Bool, true, false, not, ◌&&◌, ◌||◌, if◌then◌else◌, ◌==◌}
+use Rattle.std.specs.Prelude.{List, [], ◌∷◌, ◌++◌, length, codes, Option, Some, None, option_map}
+use Rattle.std.specs.List.{flat_map}
 use Rattle.bk_num.specs.declared.values.Pseudo.{Pseudo}
 use Rattle.bk_num.specs.declared.values.Pseudo.TheVariants as pseudo
-use Rattle.css_tok.specs.declared.front.CssKind.{CssKind}
-use Rattle.css_tok.specs.declared.front.CssKind.TheVariants as kind
-use Rattle.css_tok.specs.Tokens.{Item}
-use Rattle.css_tok.specs.Plain.{plain_of, is_word}
-use Rattle.css_tok.specs.Value.{value_slice}
-use Rattle.selectors.specs.Reader.{first_of, rest_of, past_spaces, is_space_kind}
+use Rattle.css_tok.specs.declared.kind.CssKind.TheVariants as kind
+use Rattle.css_tok.specs.Tokens.{Item, tokens_of}
+use Rattle.css_words.specs.Input.{kept}
+use Rattle.css_words.specs.Parser.{Outcome, Parser, ◌>>=◌, ◌>>◌, pure, refuse, on_some, peek, second, advance, spaces}
+use Rattle.css_words.specs.Repeat.{first_and, many}
+use Rattle.css_words.specs.Words.{of_kind, is_mark, is_named, value, ident, lower_ident, expect}
+use Rattle.css_words.specs.declared.reader.Skipped.TheVariants as skipped
 use Rattle.selectors.specs.AnPlusB.{an_plus_b}
-pub use Rattle.selectors.specs.Parser.{Input, Outcome, Parser, and_then, ◌>>=◌, ◌>>◌, pure, refuse, on_some, peek, second, advance, spaces, is_ident_kind, is_func_kind, is_hash_kind, is_text_kind, is_delim_kind, of_kind, is_mark, slice_of, value, is_named, ident, lower_ident, expect, Reads, Owns}
+use Rattle.selectors.specs.Selectors.{SelectorView}
 use Rattle.selectors.specs.Specificity.{is_pseudo}
 use Rattle.selectors.specs.declared.types.AttrTest.{AttrTest}
 use Rattle.selectors.specs.declared.types.AttrTest.TheVariants as by
@@ -20,13 +22,10 @@ use Rattle.selectors.specs.declared.types.Plain.{Plain}
 use Rattle.selectors.specs.declared.types.Compound.{Compound}
 use Rattle.selectors.specs.declared.types.Join.{Join}
 use Rattle.selectors.specs.declared.types.Join.TheVariants as join
-use Rattle.selectors.specs.Selectors.{SelectorView}
 use Rattle.selectors.specs.declared.grammar.Kinship.{Kinship}
 use Rattle.selectors.specs.declared.grammar.Kinship.TheVariants.{Named, Any, Bare}
 use Rattle.selectors.specs.declared.grammar.Part.{Part}
 use Rattle.selectors.specs.declared.grammar.Part.TheVariants as part
-use Rattle.selectors.specs.declared.words.Unread.{Unread}
-use Rattle.selectors.specs.declared.words.Unread.TheVariants.{NoReading, NoMemory}
 
 unfoldable pub id : Parser Test
 id = do
@@ -54,7 +53,7 @@ attr_test = do
 unfoldable pub attr_value : Parser (List ℕ)
 attr_value = do
   t ← peek
-  if of_kind is_text_kind t then (advance >> pure (value t)) else refuse
+  if of_kind kind.Ident t || of_kind kind.Str t then (advance >> pure (value t)) else refuse
 
 unfoldable pub attr_rest : List ℕ → Parser Test
 attr_rest key = do
@@ -75,27 +74,36 @@ attribute = do
   t ← peek
   if is_mark 93 t then (advance >> pure (test.Attr key by.Has [])) else attr_rest key
 
+abbrev pub is_word : Option Item → List ℕ → Bool
+is_word t word = is_named kind.Ident t word
+
 -- the pseudo-classes that are a name alone
 unfoldable pub place_class : Option Item → Option Test
 place_class t =
-    if is_named t (codes "root") then Some test.Root else (if is_named t (codes "first-child") then Some test.FirstChild
-    else (if is_named t (codes "last-child") then Some test.LastChild else (if is_named t (codes "only-child") then Some test.OnlyChild else None)))
+    if is_word t (codes "root") then Some test.Root
+    else (if is_word t (codes "first-child") then Some test.FirstChild
+    else (if is_word t (codes "last-child") then Some test.LastChild
+    else (if is_word t (codes "only-child") then Some test.OnlyChild else None)))
 
 unfoldable pub other_class : Option Item → Option Test
 other_class t =
-    if is_named t (codes "first-of-type") then Some test.FirstOfType else (if is_named t (codes "last-of-type") then Some test.LastOfType
-    else (if is_named t (codes "empty") then Some test.Empty else (if is_named t (codes "link") then Some test.Link else None)))
+    if is_word t (codes "first-of-type") then Some test.FirstOfType
+    else (if is_word t (codes "last-of-type") then Some test.LastOfType
+    else (if is_word t (codes "empty") then Some test.Empty
+    else (if is_word t (codes "link") then Some test.Link else None)))
 
 abbrev pub or_else : Option Test → Option Test → Option Test
 or_else None b = b
 or_else (Some a) b = Some a
 
 unfoldable pub simple_of : Option Item → Option Test
-simple_of t = if of_kind is_ident_kind t then or_else (place_class t) (other_class t) else None
+simple_of t = or_else (place_class t) (other_class t)
 
 -- `:nth-child( ` an+b ` )`
 unfoldable pub nth : Parser Test
 nth = do
+  advance
+  advance
   spaces
   p ← an_plus_b
   spaces
@@ -103,34 +111,33 @@ nth = do
   pure (test.Nth p.0 p.1)
 
 abbrev pub is_function : Option Item → Option Item → List ℕ → Bool
-is_function t s name = is_mark 58 t && of_kind is_func_kind s && is_named s name
+is_function t s name = is_mark 58 t && is_named kind.Func s name
+
+abbrev pub some_test : Parser Test → Parser (Option Test)
+some_test p = p >>= (λ x. pure (Some x))
+
+abbrev pub simple : Option Test → Parser (Option Test)
+simple o = on_some o (pure None) (λ x. advance >> (advance >> pure (Some x)))
 
 -- a simple selector other than a type and `:not`, or none of these
 unfoldable pub next_test : Parser (Option Test)
 next_test = do
   t ← peek
   s ← second
-  if of_kind is_hash_kind t then (id >>= (λ x. pure (Some x)))
-      else (if is_mark 46 t then (class >>= (λ x. pure (Some x)))
-      else (if is_mark 91 t then (attribute >>= (λ x. pure (Some x)))
-      else (if is_function t s (codes "nth-child") then (advance >> (advance >> (nth >>= (λ x. pure (Some x)))))
-      else (if is_mark 58 t then on_some (simple_of s) (pure None) (λ x. advance >> (advance >> pure (Some x))) else pure None))))
-
--- The number bounds the turns, and each turn takes a token.
-unfoldable pub tests_from : ℕ → List Test → Parser (List Test)
-tests_from zero found = pure found
-tests_from (suc n) found = do
-  t ← next_test
-  on_some t (pure found) (λ x. tests_from n (found ++ x ∷ []))
+  if of_kind kind.Hash t then some_test id
+      else (if is_mark 46 t then some_test class
+      else (if is_mark 91 t then some_test attribute
+      else (if is_function t s (codes "nth-child") then some_test nth
+      else (if is_mark 58 t then simple (simple_of s) else pure None))))
 
 unfoldable pub all_tests : Parser (List Test)
-all_tests = λ i. tests_from (length i) [] i
+all_tests = many next_test
 
 -- a type or `*`, or neither
 unfoldable pub type_name : Parser Kinship
 type_name = do
   t ← peek
-  if of_kind is_ident_kind t then (advance >> pure (Named (str_to_ascii_lowercase (value t)))) else (if is_mark 42 t then (advance >> pure Any) else pure Bare)
+  if of_kind kind.Ident t then (lower_ident >>= (λ n. pure (Named n))) else (if is_mark 42 t then (advance >> pure Any) else pure Bare)
 
 abbrev pub is_bare : Kinship → Bool
 is_bare Bare = true
@@ -162,23 +169,33 @@ unfoldable pub next_part : Parser (Option Part)
 next_part = do
   t ← peek
   s ← second
-  if is_function t s (codes "not") then (negation >>= (λ p. pure (Some (part.Not p)))) else (next_test >>= (λ x. pure (option_map (λ y. part.Test y) x)))
+  if is_function t s (codes "not") then (negation >>= (λ p. pure (Some (part.Not p))))
+      else (next_test >>= (λ o. pure (option_map (λ x. part.Test x) o)))
 
+-- the tests of a compound, and its negations, each in their order
 abbrev pub Parts : Type 0
 Parts = List Test × List Plain
+
+abbrev pub tests_of : Part → List Test
+tests_of (part.Test x) = x ∷ []
+tests_of (part.Not x) = []
+
+abbrev pub nots_of : Part → List Plain
+nots_of (part.Test x) = []
+nots_of (part.Not x) = x ∷ []
+
+abbrev pub parts_of : List Part → Parts
+parts_of ps = (flat_map tests_of ps, flat_map nots_of ps)
 
 abbrev pub with_part : Parts → Part → Parts
 with_part p (part.Test x) = (p.0 ++ x ∷ [], p.1)
 with_part p (part.Not x) = (p.0, p.1 ++ x ∷ [])
 
-unfoldable pub parts_from : ℕ → Parts → Parser Parts
-parts_from zero found = pure found
-parts_from (suc n) found = do
-  t ← next_part
-  on_some t (pure found) (λ x. parts_from n (with_part found x))
-
 unfoldable pub all_parts : Parser Parts
-all_parts = λ i. parts_from (length i) ([], []) i
+all_parts = many next_part >>= (λ ps. pure (parts_of ps))
+
+abbrev pub has_none : Parts → Bool
+has_none p = length p.0 == 0 && length p.1 == 0
 
 -- a compound, which is empty only before a pseudo-element
 unfoldable pub compound : Parser Compound
@@ -186,31 +203,41 @@ compound = do
   kin ← type_name
   found ← all_parts
   t ← peek
-  if is_bare kin && length found.0 == 0 && length found.1 == 0 && (if is_mark 58 t then false else true) then refuse
+  if is_bare kin && has_none found && not (is_mark 58 t) then refuse
       else pure (record { plain = record { name = name_of kin; tests = found.0 }; nots = found.1 })
 
 -- the pseudo-elements after `:` and after `::`
 unfoldable pub old_pseudo : Option Item → Option Pseudo
-old_pseudo t = if of_kind is_ident_kind t then (if is_named t (codes "before") then Some pseudo.Before else (if is_named t (codes "after") then Some pseudo.After else None)) else None
+old_pseudo t =
+    if is_word t (codes "before") then Some pseudo.Before
+    else (if is_word t (codes "after") then Some pseudo.After else None)
 
 unfoldable pub new_pseudo : Option Item → Option Pseudo
 new_pseudo t =
-    if of_kind is_ident_kind t then (if is_named t (codes "footnote-call") then Some pseudo.Call else (if is_named t (codes "footnote-marker") then Some pseudo.Marker else old_pseudo t)) else None
+    if is_word t (codes "footnote-call") then Some pseudo.Call
+    else (if is_word t (codes "footnote-marker") then Some pseudo.Marker else old_pseudo t)
+
+abbrev pub pseudo_of : Bool → Option Item → Option Pseudo
+pseudo_of old t = if old then old_pseudo t else new_pseudo t
 
 unfoldable pub pseudo_name : Bool → Parser Pseudo
 pseudo_name old = do
   t ← peek
-  on_some (if old then old_pseudo t else new_pseudo t) refuse (λ p. advance >> pure p)
+  on_some (pseudo_of old t) refuse (λ p. advance >> pure p)
 
 -- a pseudo-element, or the element itself
 unfoldable pub pseudo_element : Parser Pseudo
 pseudo_element = do
   t ← peek
   s ← second
-  if is_mark 58 t then (if is_mark 58 s then (advance >> (advance >> pseudo_name false)) else (advance >> pseudo_name true)) else pure pseudo.Element
+  if is_mark 58 t then (if is_mark 58 s then (advance >> (advance >> pseudo_name false)) else (advance >> pseudo_name true))
+      else pure pseudo.Element
 
 unfoldable pub combinator_of : Option Item → Option Join
-combinator_of t = if is_mark 62 t then Some join.Child else (if is_mark 43 t then Some join.Next else (if is_mark 126 t then Some join.Later else None))
+combinator_of t =
+    if is_mark 62 t then Some join.Child
+    else (if is_mark 43 t then Some join.Next
+    else (if is_mark 126 t then Some join.Later else None))
 
 -- the end of a selector in a list
 unfoldable pub is_over : Option Item → Bool
@@ -226,7 +253,7 @@ combinator = do
   t ← peek
   spaces
   s ← peek
-  on_some (combinator_of s) (space_join (is_over s) (of_kind is_space_kind t)) (λ j. advance >> (spaces >> pure (Some j)))
+  on_some (combinator_of s) (space_join (is_over s) (of_kind kind.Space t)) (λ j. advance >> (spaces >> pure (Some j)))
 
 -- the combinator and the compound that follow, or none at the end of the selector
 abbrev pub next_compound : Pseudo → Parser (Option (Join × Compound))
@@ -240,7 +267,8 @@ rest_from zero parts joins = refuse
 rest_from (suc n) parts joins = do
   p ← pseudo_element
   c ← next_compound p
-  on_some c (pure (record { parts = parts; joins = joins; pseudo = p })) (λ k. rest_from n (parts ++ k.1 ∷ []) (joins ++ k.0 ∷ []))
+  on_some c (pure (record { parts = parts; joins = joins; pseudo = p }))
+      (λ k. rest_from n (parts ++ k.1 ∷ []) (joins ++ k.0 ∷ []))
 
 -- one to sixteen compounds and a pseudo-element or none, with white space round them
 unfoldable pub selector : Parser SelectorView
@@ -249,27 +277,20 @@ selector = do
   c ← compound
   rest_from 16 (c ∷ []) []
 
--- a selector, and whether a comma follows
-unfoldable pub next_selector : Parser (SelectorView × Bool)
+-- the selector after a comma, or none where no comma comes
+unfoldable pub next_selector : Parser (Option SelectorView)
 next_selector = do
-  s ← selector
   t ← peek
-  if is_mark 44 t then (advance >> pure (s, true)) else pure (s, false)
+  if is_mark 44 t then (advance >> (selector >>= (λ s. pure (Some s)))) else pure None
 
--- The number bounds the turns, and each turn takes a token.
-unfoldable pub selectors_from : ℕ → List SelectorView → Parser (List SelectorView)
-selectors_from zero found = refuse
-selectors_from (suc n) found = do
-  s ← next_selector
-  if s.1 then selectors_from n (found ++ s.0 ∷ []) else pure (found ++ s.0 ∷ [])
-
+-- selectors with commas between them; nothing follows, since a selector ends at a comma or at the end
 unfoldable pub selectors : Parser (List SelectorView)
-selectors = λ i. selectors_from (length i + 1) [] i
+selectors = first_and selector (many next_selector)
 
 abbrev pub read_of : Outcome (List SelectorView) → Option (List SelectorView)
 read_of None = None
 read_of (Some p) = Some p.0
 
--- the selectors that a list of tokens is read as
-abbrev pub selectors_in : Input → Option (List SelectorView)
-selectors_in i = read_of (selectors i)
+-- the selectors that a text is read as, or none where it has no reading
+abbrev pub selectors_in : List ℕ → Option (List SelectorView)
+selectors_in text = read_of (selectors (kept skipped.Comments (tokens_of text)))

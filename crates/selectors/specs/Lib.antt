@@ -1,10 +1,9 @@
 pub mod Sets
 pub mod Walk
 pub mod Fits
+pub mod TypePlaces
 pub mod Selectors
 pub mod Match
 pub mod Specificity
-pub mod Reader
-pub mod Parser
 pub mod AnPlusB
 pub mod Grammar

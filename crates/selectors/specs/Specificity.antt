@@ -48,4 +48,8 @@ abbrev pub held : ℕ → ℕ
 held n = min n 4294967295
 
 abbrev pub specificity_of : SelectorView → ℕ × ℕ × ℕ
-specificity_of s = (held (in_parts count.Ids s.parts), held (in_parts count.Others s.parts), held (in_parts count.Types s.parts + one_if (is_pseudo s.pseudo)))
+specificity_of s = (
+  held (in_parts count.Ids s.parts),
+  held (in_parts count.Others s.parts),
+  held (in_parts count.Types s.parts + one_if (is_pseudo s.pseudo)),
+)

@@ -1,5 +1,6 @@
 -- The nodes beside a node, one after another.
-use Rattle.std.specs.Prelude.{ℕ, zero, suc, Bool, false, not, ◌||◌, if◌then◌else◌, ◌==◌, List, [], ◌∷◌, Option, None, Some, length}
+use Rattle.std.specs.Prelude.{ℕ, zero, suc, Bool, false, not, ◌||◌, if◌then◌else◌, ◌==◌}
+use Rattle.std.specs.Prelude.{List, [], ◌∷◌, Option, None, Some, length}
 use Rattle.std.specs.Str.{bytes_eq}
 use Rattle.dom.specs.Nodes.{Node, parents_of, first_child_of, next_of, prev_of, is_element_at, name_at, text_at}
 use Rattle.selectors.specs.declared.walk.Way.{Way}
@@ -58,6 +59,10 @@ abbrev pub asks : List Node → Ask → ℕ → ℕ → Bool
 asks nodes ask.Element n m = is_element_at nodes m
 asks nodes ask.SameType n m = same_type nodes n m
 asks nodes ask.Content n m = is_content nodes m
+
+-- the first node along a way, from a first one, of which the answer is yes; the number bounds the steps
+abbrev pub first_asked : List Node → Ask → ℕ → Way → ℕ → Option ℕ → Option ℕ
+first_asked nodes ask n way steps first = first_such (asks nodes ask n) (chain (beside nodes way) steps first)
 
 -- the element sibling just before a node
 unfoldable pub prev_element : List Node → ℕ → Option ℕ

@@ -1,19 +1,20 @@
 //! Reads An+B, the argument of `:nth-child`.
 
-ghost use Rattle.std.specs.Prelude.{◌≡◌, ◌≤◌, ◌<◌, ◌+◌, ◌*◌, min, ◌==◌, length, option_map, pos, neg_ℤ, unsigned_abs};
+ghost use Rattle.std.specs.Prelude.{◌≡◌, ◌≤◌, ◌<◌, ◌+◌, ◌*◌, length, min, ◌==◌, option_map, pos, neg_ℤ};
 ghost use Rattle.std.specs.Char.{is_ascii_digit};
 ghost use Rattle.std.specs.List.{list_all};
 ghost use Rattle.css_tok.specs.Tokens.{item_in};
+ghost use Rattle.css_words.specs.Parser.{Reads, Owns};
 ghost use Rattle.selectors.specs.AnPlusB as spec;
-ghost use Rattle.selectors.specs.Parser.{Reads, Owns};
 
-use crate::reader::Reader;
-use crate::words::{Unread, is_ident, is_mark, is_named, value};
 use bk_num::name::Name;
-use css_tok::front::CssKind;
+use css_tok::kind::CssKind;
 use css_tok::lengths::{byte, number_len, sign_len};
 use css_tok::plain::plain;
 use css_tok::tokens::CssToken;
+use css_words::reader::Reader;
+use css_words::unread::Unread;
+use css_words::words::{is_mark, is_named, of_kind, value};
 use std::alloc::Global;
 
 /// What stands after the `n` of a name or a unit.
@@ -168,10 +169,7 @@ fn unit_slice<'a>(token: Option<CssToken<'a>>) -> &'a str
 fn unit(alloc: Global, token: Option<CssToken<'_>>) -> Result<Name, Unread>
     ensures { Owns (spec.unit (option_map item_in token.entry)) result }
 {
-    match plain(alloc, unit_slice(token)) {
-        Ok(name) => Ok(name),
-        Err(_) => Err(Unread::NoMemory),
-    }
+    Ok(plain(alloc, unit_slice(token))?)
 }
 
 fn are_digits(text: &[u8]) -> bool
@@ -217,8 +215,9 @@ fn after_n(text: &[u8]) -> Option<AfterN>
 }
 
 #[tactic(auto, unfolding(crate::specs::AnPlusB::signless))]
-fn signless(reader: &mut Reader<'_, '_>) -> Result<u32, Unread>
-    ensures { Reads (λ x. x) (spec.signless reader.old) result reader.new }
+fn signless(reader: &mut Reader<'_>) -> Result<u32, Unread>
+    ensures reads { Reads (λ x. x) (spec.signless reader.old) result reader.new }
+    ensures within { length reader.new ≤ length reader.old }
 {
     reader.pass_spaces();
     let token = reader.peek();
@@ -230,8 +229,9 @@ fn signless(reader: &mut Reader<'_, '_>) -> Result<u32, Unread>
 }
 
 #[tactic(auto, unfolding(crate::specs::AnPlusB::signed_or_none))]
-fn signed_or_none(reader: &mut Reader<'_, '_>, a: i64) -> Result<(i64, i64), Unread>
-    ensures { Reads (λ x. (x.0, x.1)) (spec.signed_or_none a reader.old) result reader.new }
+fn signed_or_none(reader: &mut Reader<'_>, a: i64) -> Result<(i64, i64), Unread>
+    ensures reads { Reads (λ x. (x.0, x.1)) (spec.signed_or_none a reader.old) result reader.new }
+    ensures within { length reader.new ≤ length reader.old }
 {
     reader.pass_spaces();
     let token = reader.peek();
@@ -252,8 +252,9 @@ fn signed_or_none(reader: &mut Reader<'_, '_>, a: i64) -> Result<(i64, i64), Unr
     Ok((a, 0))
 }
 
-fn rest_of_b(reader: &mut Reader<'_, '_>, a: i64, after: AfterN) -> Result<(i64, i64), Unread>
-    ensures { Reads (λ x. (x.0, x.1)) (spec.rest_of_b a after reader.old) result reader.new }
+fn rest_of_b(reader: &mut Reader<'_>, a: i64, after: AfterN) -> Result<(i64, i64), Unread>
+    ensures reads { Reads (λ x. (x.0, x.1)) (spec.rest_of_b a after reader.old) result reader.new }
+    ensures within { length reader.new ≤ length reader.old }
 {
     match after {
         AfterN::Anything => signed_or_none(reader, a),
@@ -266,8 +267,9 @@ fn rest_of_b(reader: &mut Reader<'_, '_>, a: i64, after: AfterN) -> Result<(i64,
 }
 
 #[tactic(auto, unfolding(crate::specs::AnPlusB::with_n))]
-fn with_n(reader: &mut Reader<'_, '_>, a: i64, text: &[u8]) -> Result<(i64, i64), Unread>
-    ensures { Reads (λ x. (x.0, x.1)) (spec.with_n a text.now reader.old) result reader.new }
+fn with_n(reader: &mut Reader<'_>, a: i64, text: &[u8]) -> Result<(i64, i64), Unread>
+    ensures reads { Reads (λ x. (x.0, x.1)) (spec.with_n a text.now reader.old) result reader.new }
+    ensures within { length reader.new ≤ length reader.old }
 {
     let Some(after) = after_n(text) else {
         return Err(Unread::NoReading);
@@ -277,8 +279,9 @@ fn with_n(reader: &mut Reader<'_, '_>, a: i64, text: &[u8]) -> Result<(i64, i64)
 }
 
 #[tactic(auto, unfolding(crate::specs::AnPlusB::named_n))]
-fn named_n(reader: &mut Reader<'_, '_>, text: &[u8]) -> Result<(i64, i64), Unread>
-    ensures { Reads (λ x. (x.0, x.1)) (spec.named_n text.now reader.old) result reader.new }
+fn named_n(reader: &mut Reader<'_>, text: &[u8]) -> Result<(i64, i64), Unread>
+    ensures reads { Reads (λ x. (x.0, x.1)) (spec.named_n text.now reader.old) result reader.new }
+    ensures within { length reader.new ≤ length reader.old }
 {
     if text.len() != 0 && byte(text, 0) == b'-' {
         with_n(reader, -1, &text[1..])
@@ -287,32 +290,27 @@ fn named_n(reader: &mut Reader<'_, '_>, text: &[u8]) -> Result<(i64, i64), Unrea
     }
 }
 
-fn keyword(token: Option<CssToken<'_>>, word: &str) -> bool
-    ensures { result ≡ spec.is_keyword (option_map item_in token.entry) word.now }
-{
-    is_ident(token) && is_named(token, word)
-}
-
 /// Reads `odd`, `even`, a whole number, or An+B (css-syntax, 6): A and B. A number above 999,999,999 is read as that.
 #[tactic(auto, unfolding(crate::specs::AnPlusB::an_plus_b))]
-pub(crate) fn an_plus_b(alloc: Global, reader: &mut Reader<'_, '_>) -> Result<(i64, i64), Unread>
-    ensures { Reads (λ x. (x.0, x.1)) (spec.an_plus_b reader.old) result reader.new }
+pub(crate) fn an_plus_b(alloc: Global, reader: &mut Reader<'_>) -> Result<(i64, i64), Unread>
+    ensures reads { Reads (λ x. (x.0, x.1)) (spec.an_plus_b reader.old) result reader.new }
+    ensures within { length reader.new ≤ length reader.old }
 {
     let token = reader.peek();
     let second = reader.second();
-    if keyword(token, "odd") {
+    if is_named(CssKind::Ident, token, "odd") {
         reader.advance();
         return Ok((2, 1));
     }
-    if keyword(token, "even") {
+    if is_named(CssKind::Ident, token, "even") {
         reader.advance();
         return Ok((2, 0));
     }
-    if is_ident(token) {
+    if of_kind(CssKind::Ident, token) {
         let name = value(alloc, token)?;
         return named_n(reader, name.as_str().as_bytes());
     }
-    if is_mark(b'+', token) && is_ident(second) {
+    if is_mark(b'+', token) && of_kind(CssKind::Ident, second) {
         let name = value(alloc, second)?;
         reader.advance();
         return with_n(reader, 1, name.as_str().as_bytes());

@@ -1,17 +1,20 @@
 //! Whether an element fits a compound.
 
-ghost use Rattle.std.specs.Prelude.{◌≡◌, ◌<◌, ◌≤◌, ◌+◌, ◌^◌, ◌&&◌, unsigned_abs, ℕ, true, false, not, List, length, option_map, is_some, drop, nat_eq, int_lt, if◌then◌else◌, slice_index, pos, ◌-ℤ◌, ◌==◌, codes, IsTrue, IfSome};
+ghost use Rattle.std.specs.Prelude.{◌≡◌, ◌<◌, ◌+◌, ◌^◌, ◌&&◌, unsigned_abs, true, false, not, length, option_map, is_some, drop, int_lt};
+ghost use Rattle.std.specs.Prelude.{if◌then◌else◌, slice_index, pos, ◌-ℤ◌, ◌==◌, codes};
 ghost use Rattle.std.specs.List.{list_any, list_all, starts_with};
 ghost use Rattle.css_tok.specs.Lengths.{is_blank};
-ghost use Rattle.dom.specs.Nodes.{Node, parents_of, parent_at, next_of, prev_of, is_element_at, name_at, text_at, attribute_at};
+ghost use Rattle.dom.specs.Nodes.{name_at, attribute_at};
 ghost use Rattle.selectors.specs.Fits as spec;
 ghost use Rattle.selectors.specs.Walk.{name_is};
 
+use crate::document::Document;
 use crate::types::{AttrTest, Compound, Plain, Test};
-use crate::walk::{Way, has_content, has_same_type, is_element, parent};
+use crate::walk::{has_content, is_element, parent};
 use bk_num::ids::NodeId;
 use bk_num::name::Name;
 use dom::Dom;
+use memchr::memmem;
 
 pub fn is_blank(b: u8) -> bool
     ensures { result ≡ is_blank b }
@@ -45,13 +48,6 @@ fn starts_word(start: bool, word: &[u8], text: &[u8], at: usize) -> bool
     start && begins_word(word, &text[at..])
 }
 
-fn starts_at(part: &[u8], text: &[u8], at: usize) -> bool
-    requires { at < length text.now }
-    ensures { result ≡ starts_with nat_eq (drop at text.now) part.now }
-{
-    text[at..].starts_with(part)
-}
-
 #[tactic(auto, using(crate::proofs::TextLemmas::word_step, crate::proofs::TextLemmas::word_end))]
 fn has_word_in(word: &[u8], text: &[u8]) -> bool
     ensures { result ≡ spec.has_word_from true word.now text.now }
@@ -73,16 +69,11 @@ fn has_word(word: &[u8], text: &[u8]) -> bool
     !word.is_empty() && !has_blank(word) && has_word_in(word, text)
 }
 
-#[tactic(auto, using(crate::proofs::TextLemmas::occurs_step, crate::proofs::TextLemmas::occurs_end))]
 fn occurs(part: &[u8], text: &[u8]) -> bool
+    requires { 0 < length part.now }
     ensures { result ≡ spec.occurs part.now text.now }
 {
-    for at in 0..text.len() {
-        if starts_at(part, text, at) {
-            return true;
-        }
-    }
-    false
+    memmem::find(text, part).is_some()
 }
 
 fn passes(test: AttrTest, wanted: &[u8], value: &[u8]) -> bool
@@ -179,10 +170,11 @@ fn is_link(dom: &Dom, node: NodeId) -> bool
 }
 
 #[tactic(auto, unfolding(crate::specs::Fits::passes_test))]
-fn passes_test(dom: &Dom, node: NodeId, test: &Test) -> bool
-    requires { node.0 < length dom.now }
-    ensures { result ≡ spec.passes_test dom.now node.0 test.now }
+fn passes_test(document: &Document<'_>, node: NodeId, test: &Test) -> bool
+    requires { node.0 < length document.now }
+    ensures { result ≡ spec.passes_test document.now node.0 test.now }
 {
+    let dom = document.dom();
     match test {
         Test::Id(id) => attribute_passes(dom, node, "id", AttrTest::Equals, id.as_str()),
         Test::Class(class) => {
@@ -196,8 +188,8 @@ fn passes_test(dom: &Dom, node: NodeId, test: &Test) -> bool
         Test::FirstChild => dom.elements_before(node) == 0,
         Test::LastChild => is_last(dom, node),
         Test::OnlyChild => dom.elements_before(node) == 0 && is_last(dom, node),
-        Test::FirstOfType => !has_same_type(dom, Way::Before, node),
-        Test::LastOfType => !has_same_type(dom, Way::After, node),
+        Test::FirstOfType => document.is_first_of_type(node),
+        Test::LastOfType => document.is_last_of_type(node),
         Test::Empty => !has_content(dom, node),
         Test::Link => is_link(dom, node),
     }
@@ -220,35 +212,36 @@ fn has_name(dom: &Dom, node: NodeId, name: &Option<Name>) -> bool
     }
 }
 
-fn passes_all(dom: &Dom, node: NodeId, tests: &[Test]) -> bool
-    requires { node.0 < length dom.now }
-    ensures { result ≡ list_all (spec.passes_test dom.now node.0) tests.now }
+fn passes_all(document: &Document<'_>, node: NodeId, tests: &[Test]) -> bool
+    requires { node.0 < length document.now }
+    ensures { result ≡ list_all (spec.passes_test document.now node.0) tests.now }
 {
-    tests.iter().all(|test| passes_test(dom, node, test))
+    tests.iter().all(|test| passes_test(document, node, test))
 }
 
-fn fits_any(dom: &Dom, node: NodeId, plains: &[Plain]) -> bool
-    requires { node.0 < length dom.now }
-    ensures { result ≡ list_any (spec.fits_plain dom.now node.0) plains.now }
+fn fits_any(document: &Document<'_>, node: NodeId, plains: &[Plain]) -> bool
+    requires { node.0 < length document.now }
+    ensures { result ≡ list_any (spec.fits_plain document.now node.0) plains.now }
 {
-    plains.iter().any(|plain| fits_plain(dom, node, plain))
+    plains.iter().any(|plain| fits_plain(document, node, plain))
 }
 
 #[tactic(auto, unfolding(crate::specs::Fits::fits_plain))]
-fn fits_plain(dom: &Dom, node: NodeId, plain: &Plain) -> bool
-    requires { node.0 < length dom.now }
-    ensures { result ≡ spec.fits_plain dom.now node.0 plain.now }
+fn fits_plain(document: &Document<'_>, node: NodeId, plain: &Plain) -> bool
+    requires { node.0 < length document.now }
+    ensures { result ≡ spec.fits_plain document.now node.0 plain.now }
 {
-    has_name(dom, node, &plain.name) && passes_all(dom, node, plain.tests.as_slice())
+    has_name(document.dom(), node, &plain.name)
+        && passes_all(document, node, plain.tests.as_slice())
 }
 
 /// Whether an element fits what a compound asks for, and nothing that it excludes.
 #[tactic(auto, unfolding(crate::specs::Fits::fits_compound))]
-pub(crate) fn fits_compound(dom: &Dom, node: NodeId, compound: &Compound) -> bool
-    requires { node.0 < length dom.now }
-    ensures { result ≡ spec.fits_compound dom.now node.0 compound.now }
+pub(crate) fn fits_compound(document: &Document<'_>, node: NodeId, compound: &Compound) -> bool
+    requires { node.0 < length document.now }
+    ensures { result ≡ spec.fits_compound document.now node.0 compound.now }
 {
-    is_element(dom, node)
-        && fits_plain(dom, node, &compound.plain)
-        && !fits_any(dom, node, compound.nots.as_slice())
+    is_element(document.dom(), node)
+        && fits_plain(document, node, &compound.plain)
+        && !fits_any(document, node, compound.nots.as_slice())
 }

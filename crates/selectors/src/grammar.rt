@@ -1,22 +1,23 @@
 //! Reads selectors.
 
-ghost use Rattle.std.specs.Prelude.{◌≡◌, ◌++◌, ◌∷◌, ◌&&◌, ◌<◌, ◌^◌, [], if◌then◌else◌, length, option_map, Some, string_bytes, IfOk, OnOk, IfErr};
-ghost use Rattle.std.specs.Str.{str_to_ascii_lowercase};
-ghost use Rattle.css_tok.specs.Plain.{plain_of};
-ghost use Rattle.css_tok.specs.Tokens.{tokens_of, item_in};
+ghost use Rattle.std.specs.Prelude.{◌≡◌, ◌∷◌, ◌≤◌, ◌<◌, [], length, option_map, IfOk, IfSome};
+ghost use Rattle.css_tok.specs.Tokens.{item_in};
+ghost use Rattle.css_words.specs.Parser.{Reads, Owns};
+ghost use Rattle.css_words.specs.Repeat.{many, with_prefix};
 ghost use Rattle.selectors.specs.Grammar as spec;
-ghost use Rattle.selectors.specs.Grammar.{Reads};
-ghost use Rattle.selectors.specs.Reader.{significant, is_space_kind};
 ghost use Rattle.selectors.specs.Specificity.{is_pseudo};
 
-use crate::reader::{Reader, significant};
+use crate::short::Few;
 use crate::simple::{all_tests, is_function, next_test};
 use crate::types::{Compound, Join, Plain, Selector, SelectorList, Test};
-use crate::words::{Unread, expect, is_ident, is_mark, is_named, is_space, lower_value, push};
 use bk_num::items::Items;
 use bk_num::name::{Name, NoMem};
 use bk_num::values::Pseudo;
+use css_tok::kind::CssKind;
 use css_tok::tokens::CssToken;
+use css_words::reader::{Reader, Skipped};
+use css_words::unread::Unread;
+use css_words::words::{expect, is_mark, is_named, lower_ident, of_kind};
 use std::alloc::Global;
 
 /// The type that a compound asks for.
@@ -35,13 +36,13 @@ pub enum Part {
 }
 
 #[tactic(auto, unfolding(crate::specs::Grammar::type_name))]
-fn type_name(alloc: Global, reader: &mut Reader<'_, '_>) -> Result<Kinship, Unread>
-    ensures { Reads (λ x. x) (spec.type_name reader.old) result reader.new }
+fn type_name(alloc: Global, reader: &mut Reader<'_>) -> Result<Kinship, Unread>
+    ensures reads { Reads (λ x. x) (spec.type_name reader.old) result reader.new }
+    ensures within { length reader.new ≤ length reader.old }
 {
     let token = reader.peek();
-    if is_ident(token) {
-        reader.advance();
-        return Ok(Kinship::Named(lower_value(alloc, token)?));
+    if of_kind(CssKind::Ident, token) {
+        return Ok(Kinship::Named(lower_ident(alloc, reader)?));
     }
     if is_mark(b'*', token) {
         reader.advance();
@@ -67,8 +68,9 @@ fn name_of(kin: Kinship) -> Option<Name>
 }
 
 #[tactic(auto, unfolding(crate::specs::Grammar::plain))]
-fn plain(alloc: Global, reader: &mut Reader<'_, '_>) -> Result<Plain, Unread>
-    ensures { Reads (λ x. x) (spec.plain reader.old) result reader.new }
+fn plain(alloc: Global, reader: &mut Reader<'_>) -> Result<Plain, Unread>
+    ensures reads { Reads (λ x. x) (spec.plain reader.old) result reader.new }
+    ensures within { length reader.new ≤ length reader.old }
 {
     let kin = type_name(alloc, reader)?;
     let tests = all_tests(alloc, reader)?;
@@ -80,8 +82,10 @@ fn plain(alloc: Global, reader: &mut Reader<'_, '_>) -> Result<Plain, Unread>
 }
 
 #[tactic(auto, unfolding(crate::specs::Grammar::negation))]
-fn negation(alloc: Global, reader: &mut Reader<'_, '_>) -> Result<Plain, Unread>
-    ensures { Reads (λ x. x) (spec.negation reader.old) result reader.new }
+fn negation(alloc: Global, reader: &mut Reader<'_>) -> Result<Plain, Unread>
+    ensures reads { Reads (λ x. x) (spec.negation reader.old) result reader.new }
+    ensures within { length reader.new ≤ length reader.old }
+    ensures taken { 0 < length reader.old → length reader.new < length reader.old }
 {
     reader.advance();
     reader.advance();
@@ -92,11 +96,15 @@ fn negation(alloc: Global, reader: &mut Reader<'_, '_>) -> Result<Plain, Unread>
     Ok(plain)
 }
 
-#[tactic(auto, unfolding(crate::specs::Grammar::next_part))]
-fn next_part(alloc: Global, reader: &mut Reader<'_, '_>) -> Result<Option<Part>, Unread>
-    ensures { Reads (λ x. x) (spec.next_part reader.old) result reader.new }
+/// The next simple selector other than a type; None where none comes.
+#[tactic(auto, unfolding(crate::specs::Grammar::next_part, css_words::specs::Words::is_mark))]
+fn next_part(alloc: Global, reader: &mut Reader<'_>) -> Result<Option<Part>, Unread>
+    ensures reads { Reads (λ x. x) (spec.next_part reader.old) result reader.new }
+    ensures within { length reader.new ≤ length reader.old }
+    ensures taken { IfOk result (λ o. IfSome o (λ _. length reader.new < length reader.old)) }
 {
-    if is_function(reader.peek(), reader.second(), "not") {
+    let token = reader.peek();
+    if token.is_some() && is_function(token, reader.second(), "not") {
         return Ok(Some(Part::Not(negation(alloc, reader)?)));
     }
     match next_test(alloc, reader)? {
@@ -107,44 +115,44 @@ fn next_part(alloc: Global, reader: &mut Reader<'_, '_>) -> Result<Option<Part>,
 
 /// Keeps a part of a compound.
 fn keep(
-    found: (Items<Test>, Items<Plain>),
+    alloc: Global,
+    found: (Few<Test>, Few<Plain>),
     part: Part,
-) -> Result<(Items<Test>, Items<Plain>), Unread>
-    ensures { spec.Owns (spec.with_part found part) result }
+) -> Result<(Few<Test>, Few<Plain>), Unread>
+    ensures { Owns (spec.with_part found part) result }
 {
     let (mut tests, mut nots) = found;
     match part {
         Part::Test(test) => {
-            push(&mut tests, test)?;
+            tests.push(alloc, test)?;
             Ok((tests, nots))
         }
         Part::Not(plain) => {
-            push(&mut nots, plain)?;
+            nots.push(alloc, plain)?;
             Ok((tests, nots))
         }
     }
 }
 
-#[tactic(auto, unfolding(crate::specs::Grammar::all_parts))]
-fn all_parts(
-    alloc: Global,
-    reader: &mut Reader<'_, '_>,
-) -> Result<(Items<Test>, Items<Plain>), Unread>
-    ensures { Reads (λ x. x) (spec.all_parts reader.old) result reader.new }
+/// The simple selectors of a compound other than its type.
+#[tactic(auto, unfolding(crate::specs::Grammar::all_parts), using(crate::proofs::LoopLemmas::part_turns))]
+fn all_parts(alloc: Global, reader: &mut Reader<'_>) -> Result<(Few<Test>, Few<Plain>), Unread>
+    ensures reads { Reads (λ x. x) (spec.all_parts reader.old) result reader.new }
+    ensures within { length reader.new ≤ length reader.old }
 {
-    let mut found = (Items::new(alloc), Items::new(alloc));
-    for turn in 0..reader.left() {
+    let mut found = (Few::new(), Few::new());
+    'parts: loop {
         match next_part(alloc, reader)? {
-            Some(part) => found = keep(found, part)?,
+            Some(part) => found = keep(alloc, found, part)?,
             None => return Ok(found),
         }
     }
-    Ok(found)
 }
 
 #[tactic(auto, unfolding(crate::specs::Grammar::compound))]
-fn compound(alloc: Global, reader: &mut Reader<'_, '_>) -> Result<Compound, Unread>
-    ensures { Reads (λ x. x) (spec.compound reader.old) result reader.new }
+fn compound(alloc: Global, reader: &mut Reader<'_>) -> Result<Compound, Unread>
+    ensures reads { Reads (λ x. x) (spec.compound reader.old) result reader.new }
+    ensures within { length reader.new ≤ length reader.old }
 {
     let kin = type_name(alloc, reader)?;
     let (tests, nots) = all_parts(alloc, reader)?;
@@ -163,11 +171,9 @@ fn compound(alloc: Global, reader: &mut Reader<'_, '_>) -> Result<Compound, Unre
 fn old_pseudo(token: Option<CssToken<'_>>) -> Option<Pseudo>
     ensures { result ≡ spec.old_pseudo (option_map item_in token.entry) }
 {
-    if !is_ident(token) {
-        None
-    } else if is_named(token, "before") {
+    if is_named(CssKind::Ident, token, "before") {
         Some(Pseudo::Before)
-    } else if is_named(token, "after") {
+    } else if is_named(CssKind::Ident, token, "after") {
         Some(Pseudo::After)
     } else {
         None
@@ -178,11 +184,9 @@ fn old_pseudo(token: Option<CssToken<'_>>) -> Option<Pseudo>
 fn new_pseudo(token: Option<CssToken<'_>>) -> Option<Pseudo>
     ensures { result ≡ spec.new_pseudo (option_map item_in token.entry) }
 {
-    if !is_ident(token) {
-        None
-    } else if is_named(token, "footnote-call") {
+    if is_named(CssKind::Ident, token, "footnote-call") {
         Some(Pseudo::Call)
-    } else if is_named(token, "footnote-marker") {
+    } else if is_named(CssKind::Ident, token, "footnote-marker") {
         Some(Pseudo::Marker)
     } else {
         old_pseudo(token)
@@ -190,7 +194,7 @@ fn new_pseudo(token: Option<CssToken<'_>>) -> Option<Pseudo>
 }
 
 fn pseudo_of(old: bool, token: Option<CssToken<'_>>) -> Option<Pseudo>
-    ensures { result ≡ (if old then spec.old_pseudo (option_map item_in token.entry) else spec.new_pseudo (option_map item_in token.entry)) }
+    ensures { result ≡ spec.pseudo_of old (option_map item_in token.entry) }
 {
     if old {
         old_pseudo(token)
@@ -200,8 +204,9 @@ fn pseudo_of(old: bool, token: Option<CssToken<'_>>) -> Option<Pseudo>
 }
 
 #[tactic(auto, unfolding(crate::specs::Grammar::pseudo_name))]
-fn pseudo_name(reader: &mut Reader<'_, '_>, old: bool) -> Result<Pseudo, Unread>
-    ensures { Reads (λ x. x) (spec.pseudo_name old reader.old) result reader.new }
+fn pseudo_name(reader: &mut Reader<'_>, old: bool) -> Result<Pseudo, Unread>
+    ensures reads { Reads (λ x. x) (spec.pseudo_name old reader.old) result reader.new }
+    ensures within { length reader.new ≤ length reader.old }
 {
     let Some(pseudo) = pseudo_of(old, reader.peek()) else {
         return Err(Unread::NoReading);
@@ -211,8 +216,9 @@ fn pseudo_name(reader: &mut Reader<'_, '_>, old: bool) -> Result<Pseudo, Unread>
 }
 
 #[tactic(auto, unfolding(crate::specs::Grammar::pseudo_element))]
-fn pseudo_element(reader: &mut Reader<'_, '_>) -> Result<Pseudo, Unread>
-    ensures { Reads (λ x. x) (spec.pseudo_element reader.old) result reader.new }
+fn pseudo_element(reader: &mut Reader<'_>) -> Result<Pseudo, Unread>
+    ensures reads { Reads (λ x. x) (spec.pseudo_element reader.old) result reader.new }
+    ensures within { length reader.new ≤ length reader.old }
 {
     let second = reader.second();
     if !is_mark(b':', reader.peek()) {
@@ -252,10 +258,11 @@ fn is_over(token: Option<CssToken<'_>>) -> bool
 }
 
 #[tactic(auto, unfolding(crate::specs::Grammar::combinator))]
-fn combinator(reader: &mut Reader<'_, '_>) -> Result<Option<Join>, Unread>
-    ensures { Reads (λ x. x) (spec.combinator reader.old) result reader.new }
+fn combinator(reader: &mut Reader<'_>) -> Result<Option<Join>, Unread>
+    ensures reads { Reads (λ x. x) (spec.combinator reader.old) result reader.new }
+    ensures within { length reader.new ≤ length reader.old }
 {
-    let space = is_space(reader.peek());
+    let space = of_kind(CssKind::Space, reader.peek());
     reader.pass_spaces();
     let token = reader.peek();
     if let Some(join) = combinator_of(token) {
@@ -281,10 +288,11 @@ fn is_pseudo(pseudo: Pseudo) -> bool
 /// The combinator and the compound that follow, or none at the end of the selector.
 fn next_compound(
     alloc: Global,
-    reader: &mut Reader<'_, '_>,
+    reader: &mut Reader<'_>,
     pseudo: Pseudo,
 ) -> Result<Option<(Join, Compound)>, Unread>
-    ensures { Reads (λ x. x) (spec.next_compound pseudo reader.old) result reader.new }
+    ensures reads { Reads (λ x. x) (spec.next_compound pseudo reader.old) result reader.new }
+    ensures within { length reader.new ≤ length reader.old }
 {
     let Some(join) = combinator(reader)? else {
         return Ok(None);
@@ -297,12 +305,13 @@ fn next_compound(
 }
 
 /// What follows the first compound of a selector.
-fn rest(alloc: Global, reader: &mut Reader<'_, '_>, first: Compound) -> Result<Selector, Unread>
-    ensures { Reads (λ x. x) (spec.rest_from 16 (first ∷ []) [] reader.old) result reader.new }
+fn rest(alloc: Global, reader: &mut Reader<'_>, first: Compound) -> Result<Selector, Unread>
+    ensures reads { Reads (λ x. x) (spec.rest_from 16 (first ∷ []) [] reader.old) result reader.new }
+    ensures within { length reader.new ≤ length reader.old }
 {
-    let mut parts = Items::new(alloc);
-    let mut joins = Items::new(alloc);
-    push(&mut parts, first)?;
+    let mut parts = Few::new();
+    let mut joins = Few::new();
+    parts.push(alloc, first)?;
     for turn in 0..16u32 {
         let pseudo = pseudo_element(reader)?;
         match next_compound(alloc, reader, pseudo)? {
@@ -314,8 +323,8 @@ fn rest(alloc: Global, reader: &mut Reader<'_, '_>, first: Compound) -> Result<S
                 });
             }
             Some((join, compound)) => {
-                push(&mut parts, compound)?;
-                push(&mut joins, join)?;
+                parts.push(alloc, compound)?;
+                joins.push(alloc, join)?;
             }
         }
     }
@@ -323,50 +332,63 @@ fn rest(alloc: Global, reader: &mut Reader<'_, '_>, first: Compound) -> Result<S
 }
 
 #[tactic(auto, unfolding(crate::specs::Grammar::selector))]
-fn selector(alloc: Global, reader: &mut Reader<'_, '_>) -> Result<Selector, Unread>
-    ensures { Reads (λ x. x) (spec.selector reader.old) result reader.new }
+fn selector(alloc: Global, reader: &mut Reader<'_>) -> Result<Selector, Unread>
+    ensures reads { Reads (λ x. x) (spec.selector reader.old) result reader.new }
+    ensures within { length reader.new ≤ length reader.old }
 {
     reader.pass_spaces();
     let first = compound(alloc, reader)?;
     rest(alloc, reader, first)
 }
 
-/// A selector, and whether a comma follows, which is taken.
-#[tactic(auto, unfolding(crate::specs::Grammar::next_selector))]
-fn next_selector(alloc: Global, reader: &mut Reader<'_, '_>) -> Result<(Selector, bool), Unread>
-    ensures { Reads (λ x. (x.0, x.1)) (spec.next_selector reader.old) result reader.new }
+/// The selector after a comma; None where no comma comes.
+#[tactic(auto, unfolding(crate::specs::Grammar::next_selector, css_words::specs::Words::is_mark))]
+fn next_selector(alloc: Global, reader: &mut Reader<'_>) -> Result<Option<Selector>, Unread>
+    ensures reads { Reads (λ x. x) (spec.next_selector reader.old) result reader.new }
+    ensures within { length reader.new ≤ length reader.old }
+    ensures taken { IfOk result (λ o. IfSome o (λ _. length reader.new < length reader.old)) }
 {
-    let selector = selector(alloc, reader)?;
-    if is_mark(b',', reader.peek()) {
-        reader.advance();
-        return Ok((selector, true));
+    let token = reader.peek();
+    if token.is_none() || !is_mark(b',', token) {
+        return Ok(None);
     }
-    Ok((selector, false))
+    reader.advance();
+    Ok(Some(selector(alloc, reader)?))
+}
+
+/// Reads the selectors that follow a first one.
+#[tactic(auto, using(css_words::proofs::RepeatLemmas::many_turns))]
+fn more_selectors(
+    alloc: Global,
+    reader: &mut Reader<'_>,
+    first: Selector,
+) -> Result<Items<Selector>, Unread>
+    ensures { Reads (λ x. x) (with_prefix (first ∷ []) (many spec.next_selector reader.old)) result reader.new }
+{
+    let mut found = Items::new(alloc);
+    found.push(first)?;
+    'selectors: loop {
+        match next_selector(alloc, reader)? {
+            Some(next) => found.push(next)?,
+            None => return Ok(found),
+        }
+    }
 }
 
 #[tactic(auto, unfolding(crate::specs::Grammar::selectors))]
-fn selectors(alloc: Global, reader: &mut Reader<'_, '_>) -> Result<Items<Selector>, Unread>
-    requires { length reader.old < 2 ^ 63 }
+fn selectors(alloc: Global, reader: &mut Reader<'_>) -> Result<Items<Selector>, Unread>
     ensures { Reads (λ x. x) (spec.selectors reader.old) result reader.new }
 {
-    let mut found = Items::new(alloc);
-    for turn in 0..reader.left() + 1 {
-        let (selector, more) = next_selector(alloc, reader)?;
-        push(&mut found, selector)?;
-        if !more {
-            return Ok(found);
-        }
-    }
-    Err(Unread::NoReading)
+    let first = selector(alloc, reader)?;
+    more_selectors(alloc, reader, first)
 }
 
 /// Reads a list of selectors (Selectors 3, 10.1); None exactly where it has no reading. One selector
 /// without a reading leaves the whole list unread.
 pub fn read_selectors(alloc: Global, text: &str) -> Result<Option<SelectorList>, NoMem>
-    ensures { IfOk result (λ o. option_map (λ l. l.items) o ≡ spec.selectors_in (significant (tokens_of text.now))) }
+    ensures { IfOk result (λ o. option_map (λ l. l.items) o ≡ spec.selectors_in text.now) }
 {
-    let tokens = significant(alloc, text)?;
-    let mut reader = Reader::new(&tokens);
+    let mut reader = Reader::new(text, Skipped::Comments);
     match selectors(alloc, &mut reader) {
         Ok(items) => Ok(Some(SelectorList { items })),
         Err(Unread::NoReading) => Ok(None),

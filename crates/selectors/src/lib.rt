@@ -2,15 +2,15 @@
 #![tactic(auto)]
 
 mod an_plus_b;
+pub mod document;
 pub mod fits;
 pub mod grammar;
 pub mod matching;
-pub mod reader;
 pub mod sets;
+pub mod short;
 mod simple;
 pub mod specificity;
 #[cfg(test)]
 mod tests;
 pub mod types;
 pub mod walk;
-mod words;

@@ -1,10 +1,12 @@
 //! Whether a selector matches a node: one pass from the node to the root, over sets of compounds.
 
-ghost use Rattle.std.specs.Prelude.{◌≡◌, ◌<◌, ◌≤◌, ◌+◌, ◌&&◌, ◌↔◌, ℕ, suc, true, length, option_map, Some, None, IsTrue, IfNone, IfSome};
+ghost use Rattle.std.specs.Prelude.{◌≡◌, ◌<◌, ◌≤◌, ◌+◌, ◌&&◌, ◌↔◌, ℕ, suc, true};
+ghost use Rattle.std.specs.Prelude.{length, option_map, Some, None, IsTrue, IfNone, IfSome};
 ghost use Rattle.selectors.specs.Match.{Matches, fits, joins_by, parent_of};
 ghost use Rattle.selectors.specs.Sets as sets;
 ghost use Rattle.selectors.specs.Walk.{prev_element};
 
+use crate::document::Document;
 use crate::fits::fits_compound;
 use crate::sets::{has, union, with};
 use crate::types::{Join, Selector};
@@ -13,13 +15,13 @@ use bk_num::ids::NodeId;
 use dom::Dom;
 
 #[tactic(auto, unfolding(crate::specs::Match::fits))]
-fn fits(selector: &Selector, at: usize, dom: &Dom, node: NodeId) -> bool
+fn fits(selector: &Selector, at: usize, document: &Document<'_>, node: NodeId) -> bool
     requires within { at < length selector.now.parts }
-    requires node { node.0 < length dom.now }
-    ensures { result ≡ fits dom.now selector.now at node.0 }
+    requires node { node.0 < length document.now }
+    ensures { result ≡ fits document.now selector.now at node.0 }
 {
     match selector.parts().get(at) {
-        Some(compound) => fits_compound(dom, node, compound),
+        Some(compound) => fits_compound(document, node, compound),
         None => false,
     }
 }
@@ -48,13 +50,13 @@ pub fn count(selector: &Selector) -> usize
 
 /// The wanted compounds that a node fits.
 #[tactic(auto, using(crate::proofs::SetLemmas::has_none))]
-pub fn fitting(selector: &Selector, dom: &Dom, node: NodeId, wanted: u16) -> u16
-    requires { node.0 < length dom.now }
-    ensures { (k : ℕ) → sets.has result k ≡ (sets.has wanted k && fits dom.now selector.now k node.0) }
+pub fn fitting(selector: &Selector, document: &Document<'_>, node: NodeId, wanted: u16) -> u16
+    requires { node.0 < length document.now }
+    ensures { (k : ℕ) → sets.has result k ≡ (sets.has wanted k && fits document.now selector.now k node.0) }
 {
     let mut found = 0;
     for k in 0..count(selector) {
-        if has(wanted, k) && fits(selector, k, dom, node) {
+        if has(wanted, k) && fits(selector, k, document, node) {
             found = with(found, k);
         }
     }
@@ -77,18 +79,27 @@ fn before(selector: &Selector, join: Join, found: u16) -> u16
 
 /// The element sibling before a node, if a compound is wanted there.
 #[tactic(auto, using(crate::proofs::SetLemmas::has_none))]
-fn wanted_prev(dom: &Dom, node: NodeId, wanted: u16) -> Option<NodeId>
-    requires { node.0 < length dom.now }
-    ensures none { IfNone result ((k : ℕ) → sets.has wanted k ≡ true → prev_element dom.now node.0 ≡ None) }
-    ensures some { IfSome result (λ p. prev_element dom.now node.0 ≡ Some p.0) }
+fn wanted_prev(document: &Document<'_>, node: NodeId, wanted: u16) -> Option<NodeId>
+    requires { node.0 < length document.now }
+    ensures none { IfNone result ((k : ℕ) → sets.has wanted k ≡ true → prev_element document.now node.0 ≡ None) }
+    ensures some { IfSome result (λ p. prev_element document.now node.0 ≡ Some p.0) }
     ensures below { IfSome result (λ p. p.0 < node.0) }
-    ensures row { IfSome result (λ p. parent_of dom.now p.0 ≡ parent_of dom.now node.0) }
+    ensures row { IfSome result (λ p. parent_of document.now p.0 ≡ parent_of document.now node.0) }
 {
     if wanted == 0 {
         None
     } else {
-        prev_element(dom, node)
+        prev_element(document.dom(), node)
     }
+}
+
+/// The parent of a node, which has a lesser number.
+fn parent_of(document: &Document<'_>, node: NodeId) -> Option<NodeId>
+    requires { node.0 < length document.now }
+    ensures value { option_map (λ n. n.0) result ≡ parent_of document.now node.0 }
+    ensures below { IfSome result (λ p. p.0 < node.0) }
+{
+    parent(document.dom(), node)
 }
 
 /// Whether a selector matches a node (Selectors 3, 8): nodes for all its compounds exist, the last is the
@@ -97,10 +108,10 @@ fn wanted_prev(dom: &Dom, node: NodeId, wanted: u16) -> Option<NodeId>
 /// siblings before a node of that way only where a `+` or `~` asks for them; on each node it tries at most
 /// sixteen compounds. So a `~` over a row
 /// of n siblings costs at most n steps a node. `:nth-child` and its kin read places that the document
-/// keeps; `:first-of-type` and `:last-of-type` go to the nearest sibling of the type.
-pub fn matches(dom: &Dom, node: NodeId, selector: &Selector) -> bool
-    requires { node.0 < length dom.now }
-    ensures { IsTrue result ↔ Matches dom.now selector.now node.0 }
+/// keeps, and so do `:first-of-type` and `:last-of-type` where type places are known.
+pub fn matches_in(document: &Document<'_>, node: NodeId, selector: &Selector) -> bool
+    requires { node.0 < length document.now }
+    ensures { IsTrue result ↔ Matches document.now selector.now node.0 }
 {
     let mut here = with(0, count(selector) - 1);
     let mut child = 0;
@@ -108,7 +119,7 @@ pub fn matches(dom: &Dom, node: NodeId, selector: &Selector) -> bool
     let mut later = 0;
     let mut at = node;
     'path: loop {
-        let found = fitting(selector, dom, at, here);
+        let found = fitting(selector, document, at, here);
         if has(found, 0) {
             return true;
         }
@@ -116,11 +127,11 @@ pub fn matches(dom: &Dom, node: NodeId, selector: &Selector) -> bool
         inside = union(inside, before(selector, Join::Inside, found));
         later = union(later, before(selector, Join::Later, found));
         here = union(before(selector, Join::Next, found), later);
-        if let Some(prev) = wanted_prev(dom, at, here) {
+        if let Some(prev) = wanted_prev(document, at, here) {
             at = prev;
             continue;
         }
-        match parent(dom, at) {
+        match parent_of(document, at) {
             None => return false,
             Some(parent) => at = parent,
         }
@@ -131,4 +142,13 @@ pub fn matches(dom: &Dom, node: NodeId, selector: &Selector) -> bool
         child = 0;
         later = 0;
     }
+}
+
+/// Whether a selector matches a node (Selectors 3, 8), as `matches_in` does where no type place is known: `:first-of-type` and
+/// `:last-of-type` go to the nearest sibling of the type. It takes no memory.
+pub fn matches(dom: &Dom, node: NodeId, selector: &Selector) -> bool
+    requires { node.0 < length dom.now }
+    ensures { IsTrue result ↔ Matches dom.now selector.now node.0 }
+{
+    matches_in(&Document::new(dom), node, selector)
 }

@@ -1,6 +1,6 @@
 //! Sets of numbers below 16.
 
-ghost use Rattle.std.specs.Prelude.{◌≡◌, ◌≢◌, ◌<◌, ◌||◌, ℕ, true, false};
+ghost use Rattle.std.specs.Prelude.{◌≡◌, ◌≢◌, ◌<◌, ◌||◌, ℕ, true};
 ghost use Rattle.selectors.specs.Sets as spec;
 
 #[tactic(auto, unfolding(crate::specs::Sets::has))]

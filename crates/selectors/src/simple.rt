@@ -1,25 +1,26 @@
 //! Reads simple selectors (Selectors 3, 6).
 
-ghost use Rattle.std.specs.Prelude.{◌≡◌, ◌++◌, ◌∷◌, ◌&&◌, [], option_map, length};
+ghost use Rattle.std.specs.Prelude.{◌≡◌, ◌≤◌, ◌<◌, ◌&&◌, length, option_map, IfOk, IfSome};
 ghost use Rattle.css_tok.specs.Tokens.{item_in};
+ghost use Rattle.css_words.specs.Parser.{Reads};
 ghost use Rattle.selectors.specs.Grammar as spec;
-ghost use Rattle.selectors.specs.Grammar.{Reads};
 
 use crate::an_plus_b::an_plus_b;
-use crate::reader::Reader;
+use crate::short::Few;
 use crate::types::{AttrTest, Test};
-use crate::words::{
-    Unread, expect, ident, is_func, is_hash, is_ident, is_mark, is_named, is_text, lower_ident,
-    push, value,
-};
-use bk_num::items::Items;
 use bk_num::name::Name;
+use css_tok::kind::CssKind;
 use css_tok::tokens::CssToken;
+use css_words::reader::Reader;
+use css_words::unread::Unread;
+use css_words::words::{expect, ident, is_mark, is_named, lower_ident, of_kind, value};
 use std::alloc::Global;
 
 #[tactic(auto, unfolding(crate::specs::Grammar::id))]
-fn id(alloc: Global, reader: &mut Reader<'_, '_>) -> Result<Test, Unread>
-    ensures { Reads (λ x. x) (spec.id reader.old) result reader.new }
+fn id(alloc: Global, reader: &mut Reader<'_>) -> Result<Test, Unread>
+    ensures reads { Reads (λ x. x) (spec.id reader.old) result reader.new }
+    ensures within { length reader.new ≤ length reader.old }
+    ensures taken { 0 < length reader.old → length reader.new < length reader.old }
 {
     let token = reader.peek();
     reader.advance();
@@ -27,8 +28,10 @@ fn id(alloc: Global, reader: &mut Reader<'_, '_>) -> Result<Test, Unread>
 }
 
 #[tactic(auto, unfolding(crate::specs::Grammar::class))]
-fn class(alloc: Global, reader: &mut Reader<'_, '_>) -> Result<Test, Unread>
-    ensures { Reads (λ x. x) (spec.class reader.old) result reader.new }
+fn class(alloc: Global, reader: &mut Reader<'_>) -> Result<Test, Unread>
+    ensures reads { Reads (λ x. x) (spec.class reader.old) result reader.new }
+    ensures within { length reader.new ≤ length reader.old }
+    ensures taken { 0 < length reader.old → length reader.new < length reader.old }
 {
     reader.advance();
     Ok(Test::Class(ident(alloc, reader)?))
@@ -54,8 +57,9 @@ fn attr_mark(token: Option<CssToken<'_>>) -> Option<AttrTest>
 }
 
 #[tactic(auto, unfolding(crate::specs::Grammar::attr_test))]
-fn attr_test(reader: &mut Reader<'_, '_>) -> Result<AttrTest, Unread>
-    ensures { Reads (λ x. x) (spec.attr_test reader.old) result reader.new }
+fn attr_test(reader: &mut Reader<'_>) -> Result<AttrTest, Unread>
+    ensures reads { Reads (λ x. x) (spec.attr_test reader.old) result reader.new }
+    ensures within { length reader.new ≤ length reader.old }
 {
     let token = reader.peek();
     if is_mark(b'=', token) {
@@ -71,11 +75,12 @@ fn attr_test(reader: &mut Reader<'_, '_>) -> Result<AttrTest, Unread>
 }
 
 #[tactic(auto, unfolding(crate::specs::Grammar::attr_value))]
-fn attr_value(alloc: Global, reader: &mut Reader<'_, '_>) -> Result<Name, Unread>
-    ensures { Reads (λ x. x) (spec.attr_value reader.old) result reader.new }
+fn attr_value(alloc: Global, reader: &mut Reader<'_>) -> Result<Name, Unread>
+    ensures reads { Reads (λ x. x) (spec.attr_value reader.old) result reader.new }
+    ensures within { length reader.new ≤ length reader.old }
 {
     let token = reader.peek();
-    if !is_text(token) {
+    if !of_kind(CssKind::Ident, token) && !of_kind(CssKind::Str, token) {
         return Err(Unread::NoReading);
     }
     reader.advance();
@@ -83,8 +88,9 @@ fn attr_value(alloc: Global, reader: &mut Reader<'_, '_>) -> Result<Name, Unread
 }
 
 #[tactic(auto, unfolding(crate::specs::Grammar::attr_rest))]
-fn attr_rest(alloc: Global, reader: &mut Reader<'_, '_>, key: Name) -> Result<Test, Unread>
-    ensures { Reads (λ x. x) (spec.attr_rest key reader.old) result reader.new }
+fn attr_rest(alloc: Global, reader: &mut Reader<'_>, key: Name) -> Result<Test, Unread>
+    ensures reads { Reads (λ x. x) (spec.attr_rest key reader.old) result reader.new }
+    ensures within { length reader.new ≤ length reader.old }
 {
     let test = attr_test(reader)?;
     reader.pass_spaces();
@@ -94,18 +100,11 @@ fn attr_rest(alloc: Global, reader: &mut Reader<'_, '_>, key: Name) -> Result<Te
     Ok(Test::Attr(key, test, text))
 }
 
-fn empty(alloc: Global) -> Result<Name, Unread>
-    ensures { spec.Owns [] result }
-{
-    match Name::new(alloc, "") {
-        Ok(name) => Ok(name),
-        Err(_) => Err(Unread::NoMemory),
-    }
-}
-
 #[tactic(auto, unfolding(crate::specs::Grammar::attribute))]
-fn attribute(alloc: Global, reader: &mut Reader<'_, '_>) -> Result<Test, Unread>
-    ensures { Reads (λ x. x) (spec.attribute reader.old) result reader.new }
+fn attribute(alloc: Global, reader: &mut Reader<'_>) -> Result<Test, Unread>
+    ensures reads { Reads (λ x. x) (spec.attribute reader.old) result reader.new }
+    ensures within { length reader.new ≤ length reader.old }
+    ensures taken { 0 < length reader.old → length reader.new < length reader.old }
 {
     reader.advance();
     reader.pass_spaces();
@@ -113,7 +112,7 @@ fn attribute(alloc: Global, reader: &mut Reader<'_, '_>) -> Result<Test, Unread>
     reader.pass_spaces();
     if is_mark(b']', reader.peek()) {
         reader.advance();
-        let none = empty(alloc)?;
+        let none = Name::new(alloc, "")?;
         return Ok(Test::Attr(key, AttrTest::Has, none));
     }
     attr_rest(alloc, reader, key)
@@ -123,13 +122,13 @@ fn attribute(alloc: Global, reader: &mut Reader<'_, '_>) -> Result<Test, Unread>
 fn place_class(token: Option<CssToken<'_>>) -> Option<Test>
     ensures { result ≡ spec.place_class (option_map item_in token.entry) }
 {
-    if is_named(token, "root") {
+    if is_named(CssKind::Ident, token, "root") {
         Some(Test::Root)
-    } else if is_named(token, "first-child") {
+    } else if is_named(CssKind::Ident, token, "first-child") {
         Some(Test::FirstChild)
-    } else if is_named(token, "last-child") {
+    } else if is_named(CssKind::Ident, token, "last-child") {
         Some(Test::LastChild)
-    } else if is_named(token, "only-child") {
+    } else if is_named(CssKind::Ident, token, "only-child") {
         Some(Test::OnlyChild)
     } else {
         None
@@ -140,13 +139,13 @@ fn place_class(token: Option<CssToken<'_>>) -> Option<Test>
 fn other_class(token: Option<CssToken<'_>>) -> Option<Test>
     ensures { result ≡ spec.other_class (option_map item_in token.entry) }
 {
-    if is_named(token, "first-of-type") {
+    if is_named(CssKind::Ident, token, "first-of-type") {
         Some(Test::FirstOfType)
-    } else if is_named(token, "last-of-type") {
+    } else if is_named(CssKind::Ident, token, "last-of-type") {
         Some(Test::LastOfType)
-    } else if is_named(token, "empty") {
+    } else if is_named(CssKind::Ident, token, "empty") {
         Some(Test::Empty)
-    } else if is_named(token, "link") {
+    } else if is_named(CssKind::Ident, token, "link") {
         Some(Test::Link)
     } else {
         None
@@ -157,9 +156,6 @@ fn other_class(token: Option<CssToken<'_>>) -> Option<Test>
 fn simple_of(token: Option<CssToken<'_>>) -> Option<Test>
     ensures { result ≡ spec.simple_of (option_map item_in token.entry) }
 {
-    if !is_ident(token) {
-        return None;
-    }
     match place_class(token) {
         Some(test) => Some(test),
         None => other_class(token),
@@ -167,9 +163,13 @@ fn simple_of(token: Option<CssToken<'_>>) -> Option<Test>
 }
 
 #[tactic(auto, unfolding(crate::specs::Grammar::nth))]
-fn nth(alloc: Global, reader: &mut Reader<'_, '_>) -> Result<Test, Unread>
-    ensures { Reads (λ x. x) (spec.nth reader.old) result reader.new }
+fn nth(alloc: Global, reader: &mut Reader<'_>) -> Result<Test, Unread>
+    ensures reads { Reads (λ x. x) (spec.nth reader.old) result reader.new }
+    ensures within { length reader.new ≤ length reader.old }
+    ensures taken { 0 < length reader.old → length reader.new < length reader.old }
 {
+    reader.advance();
+    reader.advance();
     reader.pass_spaces();
     let (a, b) = an_plus_b(alloc, reader)?;
     reader.pass_spaces();
@@ -184,16 +184,22 @@ pub(crate) fn is_function(
 ) -> bool
     ensures { result ≡ spec.is_function (option_map item_in token.entry) (option_map item_in second.entry) name.now }
 {
-    is_mark(b':', token) && is_func(second) && is_named(second, name)
+    is_mark(b':', token) && is_named(CssKind::Func, second, name)
 }
 
-#[tactic(auto, unfolding(crate::specs::Grammar::next_test))]
-pub(crate) fn next_test(alloc: Global, reader: &mut Reader<'_, '_>) -> Result<Option<Test>, Unread>
-    ensures { Reads (λ x. x) (spec.next_test reader.old) result reader.new }
+/// The next simple selector other than a type and `:not`; None where none comes.
+#[tactic(auto, unfolding(crate::specs::Grammar::next_test, css_words::specs::Words::is_mark))]
+pub(crate) fn next_test(alloc: Global, reader: &mut Reader<'_>) -> Result<Option<Test>, Unread>
+    ensures reads { Reads (λ x. x) (spec.next_test reader.old) result reader.new }
+    ensures within { length reader.new ≤ length reader.old }
+    ensures taken { IfOk result (λ o. IfSome o (λ _. length reader.new < length reader.old)) }
 {
     let token = reader.peek();
     let second = reader.second();
-    if is_hash(token) {
+    if token.is_none() {
+        return Ok(None);
+    }
+    if of_kind(CssKind::Hash, token) {
         return Ok(Some(id(alloc, reader)?));
     }
     if is_mark(b'.', token) {
@@ -203,8 +209,6 @@ pub(crate) fn next_test(alloc: Global, reader: &mut Reader<'_, '_>) -> Result<Op
         return Ok(Some(attribute(alloc, reader)?));
     }
     if is_function(token, second, "nth-child") {
-        reader.advance();
-        reader.advance();
         return Ok(Some(nth(alloc, reader)?));
     }
     if !is_mark(b':', token) {
@@ -218,16 +222,17 @@ pub(crate) fn next_test(alloc: Global, reader: &mut Reader<'_, '_>) -> Result<Op
     Ok(Some(test))
 }
 
-#[tactic(auto, unfolding(crate::specs::Grammar::all_tests))]
-pub(crate) fn all_tests(alloc: Global, reader: &mut Reader<'_, '_>) -> Result<Items<Test>, Unread>
-    ensures { Reads (λ x. x) (spec.all_tests reader.old) result reader.new }
+/// The simple selectors that come next.
+#[tactic(auto, unfolding(crate::specs::Grammar::all_tests), using(css_words::proofs::RepeatLemmas::lone_turns))]
+pub(crate) fn all_tests(alloc: Global, reader: &mut Reader<'_>) -> Result<Few<Test>, Unread>
+    ensures reads { Reads (λ x. x) (spec.all_tests reader.old) result reader.new }
+    ensures within { length reader.new ≤ length reader.old }
 {
-    let mut found = Items::new(alloc);
-    for turn in 0..reader.left() {
+    let mut found = Few::new();
+    'tests: loop {
         match next_test(alloc, reader)? {
-            Some(test) => push(&mut found, test)?,
+            Some(test) => found.push(alloc, test)?,
             None => return Ok(found),
         }
     }
-    Ok(found)
 }

@@ -2,6 +2,7 @@
 
 ghost use Rattle.std.specs.Prelude.{◌≡◌, ◌≤◌, ◌+◌, length};
 
+use crate::short::Few;
 use bk_num::items::Items;
 use bk_num::name::Name;
 use bk_num::values::Pseudo;
@@ -16,7 +17,7 @@ pub enum AttrTest {
     Equals,
     /// `[a~=v]`: a word of the value.
     Word,
-    /// `[a|=v]`: the value, or its front up to a `-`.
+    /// `[a|=v]`: the value, or its prefix up to a `-`.
     Dash,
     /// `[a^=v]`.
     Starts,
@@ -49,14 +50,14 @@ pub enum Test {
 #[derive(Drop)]
 pub struct Plain {
     pub name: Option<Name>,
-    pub tests: Items<Test>,
+    pub tests: Few<Test>,
 }
 
 /// A compound: what the node must fit, and what it must not (`:not`).
 #[derive(Drop)]
 pub struct Compound {
     pub plain: Plain,
-    pub nots: Items<Plain>,
+    pub nots: Few<Plain>,
 }
 
 /// A combinator, between the compound before it and the one after it.
@@ -75,8 +76,8 @@ pub enum Join {
 /// One to sixteen compounds, with one join fewer, and a pseudo-element or none. Contracts see these three.
 #[derive(Drop)]
 pub struct Selector {
-    pub(crate) parts: Items<Compound>,
-    pub(crate) joins: Items<Join>,
+    pub(crate) parts: Few<Compound>,
+    pub(crate) joins: Few<Join>,
     pub(crate) pseudo: Pseudo,
 }
 

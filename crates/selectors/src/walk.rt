@@ -1,7 +1,7 @@
 //! Walks over the nodes beside a node.
 
-ghost use Rattle.std.specs.Prelude.{◌≡◌, ◌<◌, ◌≤◌, ◌+◌, length, option_map, is_some, true, false, IsTrue, IfSome};
-ghost use Rattle.dom.specs.Nodes.{Node, parents_of, parent_at, first_child_of, is_element_at, name_at, text_at};
+ghost use Rattle.std.specs.Prelude.{◌≡◌, ◌<◌, length, option_map, is_some, false, IfSome};
+ghost use Rattle.dom.specs.Nodes.{parents_of, parent_at, first_child_of, is_element_at};
 ghost use Rattle.selectors.specs.Walk as spec;
 
 use bk_num::ids::NodeId;
@@ -107,7 +107,7 @@ fn first_such(
 ) -> Option<NodeId>
     requires node { node.0 < length dom.now }
     requires first { IfSome first (λ m. m.0 < length dom.now) }
-    ensures value { option_map (λ n. n.0) result ≡ spec.first_such (spec.asks dom.now ask node.0) (spec.chain (spec.beside dom.now way) steps (option_map (λ n. n.0) first)) }
+    ensures value { option_map (λ n. n.0) result ≡ spec.first_asked dom.now ask node.0 way steps (option_map (λ n. n.0) first) }
     ensures within { IfSome result (λ m. m.0 < length dom.now) }
 {
     let mut left = first;

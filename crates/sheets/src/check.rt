@@ -1,7 +1,6 @@
 //! What the sheets of a document and of a file say.
-ghost use Rattle.std.specs.Prelude.{◌≡◌, ◌≤◌, ◌<◌, ◌++◌, ◌∷◌, [], ℕ, List, length, IfOk, MatchOption, Option, None, Some, true, false, find, option_map, if◌then◌else◌, nat_lt};
-ghost use Rattle.std.specs.List.{list_any};
-ghost use Rattle.sheets.specs.Sheets.{IsRuleCount, Sheet, sheets_of, element_sheets, sheet_at, has_many, has_rules, verdict_of, verdict_by, file_sheet};
+ghost use Rattle.std.specs.Prelude.{◌≡◌, ◌≤◌, ◌<◌, ℕ, List, length, IfOk, MatchOption, Option, None, Some, option_map, if◌then◌else◌, nat_lt};
+ghost use Rattle.sheets.specs.Sheets.{IsRuleCount, sheets_of, element_sheets, sheet_at, verdict_of};
 ghost use Rattle.sheets.specs.Found.{IsRulesAt, elements_by, elements_of};
 ghost use Rattle.dom.specs.Nodes.{first_of};
 ghost use Rattle.css_rules.specs.Pages.{page_in};

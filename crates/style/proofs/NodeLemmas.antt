@@ -1,5 +1,5 @@
 -- Rows and styles that grow.
-use Rattle.std.proofs.Common.{◌≡◌, ℕ, Bool, get_or, zero, suc, ◌+◌, ◌-◌, ◌<◌, ◌≤◌, List, [], ◌∷◌, ◌++◌, Option, None, Some, Result, Ok, Err, OnOk, OnErr, length, length-append, map, slice_get, slice_set, refl, sym, ◌∙◌, ap, subst, arith, ◌⊎◌, inl, inr}
+use Rattle.std.proofs.Common.{◌≡◌, ℕ, Bool, get_or, zero, suc, ◌+◌, ◌-◌, ◌<◌, ◌≤◌, List, [], ◌∷◌, ◌++◌, Option, None, Some, Result, Ok, Err, OnOk, OnErr, length, length-append, map, slice_get, slice_set, refl, sym, ap, subst, arith, ◌⊎◌, inl, inr}
 use Rattle.std.proofs.lemmas.List.{map-append}
 use Rattle.std.proofs.lemmas.Option.{slice_get_read}
 use Rattle.bk_num.specs.declared.values.Pseudo.{Pseudo}

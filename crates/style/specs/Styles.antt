@@ -1,5 +1,5 @@
 -- The initial style, and that of a child without declarations.
-use Rattle.std.specs.Prelude.{ℕ, pos, None, [], ◌∷◌, true, false, codes, if◌then◌else◌}
+use Rattle.std.specs.Prelude.{pos, None, [], ◌∷◌, false, codes, if◌then◌else◌}
 use Rattle.bk_num.specs.declared.length.Len.{Len}
 use Rattle.bk_num.specs.declared.length.Len.TheVariants as len
 use Rattle.bk_num.specs.declared.values.Color.{Color}

@@ -1,7 +1,9 @@
 //! Leaves in short.
 
-ghost use Rattle.std.specs.Prelude.{◌≡◌, ◌<◌, ◌^◌, pos, length, true, false, IfOk, []};
+ghost use Rattle.std.specs.Prelude.{◌≡◌, ◌<◌, ◌^◌, pos, length, All, true, false, IfOk, []};
+ghost use Rattle.std.specs.List.Sorted.{IsStrictlyIncreasing};
 ghost use Rattle.boxes.specs.Contents.{IsGoodLeaf, IsGoodSpan};
+ghost use Rattle.tree_fixtures.specs.Leaves.{ArePlainBytes, IsShortLeaf};
 
 use crate::shape::{BLACK, px};
 use bk_num::ids::FaceId;
@@ -35,22 +37,54 @@ pub fn span_to(to: u32) -> Span
     }
 }
 
-/// A leaf of one span, in which no line may end but at newlines.
-pub fn leaf_of(alloc: Global, text: &str) -> Result<Leaf, NoMem>
+/// Whether a text has newlines and printable ASCII alone.
+fn is_plain(text: &[u8]) -> bool
+    ensures { result ≡ true → ArePlainBytes text.now }
+{
+    for &byte in text {
+        if byte != b'\n' && !(byte >= 32 && byte <= 126) {
+            return false;
+        }
+    }
+    true
+}
+
+/// The places after the spaces of a text.
+fn places_of(alloc: Global, text: &[u8]) -> Result<Vec<u32>, NoMem>
     requires some { 0 < length text.now }
     requires few { length text.now < 2 ^ 32 }
+    ensures ascend { IfOk result (λ v. IsStrictlyIncreasing v.items) }
+    ensures below { IfOk result (λ v. All (λ p. p < length text.now) v.items) }
+{
+    let mut places = Vec::new(alloc);
+    for at in 1..text.len() {
+        if text[at - 1] == b' ' {
+            places.push(at as u32)?;
+        }
+    }
+    Ok(places)
+}
+
+/// A leaf of one span, in which lines may end after spaces and at newlines. An error where its text is empty, has more
+/// than 1,000 bytes, or has other characters than newlines and printable ASCII.
+pub fn leaf_of(alloc: Global, text: &str) -> Result<Leaf, NoMem>
     ensures good { IfOk result (λ leaf. IsGoodLeaf leaf) }
+    ensures short { IfOk result (λ leaf. IsShortLeaf leaf) }
     ensures text { IfOk result (λ leaf. leaf.text ≡ text.now) }
     ensures leads { IfOk result (λ leaf. leaf.leads ≡ []) }
 {
+    let bytes = text.as_bytes();
+    if bytes.is_empty() || bytes.len() > 1000 || !is_plain(bytes) {
+        return Err(NoMem);
+    }
     let mut spans = Vec::new(alloc);
-    if spans.push(span_to(text.len() as u32)).is_err() {
+    if spans.push(span_to(bytes.len() as u32)).is_err() {
         return Err(NoMem);
     }
     Ok(Leaf {
         text: Text::of(String::from_str(alloc, text)?),
         spans: Items::of(spans),
-        places: Items::of(Vec::new(alloc)),
+        places: Items::of(places_of(alloc, bytes)?),
         graphemes: Items::of(Vec::new(alloc)),
         leads: Items::of(Vec::new(alloc)),
         indent: Len::Px(px(0)),

@@ -1,8 +1,9 @@
 //! Boxes in short.
 
 ghost use Rattle.std.specs.Prelude.{◌≡◌, pos};
-ghost use Rattle.boxes.specs.Contents.{IsGoodBox};
+ghost use Rattle.boxes.specs.Contents.{IsGoodBox, IsNotAuto, IsNotNegative};
 
+use bk_num::decimal::Decimal;
 use bk_num::ids::NameId;
 use bk_num::length::Len;
 use bk_num::px::Px;
@@ -16,13 +17,24 @@ pub const BLACK: Color = Color {
     blue: 0,
 };
 
-/// A box with the width `auto`: its vertical margins and borders in units of 1/64 px, and what it says of breaks.
+/// A margin: units of 1/64 px, or hundredths of the containing block's width.
+#[derive(Clone, Copy, Debug, PartialEq, Eq)]
+pub enum Space {
+    Units(i32),
+    Percent(i16),
+}
+
+/// A box with the width `auto`: its vertical margins, borders in units of 1/64 px, vertical paddings in hundredths of the
+/// containing block's width, its left padding in units, and what it says of breaks.
 #[derive(Clone, Copy, Debug)]
 pub struct Shape {
-    pub margin_top: i32,
-    pub margin_bottom: i32,
+    pub margin_top: Space,
+    pub margin_bottom: Space,
     pub border_top: u16,
     pub border_bottom: u16,
+    pub padding_top: u16,
+    pub padding_bottom: u16,
+    pub padding_left: u16,
     pub before: BreakAt,
     pub after: BreakAt,
     pub avoid_inside: bool,
@@ -33,10 +45,13 @@ pub struct Shape {
 
 /// A box without margins and edges, which asks nothing of breaks.
 pub const PLAIN: Shape = Shape {
-    margin_top: 0,
-    margin_bottom: 0,
+    margin_top: Space::Units(0),
+    margin_bottom: Space::Units(0),
     border_top: 0,
     border_bottom: 0,
+    padding_top: 0,
+    padding_bottom: 0,
+    padding_left: 0,
     before: BreakAt::Auto,
     after: BreakAt::Auto,
     avoid_inside: false,
@@ -53,8 +68,19 @@ pub fn px(units: u16) -> Px
     Px::from_units(i64::from(units))
 }
 
-fn margin(units: i32) -> Len {
-    Len::Px(Px::from_units(i64::from(units)))
+fn margin(space: Space) -> Len {
+    match space {
+        Space::Units(units) => Len::Px(Px::from_units(i64::from(units))),
+        Space::Percent(part) => Len::Percent(Decimal::new(i64::from(part), 0)),
+    }
+}
+
+/// A percentage from 0 on.
+fn percent(part: u16) -> Len
+    ensures good { IsNotNegative result }
+    ensures no_auto { IsNotAuto result }
+{
+    Len::Percent(Decimal::new(i64::from(part), 0))
 }
 
 fn zero() -> Len
@@ -73,7 +99,6 @@ pub fn props_of(shape: &Shape) -> BoxProps
     ensures widows { result.widows ≡ shape.now.widows }
     ensures name { result.name.0 ≡ shape.now.name }
 {
-    let none = zero();
     BoxProps {
         margin: [
             margin(shape.margin_top),
@@ -82,7 +107,12 @@ pub fn props_of(shape: &Shape) -> BoxProps
             zero(),
         ],
         border: [px(shape.border_top), px(0), px(shape.border_bottom), px(0)],
-        padding: [zero(), zero(), zero(), none],
+        padding: [
+            percent(shape.padding_top),
+            zero(),
+            percent(shape.padding_bottom),
+            Len::Px(px(shape.padding_left)),
+        ],
         width: Len::Auto,
         before: shape.before,
         after: shape.after,

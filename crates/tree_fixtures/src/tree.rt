@@ -1,12 +1,13 @@
 //! Trees in short.
 
-ghost use Rattle.std.specs.Prelude.{◌≡◌, ◌≤◌, IfOk};
+ghost use Rattle.std.specs.Prelude.{◌≡◌, ◌≤◌, ◌+◌, ◌^◌, All, IfOk, OnOk};
 ghost use Rattle.bk_num.specs.Limits.{most_open};
 ghost use Rattle.boxes.specs.Tree.{IsWhole, depth_of};
+ghost use Rattle.tree_fixtures.specs.Leaves.{IsShortLeaf, bytes_of};
 
 use crate::leaf::leaf_of;
 use crate::shape::{Shape, props_of};
-use bk_num::limits::{MOST_EVENTS, MOST_OPEN};
+use bk_num::limits::{MOST_EVENTS, MOST_OPEN, MOST_TEXT_BYTES};
 use bk_num::name::NoMem;
 use boxes::tree::BoxTree;
 use std::alloc::Global;
@@ -20,7 +21,9 @@ pub enum Step<'a> {
 }
 
 /// Opens a box where one may open.
-fn open(tree: &mut BoxTree, shape: &Shape) -> Result<(), NoMem> {
+fn open(tree: &mut BoxTree, shape: &Shape) -> Result<(), NoMem>
+    ensures leaves { OnOk result (tree.new.leaves ≡ tree.old.leaves) }
+{
     if tree.count() >= MOST_EVENTS || !tree.takes_box() {
         return Err(NoMem);
     }
@@ -28,38 +31,66 @@ fn open(tree: &mut BoxTree, shape: &Shape) -> Result<(), NoMem> {
     Ok(())
 }
 
-/// Adds a leaf where one may stand.
-fn fill(alloc: Global, tree: &mut BoxTree, text: &str) -> Result<(), NoMem> {
-    if text.is_empty() || text.len() >= 1024 {
-        return Err(NoMem);
-    }
+/// Adds a leaf where one may stand, and answers how many bytes it has.
+fn fill(alloc: Global, tree: &mut BoxTree, text: &str) -> Result<u64, NoMem>
+    requires leaves { All IsShortLeaf tree.old.leaves }
+    ensures leaves { IfOk result (λ n. All IsShortLeaf tree.new.leaves) }
+    ensures bytes { IfOk result (λ n. bytes_of tree.new.leaves ≡ bytes_of tree.old.leaves + n) }
+    ensures few { IfOk result (λ n. n ≤ 1000) }
+{
     let leaf = leaf_of(alloc, text)?;
     if tree.count() >= MOST_EVENTS || !tree.takes_leaf() {
         return Err(NoMem);
     }
     tree.add_leaf(leaf)?;
-    Ok(())
+    Ok(text.len() as u64)
 }
 
 /// Closes the innermost box, where one is open.
-fn close(tree: &mut BoxTree) -> Result<(), NoMem> {
-    if tree.count() >= MOST_EVENTS || tree.around(tree.count()).is_none() {
-        return Err(NoMem);
+fn close(tree: &mut BoxTree) -> Result<(), NoMem>
+    ensures leaves { OnOk result (tree.new.leaves ≡ tree.old.leaves) }
+{
+    if tree.count() < MOST_EVENTS && tree.around(tree.count()).is_some() {
+        tree.close_box()
+    } else {
+        Err(NoMem)
     }
-    tree.close_box()
 }
 
-/// The tree that the steps make. An error where they make no whole tree, or where memory is wanting.
+/// Takes a step, and answers how many bytes of text it adds.
+fn take(alloc: Global, tree: &mut BoxTree, step: &Step<'_>) -> Result<u64, NoMem>
+    requires leaves { All IsShortLeaf tree.old.leaves }
+    ensures leaves { IfOk result (λ n. All IsShortLeaf tree.new.leaves) }
+    ensures bytes { IfOk result (λ n. bytes_of tree.new.leaves ≡ bytes_of tree.old.leaves + n) }
+    ensures few { IfOk result (λ n. n ≤ 1000) }
+{
+    match step {
+        Step::Open(shape) => {
+            open(tree, shape)?;
+            Ok(0)
+        }
+        Step::Text(text) => fill(alloc, tree, text),
+        Step::Close => {
+            close(tree)?;
+            Ok(0)
+        }
+    }
+}
+
+/// The tree that the steps make. An error where they make no whole tree, where more boxes are open at once or more bytes
+/// of text stand in it than a flow may have, or where memory is wanting.
 pub fn tree_of(alloc: Global, steps: &[Step<'_>]) -> Result<BoxTree, NoMem>
     ensures whole { IfOk result (λ tree. IsWhole tree.events) }
     ensures depth { IfOk result (λ tree. depth_of tree.events ≤ most_open) }
+    ensures leaves { IfOk result (λ tree. All IsShortLeaf tree.leaves) }
+    ensures bytes { IfOk result (λ tree. bytes_of tree.leaves ≤ 2 ^ 25) }
 {
     let mut tree = BoxTree::new(alloc);
-    for at in 0..steps.len() {
-        match steps[at] {
-            Step::Open(shape) => open(&mut tree, &shape)?,
-            Step::Text(text) => fill(alloc, &mut tree, text)?,
-            Step::Close => close(&mut tree)?,
+    let mut bytes = 0;
+    for step in steps {
+        bytes += take(alloc, &mut tree, step)?;
+        if bytes > MOST_TEXT_BYTES {
+            return Err(NoMem);
         }
     }
     if tree.is_whole() && tree.depth() <= MOST_OPEN {

@@ -1,4 +1,4 @@
-use Rattle.std.proofs.Common.{rules, ◌≡◌, string_bytes, true, false, sym, refl}
+use Rattle.std.proofs.Common.{rules, ◌≡◌, string_bytes, true, sym, refl}
 use Rattle.std.specs.Str.{is_utf8}
 use Rattle.std.proofs.lemmas.Str.{is_utf8-from_IsUtf8, IsUtf8-from_is_utf8, IsUtf8-had}
 use Rattle.std.proofs.lemmas.Bool.{false_from_ne_true, both_ways}

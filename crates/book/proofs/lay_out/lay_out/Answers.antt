@@ -1,8 +1,8 @@
-use Rattle.std.proofs.Common.{◌<◌, length}
-use Rattle.book.proofs.PlainTexts.{leaves_ascii}
+use Rattle.book.proofs.PlainTexts.{leaves_printable}
 use Rattle.book.proofs.lay_out.lay_out.Goals as goal
 
-pub list-requires-clause-ascii : goal.list-requires-clause-ascii
-list-requires-clause-ascii g c =
-    let known : c.style_of.result.face.0 < length c.args.document.faces = rw c.style_of.ensures c.in_ok-face.ensures.face in
-    leaves_ascii c.args.document.faces c.in_ok-flow.flow.main (c.in_ok-flow.ensures.leaves c.args.document.faces known)
+pub pages_of-requires-clause-leaves : goal.pages_of-requires-clause-leaves
+pages_of-requires-clause-leaves g c = c.in_ok-flow.ensures.leaves c.args.document.faces c.in_ok-paragraphs.ensures.faces
+
+pub print-requires-clause-printable : goal.print-requires-clause-printable
+print-requires-clause-printable g c = leaves_printable c.args.document.faces c.in_ok-flow.flow.main c.is_built.ensures (c.in_ok-flow.ensures.leaves c.args.document.faces c.in_ok-paragraphs.ensures.faces)

@@ -1,4 +1,3 @@
-use Rattle.std.proofs.Common.{◌≡◌}
 use Rattle.computed.proofs.WalkLemmas.{then-extends, element-added}
 use Rattle.computed.proofs.walk.add_element.Goals as goal
 

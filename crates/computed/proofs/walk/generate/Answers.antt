@@ -1,4 +1,3 @@
-use Rattle.std.proofs.Common.{◌≡◌}
 use Rattle.computed.proofs.WalkLemmas.{then-extends, pseudo-keep}
 use Rattle.computed.proofs.walk.generate.Goals as goal
 

@@ -1,4 +1,4 @@
-use Rattle.std.proofs.Common.{◌≡◌, sym}
+use Rattle.std.proofs.Common.{sym}
 use Rattle.computed.proofs.WalkLemmas.{change-same, put-length}
 use Rattle.computed.proofs.walk.put_some.Goals as goal
 

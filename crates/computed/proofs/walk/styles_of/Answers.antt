@@ -1,4 +1,4 @@
-use Rattle.std.proofs.Common.{◌≡◌, ◌<◌, length, refl, arith}
+use Rattle.std.proofs.Common.{◌<◌, length, refl, arith}
 use Rattle.std.proofs.lemmas.Option.{slice_get_read}
 use Rattle.computed.proofs.WalkLemmas.{none-yet, nodes-turn, count-turn}
 use Rattle.computed.proofs.walk.styles_of.Goals as goal

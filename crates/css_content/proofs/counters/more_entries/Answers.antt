@@ -1,7 +1,7 @@
 use Rattle.std.proofs.Common.{◌≡◌, ◌∙◌, ◌<◌, ◌≤◌, ◌-◌, ◌+◌, ◌++◌, ◌∷◌, [], ap, sym, rules, arith, pos}
 use Rattle.std.specs.Prelude.{Some, None}
 use Rattle.std.proofs.lemmas.Grind.{common_steps}
-use Rattle.css_words.specs.Repeat.{with_front, fewer_than}
+use Rattle.css_words.specs.Repeat.{with_prefix, fewer_than}
 use Rattle.css_content.specs.Grammar.{next_entry}
 use Rattle.css_content.proofs.EntryLemmas.{entries_go, entries_stop}
 use Rattle.css_content.proofs.counters.more_entries.Goals as goal
@@ -19,7 +19,7 @@ loop-turn-preserved c =
     let low : c.loop-turn.turn < 63 = search rules in (
       c.loop-turn.invariant.0
           ∙ entries_go (next_entry (pos c.args.other)) c.loop-turn.found c.loop-turn.turn c.loop-turn.reader c.next_entry.new.reader c.in-Some.next low e
-          ∙ ap (λ z. with_front z (fewer_than (64 - (c.loop-turn.turn + 1)) (next_entry (pos c.args.other)) c.next_entry.new.reader)) (sym f),
+          ∙ ap (λ z. with_prefix z (fewer_than (64 - (c.loop-turn.turn + 1)) (next_entry (pos c.args.other)) c.next_entry.new.reader)) (sym f),
       rw f (first_of (search rules, grind (arith, common_steps))),
       first_of (search rules, grind (arith, common_steps)),
       omega (arith, low),

@@ -13,4 +13,4 @@ returns-in_default c =
 pub returns-in_default-after : goal.returns-in_default-after
 returns-in_default-after c =
     let whole : plain_of c.parts.rest.now ≡ c.until_escape.result.0.now = rw c.in_default-after.is at c.until_escape.ensures.parts in
-    c.is_empty.ensures ∙ sym (c.parts.invariant.same ∙ ap (λ z. str_eq_ignore_ascii_case z c.parts.left.now) (whole ∙ sym c.as_bytes.ensures.value ∙ sym (append-nil c.as_bytes.result.now)) ∙ c.in-Some.ensures [] ∙ empty_is c.in-Some.behind_front.now)
+    c.is_empty.ensures ∙ sym (c.parts.invariant.same ∙ ap (λ z. str_eq_ignore_ascii_case z c.parts.left.now) (whole ∙ sym c.as_bytes.ensures.value ∙ sym (append-nil c.as_bytes.result.now)) ∙ c.in-Some.ensures [] ∙ empty_is c.in-Some.past_prefix.now)

@@ -1,16 +1,13 @@
-use Rattle.std.proofs.Common.{◌≡◌, ◌+◌, ◌≤◌, ℕ, suc, Bool, true, false, not, cond, None, Some, List, [], ◌∷◌, ◌++◌, All, Option, is_some, length, length-append, refl, sym, ap, ◌∙◌, subst, arith, add-one}
+use Rattle.std.proofs.Common.{◌≡◌, ◌+◌, ◌≤◌, ℕ, suc, Bool, true, false, not, cond, None, Some, [], ◌∷◌, ◌++◌, is_some, length, length-append, refl, sym, ap, ◌∙◌, subst, arith, add-one}
 use Rattle.std.proofs.lemmas.Grind.{common_steps}
 use Rattle.boxes.specs.Tree.{Tree}
-use Rattle.bk_num.specs.declared.ids.NameId.{NameId}
-use Rattle.boxes.specs.declared.frames.Demand.{Demand}
 use Rattle.boxes.specs.declared.frames.Frame.{Frame}
 use Rattle.boxes.specs.declared.frames.PageKind.TheVariants as kind
 use Rattle.boxes.specs.declared.page.Page.{Page}
-use Rattle.boxes.specs.declared.place.Position.{Position}
 use Rattle.seams.specs.declared.seam_info.SeamInfo.{SeamInfo}
 use Rattle.fragment.specs.declared.next_cut.Cut.{Cut}
-use Rattle.fragment.specs.Pages.{PageFrames, IsNear, HaveNearTops, IsPaged, IsFlowCut, name_at, flow_page, is_forced}
-use Rattle.fragment.proofs.PageLemmas.{Leads, state_at, run_more, run_done, run_added, adds_size, adds_grow, page_is, forced_some}
+use Rattle.fragment.specs.Pages.{PageFrames, HaveNearTops, IsPaged, IsFlowCut, name_at, flow_page, is_forced}
+use Rattle.fragment.proofs.PageLemmas.{Leads, leaves_some, state_at, run_more, run_done, run_added, adds_size, adds_grow, page_is, forced_some}
 use Rattle.fragment.specs.Parted.{solids_of}
 use Rattle.fragment.proofs.PartLemmas.{paged_parts}
 use Rattle.fragment.proofs.BoundLemmas.{AreNear, page_bound}
@@ -27,12 +24,9 @@ returns-in-Err-clause-many g c e =
     let t : Tree = c.args.flow.now.main in
     let frames : PageFrames = record { meets = g.Fr.Frames.meets c.args.frames.now; frame_of = g.Fr.Frames.frame_of c.args.frames.now } in
     let added = c.in-Err.ensures.many e in
-    let size = adds_size frames c.seam.result.name c.loop-turn.demand c.loop-turn.index 100001 c.loop-turn.pages.items c.add_blanks.new.pages.items added c.loop-turn.invariant.count in (
-      c.add_blanks.new.pages.items,
-      omega arith,
-      state_at c.loop-turn.from.at c.loop-turn.from.kept 100001 c.loop-turn.demand,
-      run_added c.args.faces.now t frames c.loop-turn.from.at c.loop-turn.from.kept c.loop-turn.index 100001 c.loop-turn.demand c.seam.result.name c.loop-turn.pages.items c.add_blanks.new.pages.items (ap (λ (i : SeamInfo). i.name) c.seam.ensures.value) added c.loop-turn.invariant.run,
-    )
+    let size = adds_size frames c.seam.result.name c.loop-turn.demand c.loop-turn.index 100001 c.loop-turn.pages.items c.add_blanks.new.pages.items added c.loop-turn.invariant.count in
+    leaves_some c.args.faces.now t frames c.loop-turn.from.at c.loop-turn.from.kept 100001 c.loop-turn.demand c.add_blanks.new.pages.items 100000 (omega arith)
+    (run_added c.args.faces.now t frames c.loop-turn.from.at c.loop-turn.from.kept c.loop-turn.index 100001 c.loop-turn.demand c.seam.result.name c.loop-turn.pages.items c.add_blanks.new.pages.items (ap (λ (i : SeamInfo). i.name) c.seam.ensures.value) added c.loop-turn.invariant.run)
 
 leads : (g : given.Over) (c : After-page_of g) → Leads c.args.faces.now c.args.flow.now.main (record { meets = g.Fr.Frames.meets c.args.frames.now; frame_of = g.Fr.Frames.frame_of c.args.frames.now }) (state_at c.loop-turn.from.at c.loop-turn.from.kept c.in-Ok.to c.loop-turn.demand) c.add_blanks.new.pages.items
 leads g c = run_added c.args.faces.now c.args.flow.now.main (record { meets = g.Fr.Frames.meets c.args.frames.now; frame_of = g.Fr.Frames.frame_of c.args.frames.now }) c.loop-turn.from.at c.loop-turn.from.kept c.loop-turn.index c.in-Ok.to c.loop-turn.demand c.seam.result.name c.loop-turn.pages.items c.add_blanks.new.pages.items
@@ -118,3 +112,11 @@ loop-turn-preserved g c =
       near = rw now (near_more c.add_blanks.new.pages.items c.page_of.result (nears g p) (rw c.page_of.ensures c.in-Ok-cut_tree.ensures.near));
       run = rw add-one (subst (λ (b : Bool). Leads c.args.faces.now t frames (state_at cut.to b (suc c.in-Ok.to) cut.forced) c.push.new.self.items) kept (subst (Leads c.args.faces.now t frames (state_at cut.to (is_forced cut.forced) (suc c.in-Ok.to) cut.forced)) (sym pages) more));
     }
+
+pub returns-clause-many : goal.returns-clause-many
+returns-clause-many g c = λ e.
+    let frames : PageFrames = record { meets = g.Fr.Frames.meets c.args.frames.now; frame_of = g.Fr.Frames.frame_of c.args.frames.now } in
+    let last = c.loop-turn-test.false in
+    let turns = c.loop-turn.invariant.turns in
+    let few = c.loop-turn.invariant.few in
+    leaves_some c.args.faces.now c.args.flow.now.main frames c.loop-turn.from.at c.loop-turn.from.kept c.loop-turn.index c.loop-turn.demand c.loop-turn.pages.items 100000 (omega arith) c.loop-turn.invariant.run

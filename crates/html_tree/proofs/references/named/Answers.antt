@@ -1,6 +1,5 @@
-use Rattle.std.proofs.Common.{◌≡◌, ◌==◌, false, drop, sym, ◌∙◌, ap}
-use Rattle.html_tree.specs.Texts.{Reference, closing_len, named, named_references}
-use Rattle.html_tree.specs.Words.{letters_len}
+use Rattle.std.proofs.Common.{sym, ◌∙◌, ap}
+use Rattle.html_tree.specs.Texts.{Reference}
 use Rattle.html_tree.proofs.NameLemmas.{no-reference}
 use Rattle.html_tree.proofs.references.named.Goals as goal
 

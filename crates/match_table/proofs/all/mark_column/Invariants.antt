@@ -4,6 +4,6 @@ use Rattle.match_table.proofs.all.mark_column.Given as goal
 
 abbrev pub invariant-loop-node : goal.invariant-loop-node
 invariant-loop-node l = record {
-  going : AreGoing l.dom l.selector (λ n. n < l.node) l.place l.fn.rows.items l.rows.items;
+  going : AreGoing l.document l.selector (λ n. n < l.node) l.place l.fn.rows.items l.rows.items;
   count : length l.rows.items ≡ length l.fn.rows.items;
 }

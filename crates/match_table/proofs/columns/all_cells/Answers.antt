@@ -9,5 +9,5 @@ loop-index-preserved c =
     let items : c.push.new.self.items ≡ c.loop-index.cells.items ++ c.reach_node-next.result ∷ [] = grind (arith, common_steps) in
     record {
       count = grind (arith, common_steps);
-      cells = subst (AreCells c.args.dom.now c.args.selector.now) (sym items) (cells-push c.args.dom.now c.args.selector.now c.loop-index.cells.items c.reach_node-next.result c.loop-index.index c.loop-index.invariant.count c.loop-index.invariant.cells c.reach_node-next.ensures);
+      cells = subst (AreCells c.args.document.now c.args.selector.now) (sym items) (cells-push c.args.document.now c.args.selector.now c.loop-index.cells.items c.reach_node-next.result c.loop-index.index c.loop-index.invariant.count c.loop-index.invariant.cells c.reach_node-next.ensures);
     }

@@ -5,5 +5,5 @@ use Rattle.match_table.proofs.columns.all_cells.Given as goal
 abbrev pub invariant-loop-index : goal.invariant-loop-index
 invariant-loop-index l = record {
   count : length l.cells.items ≡ l.index;
-  cells : AreCells l.dom l.selector l.cells.items;
+  cells : AreCells l.document l.selector l.cells.items;
 }

@@ -1,10 +1,11 @@
-use Rattle.std.proofs.Common.{◌≡◌, map, string_bytes}
+use Rattle.std.proofs.Common.{◌≡◌, map}
+use Rattle.plain_flow.specs.Texts.{paragraph_in}
 use Rattle.plain_flow.specs.Tree.{open_tree}
 use Rattle.plain_flow.proofs.flow.tree_of.Given as goal
 
-abbrev pub invariant-loop-text : goal.invariant-loop-text
-invariant-loop-text l = record {
-  can : (goal.iterator-loop-text).can_next l.text-iterator;
-  finite : (goal.iterator-loop-text).is_finite l.text-iterator;
-  tree : l.tree ≡ open_tree l.style (map (λ t. string_bytes t) l.yielded);
+abbrev pub invariant-loop-paragraph : goal.invariant-loop-paragraph
+invariant-loop-paragraph l = record {
+  can : (goal.iterator-loop-paragraph).can_next l.paragraph-iterator;
+  finite : (goal.iterator-loop-paragraph).is_finite l.paragraph-iterator;
+  tree : l.tree ≡ open_tree (map paragraph_in l.yielded);
 }

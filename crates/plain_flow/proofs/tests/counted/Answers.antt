@@ -1,7 +1,10 @@
-use Rattle.std.proofs.Common.{◌<◌, length, arith}
+use Rattle.std.proofs.Common.{◌≡◌, ◌<◌, length, arith}
+use Rattle.std.specs.List.{All}
+use Rattle.std.proofs.lemmas.List.Elements.{All-weaker}
+use Rattle.plain_flow.specs.declared.style.Paragraph.{Paragraph}
 use Rattle.plain_flow.proofs.tests.counted.Goals as goal
 
-pub paginate-requires-clause-leaves : goal.paginate-requires-clause-leaves
-paginate-requires-clause-leaves g c =
-    let there : c.args.style.now.face.0 < length c.in_ok-faces.faces = omega (arith, c.requires.face, c.len.ensures.count, c.if-len-eq0.false) in
-    c.in-Ok.ensures.leaves c.in_ok-faces.faces there
+pub paginate-requires-clause-flow : goal.paginate-requires-clause-flow
+paginate-requires-clause-flow g c =
+    let some : 0 < length c.in_ok-faces.faces = omega (arith, c.len.ensures.count, c.if-len-eq0.false) in
+    c.in-Ok.ensures.paged c.in_ok-faces.faces (All-weaker (λ (p : Paragraph). p.style.face.0 ≡ 0) (λ (p : Paragraph). p.style.face.0 < length c.in_ok-faces.faces) (λ p h. omega (arith, some, h)) c.in_ok-paragraphs.paragraphs.items c.in_ok-paragraphs.ensures.faces)

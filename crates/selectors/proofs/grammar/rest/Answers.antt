@@ -1,7 +1,7 @@
 use Rattle.std.proofs.Common.{rules, arith}
 use Rattle.std.proofs.lemmas.Grind.{common_steps}
 use Rattle.selectors.specs.Grammar.{rest_from}
-use Rattle.selectors.proofs.ReadLemmas.{one_more, no_more}
+use Rattle.css_words.proofs.ReadLemmas.{one_more, no_more}
 use Rattle.selectors.proofs.LoopLemmas.{rest_more, rest_last, rest_err, rest_none}
 use Rattle.selectors.proofs.grammar.rest.Goals as goal
 

@@ -1,4 +1,4 @@
-use Rattle.std.proofs.Common.{◌≡◌, ◌-◌, ◌+◌, ◌∷◌, [], length}
+use Rattle.std.proofs.Common.{◌≡◌, ◌-◌, ◌+◌, ◌∷◌, [], ◌≤◌, length}
 use Rattle.selectors.specs.Grammar.{rest_from}
 use Rattle.selectors.proofs.grammar.rest.Given as goal
 
@@ -7,4 +7,5 @@ invariant-loop-turn l = record {
   parts : length l.parts ≡ l.turn + 1;
   joins : length l.joins ≡ l.turn;
   read : rest_from 16 (l.fn.first ∷ []) [] l.fn.reader ≡ rest_from (16 - l.turn) l.parts l.joins l.reader;
+  within : length l.reader ≤ length l.fn.reader;
 }

@@ -5,4 +5,4 @@ use Rattle.selectors.specs.Match.{fits}
 use Rattle.selectors.proofs.matching.fitting.Given as goal
 
 abbrev pub invariant-loop-k : goal.invariant-loop-k
-invariant-loop-k l = (j : ℕ) → has l.found j ≡ (nat_lt j l.k && (has l.wanted j && fits l.dom l.selector j l.node.0))
+invariant-loop-k l = (j : ℕ) → has l.found j ≡ (nat_lt j l.k && (has l.wanted j && fits l.document l.selector j l.node.0))

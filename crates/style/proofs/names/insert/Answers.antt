@@ -1,4 +1,3 @@
-use Rattle.std.proofs.Common.{◌≡◌, IfOk}
 use Rattle.style.proofs.NameLemmas.{place-named}
 use Rattle.style.proofs.names.insert.Goals.{in-Ok, in-Err}
 use Rattle.style.proofs.names.insert.Goals as goal

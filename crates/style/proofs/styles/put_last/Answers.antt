@@ -1,6 +1,4 @@
-use Rattle.std.proofs.Common.{◌≡◌, ◌+◌, ◌-◌, ◌<◌, length, Some, arith, slice_get, ap, sym, ◌∙◌}
-use Rattle.std.proofs.lemmas.Option.{slice_get-get_or}
-use Rattle.std.proofs.lemmas.Grind.{common_steps}
+use Rattle.std.proofs.Common.{◌-◌, arith}
 use Rattle.style.specs.NodeFields.{with_number}
 use Rattle.style.proofs.NodeLemmas.{change-set, get-last}
 use Rattle.style.proofs.styles.put_last.Goals as goal

@@ -10,4 +10,4 @@ returns-then-is_empty-clause-tokens c =
 
 pub returns-clause-tokens : goal.returns-clause-tokens
 returns-clause-tokens c =
-    token_step c.args.self.now.rest.now c.split_at.result.0.now c.split_at.result.1.now c.front-kind.result c.front-kind.ensures.value (omega arith) c.front-kind.ensures.within.0 c.split_at.ensures.front c.split_at.ensures.back
+    token_step c.args.self.now.rest.now c.split_at.result.0.now c.split_at.result.1.now c.first-kind.result c.first-kind.ensures.value (omega arith) c.first-kind.ensures.within.0 c.split_at.ensures.front c.split_at.ensures.back

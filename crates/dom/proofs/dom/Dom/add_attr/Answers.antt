@@ -1,24 +1,36 @@
-use Rattle.std.proofs.Common.{◌≡◌, ◌<◌, length, sym, ◌∙◌, ap, true}
-use Rattle.std.proofs.lemmas.List.{length-map}
-use Rattle.dom.specs.Nodes.{is_element, is_element_node}
-use Rattle.dom.proofs.ShapeLemmas.{sound-set, attributed-ok, attribute-read, row-at, node-at}
+use Rattle.std.proofs.Common.{◌≡◌, Bool, true, false, List, [], ◌∷◌, ℕ, Option, slice_get, if◌then◌else◌, sym, ◌∙◌}
+use Rattle.std.specs.Str.{bytes_eq}
+use Rattle.dom.specs.Nodes.{NodeData, attribute_in, attributed, changed_at}
+use Rattle.dom.specs.DomFields.{joined, AreSound}
+use Rattle.dom.specs.Order.{IsFirstOf}
+use Rattle.dom.specs.declared.rows.Row.{Row}
+use Rattle.dom.proofs.ShapeLemmas.{element-read, part-read, sound-with, joined-with, joined-ok, answer-of}
+use Rattle.dom.proofs.IdLemmas.{first-other, not-name}
 use Rattle.dom.proofs.dom.Dom.add_attr.Goals as goal
+
+pub add_attr-requires : goal.add_attr-requires
+add_attr-requires c = element-read c.self.inside.rows.items c.self.inside.store c.args.node.0 c.self.invariant.rows.count (rw (← c.self.view_is) at c.requires.element)
+
+rows-if : (rows : List Row) (whats : List NodeData) (i : ℕ) (key value : List ℕ) (b : Bool) → AreSound rows whats → AreSound rows (if b then changed_at (attributed key value) whats i (slice_get whats i) else whats)
+rows-if rows whats i key value true s = sound-with rows whats i key value s
+rows-if rows whats i key value false s = s
+
+firsts-if : (rows : List Row) (whats : List NodeData) (i : ℕ) (key value id : List ℕ) (b : Bool) (r : Option ℕ) → AreSound rows whats → bytes_eq (105 ∷ 100 ∷ []) key ≡ false → IsFirstOf (joined rows whats) id r
+    → IsFirstOf (joined rows (if b then changed_at (attributed key value) whats i (slice_get whats i) else whats)) id r
+firsts-if rows whats i key value id true r s differ h = rw (joined-with rows whats i key value s.count) (first-other (joined rows whats) i value id key differ r h)
+firsts-if rows whats i key value id false r s differ h = h
 
 pub invariant_of-self : goal.invariant_of-self
 invariant_of-self c =
-    let h : c.args.node.0 < length c.self.inside.rows.items = simp length-map at (rw (← c.self.view_is) at c.requires.node) in
-    let at = row-at c.self.inside.rows.items c.args.node.0 c.index_mut-row.result.now h c.index_mut-row.ensures.value in
-    let element : is_element c.index_mut-row.result.now.what ≡ true = sym (ap is_element_node (node-at c.self.inside.rows.items c.args.node.0 c.index_mut-row.result.now at)) ∙ rw (← c.self.view_is) at c.requires.element in
-    sound-set c.self.inside.rows.items c.args.node.0 c.index_mut-row.result.now c.put_attribute.new.what c.self.invariant at (c.put_attribute.ensures.element ∙ sym element)
+    let a = answer-of c.add_attr.new.self (changed_at (attributed c.args.name.now c.args.value.now) c.self.inside.store c.args.node.0 (slice_get c.self.inside.store c.args.node.0)) c.self.inside.store c.add_attr.result c.add_attr.ensures.ok c.add_attr.ensures.err in
+    let differ = not-name c.args.name.now (sym c.eq.ensures ∙ c.if-eq.false) in
+    record {
+      rows = rw a.1 (rows-if c.self.inside.rows.items c.self.inside.store c.args.node.0 c.args.name.now c.args.value.now a.0 c.self.invariant.rows);
+      firsts = λ id. rw a.1 (firsts-if c.self.inside.rows.items c.self.inside.store c.args.node.0 c.args.name.now c.args.value.now id a.0 _ c.self.invariant.rows differ (c.self.invariant.firsts id));
+    }
 
 pub returns-clause-added : goal.returns-clause-added
-returns-clause-added c =
-    let h : c.args.node.0 < length c.self.inside.rows.items = simp length-map at (rw (← c.self.view_is) at c.requires.node) in
-    let at = row-at c.self.inside.rows.items c.args.node.0 c.index_mut-row.result.now h c.index_mut-row.ensures.value in
-    rw (← c.self.view_is, attribute-read c.self.inside.rows.items c.args.node.0 c.index_mut-row.result.now c.args.name.now at) c.put_attribute.ensures.added
+returns-clause-added c = rw (← c.self.view_is, part-read (attribute_in c.args.name.now) c.self.inside.rows.items c.self.inside.store c.args.node.0 c.self.invariant.rows.count) c.add_attr.ensures.added
 
 pub returns-clause-ok : goal.returns-clause-ok
-returns-clause-ok c =
-    let h : c.args.node.0 < length c.self.inside.rows.items = simp length-map at (rw (← c.self.view_is) at c.requires.node) in
-    let at = row-at c.self.inside.rows.items c.args.node.0 c.index_mut-row.result.now h c.index_mut-row.ensures.value in
-    rw (← c.self.view_is) (attributed-ok c.self.inside.rows.items c.args.node.0 c.index_mut-row.result.now c.args.name.now c.args.value.now c.put_attribute.new.what c.put_attribute.result at c.put_attribute.ensures.ok)
+returns-clause-ok c = rw (← c.self.view_is) (joined-ok c.self.inside.rows.items c.self.inside.store c.add_attr.new.self c.args.node.0 c.args.name.now c.args.value.now c.add_attr.result c.self.invariant.rows.count c.add_attr.ensures.ok)

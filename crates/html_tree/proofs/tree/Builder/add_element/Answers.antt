@@ -1,12 +1,12 @@
-use Rattle.std.proofs.Common.{◌≡◌, ◌∙◌, ap, ◌++◌, [], ◌∷◌, ◌-◌, length, true, arith, refl}
+use Rattle.std.proofs.Common.{◌≡◌, ◌∙◌, ap, sym, ◌++◌, [], ◌∷◌, ◌-◌, length, true, arith, refl}
 use Rattle.std.specs.String.{string_bytes}
-use Rattle.dom.specs.Nodes.{is_element_at, child_of}
-use Rattle.dom.specs.declared.rows.NodeData.TheVariants.{Element}
+use Rattle.dom.specs.Nodes.{is_element_at, child_of, Element}
 use Rattle.html_tok.specs.Tags.{attributes_of}
 use Rattle.html_tree.specs.Tree.{current, put_all, opened_after}
 use Rattle.html_tree.specs.Built.{waiting}
 use Rattle.std.proofs.lemmas.Grind.{common_steps}
 use Rattle.html_tree.proofs.BuildLemmas.{grow-element, current-element, element-within, end-element, opened-elements, IsGrown, grown-with}
+use Rattle.html_tree.proofs.KeptLemmas.{on-ok, scopes-new, name-new}
 use Rattle.html_tree.proofs.tree.Builder.add_element.Goals as goal
 
 pub add_element-requires-clause-parent : goal.add_element-requires-clause-parent
@@ -44,6 +44,9 @@ returns-clause-built c =
     record {
       root = new.keeps 0 c.requires.root;
       opened = rw opened (opened-elements c.put_attributes.new.dom c.args.self.now.opened.items c.in-Ok.node.0 c.args.name.now (λ k o g. new.keeps o.0 (c.requires.opened k o g)) at);
+      scopes = on-ok c.keep_open.result (sym c.is_err-3.ensures.value ∙ c.if-is_err-3.false) (c.keep_open.ensures.scopes c.put_attributes.new.dom
+          (rw all (scopes-new c.args.self.now.dom (waiting c.args.self.now.dom c.args.self.now.parent.0 (string_bytes c.args.self.now.text)) c.current-parent.result.0 c.args.name.now (attributes_of c.args.attrs.now) c.args.self.now.opened.items c.args.self.now.scopes.items c.requires.opened c.requires.scopes))
+          (rw all (name-new (c.args.self.now.dom ++ waiting c.args.self.now.dom c.args.self.now.parent.0 (string_bytes c.args.self.now.text)) c.current-parent.result.0 c.args.name.now (attributes_of c.args.attrs.now) c.in-Ok.node (number ∙ ap length dom))));
       parent = new.keeps c.args.self.now.parent.0 c.requires.parent;
       few = λ l. absurd (omega arith);
       last = λ e. let s : length c.put_attributes.new.dom - 1 ≡ length (c.args.self.now.dom ++ waiting c.args.self.now.dom c.args.self.now.parent.0 (string_bytes c.args.self.now.text)) = (let z = new.size in omega arith) in ap (is_element_at c.put_attributes.new.dom) s ∙ new.element;

@@ -6,6 +6,7 @@ use Rattle.html_tree.specs.Tree.{put_all}
 use Rattle.html_tree.specs.Built.{waiting}
 use Rattle.std.proofs.lemmas.Grind.{common_steps}
 use Rattle.html_tree.proofs.BuildLemmas.{put_all-grow, waiting-put, put_all-element, put_all-length}
+use Rattle.html_tree.proofs.KeptLemmas.{scopes-put}
 use Rattle.html_tree.proofs.tree.Builder.add_to_root.Goals as goal
 
 pub returns-clause-built : goal.returns-clause-built
@@ -16,6 +17,7 @@ returns-clause-built c =
     rw dom (record {
       root = same 0 ∙ c.requires.root;
       opened = λ k o g. same o.0 ∙ c.requires.opened k o g;
+      scopes = scopes-put 0 (attributes_of c.args.attrs.now) c.args.self.now.dom c.args.self.now.opened.items c.args.self.now.scopes.items c.requires.scopes;
       parent = same c.args.self.now.parent.0 ∙ c.requires.parent;
       few = rw len c.requires.few;
       last = λ e. ap (λ (n : ℕ). is_element_at (put_all 0 (attributes_of c.args.attrs.now) c.args.self.now.dom) (n - 1)) len ∙ same (length c.args.self.now.dom - 1) ∙ c.requires.last e;

@@ -1,4 +1,4 @@
-use Rattle.std.proofs.Common.{◌≡◌, sym, ◌∙◌, length}
+use Rattle.std.proofs.Common.{sym, ◌∙◌, length}
 use Rattle.style.proofs.NameLemmas.{inserted, positive}
 use Rattle.style.proofs.names.Names.number.Goals.{in-Ok-insert, in-Err}
 use Rattle.style.proofs.names.Names.number.Goals as goal

@@ -1,5 +1,4 @@
-use Rattle.std.proofs.Common.{◌≡◌, ◌<◌, ◌+◌, length, arith, refl}
-use Rattle.style.specs.NodeFields.{IsNumber, HasNumbers, AreNumbered}
+use Rattle.std.proofs.Common.{◌<◌, ◌+◌, length, arith}
 use Rattle.style.proofs.NodeLemmas.{sound-add, view-ok, view-err, own-row}
 use Rattle.style.proofs.styles.Styles.add_element.Goals as goal
 

@@ -1,5 +1,4 @@
-use Rattle.style.specs.Nodes.{no_styles}
-use Rattle.style.proofs.NodeLemmas.{all-push, sound-text}
+use Rattle.style.proofs.NodeLemmas.{sound-text}
 use Rattle.style.proofs.styles.Styles.add_text.Goals as goal
 
 pub invariant_of-self : goal.invariant_of-self

@@ -1,4 +1,4 @@
-use Rattle.std.proofs.Common.{◌≡◌, ◌<◌, ◌+◌, length, arith}
+use Rattle.std.proofs.Common.{length, arith}
 use Rattle.style.proofs.NodeLemmas.{sound-put, sound-more, view-put, one-more}
 use Rattle.style.proofs.styles.Styles.put.Goals as goal
 

@@ -1,0 +1,39 @@
+-- Lists that a loop passes, and the number of collapsed texts.
+use Rattle.std.proofs.Common.{◌≡◌, ◌∙◌, ℕ, zero, suc, ◌+◌, ◌<◌, ◌≤◌, Bool, true, false, List, [], ◌∷◌, ◌++◌, map, length, drop, get_or, refl, sym, ap, subst, arith}
+use Rattle.std.proofs.lemmas.List.{length-map}
+use Rattle.inline_text.specs.Space.{Char, appended, spelled, placed, collapsed, squeezed, trimmed, chars_from}
+use Rattle.inline_text.specs.declared.space.TextPart.{TextPart}
+use Rattle.box_gen.specs.declared.inline.InlineItem.{InlineItem}
+use Rattle.box_gen.specs.declared.inline.InlineItem.TheVariants as item
+use Rattle.box_gen.specs.Runs.{printed_in, parts_in, marks_in, styles_in}
+
+pub drop_step : {A : Type 0} (xs : List A) (i : ℕ) (x : A) → i < length xs → x ≡ get_or xs i x → drop i xs ≡ x ∷ drop (i + 1) xs
+drop_step xs i x h e = let n : suc i ≡ i + 1 = omega arith in steps xs i x h e ∙ ap (λ k. x ∷ drop k xs) n
+  where
+    steps : {A : Type 0} (xs : List A) (i : ℕ) (x : A) → i < length xs → x ≡ get_or xs i x → drop i xs ≡ x ∷ drop (suc i) xs
+    steps [] i x h e = absurd (omega arith)
+    steps (y ∷ xs) zero x h e = ap (λ z. z ∷ xs) (sym e)
+    steps (y ∷ xs) (suc i) x h e = steps xs i x (omega arith) e
+
+appended-length : (ts : List (List ℕ)) (k : ℕ) (s : List ℕ) → length (appended ts k s) ≡ length ts
+appended-length [] k s = refl
+appended-length (t ∷ ts) zero s = refl
+appended-length (t ∷ ts) (suc k) s = ap suc (appended-length ts k s)
+
+placed-length : (ts : List (List ℕ)) (cs : List Char) → length (placed ts cs) ≡ length ts
+placed-length ts [] = refl
+placed-length ts (c ∷ cs) = placed-length (appended ts c.part (spelled c.class c.code)) cs ∙ appended-length ts c.part (spelled c.class c.code)
+
+styles-length : (items : List InlineItem) → length (parts_in items) ≡ length (styles_in (marks_in items))
+styles-length [] = refl
+styles-length (item.Text t ∷ items) = ap suc (styles-length items)
+styles-length (item.Start n ∷ items) = styles-length items
+
+-- one text is printed for each text
+pub printed-length : (items : List InlineItem) → length (printed_in items) ≡ length (styles_in (marks_in items))
+printed-length items = placed-length (map (λ (p : TextPart). []) (parts_in items)) (squeezed true (trimmed false (chars_from 0 (parts_in items)))) ∙ length-map (parts_in items) (λ (p : TextPart). []) ∙ styles-length items
+
+pub text-is : (ts : List (List ℕ)) (i : ℕ) (t : List ℕ) → i < length ts → t ≡ get_or ts i t → get_or ts i [] ≡ t
+text-is [] i t h e = absurd (omega arith)
+text-is (x ∷ ts) zero t h e = sym e
+text-is (x ∷ ts) (suc i) t h e = text-is ts i t (omega arith) e

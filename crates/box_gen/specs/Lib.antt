@@ -1,0 +1,11 @@
+pub mod TextStyles
+pub mod Props
+pub mod Represented
+pub mod Markers
+pub mod Runs
+pub mod Leaves
+pub mod Trees
+pub mod Flow
+pub mod Gather
+pub mod Walk
+pub mod Examples

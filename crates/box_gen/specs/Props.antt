@@ -1,0 +1,32 @@
+-- The boxes of blocks, and anonymous boxes (CSS 2.1, 9.2.1 and 9.2.1.1).
+use Rattle.std.specs.Prelude.{ℕ, List, [], ◌∷◌, Option, None, Some}
+use Rattle.bk_num.specs.declared.ids.NodeId.{NodeId}
+use Rattle.boxes.specs.declared.props.BoxProps.{BoxProps}
+use Rattle.style.specs.declared.style.Style.{Style}
+use Rattle.style.specs.Styles.{child_style}
+
+-- a box of a style, and the element that it is the box of
+abbrev pub props_by : Style → Option NodeId → BoxProps
+props_by s node = record {
+  margin = s.margin_top ∷ s.margin_right ∷ s.margin_bottom ∷ s.margin_left ∷ [];
+  border = s.border_top_width ∷ s.border_right_width ∷ s.border_bottom_width ∷ s.border_left_width ∷ [];
+  padding = s.padding_top ∷ s.padding_right ∷ s.padding_bottom ∷ s.padding_left ∷ [];
+  width = s.width;
+  before = s.break_before;
+  after = s.break_after;
+  avoid_inside = s.break_inside;
+  widows = s.widows;
+  orphans = s.orphans;
+  name = s.page;
+  background = s.background_color;
+  colors = s.border_top_color ∷ s.border_right_color ∷ s.border_bottom_color ∷ s.border_left_color ∷ [];
+  node = node;
+}
+
+-- the box of a block element
+abbrev pub props_of : Style → ℕ → BoxProps
+props_of s n = props_by s (Some (record { 0 = n }))
+
+-- an anonymous box in a block of this style: it has the style of a child without declarations
+abbrev pub anonymous_props : Style → BoxProps
+anonymous_props s = props_by (child_style s) None

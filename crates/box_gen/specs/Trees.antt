@@ -1,0 +1,70 @@
+-- The nodes of a document as a tree, and what boxes they make (DOM, 4.2; CSS 2.1, 9.2).
+use Rattle.std.specs.Prelude.{ℕ, zero, suc, ◌-◌, ◌==◌, Bool, true, false, not, ◌&&◌, ◌||◌, List, [], ◌∷◌, Option, None, Some, length, slice_get, if◌then◌else◌}
+use Rattle.bk_num.specs.declared.ids.FaceId.{FaceId}
+use Rattle.bk_num.specs.declared.values.Pseudo.{Pseudo}
+use Rattle.counters.specs.At.{Kept}
+use Rattle.dom.specs.Nodes.{Node, parents_of, text_at}
+use Rattle.dom.specs.Walk.{children_of}
+use Rattle.style.specs.declared.style.Style.{Style}
+use Rattle.style.specs.declared.values.Display.{Display}
+use Rattle.style.specs.declared.values.Display.TheVariants as display
+use Rattle.style.specs.Nodes.{NodeStyles}
+
+-- nodes that stand side by side, with all below them: the first one, what is below it, and those after it
+pub data Forest : Type 0 where
+  none : Forest
+  node : ℕ → Forest → Forest → Forest
+
+abbrev pub side_by_side : (ℕ → Forest) → List ℕ → Forest
+side_by_side below [] = none
+side_by_side below (n ∷ ns) = node n (below n) (side_by_side below ns)
+
+-- what is below a node; d bounds how far down
+abbrev pub below : List (Option ℕ) → ℕ → ℕ → Forest
+below ps zero n = none
+below ps (suc d) n = side_by_side (below ps d) (children_of ps n)
+
+-- the tree of a document. No way down has more nodes than the document
+abbrev pub forest_of : List Node → Forest
+forest_of nodes = node 0 (below (parents_of nodes) (length nodes - 1) 0) none
+
+-- what a flow is made from: nodes with their styles and counters, the face of each style, what each pseudo-element's content prints, and the running strings that each element assigns
+pub record Source : Type 0 where
+  pub nodes : List Node
+  pub styles : List NodeStyles
+  pub counters : Kept
+  pub face : Style → FaceId
+  pub generated : ℕ → Pseudo → List ℕ
+  pub assigned : ℕ → List (List ℕ × List ℕ)
+
+abbrev pub is_block_level : Display → Bool
+is_block_level display.Inline = false
+is_block_level display.Block = true
+is_block_level display.ListItem = true
+is_block_level display.Hidden = false
+
+-- whether a shown element is a block: the root always is, and one that floats to the notes never (CSS 2.1, 9.2.1 and 9.7)
+abbrev pub is_block : Bool → Style → Bool
+is_block root s = root || (not s.float && is_block_level s.display)
+
+-- what a node is to the flow: a text, an element that isn't shown, an inline element or a block
+pub data Role : Type 0 where
+  text : List ℕ → Role
+  hidden : Role
+  inline : Style → Role
+  block : Style → Role
+
+abbrev pub shown_role : Bool → Option Style → Role
+shown_role root None = hidden
+shown_role root (Some s) = if is_block root s then block s else inline s
+
+abbrev pub element_role : Bool → Option NodeStyles → Role
+element_role root None = hidden
+element_role root (Some r) = if r.shown then shown_role root r.own else hidden
+
+abbrev pub role_by : Bool → Option NodeStyles → Option (List ℕ) → Role
+role_by root r None = element_role root r
+role_by root r (Some t) = text t
+
+abbrev pub role_of : Source → ℕ → Role
+role_of src n = role_by (n == 0) (slice_get src.styles n) (text_at src.nodes n)

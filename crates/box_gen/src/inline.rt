@@ -1,0 +1,40 @@
+//! Inline text: texts in their styles, and the elements that begin among them (CSS 2.1, 9.2.2).
+
+use crate::text_style::TextStyle;
+use bk_num::ids::NodeId;
+use inline_text::space::TextPart;
+
+/// A text, how its white space is treated, and how it is set.
+#[derive(Drop)]
+pub struct StyledText {
+    pub part: TextPart,
+    pub style: TextStyle,
+}
+
+/// What a run of inline text is made of: texts, and places at which inline elements begin.
+#[derive(Drop)]
+pub enum InlineItem {
+    Text(StyledText),
+    Start(NodeId),
+}
+
+/// An item without the letters of its text.
+#[derive(Clone, Copy, Debug)]
+pub(crate) enum Mark {
+    Text(TextStyle),
+    Start(NodeId),
+}
+
+/// Where an element begins in the text of a leaf, as a byte offset.
+#[derive(Clone, Copy, Debug, PartialEq, Eq)]
+pub struct InlineStart {
+    pub node: NodeId,
+    pub offset: u32,
+}
+
+/// The answers of the building of a flow but its result: the leaves have more than 33,554,432 bytes, or want of memory.
+#[derive(Clone, Copy, Debug, PartialEq, Eq)]
+pub enum BuildErr {
+    Text,
+    NoMemory,
+}

@@ -1,0 +1,94 @@
+//! The markers of list items (CSS 2.1, 12.5).
+
+ghost use Rattle.std.specs.Prelude.{◌≡◌, IfOk};
+ghost use Rattle.box_gen.specs.Markers as spec;
+ghost use Rattle.box_gen.specs.Markers.{lead_by, list_values, number_text};
+
+use crate::text_style::{TextStyle, span_by};
+use bk_num::ids::NodeId;
+use bk_num::name::{Name, NoMem};
+use bk_num::values::{NumStyle, Pseudo};
+use boxes::leaf::Lead;
+use counters::at::CounterAt;
+use gen_text::parts::{print_counter, print_text};
+use std::alloc::Global;
+use style::style::Style;
+use style::values::Display;
+
+/// Whether an element, the root or another one, has a marker: a list item that doesn't float to the notes, and isn't the root, which is a block.
+pub fn has_marker(root: bool, style: &Style) -> bool
+    ensures { result ≡ spec.has_marker root style.now }
+{
+    !root && style.display == Display::ListItem && !style.float
+}
+
+/// The number of a list item in a style, with a full stop and a space.
+fn number_text(
+    alloc: Global,
+    counters: &CounterAt,
+    node: NodeId,
+    style: NumStyle,
+) -> Result<Vec<u8>, NoMem>
+    ensures { IfOk result (λ text. text.items ≡ number_text style (list_values counters.now node.0)) }
+{
+    let mut text = Vec::new(alloc);
+    print_counter(
+        alloc,
+        counters,
+        node,
+        Pseudo::Element,
+        "list-item",
+        style,
+        &mut text,
+    )?;
+    print_text(". ", &mut text)?;
+    Ok(text)
+}
+
+/// A text as a name.
+fn named(bytes: Vec<u8>) -> Result<Option<Name>, NoMem>
+    ensures { IfOk result (λ name. name ≡ spec.some_text bytes.items) }
+{
+    match String::from_utf8(bytes) {
+        Ok(text) => Ok(Some(Name::from_string(text))),
+        Err(_) => Err(NoMem),
+    }
+}
+
+fn bullet(alloc: Global, text: &str) -> Result<Option<Name>, NoMem>
+    ensures { IfOk result (λ name. name ≡ spec.some_text text.now) }
+{
+    Ok(Some(Name::new(alloc, text)?))
+}
+
+/// The text of a list item's marker: its number with a full stop and a space, a bullet and a space, or none.
+pub fn marker_text(
+    alloc: Global,
+    counters: &CounterAt,
+    node: NodeId,
+    style: NumStyle,
+) -> Result<Option<Name>, NoMem>
+    ensures { IfOk result (λ text. text ≡ spec.marker_text style (list_values counters.now node.0)) }
+{
+    match style {
+        NumStyle::Nothing => Ok(None),
+        NumStyle::Disc => bullet(alloc, "• "),
+        NumStyle::Circle => bullet(alloc, "◦ "),
+        NumStyle::Square => bullet(alloc, "▪ "),
+        _ => named(number_text(alloc, counters, node, style)?),
+    }
+}
+
+/// A marker in a style, which hangs before the first line of the item whose box has the number `owner`.
+pub fn lead_of(text: Name, style: &TextStyle, owner: u32) -> Result<Lead, NoMem>
+    ensures { IfOk result (λ lead. lead ≡ lead_by text style.now owner) }
+{
+    let Ok(len) = u32::try_from(text.as_str().len()) else {
+        return Err(NoMem);
+    };
+    Ok(Lead {
+        span: span_by(style, 0, len),
+        text,
+        owner,
+    })
+}

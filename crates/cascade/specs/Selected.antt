@@ -1,0 +1,83 @@
+-- The rules of sheets by their selectors, as lists, for the contracts of private functions.
+use Rattle.std.specs.Prelude.{◌↔◌, ℕ, ◌+◌, Bool, true, false, List, [], ◌∷◌, ◌++◌, Option, None, Some, map, slice_get, if◌then◌else◌}
+use Rattle.std.specs.List.{Contains, filter_map}
+use Rattle.bk_num.specs.declared.values.Pseudo.{Pseudo}
+use Rattle.bk_num.specs.declared.values.Pseudo.TheVariants as pseudo
+use Rattle.selectors.specs.Selectors.{SelectorView}
+use Rattle.selectors.specs.Match.{Tree}
+use Rattle.match_table.specs.All.{MatchesAt}
+use Rattle.cascade.specs.declared.decl.ReadDecl.{ReadDecl}
+use Rattle.cascade.specs.declared.sheet.Origin.{Origin}
+use Rattle.cascade.specs.declared.selected.Ruled.{Ruled}
+use Rattle.cascade.specs.declared.selected.Selected.{Selected}
+use Rattle.cascade.specs.declared.winners.NodeWinners.{NodeWinners}
+use Rattle.cascade.specs.Weights.{of_style}
+use Rattle.cascade.specs.Candidates.{AppliedOf, applied_in, DeclaredBy}
+use Rattle.cascade.specs.Winners.{AreWinners}
+use Rattle.cascade.specs.Document.{RuleIn, weight_of}
+
+abbrev pub listed : {A : Type 0} → Option A → List A
+listed None = []
+listed (Some x) = x ∷ []
+
+abbrev pub ruled_in : Ruled → RuleIn
+ruled_in r = record { origin = r.origin; read = r.rule.now }
+
+-- a selector of a rule, and what it makes apply
+pub record SelectedOf : Type 0 where
+  pub selector : SelectorView
+  pub rule : AppliedOf
+
+abbrev pub selected_in : Selected → SelectedOf
+selected_in s = record { selector = s.selector.now; rule = applied_in s.rule }
+
+abbrev pub selected_by : ℕ → Origin → List ReadDecl → SelectorView → SelectedOf
+selected_by place o decls s = record { selector = s; rule = record { weight = weight_of o place s; decls = decls } }
+
+-- the selectors of the rules, which stand from a place on
+abbrev pub selected_from : ℕ → List RuleIn → List SelectedOf
+selected_from place [] = []
+selected_from place (r ∷ rs) = map (selected_by place r.origin r.read.decls) r.read.selectors.items ++ selected_from (place + 1) rs
+
+abbrev pub is_same : Pseudo → Pseudo → Bool
+is_same pseudo.Element pseudo.Element = true
+is_same pseudo.Before pseudo.Before = true
+is_same pseudo.After pseudo.After = true
+is_same pseudo.Call pseudo.Call = true
+is_same pseudo.Marker pseudo.Marker = true
+is_same _ _ = false
+
+abbrev pub named : Pseudo → Option SelectedOf → Option AppliedOf
+named p None = None
+named p (Some s) = if is_same s.selector.pseudo p then Some s.rule else None
+
+abbrev pub named_at : List SelectedOf → Pseudo → ℕ → Option AppliedOf
+named_at ss p k = named p (slice_get ss k)
+
+abbrev pub style_rule : List ReadDecl → AppliedOf
+style_rule decls = record { weight = of_style; decls = decls }
+
+abbrev pub style_rules : List ReadDecl → Pseudo → List AppliedOf
+style_rules styled p = if is_same p pseudo.Element then style_rule styled ∷ [] else []
+
+-- what applies to a pseudo-element of a node that the selectors at some places match
+abbrev pub rules_at : List SelectedOf → List ℕ → List ReadDecl → Pseudo → List AppliedOf
+rules_at ss places styled p = filter_map (named_at ss p) places ++ style_rules styled p
+
+abbrev pub selectors_of : List SelectedOf → List SelectorView
+selectors_of ss = map (λ s. s.selector) ss
+
+abbrev pub pushed_if : Bool → List ℕ → ℕ → List ℕ
+pushed_if hit places k = if hit then places ++ k ∷ [] else places
+
+-- the places of the selectors that match a node
+abbrev pub ArePlaces : Tree → List SelectedOf → ℕ → List ℕ → Type 0
+ArePlaces dom ss n places = (k : ℕ) → Contains places k ↔ MatchesAt dom (selectors_of ss) k n
+
+-- what wins among these rules for each pseudo-element
+pub record AreChosen (ss : List SelectedOf) (places : List ℕ) (styled : List ReadDecl) (w : NodeWinners) : Type 0 where
+  pub own : AreWinners (DeclaredBy (rules_at ss places styled pseudo.Element)) w.own
+  pub before : AreWinners (DeclaredBy (rules_at ss places styled pseudo.Before)) w.before
+  pub after : AreWinners (DeclaredBy (rules_at ss places styled pseudo.After)) w.after
+  pub call : AreWinners (DeclaredBy (rules_at ss places styled pseudo.Call)) w.call
+  pub marker : AreWinners (DeclaredBy (rules_at ss places styled pseudo.Marker)) w.marker

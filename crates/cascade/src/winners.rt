@@ -1,0 +1,161 @@
+//! The winning declarations of nodes and of their pseudo-elements.
+
+ghost use Rattle.std.specs.Prelude.{◌≡◌, ◌<◌, length, map, IfOk, OnOk};
+ghost use Rattle.cascade.specs.Document.{style_decls, IsDeclaredAt, AreAllWinners};
+ghost use Rattle.cascade.specs.Winners.{AreWinners};
+ghost use Rattle.cascade.specs.Selected as spec;
+
+use crate::decl::ReadDecl;
+use crate::selected::{Selected, rules_of, selected_of, winners_by};
+use crate::sheet::{ReadSheet, read_all};
+use bk_num::ids::NodeId;
+use bk_num::items::Items;
+use bk_num::name::NoMem;
+use bk_num::values::Pseudo;
+use css_rules::decls::read_decls;
+use dom::Dom;
+use match_table::all::match_all;
+use selectors::matching::matches;
+use selectors::types::Selector;
+use std::alloc::Global;
+use style::long::Long;
+
+/// The winning declarations of an element or of a pseudo-element: one for each longhand that is declared, in the order
+/// of the longhands.
+#[derive(Drop)]
+pub struct WinnerMap {
+    pub longs: Items<Long>,
+}
+
+/// The winning declarations of an element and of each of its pseudo-elements: at most one for each longhand. A text has none.
+#[derive(Drop)]
+pub struct NodeWinners {
+    pub own: Items<Long>,
+    pub before: Items<Long>,
+    pub after: Items<Long>,
+    pub call: Items<Long>,
+    pub marker: Items<Long>,
+}
+
+/// The declarations of a node's style attribute.
+fn style_decls(alloc: Global, dom: &Dom, node: NodeId) -> Result<Items<ReadDecl>, NoMem>
+    requires { node.0 < length dom.now }
+    ensures { IfOk result (λ decls. decls ≡ style_decls dom.now node.0) }
+{
+    match dom.attr(node, "style") {
+        Some(text) => {
+            let slices = read_decls(alloc, text)?;
+            read_all(alloc, &slices)
+        }
+        None => Ok(Items::new(alloc)),
+    }
+}
+
+/// Appends the place of a selector that matches.
+fn push_if(places: &mut Vec<u32>, hit: bool, place: u32) -> Result<(), NoMem>
+    ensures { OnOk result (places.new.items ≡ spec.pushed_if hit places.old.items place) }
+{
+    if hit {
+        places.push(place)?;
+    }
+    Ok(())
+}
+
+/// The places of the selectors that match a node.
+fn places_at(
+    alloc: Global,
+    dom: &Dom,
+    node: NodeId,
+    selected: &[Selected<'_>],
+) -> Result<Vec<u32>, NoMem>
+    requires { node.0 < length dom.now }
+    ensures { IfOk result (λ v. spec.ArePlaces dom.now (map spec.selected_in selected.now) node.0 v.items) }
+{
+    let Ok(count) = u32::try_from(selected.len()) else {
+        return Err(NoMem);
+    };
+    let mut places = Vec::new(alloc);
+    for place in 0..count {
+        let hit = matches(dom, node, selected[place as usize].selector);
+        push_if(&mut places, hit, place)?;
+    }
+    Ok(places)
+}
+
+/// What wins for an element, for one of its pseudo-elements, or for a text, which has none (CSS 2.1, 6.4): of the
+/// declarations of the rules whose selectors match the node and name the pseudo-element, and of the element's style
+/// attribute, for each longhand the greatest by importance, origin, style attribute, specificity and order. It tries
+/// each selector.
+pub fn winners(
+    alloc: Global,
+    dom: &Dom,
+    sheets: &[ReadSheet],
+    node: NodeId,
+    pseudo: Pseudo,
+) -> Result<WinnerMap, NoMem>
+    requires { node.0 < length dom.now }
+    ensures { IfOk result (λ w. AreWinners (IsDeclaredAt dom.now sheets.now node.0 pseudo) w.longs) }
+{
+    let rules = rules_of(alloc, sheets)?;
+    let selected = selected_of(alloc, &rules)?;
+    let places = places_at(alloc, dom, node, &selected)?;
+    let styled = style_decls(alloc, dom, node)?;
+    let longs = winners_by(alloc, &selected, &places, styled.as_slice(), pseudo)?;
+    Ok(WinnerMap { longs })
+}
+
+/// What wins for a node and for each of its pseudo-elements.
+fn node_winners<'s>(
+    alloc: Global,
+    selected: &[Selected<'s>],
+    places: &[u32],
+    styled: &'s [ReadDecl],
+) -> Result<NodeWinners, NoMem>
+    ensures { IfOk result (λ w. spec.AreChosen (map spec.selected_in selected.now) places.now styled.now w) }
+{
+    let own = winners_by(alloc, selected, places, styled, Pseudo::Element)?;
+    let before = winners_by(alloc, selected, places, styled, Pseudo::Before)?;
+    let after = winners_by(alloc, selected, places, styled, Pseudo::After)?;
+    let call = winners_by(alloc, selected, places, styled, Pseudo::Call)?;
+    let marker = winners_by(alloc, selected, places, styled, Pseudo::Marker)?;
+    Ok(NodeWinners {
+        own,
+        before,
+        after,
+        call,
+        marker,
+    })
+}
+
+fn selectors_of<'s>(alloc: Global, selected: &[Selected<'s>]) -> Result<Vec<&'s Selector>, NoMem>
+    ensures { IfOk result (λ v. map (λ s. s.now) v.items ≡ spec.selectors_of (map spec.selected_in selected.now)) }
+{
+    let mut selectors = Vec::new(alloc);
+    for one in selected {
+        selectors.push(one.selector)?;
+    }
+    Ok(selectors)
+}
+
+/// What wins for each node of a document and for each of its pseudo-elements: at each the same as `winners` gives. All
+/// selectors are matched in one call, each style attribute is read once, and no value is read again.
+pub fn all_winners(
+    alloc: Global,
+    dom: &Dom,
+    sheets: &[ReadSheet],
+) -> Result<Vec<NodeWinners>, NoMem>
+    ensures { IfOk result (λ v. AreAllWinners dom.now sheets.now v.items) }
+{
+    let rules = rules_of(alloc, sheets)?;
+    let selected = selected_of(alloc, &rules)?;
+    let selectors = selectors_of(alloc, &selected)?;
+    let table = match_all(alloc, dom, &selectors)?;
+    let mut all = Vec::new(alloc);
+    for index in 0..dom.len() {
+        let node = NodeId(index);
+        let styled = style_decls(alloc, dom, node)?;
+        let winners = node_winners(alloc, &selected, table.of(node), styled.as_slice())?;
+        all.push(winners)?;
+    }
+    Ok(all)
+}

@@ -1,0 +1,220 @@
+//! What an element or a pseudo-element does to counters (CSS 2.1, 12.4), written down as events.
+
+ghost use Rattle.std.specs.Prelude.{◌≡◌, ◌==◌, ◌&&◌, not, if◌then◌else◌, codes, ◌++◌, ◌∷◌, [], OnOk};
+ghost use Rattle.std.specs.List.{flat_map};
+ghost use Rattle.counters.specs.Gather.{placed};
+ghost use Rattle.counters.specs.Document.{by_element, by_generated, changes_at, named, note_count, note_start, increments_in, is_list_item, is_numeral, resets_in, use_of, uses_by, uses_in};
+ghost use Rattle.counters.specs.declared.scopes.Act.TheVariants as act;
+
+use crate::scopes::{Act, Event};
+use bk_num::ids::NodeId;
+use bk_num::name::{Name, NoMem};
+use bk_num::values::{NumStyle, Pseudo};
+use std::alloc::Global;
+use style::content::{Content, Part};
+use style::lists::{CounterList, StringSets};
+use style::style::Style;
+use style::styles::Styles;
+use style::values::Display;
+
+/// A place's number, and where scopes end that begin at it.
+#[derive(Clone, Copy, Debug)]
+pub(crate) struct Place {
+    pub at: u32,
+    pub end: u32,
+}
+
+/// A counter of the document is changed: `page` is none.
+fn push(place: Place, name: Name, act: Act, into: &mut Vec<(Name, Event)>) -> Result<(), NoMem>
+    ensures { OnOk result (into.new.items ≡ into.old.items ++ placed place ((name, act) ∷ [])) }
+{
+    if name.as_str() == "page" {
+        return Ok(());
+    }
+    let event = Event {
+        at: place.at,
+        end: place.end,
+        act,
+    };
+    into.push((name, event))?;
+    Ok(())
+}
+
+fn push_resets(place: Place, list: &CounterList, into: &mut Vec<(Name, Event)>) -> Result<(), NoMem>
+    ensures { OnOk result (into.new.items ≡ into.old.items ++ placed place (resets_in list.now)) }
+{
+    for entry in list.as_slice() {
+        push(place, entry.0.copy()?, Act::Reset(entry.1), into)?;
+    }
+    Ok(())
+}
+
+fn push_increments(
+    place: Place,
+    list: &CounterList,
+    into: &mut Vec<(Name, Event)>,
+) -> Result<(), NoMem>
+    ensures { OnOk result (into.new.items ≡ into.old.items ++ placed place (increments_in list.now)) }
+{
+    for entry in list.as_slice() {
+        push(place, entry.0.copy()?, Act::Add(entry.1), into)?;
+    }
+    Ok(())
+}
+
+fn push_use(place: Place, part: &Part, into: &mut Vec<(Name, Event)>) -> Result<(), NoMem>
+    ensures { OnOk result (into.new.items ≡ into.old.items ++ placed place (uses_by part.now)) }
+{
+    match part {
+        Part::Counter(name, _) => push(place, name.copy()?, Act::Add(0), into),
+        Part::Counters(name, _, _) => push(place, name.copy()?, Act::Add(0), into),
+        _ => Ok(()),
+    }
+}
+
+fn push_uses(place: Place, content: &Content, into: &mut Vec<(Name, Event)>) -> Result<(), NoMem>
+    ensures { OnOk result (into.new.items ≡ into.old.items ++ placed place (uses_in content.now)) }
+{
+    for part in content.as_slice() {
+        push_use(place, part, into)?;
+    }
+    Ok(())
+}
+
+fn push_string_uses(
+    place: Place,
+    sets: &StringSets,
+    into: &mut Vec<(Name, Event)>,
+) -> Result<(), NoMem>
+    ensures { OnOk result (into.new.items ≡ into.old.items ++ placed place (flat_map (λ e. uses_in e.1) sets.now)) }
+{
+    for entry in sets.as_slice() {
+        push_uses(place, &entry.1, into)?;
+    }
+    Ok(())
+}
+
+fn is_list_item(display: Display) -> bool
+    ensures { result ≡ is_list_item display }
+{
+    match display {
+        Display::ListItem => true,
+        Display::Inline | Display::Block | Display::Hidden => false,
+    }
+}
+
+fn is_numeral(style: NumStyle) -> bool
+    ensures { result ≡ is_numeral style }
+{
+    match style {
+        NumStyle::Disc | NumStyle::Circle | NumStyle::Square | NumStyle::Nothing => false,
+        _ => true,
+    }
+}
+
+fn has_numeral(root: bool, style: &Style) -> bool
+    ensures { result ≡ (not root && (is_list_item style.now.display && (not style.now.float && is_numeral style.now.list_style_type))) }
+{
+    !root && is_list_item(style.display) && !style.float && is_numeral(style.list_style_type)
+}
+
+fn push_marker_use(
+    alloc: Global,
+    place: Place,
+    numeral: bool,
+    into: &mut Vec<(Name, Event)>,
+) -> Result<(), NoMem>
+    ensures { OnOk result (into.new.items ≡ into.old.items ++ placed place (if numeral then use_of (codes "list-item") else [])) }
+{
+    if numeral {
+        return push(place, Name::new(alloc, "list-item")?, Act::Add(0), into);
+    }
+    Ok(())
+}
+
+fn push_note_start(
+    alloc: Global,
+    place: Place,
+    root: bool,
+    into: &mut Vec<(Name, Event)>,
+) -> Result<(), NoMem>
+    ensures { OnOk result (into.new.items ≡ into.old.items ++ placed place (note_start root)) }
+{
+    if root {
+        return push(place, Name::new(alloc, "footnote")?, Act::Reset(0), into);
+    }
+    Ok(())
+}
+
+fn push_note_count(
+    alloc: Global,
+    place: Place,
+    note: bool,
+    into: &mut Vec<(Name, Event)>,
+) -> Result<(), NoMem>
+    ensures { OnOk result (into.new.items ≡ into.old.items ++ placed place (note_count note)) }
+{
+    if note {
+        return push(place, Name::new(alloc, "footnote")?, Act::Add(1), into);
+    }
+    Ok(())
+}
+
+fn push_element(
+    alloc: Global,
+    place: Place,
+    root: bool,
+    note: bool,
+    style: &Style,
+    into: &mut Vec<(Name, Event)>,
+) -> Result<(), NoMem>
+    ensures { OnOk result (into.new.items ≡ into.old.items ++ placed place (by_element root note style.now)) }
+{
+    push_note_start(alloc, place, root, into)?;
+    push_resets(place, &style.counter_reset, into)?;
+    push_increments(place, &style.counter_increment, into)?;
+    push_note_count(alloc, place, note, into)?;
+    push_string_uses(place, &style.string_set, into)?;
+    push_marker_use(alloc, place, has_numeral(root, style), into)
+}
+
+fn push_generated(place: Place, style: &Style, into: &mut Vec<(Name, Event)>) -> Result<(), NoMem>
+    ensures { OnOk result (into.new.items ≡ into.old.items ++ placed place (by_generated style.now)) }
+{
+    push_resets(place, &style.counter_reset, into)?;
+    push_increments(place, &style.counter_increment, into)?;
+    match &style.content {
+        Some(content) => push_uses(place, content, into),
+        None => Ok(()),
+    }
+}
+
+/// Appends the events of an element or a pseudo-element, in order.
+pub(crate) fn push_changes(
+    alloc: Global,
+    place: Place,
+    styles: &Styles,
+    node: NodeId,
+    pseudo: Pseudo,
+    into: &mut Vec<(Name, Event)>,
+) -> Result<(), NoMem>
+    ensures { OnOk result (into.new.items ≡ into.old.items ++ named place.at place.end (changes_at styles.now node.0 pseudo)) }
+{
+    if !styles.is_shown(node) {
+        return Ok(());
+    }
+    let Some(style) = styles.of(node, pseudo) else {
+        return Ok(());
+    };
+    match pseudo {
+        Pseudo::Element => push_element(
+            alloc,
+            place,
+            node.0 == 0,
+            styles.is_note(node),
+            style,
+            into,
+        ),
+        _ => push_generated(place, style, into),
+    }
+}

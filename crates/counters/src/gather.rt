@@ -1,0 +1,133 @@
+//! The events of a whole document, in document order.
+
+ghost use Rattle.std.specs.Prelude.{◌≡◌, ◌+◌, ◌*◌, ◌<◌, ◌^◌, ◌++◌, IfOk, OnOk, length, option_map};
+ghost use Rattle.bk_num.specs.declared.values.Pseudo.TheVariants as pseudo;
+ghost use Rattle.dom.specs.Nodes.{parents_of};
+ghost use Rattle.dom.specs.Walk.{node_of, steps_of};
+ghost use Rattle.counters.specs.At.{AreSmall};
+ghost use Rattle.counters.specs.Document.{changes_at, document_events, named, step_events};
+ghost use Rattle.counters.specs.Gather.{AreSpots, end_below};
+
+use crate::at::Spot;
+use crate::events::{Place, push_changes};
+use crate::scopes::Event;
+use bk_num::ids::NodeId;
+use bk_num::name::{Name, NoMem};
+use bk_num::values::Pseudo;
+use dom::{Dom, Step, Walk};
+use std::alloc::Global;
+use style::styles::Styles;
+
+/// Where scopes end that begin at a child of a node, or at the root.
+fn end_below(spots: &[Spot], count: u32, node: Option<NodeId>) -> u32
+    requires small { AreSmall spots.now }
+    requires few { count < 2 ^ 28 }
+    ensures value { result ≡ end_below count spots.now (option_map (λ n. n.0) node) }
+{
+    let Some(node) = node else {
+        return 4 * count;
+    };
+    let Some(spot) = spots.get(node.0 as usize) else {
+        return 4 * count;
+    };
+    match spot.out {
+        Some(step) => 4 * step + 1,
+        None => 4 * count,
+    }
+}
+
+/// Appends the events of a step into an element.
+fn push_entered(
+    alloc: Global,
+    styles: &Styles,
+    node: NodeId,
+    at: u32,
+    outside: u32,
+    inside: u32,
+    into: &mut Vec<(Name, Event)>,
+) -> Result<(), NoMem>
+    requires { at + 3 < 2 ^ 32 }
+    ensures { OnOk result (into.new.items ≡ into.old.items ++ (named at outside (changes_at styles.now node.0 pseudo.Element) ++ (named (at + 1) inside (changes_at styles.now node.0 pseudo.Call) ++ (named (at + 2) inside (changes_at styles.now node.0 pseudo.Marker) ++ named (at + 3) inside (changes_at styles.now node.0 pseudo.Before))))) }
+{
+    let own = Place { at, end: outside };
+    push_changes(alloc, own, styles, node, Pseudo::Element, into)?;
+    let call = Place {
+        at: at + 1,
+        end: inside,
+    };
+    push_changes(alloc, call, styles, node, Pseudo::Call, into)?;
+    let marker = Place {
+        at: at + 2,
+        end: inside,
+    };
+    push_changes(alloc, marker, styles, node, Pseudo::Marker, into)?;
+    let before = Place {
+        at: at + 3,
+        end: inside,
+    };
+    push_changes(alloc, before, styles, node, Pseudo::Before, into)
+}
+
+/// Appends the events of a step.
+fn push_step(
+    alloc: Global,
+    dom: &Dom,
+    styles: &Styles,
+    spots: &[Spot],
+    count: u32,
+    index: u32,
+    step: Step,
+    into: &mut Vec<(Name, Event)>,
+) -> Result<(), NoMem>
+    requires spots { AreSpots (steps_of dom.now) spots.now }
+    requires small { AreSmall spots.now }
+    requires count { count ≡ length (steps_of dom.now) }
+    requires few { count < 2 ^ 28 }
+    requires index { index < count }
+    requires within { node_of step < length dom.now }
+    ensures { OnOk result (into.new.items ≡ into.old.items ++ step_events (parents_of dom.now) styles.now (steps_of dom.now) index step) }
+{
+    match step {
+        Step::Enter(node) => {
+            let outside = end_below(spots, count, dom.parent(node));
+            let inside = end_below(spots, count, Some(node));
+            push_entered(alloc, styles, node, 4 * index, outside, inside, into)
+        }
+        Step::Leave(node) => {
+            let inside = end_below(spots, count, Some(node));
+            let after = Place {
+                at: 4 * index,
+                end: inside,
+            };
+            push_changes(alloc, after, styles, node, Pseudo::After, into)
+        }
+    }
+}
+
+/// All events of a document, each with its counter's name.
+///
+/// # Errors
+///
+/// `NoMem`.
+pub fn all_events(
+    alloc: Global,
+    dom: &Dom,
+    styles: &Styles,
+    spots: &[Spot],
+    count: u32,
+) -> Result<Vec<(Name, Event)>, NoMem>
+    requires spots { AreSpots (steps_of dom.now) spots.now }
+    requires small { AreSmall spots.now }
+    requires count { count ≡ length (steps_of dom.now) }
+    requires few { count < 2 ^ 28 }
+    ensures { IfOk result (λ v. v.items ≡ document_events dom.now styles.now) }
+{
+    let mut events = Vec::new(alloc);
+    let mut walk = Walk::new(dom);
+    let mut index = 0;
+    while let Some(step) = walk.next() {
+        push_step(alloc, dom, styles, spots, count, index, step, &mut events)?;
+        index += 1;
+    }
+    Ok(events)
+}

@@ -1,0 +1,7 @@
+//! The default sheet: its text, and what it is read as.
+#![tactic(auto)]
+
+pub mod sheet;
+#[cfg(test)]
+mod tests;
+pub mod text;

@@ -1,0 +1,6 @@
+-- Attributes by their element and name.
+use Rattle.std.specs.Prelude.{ℕ, Bool, ◌&&◌, ◌==◌}
+use Rattle.dom.specs.declared.store.Key.{Key}
+
+abbrev pub is_key : ℕ → ℕ → Key → Bool
+is_key node name q = node == q.node && name == q.name

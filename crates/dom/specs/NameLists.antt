@@ -1,0 +1,13 @@
+-- Lists of names without repetition.
+use Rattle.std.specs.Prelude.{◌≡◌, ℕ, List, [], ◌∷◌, ◌++◌, Some, length, slice_get, position, is_some, if◌then◌else◌, unwrap_or}
+use Rattle.std.specs.Str.{bytes_eq}
+
+abbrev pub with_name : List (List ℕ) → List ℕ → List (List ℕ)
+with_name names name = if is_some (position (bytes_eq name) names) then names else names ++ name ∷ []
+
+abbrev pub place_of : List (List ℕ) → List ℕ → ℕ
+place_of names name = unwrap_or (position (bytes_eq name) names) (length names)
+
+-- no name stands at two places
+abbrev pub AreOnce : List (List ℕ) → Type 0
+AreOnce names = (i j : ℕ) (name : List ℕ) → slice_get names i ≡ Some name → slice_get names j ≡ Some name → i ≡ j

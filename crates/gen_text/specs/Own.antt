@@ -1,0 +1,129 @@
+-- An element's own text, which `content()` prints (css-gcpm-3, "string-set").
+use Rattle.std.specs.Prelude.{ℕ, ◌-◌, ◌==◌, ◌&&◌, ◌||◌, Bool, false, not, if◌then◌else◌, List, [], ◌∷◌, ◌++◌, Option, None, Some, slice_get}
+use Rattle.std.specs.List.{flat_map, list_all, join_with_byte}
+use Rattle.dom.specs.Nodes.{Node, parents_of, parent_at, first_child_of, next_of, depth_at, is_element_at, text_at}
+use Rattle.dom.specs.Order.{way}
+use Rattle.dom.specs.Walk.{children_of}
+use Rattle.dom.specs.WalkFields.{tours_of}
+use Rattle.dom.specs.declared.walk.Step.{Step}
+use Rattle.dom.specs.declared.walk.Step.TheVariants.{Enter, Leave}
+use Rattle.style.specs.Nodes.{NodeStyles, is_shown_in, is_note_in}
+use Rattle.gen_text.specs.declared.own.Ending.{Ending}
+use Rattle.gen_text.specs.declared.own.Ending.TheVariants as ending
+use Rattle.gen_text.specs.Parts.{attribute_text}
+
+-- ---- white space
+
+-- tab, line feed, form feed, carriage return, space (HTML, "ASCII whitespace")
+abbrev pub is_white : ℕ → Bool
+is_white b = b == 9 || (b == 10 || (b == 12 || (b == 13 || b == 32)))
+
+-- a word, where it has characters
+abbrev pub if_some : List ℕ → List (List ℕ)
+if_some [] = []
+if_some (b ∷ bs) = (b ∷ bs) ∷ []
+
+-- the words of a text that goes on from the beginning of a word
+abbrev pub words_after : List ℕ → List ℕ → List (List ℕ)
+words_after word [] = if_some word
+words_after word (b ∷ bs) = if is_white b then if_some word ++ words_after [] bs else words_after (word ++ b ∷ []) bs
+
+-- the words of a text: its runs of characters between white space
+abbrev pub words_of : List ℕ → List (List ℕ)
+words_of text = words_after [] text
+
+-- a text with each run of white space as one space, trimmed: its words, with a space between
+abbrev pub trimmed : List ℕ → List ℕ
+trimmed text = join_with_byte 32 (words_of text)
+
+-- ---- the texts below an element
+
+-- an element that isn't shown, or a note element
+abbrev pub is_left_out : List Node → List NodeStyles → ℕ → Bool
+is_left_out nodes styles n = is_element_at nodes n && (not (is_shown_in (slice_get styles n)) || is_note_in (slice_get styles n))
+
+-- the nodes on the way from an element down to a node below it, with that node and without the element
+abbrev pub way_below : List Node → ℕ → ℕ → List ℕ
+way_below nodes e n = way (parents_of nodes) (depth_at nodes n - depth_at nodes e) (Some n)
+
+-- whether none of these is left out
+abbrev pub is_kept : List Node → List NodeStyles → ℕ → ℕ → Bool
+is_kept nodes styles e n = list_all (λ a. not (is_left_out nodes styles a)) (way_below nodes e n)
+
+-- what a step of the walk through a tree adds: where it goes into a text that is kept, that text
+abbrev pub kept_text : List Node → List NodeStyles → ℕ → Step → List ℕ
+kept_text nodes styles e (Enter n) = if is_kept nodes styles e n.0 then attribute_text (text_at nodes n.0) else []
+kept_text nodes styles e (Leave n) = []
+
+-- the texts below an element in tree order, joined, without those of elements that aren't shown and of note elements (DOM, "descendant text content")
+abbrev pub texts_below : List Node → List NodeStyles → ℕ → List ℕ
+texts_below nodes styles e = flat_map (kept_text nodes styles e) (tours_of (parents_of nodes) (children_of (parents_of nodes) e))
+
+-- an element's own text
+abbrev pub own_text : List Node → List NodeStyles → ℕ → List ℕ
+own_text nodes styles e = trimmed (texts_below nodes styles e)
+
+-- ---- how it is read, character by character and step by step
+
+-- how a text ends, once more white space has come
+abbrev pub spaced : Ending → Ending
+spaced ending.Nothing = ending.Nothing
+spaced ending.Word = ending.Space
+spaced ending.Space = ending.Space
+
+-- the space before the next word
+abbrev pub lead : Ending → List ℕ
+lead ending.Nothing = []
+lead ending.Word = []
+lead ending.Space = 32 ∷ []
+
+-- what a character adds to the words of a text, and how the text then ends
+abbrev pub added_by : Ending → ℕ → List ℕ
+added_by t b = if is_white b then [] else lead t ++ b ∷ []
+
+abbrev pub ending_by : Ending → ℕ → Ending
+ending_by t b = if is_white b then spaced t else ending.Word
+
+-- what more of a text adds, and how the text then ends
+abbrev pub added : Ending → List ℕ → List ℕ
+added t [] = []
+added t (b ∷ bs) = added_by t b ++ added (ending_by t b) bs
+
+abbrev pub ending_after : Ending → List ℕ → Ending
+ending_after t [] = t
+ending_after t (b ∷ bs) = ending_after (ending_by t b) bs
+
+-- the text that a step goes into
+abbrev pub text_of_step : List Node → Step → List ℕ
+text_of_step nodes (Enter n) = attribute_text (text_at nodes n.0)
+text_of_step nodes (Leave n) = []
+
+abbrev pub step_to : ℕ → Option ℕ → Step
+step_to n None = Leave (record { 0 = n })
+step_to n (Some c) = Enter (record { 0 = c })
+
+-- the first step below a node, or out of it where it has no children
+abbrev pub step_inside : List Node → ℕ → Step
+step_inside nodes n = step_to n (first_child_of (parents_of nodes) n)
+
+abbrev pub step_out : ℕ → Option ℕ → Step
+step_out n None = Leave (record { 0 = n })
+step_out n (Some p) = Leave (record { 0 = p })
+
+abbrev pub step_on : ℕ → Option ℕ → Option ℕ → Step
+step_on n (Some s) p = Enter (record { 0 = s })
+step_on n None p = step_out n p
+
+-- the step after a node is left
+abbrev pub step_beyond : List Node → ℕ → Step
+step_beyond nodes n = step_on n (next_of (parents_of nodes) n) (parent_at (parents_of nodes) n)
+
+-- the step after one, past all below an element that is left out
+abbrev pub step_after : List Node → List NodeStyles → Step → Step
+step_after nodes styles (Enter n) = if is_left_out nodes styles n.0 then Leave n else step_inside nodes n.0
+step_after nodes styles (Leave n) = step_beyond nodes n.0
+
+-- whether a step goes out of a node
+abbrev pub goes_out : ℕ → Step → Bool
+goes_out e (Enter n) = false
+goes_out e (Leave n) = n.0 == e

@@ -1,0 +1,4 @@
+pub mod GapLemmas
+pub mod PlaceLemmas
+pub mod SpanLemmas
+pub mod TextLemmas

@@ -1,0 +1,22 @@
+use Rattle.std.proofs.Common.{◌≡◌, ◌∙◌, ℕ, List, ap, arith}
+use Rattle.line_place.specs.Runs.{is_free, unit_in}
+use Rattle.line_place.proofs.SumLemmas.{sums_step}
+use Rattle.line_place.proofs.sums.add_piece.Goals as goal
+
+pub loop-at-preserved : goal.loop-at-preserved
+loop-at-preserved c =
+    let inv = c.loop-at.invariant in
+    let test = c.loop-at-test.true in
+    let low = inv.low in
+    let begins = c.requires.begins in
+    let text : c.as_bytes-bytes.result.now ≡ c.args.leaf.now.text = c.as_bytes-bytes.ensures.value ∙ c.as_str-text.ensures in
+    record {
+      low = omega (arith, low);
+      high = omega (arith, test);
+      sums = sums_step c.args.faces.now c.args.leaf.now c.args.span.now c.args.ends.free c.args.ends.from c.loop-at.at c.unit-width.result c.is_free.result c.loop-at.sums c.with-sums.result
+          (omega (arith, low, begins)) inv.sums (c.requires.here c.loop-at.at low test)
+          (c.unit-width.ensures.value ∙ ap (λ (t : List ℕ). unit_in c.args.faces.now c.args.span.now t c.loop-at.at) c.as_str-text.ensures)
+          (let most = c.unit-width.ensures.most in omega (arith, most))
+          (c.is_free.ensures ∙ ap (λ (t : List ℕ). is_free t c.args.ends.free c.loop-at.at) text)
+          c.with-sums.ensures.width c.with-sums.ensures.passed;
+    }

@@ -1,0 +1,8 @@
+//! Pages in their order: frames by a table, the page that a place belongs to, and page numbers.
+#![tactic(auto)]
+
+pub mod numbers;
+pub mod pages;
+pub mod places;
+#[cfg(test)]
+mod tests;

@@ -1,6 +1,0 @@
-use Rattle.std.proofs.Common.{ℕ, ◌<◌, slice_index}
-use Rattle.line_fill.specs.Plain.{IsPlainByte}
-use Rattle.page_trees.proofs.build.is_plain.Given as goal
-
-abbrev pub invariant-loop-byte : goal.invariant-loop-byte
-invariant-loop-byte l = (k : ℕ) → k < l.byte-index → IsPlainByte (slice_index l.text k)

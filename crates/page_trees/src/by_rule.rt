@@ -1,0 +1,102 @@
+//! The pages of random trees beside those that the rules in words give.
+
+use crate::flows::{METRICS, flow_of, paged};
+use crate::random::{Part, Random, Sketch, sketch_of};
+use crate::rule_pages::{RulePage, rule_pages};
+use bk_num::name::NoMem;
+use boxes::page::Page;
+use metrics::read_metrics;
+use std::alloc::{AllocError, Global};
+use std::test::Fail;
+use tree_fixtures::tree::Step;
+
+/// How many trees are tried.
+const TREES: u32 = 5000;
+
+/// A text of some lines, at most five.
+fn text_of(lines: u32) -> &'static str {
+    match lines {
+        0 | 1 => "a",
+        2 => "a\nb",
+        3 => "a\nb\nc",
+        4 => "a\nb\nc\nd",
+        _ => "a\nb\nc\nd\ne",
+    }
+}
+
+/// How a tree is made.
+fn steps_of(alloc: Global, sketch: &Sketch) -> Result<Vec<Step<'static>>, NoMem> {
+    let mut steps = Vec::new(alloc);
+    for part in &sketch.parts {
+        steps.push(match *part {
+            Part::Opens(block) => Step::Open(sketch.block(block).shape),
+            Part::Lines(_, lines) => Step::Text(text_of(lines)),
+            Part::Closes(_) => Step::Close,
+        })?;
+    }
+    Ok(steps)
+}
+
+/// Whether a page is as the rules have it.
+fn is_same(page: &Page, rule: &RulePage) -> bool {
+    page.index == rule.index
+        && page.kind == rule.kind
+        && page.name.0 == rule.name
+        && page.level == rule.level
+        && page.notes.as_slice().is_empty()
+        && page.solids.as_slice().len() == rule.solids.len()
+        && page
+            .solids
+            .as_slice()
+            .iter()
+            .zip(rule.solids.iter())
+            .all(|(solid, wanted)| *solid == *wanted)
+}
+
+/// Which page of a list is the first that the rules don't have so, counted from 1; 0 where each is as they have it.
+fn first_other(pages: &[Page], rules: &[RulePage]) -> u32 {
+    let mut index = 1_u32;
+    for (page, rule) in pages.iter().zip(rules.iter()) {
+        if !is_same(page, rule) {
+            return index;
+        }
+        index = index.saturating_add(1);
+    }
+    if pages.len() == rules.len() { 0 } else { index }
+}
+
+/// A width of a frame: none, half of what most have, or that.
+fn width_of(random: &mut Random) -> u16 {
+    match random.below(6) {
+        0 => 0,
+        1 | 2 => 2560,
+        _ => 5120,
+    }
+}
+
+/// A height of a frame, from none to six lines, by quarters.
+fn height_of(random: &mut Random) -> u16 {
+    (random.below(25) as u16).saturating_mul(320)
+}
+
+#[test]
+fn random_trees_have_the_pages_that_the_rules_give(rt: HostRuntime) -> Result<(), Fail> {
+    let faces = read_metrics(rt.alloc(), METRICS).map_err(|_| AllocError)?;
+    assert!(rt; faces.len() > 0);
+    let mut random = Random { state: 1 };
+    for number in 0..TREES {
+        let sketch = sketch_of(rt.alloc(), &mut random)?;
+        let (width, height) = (width_of(&mut random), height_of(&mut random));
+        let rules = rule_pages(rt.alloc(), &sketch, i64::from(width), i64::from(height))?;
+        let steps = steps_of(rt.alloc(), &sketch)?;
+        let flow = flow_of(rt.alloc(), &faces, steps.as_slice())?;
+        let list = paged(rt.alloc(), &flow, &faces, (width, height)).ok_or(AllocError)?;
+        let other = first_other(list.pages.as_slice(), rules.as_slice());
+        assert_eq!(rt;
+            other,
+            0,
+            "tree {number}, {width} by {height}: {sketch:?}: {rules:?}"
+        );
+    }
+    Ok(())
+}
