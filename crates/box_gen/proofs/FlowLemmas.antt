@@ -1,15 +1,15 @@
 -- What the nodes gather one after the other is the content put into what is built.
-use Rattle.std.proofs.Common.{◌≡◌, ◌∙◌, ℕ, suc, Bool, true, false, not, ◌||◌, List, [], ◌∷◌, ◌++◌, append-nil, append_assoc, length, refl, sym, ap, subst, ◌⊎◌, inl, inr}
+use Rattle.std.proofs.Common.{◌≡◌, ◌∙◌, ℕ, Bool, true, false, not, ◌||◌, List, [], ◌∷◌, ◌++◌, append-nil, length, refl, sym, ap, subst, ◌⊎◌, inl, inr}
 use Rattle.boxes.specs.declared.flow.Start.{Start}
-use Rattle.boxes.specs.Tree.{Tree, takes_leaf}
+use Rattle.boxes.specs.Tree.{takes_leaf}
 use Rattle.style.specs.declared.style.Style.{Style}
 use Rattle.box_gen.specs.declared.inline.InlineItem.{InlineItem}
 use Rattle.box_gen.specs.declared.inline.InlineItem.TheVariants as item
 use Rattle.box_gen.specs.Props.{props_of}
 use Rattle.box_gen.specs.Runs.{text_of, starts_of}
 use Rattle.box_gen.specs.Trees.{Source, Forest, none, node, Role, text, hidden, inline, block, role_of}
-use Rattle.box_gen.specs.Flow.{Content, end, run, box, with_item, with_items, with_node, content_of, has_block, Built, built, nothing, grown, with_run, closed, opened, text_item, first_items, last_items}
-use Rattle.box_gen.specs.Gather.{Gathered, make, adds, ended, begun, gather_node, gathered}
+use Rattle.box_gen.specs.Flow.{Content, end, run, box, with_item, with_items, with_node, content_of, has_block, Built, built, grown, with_run, closed, opened, text_item, first_items, last_items}
+use Rattle.box_gen.specs.Gather.{Gathered, make, adds, begun, gather_node, gathered}
 use Rattle.box_gen.proofs.TreeLemmas.{opens, opens-opened, opens-run, opens-shut, EndsClosed, shut-ends, ends-takes, box-takes}
 
 -- whether a node puts a block into the block around it, and whether one of some nodes does

@@ -1,7 +1,7 @@
 -- Lists that a loop passes, and the number of collapsed texts.
-use Rattle.std.proofs.Common.{◌≡◌, ◌∙◌, ℕ, zero, suc, ◌+◌, ◌<◌, ◌≤◌, Bool, true, false, List, [], ◌∷◌, ◌++◌, map, length, drop, get_or, refl, sym, ap, subst, arith}
+use Rattle.std.proofs.Common.{◌≡◌, ◌∙◌, ℕ, zero, suc, ◌+◌, ◌<◌, true, false, List, [], ◌∷◌, map, length, drop, get_or, refl, sym, ap, arith}
 use Rattle.std.proofs.lemmas.List.{length-map}
-use Rattle.inline_text.specs.Space.{Char, appended, spelled, placed, collapsed, squeezed, trimmed, chars_from}
+use Rattle.inline_text.specs.Space.{Char, appended, spelled, placed, squeezed, trimmed, chars_from}
 use Rattle.inline_text.specs.declared.space.TextPart.{TextPart}
 use Rattle.box_gen.specs.declared.inline.InlineItem.{InlineItem}
 use Rattle.box_gen.specs.declared.inline.InlineItem.TheVariants as item

@@ -1,6 +1,6 @@
 -- Open boxes and last events of what is built.
-use Rattle.std.proofs.Common.{◌≡◌, ◌∙◌, ℕ, suc, ◌+◌, ◌-◌, ◌<◌, ◌≤◌, Bool, true, false, List, [], ◌∷◌, ◌++◌, Option, Some, None, length, slice_get, ◌==◌, refl, sym, ap, subst, arith, length-append}
-use Rattle.boxes.specs.Tree.{Tree, with_box, with_leaf, with_close, open_after, innermost_of, first_of, rest_of, last_event, is_opening, takes_leaf}
+use Rattle.std.proofs.Common.{◌≡◌, ◌∙◌, ℕ, ◌+◌, ◌-◌, Bool, true, false, List, [], ◌∷◌, ◌++◌, Some, length, slice_get, ◌==◌, refl, ap, arith, length-append}
+use Rattle.boxes.specs.Tree.{Tree, with_box, with_leaf, with_close, open_after, first_of, rest_of, last_event, is_opening, takes_leaf}
 use Rattle.boxes.specs.declared.leaf.Leaf.{Leaf as LeafData}
 use Rattle.boxes.specs.declared.place.Event.{Event}
 use Rattle.boxes.specs.declared.place.Event.TheVariants.{Opens, Closes, Leaf}

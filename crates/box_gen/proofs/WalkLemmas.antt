@@ -1,5 +1,5 @@
 -- The walk over the steps gathers what the nodes do.
-use Rattle.std.proofs.Common.{◌≡◌, ◌∙◌, ℕ, zero, suc, ◌+◌, ◌-◌, ◌<◌, ◌≤◌, ◌==◌, Bool, true, false, cond, List, [], ◌∷◌, ◌++◌, Option, None, Some, length, option_map, slice_get, refl, sym, ap, subst, arith, append_assoc, ◌⊎◌, inl, inr}
+use Rattle.std.proofs.Common.{◌≡◌, ◌∙◌, ℕ, zero, suc, ◌+◌, ◌-◌, ◌<◌, ◌==◌, Bool, true, false, cond, List, [], ◌∷◌, ◌++◌, Option, None, Some, length, option_map, slice_get, refl, sym, ap, subst, arith, append_assoc, ◌⊎◌, inl, inr}
 use Rattle.std.proofs.lemmas.Bool.{eq-eqb}
 use Rattle.std.proofs.lemmas.Map.Views.{exact_unsigned_eq}
 use Rattle.std.proofs.lemmas.Option.{slice_get-map}
@@ -15,9 +15,9 @@ use Rattle.style.specs.Nodes.{NodeStyles, style_at, style_of}
 use Rattle.box_gen.specs.declared.inline.InlineItem.TheVariants as item
 use Rattle.box_gen.specs.Trees.{Source, Forest, none, node, side_by_side, below, forest_of, Role, text, hidden, inline, block, is_block, shown_role, element_role, role_by, role_of}
 use Rattle.style.specs.Styles.{initial_style}
-use Rattle.box_gen.specs.Flow.{end, nothing, built_of, with_run, first_items, last_items, text_item}
-use Rattle.box_gen.specs.Gather.{Gathered, make, adds, begun, ended, gather_node, gathered}
-use Rattle.box_gen.specs.Walk.{Walk, WalkBuildsFlow, walk, element_style, style_or_initial, style_around, innermost, outer, enter_node, leave_node, enter_by, leave_by, after_step, after_steps}
+use Rattle.box_gen.specs.Flow.{end, nothing, with_run, first_items, text_item}
+use Rattle.box_gen.specs.Gather.{Gathered, make, adds, begun, gather_node, gathered}
+use Rattle.box_gen.specs.Walk.{Walk, WalkBuildsFlow, walk, element_style, style_or_initial, style_around, innermost, enter_node, leave_node, leave_by, after_step, after_steps}
 use Rattle.box_gen.proofs.FlowLemmas.{grows, grown-end}
 
 -- the steps through nodes

@@ -1,7 +1,6 @@
 -- Small documents and their flows.
-use Rattle.std.specs.Prelude.{◌≡◌, ℕ, Bool, true, false, List, [], ◌∷◌, Option, None, Some, map, codes}
+use Rattle.std.specs.Prelude.{◌≡◌, ℕ, true, false, List, [], ◌∷◌, Option, None, Some, map, codes}
 use Rattle.bk_num.specs.declared.values.WhiteSpace.TheVariants as space
-use Rattle.boxes.specs.declared.place.Event.{Event}
 use Rattle.boxes.specs.declared.place.Event.TheVariants.{Opens, Closes, Leaf}
 use Rattle.dom.specs.Nodes.{Node, Element, Text}
 use Rattle.style.specs.declared.style.Style.{Style}

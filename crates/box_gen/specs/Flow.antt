@@ -9,7 +9,6 @@ use Rattle.boxes.specs.declared.flow.Flow.{Flow}
 use Rattle.boxes.specs.declared.flow.Reset.{Reset}
 use Rattle.boxes.specs.declared.flow.Start.{Start}
 use Rattle.boxes.specs.declared.leaf.Lead.{Lead}
-use Rattle.boxes.specs.declared.place.Position.{Position}
 use Rattle.boxes.specs.declared.props.BoxProps.{BoxProps}
 use Rattle.boxes.specs.Tree.{Tree, no_tree, with_box, with_leaf, with_close, innermost_of}
 use Rattle.inline_text.specs.declared.space.TextPart.{TextPart}

@@ -1,6 +1,5 @@
 -- What a walk over the nodes gathers: what is built, and the run that isn't put yet.
-use Rattle.std.specs.Prelude.{ℕ, Bool, true, false, not, List, [], ◌∷◌, ◌++◌, if◌then◌else◌}
-use Rattle.bk_num.specs.declared.ids.NodeId.{NodeId}
+use Rattle.std.specs.Prelude.{ℕ, true, not, List, [], ◌∷◌, ◌++◌}
 use Rattle.boxes.specs.Tree.{takes_leaf}
 use Rattle.style.specs.declared.style.Style.{Style}
 use Rattle.box_gen.specs.declared.inline.InlineItem.{InlineItem}

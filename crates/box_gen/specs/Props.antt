@@ -1,5 +1,5 @@
 -- The boxes of blocks, and anonymous boxes (CSS 2.1, 9.2.1 and 9.2.1.1).
-use Rattle.std.specs.Prelude.{ℕ, List, [], ◌∷◌, Option, None, Some}
+use Rattle.std.specs.Prelude.{ℕ, [], ◌∷◌, Option, None, Some}
 use Rattle.bk_num.specs.declared.ids.NodeId.{NodeId}
 use Rattle.boxes.specs.declared.props.BoxProps.{BoxProps}
 use Rattle.style.specs.declared.style.Style.{Style}

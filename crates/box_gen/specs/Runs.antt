@@ -2,7 +2,6 @@
 use Rattle.std.specs.Prelude.{ℕ, ◌+◌, List, [], ◌∷◌, ◌++◌, map, length, nat_lt, if◌then◌else◌}
 use Rattle.std.specs.List.{All}
 use Rattle.std.specs.Str.{IsUtf8}
-use Rattle.bk_num.specs.declared.ids.NodeId.{NodeId}
 use Rattle.boxes.specs.declared.leaf.Span.{Span}
 use Rattle.inline_text.specs.declared.space.TextPart.{TextPart}
 use Rattle.inline_text.specs.Space.{collapsed}

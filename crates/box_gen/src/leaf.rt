@@ -6,7 +6,7 @@ ghost use Rattle.bk_num.specs.Limits.{most_text_bytes};
 ghost use Rattle.boxes.specs.Contents.{IsGoodLeaf, IsGoodSpan, IsNotAuto};
 ghost use Rattle.metrics.specs.Choice.{Chooses};
 ghost use Rattle.box_gen.specs.Leaves.{IsGoodRun, leaf_by, leaf_style_of};
-ghost use Rattle.box_gen.specs.Runs.{AreGoodTexts, AreTexts, joined, mark_of, marks_in, parts_in, printed_in, span_between, spans_from, spans_of, starts_from, starts_of, styles_in, text_of};
+ghost use Rattle.box_gen.specs.Runs.{AreGoodTexts, AreTexts, joined, mark_of, marks_in, parts_in, span_between, spans_from, spans_of, starts_from, starts_of, styles_in, text_of};
 ghost use Rattle.box_gen.specs.TextStyles.{IsGoodTextStyle};
 
 use crate::inline::{BuildErr, InlineItem, InlineStart, Mark};

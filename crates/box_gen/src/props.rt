@@ -1,7 +1,7 @@
 //! The boxes of blocks, and anonymous boxes.
 
 ghost use Rattle.std.specs.Prelude.{◌≡◌, Some};
-ghost use Rattle.box_gen.specs.Props.{anonymous_props, props_by, props_of};
+ghost use Rattle.box_gen.specs.Props.{anonymous_props, props_of};
 
 use bk_num::ids::NodeId;
 use bk_num::length::Len;

@@ -5,7 +5,6 @@ ghost use Rattle.std.specs.Prelude.{◌≡◌, ◌<◌, length, IfOk};
 use crate::sheet::{Origin, ReadSheet, read_rules};
 use crate::winners::{NodeWinners, all_winners, winners};
 use bk_num::ids::NodeId;
-use bk_num::name::NoMem;
 use bk_num::values::{Color, Pseudo};
 use css_rules::sheet::read_sheet;
 use dom::Dom;

@@ -1,8 +1,6 @@
 -- Computed values keep their ranges.
-use Rattle.std.proofs.Common.{◌≡◌, ◌∙◌, ◌≤ℤ◌, ℕ, zero, suc, ◌<◌, ℤ, pos, Bool, true, false, List, [], ◌∷◌, Option, None, Some, is_some, length, fold, unwrap_or, slice_get, refl, sym, ap, subst, arith}
-use Rattle.std.specs.Int.{int_max}
+use Rattle.std.proofs.Common.{◌≡◌, ◌∙◌, ◌≤ℤ◌, ℕ, zero, suc, ◌<◌, ℤ, pos, Bool, true, false, List, [], ◌∷◌, Option, None, Some, is_some, length, fold, unwrap_or, slice_get, refl, sym, subst, arith}
 use Rattle.std.proofs.lemmas.Int.{ints, int_max_is}
-use Rattle.std.proofs.lemmas.Option.{slice_get_within}
 use Rattle.bk_num.specs.Lengths.{part}
 use Rattle.bk_num.specs.Tables.{value_of}
 use Rattle.bk_num.specs.declared.length.Len.{Len}
@@ -28,7 +26,7 @@ use Rattle.computed.specs.Values.{given_by, held, held_len, len_of, without_auto
 use Rattle.computed.specs.Context.{bare, noted, settled, context_of, rem_of}
 use Rattle.computed.specs.Applied.{medium, begun, applied, computed_style}
 use Rattle.computed.specs.declared.context.Context.{Context}
-use Rattle.computed.specs.Walk.{IsStyle, IsPseudo, HasPseudo, IsElement, IsNode, AreStyles, style_above, root_above}
+use Rattle.computed.specs.Walk.{IsStyle, HasPseudo, IsElement, IsNode, AreStyles, style_above, root_above}
 use Rattle.computed.specs.Ranges.{IsNotNegative, IsNotAuto, IsHeight, IsPadding, IsInRange}
 use Rattle.computed.proofs.OneLemmas.{past_within}
 use Rattle.computed.proofs.WalkLemmas.{falls, some-is}

@@ -1,9 +1,7 @@
 -- The ranges of computed values.
-use Rattle.std.specs.Prelude.{◌≡◌, ◌≤ℤ◌, ℕ, ℤ, pos, List, Some}
+use Rattle.std.specs.Prelude.{◌≤ℤ◌, ℤ, pos}
 use Rattle.bk_num.specs.declared.length.Len.{Len}
 use Rattle.bk_num.specs.declared.length.Len.TheVariants as len
-use Rattle.bk_num.specs.declared.values.Pseudo.{Pseudo}
-use Rattle.style.specs.Nodes.{NodeStyles, style_at}
 use Rattle.style.specs.declared.style.Style.{Style}
 use Rattle.style.specs.declared.values.LineHeight.{LineHeight}
 use Rattle.style.specs.declared.values.LineHeight.TheVariants as height

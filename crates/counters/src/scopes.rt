@@ -4,7 +4,6 @@ ghost use Rattle.std.specs.Prelude.{◌≡◌, ℕ, ◌<◌, ◌≤◌, ◌^◌,
 ghost use Rattle.counters.specs.Chains.{AreFalling, AreMarks, IsNext, AreMarked, all_of, chain, beyond, front, kept_values, last_of, seen_to};
 ghost use Rattle.std.specs.List.Sorted.{IsNonDecreasingBy};
 
-use bk_num::items::Items;
 use bk_num::name::NoMem;
 use std::alloc::Global;
 

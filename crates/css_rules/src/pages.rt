@@ -2,7 +2,6 @@
 
 ghost use Rattle.std.specs.Prelude.{◌≡◌, ◌≤◌, ◌<◌, ◌++◌, ◌==◌, length, true, option_map, option_to_list, IsTrue, IfOk, OnOk};
 ghost use Rattle.css_tok.specs.Tokens.{tokens_of, item_in};
-ghost use Rattle.css_rules.specs.Brackets as brackets;
 ghost use Rattle.std.specs.List.{list_all};
 ghost use Rattle.css_tok.specs.Marks.{first_mark, rest_of, is_gap_kind};
 ghost use Rattle.css_rules.specs.Decls.{decl_in};

@@ -1,6 +1,6 @@
 //! Tests on the next token, and words.
 
-ghost use Rattle.std.specs.Prelude.{◌≡◌, ◌≤◌, ◌<◌, length, option_map, IfOk};
+ghost use Rattle.std.specs.Prelude.{◌≡◌, ◌≤◌, ◌<◌, length, option_map};
 ghost use Rattle.std.specs.Str.{str_to_ascii_lowercase};
 ghost use Rattle.css_tok.specs.Tokens.{item_in};
 ghost use Rattle.css_words.specs.Parser.{Reads, Owns};

@@ -27,7 +27,7 @@ use Rattle.cursor.specs.declared.solid.Solid.{Solid}
 use Rattle.cursor.specs.Fields.{solid_view}
 use Rattle.cursor.specs.Remainder.{SolidView, IsSolid, IsContent, IsLineSolid, IsRemainder, IsSmallSolid, HaveOneRemainder, leaf_measure, end_of}
 use Rattle.cursor.specs.Remainder.IsContent.{of_line, of_open, of_close}
-use Rattle.cursor.proofs.RemLemmas.{Stands, stands, solid_stands, place_stands, begins_of, found_of, solid_within}
+use Rattle.cursor.proofs.RemLemmas.{Stands, solid_stands, place_stands, begins_of, found_of, solid_within}
 use Rattle.fragment.specs.declared.row.Row.{Row}
 use Rattle.fragment.specs.Rows.{IsSmall, AreForcedBetween, limit_of}
 use Rattle.fragment.specs.Cuts.{IsRowCut}

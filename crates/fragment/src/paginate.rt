@@ -1,6 +1,6 @@
 //! The pages of a flow.
 
-ghost use Rattle.std.specs.Prelude.{◌≡◌, ℕ, ◌+◌, ◌<◌, ◌≤◌, [], length, true, false, IfOk, IfErr};
+ghost use Rattle.std.specs.Prelude.{◌≡◌, ℕ, ◌+◌, ◌<◌, ◌≤◌, length, true, false, IfOk, IfErr};
 ghost use Rattle.bk_num.specs.Limits.{most_pages};
 ghost use Rattle.fragment.specs.Bounds.{most_pages_of};
 ghost use Rattle.fragment.specs.Conditions.{CanBePaged};

@@ -1,5 +1,5 @@
 -- Where `-->` stands, by the places of `>`.
-use Rattle.std.proofs.Common.{◌≡◌, ◌⊎◌, inl, inr, ℕ, zero, suc, ◌+◌, ◌-◌, ◌<◌, ◌≤◌, Bool, true, false, ◌&&◌, ◌==◌, nat_le, List, [], ◌∷◌, length, drop, slice_index, refl, ap, sym, ◌∙◌, subst, arith, eq-eqb}
+use Rattle.std.proofs.Common.{◌≡◌, inl, inr, ℕ, zero, suc, ◌+◌, ◌-◌, ◌<◌, ◌≤◌, true, false, ◌&&◌, ◌==◌, nat_le, List, [], ◌∷◌, length, drop, slice_index, refl, ap, sym, ◌∙◌, subst, arith, eq-eqb}
 use Rattle.html_tok.specs.Pieces.{len_through, dashes}
 use Rattle.html_tok.proofs.Through.{len_through_found}
 use Rattle.memchr.specs.Find.{Nowhere, OccursAt, Passes, is_byte}

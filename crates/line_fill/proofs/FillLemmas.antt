@@ -1,5 +1,5 @@
 -- One stretch of a line: what is known after it.
-use Rattle.std.proofs.Common.{◌≡◌, ◌≢◌, ℕ, zero, suc, ◌+◌, ◌-◌, ◌*◌, ◌<◌, ◌≤◌, ℤ, pos, ◌+ℤ◌, ◌≤ℤ◌, ◌<ℤ◌, ◌^◌, Bool, true, false, cond, ◌||◌, ◌&&◌, eqb, ltb, leb, List, [], ◌∷◌, length, get_or, Some, refl, sym, ap, ◌∙◌, arith, ⊎_elim, inl, inr, ◌⊎◌, subst, add-zero}
+use Rattle.std.proofs.Common.{◌≡◌, ◌≢◌, ℕ, zero, suc, ◌+◌, ◌-◌, ◌*◌, ◌<◌, ◌≤◌, ℤ, pos, ◌+ℤ◌, ◌≤ℤ◌, ◌<ℤ◌, ◌^◌, Bool, true, false, cond, ◌||◌, ◌&&◌, eqb, ltb, leb, List, [], length, get_or, Some, refl, sym, ◌∙◌, arith, ⊎_elim, inl, inr, ◌⊎◌, subst, add-zero}
 use Rattle.std.specs.Bool.{MatchBool}
 use Rattle.std.specs.List.{Contains}
 use Rattle.std.specs.List.Sorted.{IsStrictlyIncreasing}
@@ -14,10 +14,10 @@ use Rattle.boxes.specs.declared.leaf.Leaf.{Leaf}
 use Rattle.boxes.specs.declared.leaf.Span.{Span}
 use Rattle.line_fill.specs.declared.line_width.LineWidth.{LineWidth}
 use Rattle.line_fill.specs.declared.found.Found.{Found}
-use Rattle.line_fill.specs.Widths.{is_lead, char_at, sum_from, span_at, width_in, unit_at, is_hyphened, hyphen_at}
-use Rattle.line_fill.specs.Fill.{FitsIn, IsFilled, AreWidths, IsNext, AreFound, noted, chosen, passed, passed_to, pen_unit, pen_width}
-use Rattle.line_fill.specs.LineEnd.{spaceless_len, shown_len, stop_of, width_to, IsOrdinary, IsEmergency, IsLineEnd, at_ordinary, ends_anywhere}
-use Rattle.line_fill.proofs.LineLemmas.{widths-mono, shown-le, sum_from-le, stop-step, stop-newline, stop-after, stop-last, stop-end, between_places, none_there}
+use Rattle.line_fill.specs.Widths.{sum_from, span_at, width_in, unit_at, is_hyphened, hyphen_at}
+use Rattle.line_fill.specs.Fill.{FitsIn, IsFilled, AreWidths, IsNext, AreFound, noted, chosen, passed_to, pen_unit, pen_width}
+use Rattle.line_fill.specs.LineEnd.{shown_len, stop_of, IsOrdinary, IsEmergency, IsLineEnd, at_ordinary, ends_anywhere}
+use Rattle.line_fill.proofs.LineLemmas.{widths-mono, shown-le, sum_from-le, stop-step, stop-newline, stop-after, stop-last, between_places, none_there}
 use Rattle.line_fill.proofs.WidthLemmas.{IsShown, run_shown, goes_on, stop_quiet}
 use Rattle.line_fill.proofs.FoundLemmas.{Says, found_skip, found_noted, end_chosen}
 

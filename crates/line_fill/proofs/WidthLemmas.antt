@@ -1,17 +1,15 @@
 -- What bytes add to a width, and widths that bytes are added to.
-use Rattle.std.proofs.Common.{◌≡◌, ◌≢◌, ℕ, zero, suc, ◌+◌, ◌-◌, ◌*◌, ◌<◌, ◌≤◌, ℤ, pos, ◌+ℤ◌, ◌≤ℤ◌, Bool, true, false, cond, ◌||◌, ◌&&◌, eqb, ltb, leb, List, [], ◌∷◌, ◌++◌, length, get_or, drop, refl, sym, ap, ◌∙◌, arith, ⊎_elim, inl, inr, ◌⊎◌, add-suc, add-zero, add-one, drop-cons}
-use Rattle.std.specs.Str.{chars, IsUtf8, chars_after}
+use Rattle.std.proofs.Common.{◌≡◌, ◌≢◌, ℕ, zero, suc, ◌+◌, ◌-◌, ◌<◌, ◌≤◌, ℤ, pos, ◌+ℤ◌, Bool, true, false, cond, ◌||◌, eqb, ltb, leb, List, [], ◌∷◌, ◌++◌, length, get_or, drop, refl, ap, ◌∙◌, arith, add-zero, drop-cons}
+use Rattle.std.specs.Str.{chars, IsUtf8}
 use Rattle.std.specs.Char.{encode_utf8}
-use Rattle.std.proofs.lemmas.Bool.{cases_lt}
-use Rattle.std.proofs.lemmas.Bool.Decides.{nat_tests, eqb_tells}
-use Rattle.std.proofs.lemmas.Int.{ints}
+use Rattle.std.proofs.lemmas.Bool.Decides.{nat_tests}
 use Rattle.std.proofs.lemmas.Str.{chars_past_char}
 use Rattle.metrics.specs.Pen.{PenView}
 use Rattle.line_fill.specs.declared.line_width.LineWidth.{LineWidth}
 use Rattle.line_fill.specs.Widths.{is_lead, char_at, sum_from}
 use Rattle.line_fill.specs.Fill.{pen_unit, pen_width, passed, passed_to, AreWidths}
-use Rattle.line_fill.specs.LineEnd.{spaceless_len, shown_len, stop_of}
-use Rattle.line_fill.proofs.LineLemmas.{next_total, next_shown, shown-other, stop-step, stop-newline}
+use Rattle.line_fill.specs.LineEnd.{shown_len, stop_of}
+use Rattle.line_fill.proofs.LineLemmas.{next_total, next_shown, shown-other, stop-step}
 
 first_char : (b : ℕ) (bs : List ℕ) → b < 128 → get_or (chars (b ∷ bs)) 0 0 ≡ b
 unfolding chars

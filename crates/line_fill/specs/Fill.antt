@@ -1,9 +1,8 @@
 -- What is known of a line while it is filled.
-use Rattle.std.specs.Prelude.{◌≡◌, ◌≢◌, ℕ, zero, suc, ◌+◌, ◌-◌, ◌*◌, ◌<◌, ◌≤◌, ℤ, pos, ◌≤ℤ◌, ◌+ℤ◌, List, slice_index, length, ◌==◌, ◌||◌, ◌&&◌, not, ◌⊎◌, Bool, unsigned_abs, if◌then◌else◌, nat_le}
+use Rattle.std.specs.Prelude.{◌≡◌, ◌≢◌, ℕ, zero, suc, ◌+◌, ◌-◌, ◌*◌, ◌<◌, ◌≤◌, ℤ, pos, ◌≤ℤ◌, ◌+ℤ◌, List, slice_index, length, ◌==◌, ◌||◌, ◌&&◌, not, ◌⊎◌, Bool, unsigned_abs, if◌then◌else◌}
 use Rattle.metrics.specs.Face.{FontFace, advance_number, scaled}
 use Rattle.metrics.specs.Pen.{PenView}
 use Rattle.boxes.specs.declared.leaf.Leaf.{Leaf}
-use Rattle.boxes.specs.declared.leaf.Span.{Span}
 use Rattle.line_fill.specs.declared.line_width.LineWidth.{LineWidth}
 use Rattle.line_fill.specs.declared.found.Found.{Found}
 use Rattle.line_fill.specs.Widths.{is_lead, char_at, has_width, sum_from, unit_at}

@@ -2,7 +2,6 @@
 
 ghost use Rattle.std.specs.Prelude.{◌≡◌, ℕ, ◌+◌, ◌<◌, ◌≤◌, ◌≢◌, ◌^◌, [], length, slice_index, min, nat_lt, ◌&&◌, MatchBool, if◌then◌else◌};
 ghost use Rattle.std.specs.List.Sorted.{IsStrictlyIncreasing};
-ghost use Rattle.line_fill.specs.Fill.{IsNext};
 
 use boxes::leaf::{Leaf, Span};
 

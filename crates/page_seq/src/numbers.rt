@@ -1,6 +1,6 @@
 //! The numbers of pages.
 
-ghost use Rattle.std.specs.Prelude.{◌≡◌, ◌≤◌, ◌<ℤ◌, ◌+ℤ◌, pos, ◌^◌, ℕ, Some, length, map, slice_set, unwrap_or, IfOk};
+ghost use Rattle.std.specs.Prelude.{◌≡◌, ◌≤◌, ◌<ℤ◌, ◌+ℤ◌, pos, ◌^◌, Some, length, map, slice_set, unwrap_or, IfOk};
 ghost use Rattle.std.specs.List.{All};
 ghost use Rattle.bk_num.specs.Limits.{most_entries};
 ghost use Rattle.page_seq.specs.Numbers.{IsSmallReset, numbers_of, values_of};

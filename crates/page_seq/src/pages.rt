@@ -1,6 +1,6 @@
 //! Frames of pages by a table of page boxes.
 
-ghost use Rattle.std.specs.Prelude.{◌≡◌, ◌<◌, length, slice_get, Some, refl};
+ghost use Rattle.std.specs.Prelude.{◌≡◌, ◌<◌, slice_get, Some, refl};
 ghost use Rattle.boxes.specs.Frames.{IsGoodFrame, side_of, meets_by_parity, is_free_demand};
 ghost use Rattle.boxes.specs.Sides.{parity_within, free_met};
 ghost use Rattle.boxes.specs.Table.{cell_of, row_of};

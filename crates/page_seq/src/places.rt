@@ -1,7 +1,7 @@
 //! The pages to which places of the main tree belong.
 
-ghost use Rattle.std.specs.Prelude.{◌≡◌, ◌≤◌, ℕ, length, map, if◌then◌else◌, IfOk};
-ghost use Rattle.page_seq.specs.Places.{NeverFall, anchor_of, has_end_after, has_solid, is_before, last_page, page_at, page_of, solid_at};
+ghost use Rattle.std.specs.Prelude.{◌≡◌, ◌≤◌, length, map, if◌then◌else◌, IfOk};
+ghost use Rattle.page_seq.specs.Places.{NeverFall, anchor_of, has_end_after, has_solid, is_before, last_page, page_at, page_of};
 
 use bk_num::name::NoMem;
 use boxes::page::{Page, PageList};

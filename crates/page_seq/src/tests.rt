@@ -1,6 +1,6 @@
 //! Worked pages: frames, the pages of places, numbers.
 
-ghost use Rattle.std.specs.Prelude.{◌≡◌, ◌≤◌, ◌^◌, pos, IfOk, map};
+ghost use Rattle.std.specs.Prelude.{◌≤◌, IfOk};
 ghost use Rattle.boxes.specs.Frames.{IsGoodFrame};
 ghost use Rattle.page_seq.specs.Frames.{HasGoodCells, IsGoodTable};
 

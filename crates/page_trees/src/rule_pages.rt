@@ -5,7 +5,7 @@ use crate::rule_seams::{Between, RuleSeam, seams_of};
 use crate::rule_solids::{RuleSolid, root_name, solid_name, solids_of, widths_of};
 use bk_num::name::NoMem;
 use boxes::frames::{Demand, PageKind};
-use boxes::page::{Placed, SolidKind};
+use boxes::page::Placed;
 use boxes::place::Position;
 use std::alloc::Global;
 

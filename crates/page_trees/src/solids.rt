@@ -1,6 +1,6 @@
 //! The solids of a tree by hand, and cuts of pages that begin inside it.
 
-ghost use Rattle.std.specs.Prelude.{◌≡◌, ◌<◌, ◌≤◌, ◌^◌, []};
+ghost use Rattle.std.specs.Prelude.{◌≡◌, ◌<◌, []};
 ghost use Rattle.cursor.specs.Conditions.{CanBeLaidOut};
 ghost use Rattle.fragment.specs.Conditions.{CanBePaged};
 

@@ -1,5 +1,5 @@
 -- First and last assignments page by page, and the entry value from page to page.
-use Rattle.std.proofs.Common.{◌≡◌, ◌<◌, ◌≤◌, ℕ, zero, suc, ◌+◌, ◌==◌, ◌&&◌, nat_lt, nat_eq, Bool, true, false, cond, List, [], ◌∷◌, ◌++◌, Option, None, Some, option_map, length, map, take, get_or, slice_get, slice_set, refl, sym, ◌∙◌, ap, subst, arith, ◌⊎◌, inl, inr}
+use Rattle.std.proofs.Common.{◌≡◌, ◌<◌, ◌≤◌, ℕ, zero, suc, ◌+◌, ◌==◌, nat_lt, nat_eq, Bool, true, false, cond, List, [], ◌∷◌, ◌++◌, Option, None, Some, option_map, length, map, take, get_or, slice_get, slice_set, refl, sym, ◌∙◌, ap, arith, ◌⊎◌, inl, inr}
 use Rattle.std.specs.Cmp.Lexicographic.{pointwise}
 use Rattle.std.specs.List.{range_with_len}
 use Rattle.std.proofs.lemmas.List.{take_more, length-take-le, get_or-map, length-map, length-set}
@@ -11,7 +11,6 @@ use Rattle.std.proofs.lemmas.Grind.{common_steps}
 use Rattle.boxes.specs.Tree.{Tree}
 use Rattle.boxes.specs.declared.flow.Assign.{Assign}
 use Rattle.boxes.specs.declared.page.Page.{Page}
-use Rattle.boxes.specs.declared.place.Position.{Position}
 use Rattle.page_seq.specs.Places.{NeverFall, first_place, last_or_here, last_place, page_of}
 use Rattle.page_seq.proofs.PlaceLemmas.{no_page, page_of_lower}
 use Rattle.strings.specs.Marks.{held, with_first, with_last}

@@ -1,14 +1,13 @@
 -- First and last assignments over a list of marks.
-use Rattle.std.proofs.Common.{◌≡◌, ◌<◌, ◌≤◌, ℕ, zero, suc, ◌+◌, nat_eq, Bool, true, false, cond, List, [], ◌∷◌, ◌++◌, Option, None, Some, option_map, length, map, take, get_or, refl, sym, ◌∙◌, ap, arith}
+use Rattle.std.proofs.Common.{◌≡◌, ◌<◌, ℕ, suc, ◌+◌, nat_eq, Bool, false, cond, List, [], ◌∷◌, ◌++◌, Option, None, Some, option_map, length, map, take, get_or, refl, ◌∙◌, ap, arith}
 use Rattle.std.specs.Cmp.Lexicographic.{pointwise}
 use Rattle.std.proofs.lemmas.List.{take_more, map-append, length-take-le, get_or-map, length-map}
 use Rattle.boxes.specs.Tree.{Tree}
 use Rattle.boxes.specs.declared.flow.Assign.{Assign}
 use Rattle.boxes.specs.declared.page.Page.{Page}
-use Rattle.boxes.specs.declared.place.Position.{Position}
 use Rattle.page_seq.specs.Places.{first_place, last_place, page_of}
-use Rattle.page_seq.proofs.PlaceLemmas.{first_place_is, last_place-push}
-use Rattle.strings.specs.Shown.{is_on, is_earlier, mark_of, first_on, last_on, entry_of}
+use Rattle.page_seq.proofs.PlaceLemmas.{last_place-push}
+use Rattle.strings.specs.Shown.{mark_of}
 
 pub first_none : {X : Type 0} (p : X → Bool) (xs : List X) → ((j : ℕ) (d : X) → j < length xs → p (get_or xs j d) ≡ false) → first_place p xs ≡ None
 first_none p [] f = refl

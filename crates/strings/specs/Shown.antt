@@ -1,6 +1,6 @@
 -- What a page shows of a running string (css-gcpm-3, 1.1.2). A page is its place in the page list, an assignment its place
 -- in the list of assignments.
-use Rattle.std.specs.Prelude.{◌≡◌, ℕ, suc, ◌==◌, ◌&&◌, nat_lt, nat_eq, not, Bool, true, false, List, [], ◌∷◌, Option, None, Some, option_map, unwrap_or, length, map, slice_get, if◌then◌else◌}
+use Rattle.std.specs.Prelude.{ℕ, ◌==◌, ◌&&◌, nat_lt, nat_eq, not, Bool, false, List, [], Option, None, Some, length, map, slice_get, if◌then◌else◌}
 use Rattle.std.specs.Cmp.Lexicographic.{pointwise}
 use Rattle.std.specs.List.{range_with_len}
 use Rattle.boxes.specs.Tree.{Tree}

@@ -1,6 +1,6 @@
-use Rattle.std.proofs.Common.{◌≡◌, ◌+◌, ◌-◌, ◌<◌, length, drop, arith, sym, ◌∙◌, ap, length-drop, refl}
+use Rattle.std.proofs.Common.{◌-◌, length, drop, arith, sym, ◌∙◌, length-drop}
 use Rattle.std.proofs.lemmas.List.{take_rest}
-use Rattle.memchr.specs.Find.{is_byte, Nowhere, Passes, OccursAt}
+use Rattle.memchr.specs.Find.{is_byte, Nowhere, Passes}
 use Rattle.html_tok.proofs.Through.{len_through_none}
 use Rattle.html_tok.proofs.ArrowLemmas.{arrow, arrow-more, arrow-none, arrow-is}
 use Rattle.html_tok.proofs.scan.length_through_comment.Goals as goal

@@ -1,4 +1,4 @@
-use Rattle.std.proofs.Common.{◌≡◌, ◌∷◌, [], arith}
+use Rattle.std.proofs.Common.{arith}
 use Rattle.html_tok.proofs.Ends.{through_boundary}
 use Rattle.html_tok.proofs.ArrowLemmas.{arrow}
 use Rattle.html_tok.proofs.tokens.length_of_comment.Goals as goal

@@ -1,12 +1,11 @@
-use Rattle.std.proofs.Common.{◌≡◌, ◌≢◌, ℕ, ◌+◌, ◌-◌, ◌<◌, ◌≤◌, Bool, true, false, cond, ◌||◌, ◌&&◌, pos, ◌≤ℤ◌, ◌<ℤ◌, ◌+ℤ◌, List, [], ◌⊎◌, length, get_or, arith, refl, sym, ◌∙◌, ap, ltb, min}
+use Rattle.std.proofs.Common.{◌≡◌, ◌≢◌, ℕ, ◌+◌, ◌-◌, ◌<◌, ◌≤◌, Bool, true, false, cond, ◌&&◌, List, [], ◌⊎◌, length, get_or, arith, sym, ◌∙◌}
 use Rattle.std.specs.Bool.{MatchBool}
 use Rattle.std.specs.List.Sorted.{IsStrictlyIncreasing}
 use Rattle.std.proofs.lemmas.Int.{ints}
-use Rattle.line_fill.specs.Widths.{is_hyphened}
-use Rattle.line_fill.specs.Fill.{FitsIn, IsFilled, IsNext, pen_width, pen_unit, passed_to, noted}
+use Rattle.line_fill.specs.Fill.{FitsIn}
 use Rattle.line_fill.specs.LineEnd.{IsLineEnd, IsOrdinary, IsEmergency}
 use Rattle.line_fill.proofs.LineLemmas.{IsMark, marked, next_after}
-use Rattle.line_fill.proofs.FillLemmas.{Stretch, pen_of, chosen_end, stop_end, noted_filled, skipped_filled, shown_bounds}
+use Rattle.line_fill.proofs.FillLemmas.{Stretch, chosen_end, stop_end, noted_filled, skipped_filled, shown_bounds}
 use Rattle.line_fill.proofs.end.pass_span.Goals as goal
 use Rattle.line_fill.proofs.end.pass_span.Goals.{After-mark-stretch, After-pass_run-run, After-is_place-emergency, then-is_any+else-line_width-room+else-stops, else-is_any}
 

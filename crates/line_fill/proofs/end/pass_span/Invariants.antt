@@ -1,4 +1,4 @@
-use Rattle.std.proofs.Common.{◌-◌, ◌≡◌, ◌≤◌, ◌<◌, length}
+use Rattle.std.proofs.Common.{◌-◌, ◌≤◌}
 use Rattle.line_fill.specs.Fill.{IsFilled, IsNext}
 use Rattle.line_fill.proofs.end.pass_span.Given as goal
 

@@ -1,7 +1,7 @@
-use Rattle.std.proofs.Common.{◌≡◌, ◌≢◌, ◌+◌, ◌-◌, ◌<◌, ◌≤◌, pos, ◌≤ℤ◌, get_or, refl, sym, ◌∙◌, ap, arith, ⊎_elim, rules}
+use Rattle.std.proofs.Common.{◌≡◌, ◌+◌, ◌-◌, ◌<◌, ◌≤◌, arith, ⊎_elim}
 use Rattle.std.proofs.lemmas.Int.{ints}
 use Rattle.std.proofs.lemmas.Bool.{cases_lt}
-use Rattle.line_fill.specs.Fill.{passed, passed_to, pen_unit}
+use Rattle.line_fill.specs.Fill.{passed_to, pen_unit}
 use Rattle.line_fill.proofs.WidthLemmas.{passed_to-step}
 use Rattle.line_fill.proofs.line_width.pass_run.Goals as goal
 use Rattle.line_fill.proofs.line_width.pass_run.Goals.{After-pass-line_width}

@@ -1,4 +1,4 @@
-use Rattle.std.proofs.Common.{◌≡◌, ℕ, ◌<◌, ◌≤◌, ◌*◌, ◌-◌, ◌≢◌, pos, ◌≤ℤ◌, length}
+use Rattle.std.proofs.Common.{◌≡◌, ℕ, ◌<◌, ◌≤◌, ◌*◌, ◌-◌, ◌≢◌, pos, ◌≤ℤ◌}
 use Rattle.std.specs.Prelude.{slice_index}
 use Rattle.line_fill.specs.Fill.{passed_to, pen_unit}
 use Rattle.line_fill.proofs.line_width.pass_run.Given as goal

@@ -1,4 +1,4 @@
-use Rattle.std.proofs.Common.{◌≡◌, ◌≤◌, List, rules}
+use Rattle.std.proofs.Common.{rules}
 use Rattle.page_trees.proofs.LeafLemmas.{few_bytes, short_faces}
 use Rattle.page_trees.proofs.flows.flow_of.Goals as goal
 

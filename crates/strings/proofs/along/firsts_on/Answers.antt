@@ -1,4 +1,4 @@
-use Rattle.std.proofs.Common.{◌≡◌, None, get_or, length, subst, take, take_all, sym, ◌∙◌, arith}
+use Rattle.std.proofs.Common.{None, get_or, length, subst, take_all, ◌∙◌}
 use Rattle.strings.specs.Shown.{first_on}
 use Rattle.strings.proofs.AlongLemmas.{ArePlaces, firsts_more, length-with_first, all_places}
 use Rattle.strings.proofs.along.firsts_on.Goals as goal

@@ -1,9 +1,8 @@
-use Rattle.std.proofs.Common.{◌≡◌, ◌≤◌, ◌<◌, ◌++◌, ◌∷◌, [], ℕ, List, Option, Some, length, map, slice_get, refl, subst, sym, ap, ◌∙◌, arith}
+use Rattle.std.proofs.Common.{◌≡◌, ◌<◌, ℕ, List, Option, length, map, subst, sym, ap, ◌∙◌, arith}
 use Rattle.std.specs.List.{range_with_len}
 use Rattle.boxes.specs.declared.flow.Assign.{Assign}
 use Rattle.boxes.specs.declared.page.Page.{Page}
-use Rattle.strings.specs.Shown.{assign_at, entry_of, first_on, last_on, marks_of, or_else, shown_in, shown_along, starts_page}
-use Rattle.strings.specs.declared.shown.Shown.{Shown}
+use Rattle.strings.specs.Shown.{first_on, last_on, marks_of, or_else, shown_in, starts_page}
 use Rattle.strings.proofs.AlongLemmas.{AscendAll, walk_more, shown_is, entry_next, entry_start, marks_ascend, place_at, page_there}
 use Rattle.strings.proofs.along.shown_along.Goals as goal
 

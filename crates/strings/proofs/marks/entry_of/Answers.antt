@@ -1,4 +1,4 @@
-use Rattle.std.proofs.Common.{◌≡◌, None, Some, cond, get_or, sym, ap, ◌∙◌}
+use Rattle.std.proofs.Common.{None, Some, cond, get_or, sym, ap, ◌∙◌}
 use Rattle.strings.specs.Shown.{is_earlier}
 use Rattle.strings.proofs.MarkLemmas.{last_more}
 use Rattle.strings.proofs.marks.entry_of.Goals as goal

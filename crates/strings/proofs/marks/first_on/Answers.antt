@@ -1,4 +1,4 @@
-use Rattle.std.proofs.Common.{◌≡◌, ◌<◌, ◌≤◌, ℕ, Option, None, true, false, length, get_or, sym, ◌∙◌, arith}
+use Rattle.std.proofs.Common.{None, true, sym, ◌∙◌, arith}
 use Rattle.strings.specs.Shown.{is_on}
 use Rattle.page_seq.proofs.PlaceLemmas.{first_place_is}
 use Rattle.strings.proofs.MarkLemmas.{first_none}

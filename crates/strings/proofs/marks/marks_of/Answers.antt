@@ -1,4 +1,4 @@
-use Rattle.std.proofs.Common.{◌≡◌, ◌++◌, ◌∷◌, [], ℕ, List, Option, get_or, map, take, subst, sym, ap, ◌∙◌}
+use Rattle.std.proofs.Common.{◌≡◌, ◌++◌, ◌∷◌, [], ℕ, List, Option, map, take, sym, ap, ◌∙◌}
 use Rattle.boxes.specs.declared.flow.Assign.{Assign}
 use Rattle.boxes.specs.declared.place.Position.{Position}
 use Rattle.page_seq.specs.Places.{page_of}
