@@ -37,7 +37,8 @@ page_frames = record { meets = meets_by_parity; frame_of = λ index name kind. p
 
 -- how far below its line's top the baseline of a span is (CSS 2.1, 10.8.1): half of the leading, which may be negative, and the ascent
 unfoldable pub baseline_of : List FontFace → Span → ℤ
-baseline_of faces s = floor_div (s.line_height -ℤ (ascent_of faces s.face s.size +ℤ descent_of faces s.face s.size)) 2 +ℤ ascent_of faces s.face s.size
+baseline_of faces s =
+    floor_div (s.line_height -ℤ (ascent_of faces s.face s.size +ℤ descent_of faces s.face s.size)) 2 +ℤ ascent_of faces s.face s.size
 
 -- the leaf that stands at an event
 abbrev pub leaf_by : List LeafData → Option Event → Option LeafData
@@ -59,7 +60,9 @@ line_text leaf line = slice_range leaf.text line.at.offset (if line.end.event ==
 
 -- the text of a line in the face, size and color of its leaf; tops count from the frame's top
 unfoldable pub words_bytes : List FontFace → LeafData → Placed → List ℕ
-words_bytes faces leaf line = text_record page_margin ((page_margin +ℤ line.top) +ℤ baseline_of faces leaf.strut) (face_in faces leaf.strut.face) leaf.strut.size leaf.strut.color (line_text leaf line)
+words_bytes faces leaf line =
+    text_record page_margin ((page_margin +ℤ line.top) +ℤ baseline_of faces leaf.strut) (face_in faces leaf.strut.face) leaf.strut.size
+    leaf.strut.color (line_text leaf line)
 
 -- a line and its text; blocks are as wide as the frame
 abbrev pub leaf_bytes : List FontFace → LeafData → Placed → List ℕ
@@ -80,7 +83,8 @@ line_bytes p line = line_by p.faces line (leaf_at p.tree line.at.event)
 
 -- a page of size A5, whose number is its index, and its lines
 unfoldable pub page_bytes : Print → Page → List ℕ
-page_bytes p page = page_record page.index (pos page.index) (side_of page.index) page.kind [] page_width page_height ++ flat_map (line_bytes p) page.solids
+page_bytes p page = page_record page.index (pos page.index) (side_of page.index) page.kind [] page_width page_height ++
+    flat_map (line_bytes p) page.solids
 
 -- the listing of a page list that settled in the first pass
 unfoldable pub listing_of : Print → List Page → List ℕ

@@ -5,4 +5,9 @@ use Rattle.book.specs.Document.{Texts}
 use Rattle.book.specs.declared.files.FileTexts.{FileTexts}
 
 abbrev pub texts_in : FileTexts → Texts
-texts_in t = record { metrics = unmarked (string_bytes t.metrics); html = unmarked (string_bytes t.html); sheet = unmarked (string_bytes t.sheet) }
+texts_in t = record {
+  metrics = unmarked (string_bytes t.metrics);
+  html = unmarked (string_bytes t.html);
+  sheet =
+      unmarked (string_bytes t.sheet);
+}

@@ -45,9 +45,11 @@ texts_of (out.Done pages passes) = codes "bookfmt: " ∷ decimal pages ∷ codes
 texts_of (out.NotRead kind) = codes "bookfmt: usage: bookfmt format [--passes N] METRICS HTML [CSS ...] or bookfmt sample N\n" ∷ []
 texts_of (out.ReadFault f) = codes "bookfmt: cannot read " ∷ (file_words f).0 ∷ (file_words f).1 ∷ codes "\n" ∷ []
 texts_of (out.TooLarge f) = codes "bookfmt: " ∷ (file_words f).0 ∷ (file_words f).1 ∷ codes " has more than 16777216 bytes\n" ∷ []
-texts_of (out.NotUtf8 f at) = codes "bookfmt: " ∷ (file_words f).0 ∷ (file_words f).1 ∷ codes " is not UTF-8 at " ∷ decimal at ∷ codes "\n" ∷ []
+texts_of (out.NotUtf8 f at) =
+    codes "bookfmt: " ∷ (file_words f).0 ∷ (file_words f).1 ∷ codes " is not UTF-8 at " ∷ decimal at ∷ codes "\n" ∷ []
 texts_of (out.BadMetrics line reason) = codes "bookfmt: metrics line " ∷ decimal line ∷ codes ": " ∷ why_text reason ∷ codes "\n" ∷ []
-texts_of (out.NotBuilt f at) = codes "bookfmt: not built: " ∷ (file_words f).0 ∷ (file_words f).1 ∷ codes " at " ∷ decimal at ∷ codes "\n" ∷ []
+texts_of (out.NotBuilt f at) =
+    codes "bookfmt: not built: " ∷ (file_words f).0 ∷ (file_words f).1 ∷ codes " at " ∷ decimal at ∷ codes "\n" ∷ []
 texts_of (out.Limit what) = codes "bookfmt: limit: " ∷ limit_text what ∷ codes "\n" ∷ []
 texts_of out.WriteFault = codes "bookfmt: cannot write\n" ∷ []
 texts_of out.NoMemory = codes "bookfmt: no memory\n" ∷ []

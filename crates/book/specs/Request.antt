@@ -32,10 +32,12 @@ is_dashed word = slice_index word 0 == 45
 
 -- the words after `format`: the three names, none of which begins with `-`
 unfoldable pub names_in : List (List ℕ) → Expect Names
-names_in (metrics ∷ html ∷ sheet ∷ []) = if is_dashed metrics || is_dashed html || is_dashed sheet then refused (out.NotRead words.Refused) else given (record { metrics = metrics; html = html; sheet = sheet })
+names_in (metrics ∷ html ∷ sheet ∷ []) = if is_dashed metrics || is_dashed html || is_dashed sheet then
+    refused (out.NotRead words.Refused) else given (record { metrics = metrics; html = html; sheet = sheet })
 names_in others = refused (out.NotRead words.Refused)
 
 -- what the words ask for: the first decides on the command
 unfoldable pub asked : List (List ℕ) → Expect Names
 asked [] = refused (out.NotRead words.NoCommand)
-asked (command ∷ rest) = if is_format command then names_in rest else if is_sample command then refused (out.NotRead words.Refused) else refused (out.NotRead words.UnknownCommand)
+asked (command ∷ rest) = if is_format command then names_in rest else if is_sample command then refused (out.NotRead words.Refused) else
+    refused (out.NotRead words.UnknownCommand)

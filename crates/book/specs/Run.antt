@@ -33,7 +33,8 @@ texts_expected ws told = asked ws >>= λ names.
     text_of (file.Sheet 1) (told names.sheet) >>= λ sheet.
     given (record { metrics = metrics; html = html; sheet = sheet })
 
--- what is expected of these words over this shelf: the document, or the first refusal in the order of the steps; `count` gives the number of rules of each sheet's text
+-- what is expected of these words over this shelf: the document, or the first refusal in the order of the steps; `count` gives the number
+-- of rules of each sheet's text
 abbrev pub expected : (List ℕ → ℕ) → List (List ℕ) → (List ℕ → Told) → Expect Document
 expected count ws told = texts_expected ws told >>= document_of count
 

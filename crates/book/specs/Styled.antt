@@ -85,7 +85,8 @@ pub record IsSet (faces : List FontFace) (rows : List NodeStyles) (t : ElementTe
   pub is : p ≡ record { style = set_in face style; text = t.text }
 
 -- each text is set in its element's style
-pub record AreSet (faces : List FontFace) (nodes : List Node) (file : List ℕ) (texts : List ElementText) (paragraphs : List ParagraphOf) : Type 0 where
+pub record AreSet (faces : List FontFace) (nodes : List Node) (file : List ℕ) (texts : List ElementText) (paragraphs : List ParagraphOf) :
+    Type 0 where
   pub rows : List NodeStyles
   pub styles : HaveStyles nodes file rows
   pub each : AllZip (IsSet faces rows) texts paragraphs

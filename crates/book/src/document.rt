@@ -65,7 +65,8 @@ impl From<NoMem> for Outcome {
 /// The faces of the metrics text.
 fn read_faces(alloc: Global, metrics: &str) -> Result<Faces, Outcome>
     requires { length metrics.now ≤ most_text_bytes }
-    ensures faces { MatchResult result (λ f. IsGiven (faces_expected (faces_of metrics.now)) f) (λ o. IsRefusedUnlessMemory (faces_expected (faces_of metrics.now)) o) }
+    ensures faces { MatchResult result (λ f. IsGiven (faces_expected (faces_of metrics.now)) f)
+        (λ o. IsRefusedUnlessMemory (faces_expected (faces_of metrics.now)) o) }
     ensures of_texts { IfErr result IsOfTexts }
 {
     match read_metrics(alloc, metrics) {
@@ -77,7 +78,8 @@ fn read_faces(alloc: Global, metrics: &str) -> Result<Faces, Outcome>
 
 /// The tree of the HTML.
 fn read_tree(alloc: Global, html: &str) -> Result<Dom, Outcome>
-    ensures nodes { MatchResult result (λ d. IsGiven (nodes_expected (tree_of html.now)) d) (λ o. IsRefusedUnlessMemory (nodes_expected (tree_of html.now)) o) }
+    ensures nodes { MatchResult result (λ d. IsGiven (nodes_expected (tree_of html.now)) d)
+        (λ o. IsRefusedUnlessMemory (nodes_expected (tree_of html.now)) o) }
     ensures of_texts { IfErr result IsOfTexts }
 {
     match read_html(alloc, html) {
@@ -132,7 +134,8 @@ fn ruled_element(verdict: Verdict) -> Option<NodeId>
 /// a rule.
 #[tactic(auto, using(crate::proofs::PlainTexts::texts_set))]
 fn read_texts(alloc: Global, dom: &Dom, verdict: Verdict) -> Result<Vec<ParagraphText>, Outcome>
-    ensures texts { MatchResult result (λ v. IsGiven (paragraphs_expected verdict dom.now) (map element_text_in v.items)) (λ o. IsRefusedUnlessMemory (paragraphs_expected verdict dom.now) o) }
+    ensures texts { MatchResult result (λ v. IsGiven (paragraphs_expected verdict dom.now) (map element_text_in v.items))
+        (λ o. IsRefusedUnlessMemory (paragraphs_expected verdict dom.now) o) }
     ensures plain { IfOk result (λ v. All (λ t. IsParagraphText (string_bytes t.text)) v.items) }
     ensures count { IfOk result (λ v. length v.items ≤ most_nodes) }
     ensures of_texts { IfErr result IsOfTexts }
@@ -163,7 +166,8 @@ fn check_file(verdict: Verdict) -> Result<(), Outcome>
 /// Whether the texts have more bytes than are laid out.
 #[tactic(auto, using(crate::proofs::PlainTexts::sum_next))]
 fn is_too_long(texts: &[ParagraphText]) -> bool
-    ensures { MatchBool result (most_text_bytes < sum_by (λ t. string_len t.text) texts.now) (sum_by (λ t. string_len t.text) texts.now ≤ most_text_bytes) }
+    ensures { MatchBool result (most_text_bytes < sum_by (λ t. string_len t.text) texts.now)
+        (sum_by (λ t. string_len t.text) texts.now ≤ most_text_bytes) }
 {
     let mut room = MOST_TEXT_BYTES as usize;
     for text in texts {
@@ -177,7 +181,8 @@ fn is_too_long(texts: &[ParagraphText]) -> bool
 }
 
 fn check_room(texts: &[ParagraphText]) -> Result<(), Outcome>
-    ensures room { MatchResult result (λ u. IsGiven (room_expected (map element_text_in texts.now)) u) (λ o. IsRefusedUnlessMemory (room_expected (map element_text_in texts.now)) o) }
+    ensures room { MatchResult result (λ u. IsGiven (room_expected (map element_text_in texts.now)) u)
+        (λ o. IsRefusedUnlessMemory (room_expected (map element_text_in texts.now)) o) }
     ensures few { IfOk result (λ u. sum_by (λ t. string_len t.text) texts.now ≤ most_text_bytes) }
     ensures of_texts { IfErr result IsOfTexts }
 {

@@ -32,7 +32,8 @@ fn read_text<F: Shelf>(
     file: FileOf,
 ) -> Result<String, Outcome>
     ensures told { F.told shelf.new ≡ F.told shelf.old }
-    ensures text { MatchResult result (λ t. IsGiven (text_of file (F.told shelf.old name.now)) (unmarked (string_bytes t))) (λ o. StopsAt file (text_of file (F.told shelf.old name.now)) o) }
+    ensures text { MatchResult result (λ t. IsGiven (text_of file (F.told shelf.old name.now)) (unmarked (string_bytes t)))
+        (λ o. StopsAt file (text_of file (F.told shelf.old name.now)) o) }
     ensures small { IfOk result (λ t. string_len t ≤ most_file_bytes) }
     ensures later { F.faults shelf.old ≤ F.faults shelf.new }
     ensures cause { IfErr result (λ o. HasCauseAt file (F.told shelf.old name.now) name.now (F.faults shelf.old) (F.faults shelf.new) (F.last_fault shelf.new) o) }

@@ -67,7 +67,8 @@ fn pages_of<L: Ledger>(
     ensures pages { IfOk result (λ list. IsPaged faces.now flow.now.main page_frames list.pages) }
     ensures few { IfOk result (λ list. length list.pages ≤ most_pages) }
     ensures near { IfOk result (λ list. HaveNearTops list.pages) }
-    ensures err { IfErr result (λ o. (o ≡ Outcome.NoMemory) ⊎ ((o ≡ Outcome.Limit LimitOf.Pages) × LeavesSome faces.now flow.now.main page_frames most_pages)) }
+    ensures err { IfErr result (λ o. (o ≡ Outcome.NoMemory) ⊎
+        ((o ≡ Outcome.Limit LimitOf.Pages) × LeavesSome faces.now flow.now.main page_frames most_pages)) }
 {
     let frames = OneFrame {
         frame: page_frame(),

@@ -71,7 +71,8 @@ fn limit_text(what: LimitOf) -> &'static str
 
 /// Puts the line that tells which limit is passed.
 fn put_limit_line<E: Sink>(err: &mut E, what: LimitOf) -> Result<(), Failed>
-    ensures bytes { AppendsAllOrPrefix (E.taken err.old) (E.taken err.new) (flat_map (λ t. t) (codes "bookfmt: limit: " ∷ limit_text what ∷ codes "\n" ∷ [])) result }
+    ensures bytes { AppendsAllOrPrefix (E.taken err.old) (E.taken err.new)
+        (flat_map (λ t. t) (codes "bookfmt: limit: " ∷ limit_text what ∷ codes "\n" ∷ [])) result }
     ensures cause { HasCause (E.faults err.old) (E.faults err.new) result }
 {
     put_texts(err, &["bookfmt: limit: ", limit_text(what), "\n"])
@@ -84,7 +85,8 @@ fn put_file_line<E: Sink>(
     file: FileOf,
     after: &'static str,
 ) -> Result<(), Failed>
-    ensures bytes { AppendsAllOrPrefix (E.taken err.old) (E.taken err.new) (flat_map (λ t. t) (before.now ∷ (file_words file).0 ∷ (file_words file).1 ∷ after.now ∷ [])) result }
+    ensures bytes { AppendsAllOrPrefix (E.taken err.old) (E.taken err.new)
+        (flat_map (λ t. t) (before.now ∷ (file_words file).0 ∷ (file_words file).1 ∷ after.now ∷ [])) result }
     ensures cause { HasCause (E.faults err.old) (E.faults err.new) result }
 {
     let mut buffer = Buffer::new();
@@ -101,7 +103,8 @@ fn put_place_line<E: Sink>(
     between: &'static str,
     at: u64,
 ) -> Result<(), Failed>
-    ensures bytes { AppendsAllOrPrefix (E.taken err.old) (E.taken err.new) (flat_map (λ t. t) (before.now ∷ (file_words file).0 ∷ (file_words file).1 ∷ between.now ∷ decimal at ∷ codes "\n" ∷ [])) result }
+    ensures bytes { AppendsAllOrPrefix (E.taken err.old) (E.taken err.new)
+        (flat_map (λ t. t) (before.now ∷ (file_words file).0 ∷ (file_words file).1 ∷ between.now ∷ decimal at ∷ codes "\n" ∷ [])) result }
     ensures cause { HasCause (E.faults err.old) (E.faults err.new) result }
 {
     let (mut first, mut second) = (Buffer::new(), Buffer::new());
@@ -115,7 +118,8 @@ fn put_place_line<E: Sink>(
 /// Puts the line that tells what is wrong in a metrics text.
 #[tactic(auto, unfolding(crate::specs::Message::decimal))]
 fn put_metrics_line<E: Sink>(err: &mut E, line: u32, why: MetricsWhy) -> Result<(), Failed>
-    ensures bytes { AppendsAllOrPrefix (E.taken err.old) (E.taken err.new) (flat_map (λ t. t) (codes "bookfmt: metrics line " ∷ decimal line ∷ codes ": " ∷ why_text why ∷ codes "\n" ∷ [])) result }
+    ensures bytes { AppendsAllOrPrefix (E.taken err.old) (E.taken err.new)
+        (flat_map (λ t. t) (codes "bookfmt: metrics line " ∷ decimal line ∷ codes ": " ∷ why_text why ∷ codes "\n" ∷ [])) result }
     ensures cause { HasCause (E.faults err.old) (E.faults err.new) result }
 {
     let mut buffer = Buffer::new();
@@ -134,7 +138,8 @@ fn put_metrics_line<E: Sink>(err: &mut E, line: u32, why: MetricsWhy) -> Result<
 /// Puts the line that tells how many pages there are.
 #[tactic(auto, unfolding(crate::specs::Message::decimal))]
 fn put_pages_line<E: Sink>(err: &mut E, pages: u32, passes: u32) -> Result<(), Failed>
-    ensures bytes { AppendsAllOrPrefix (E.taken err.old) (E.taken err.new) (flat_map (λ t. t) (codes "bookfmt: " ∷ decimal pages ∷ codes " pages, " ∷ decimal passes ∷ codes " passes\n" ∷ [])) result }
+    ensures bytes { AppendsAllOrPrefix (E.taken err.old) (E.taken err.new)
+        (flat_map (λ t. t) (codes "bookfmt: " ∷ decimal pages ∷ codes " pages, " ∷ decimal passes ∷ codes " passes\n" ∷ [])) result }
     ensures cause { HasCause (E.faults err.old) (E.faults err.new) result }
 {
     let (mut first, mut second) = (Buffer::new(), Buffer::new());

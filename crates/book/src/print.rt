@@ -122,7 +122,8 @@ fn y_of(line: &Placed) -> i64
 /// Appends a line.
 fn push_area(out: &mut Vec<u8>, line: &Placed) -> Result<(), AllocError>
     requires { IsNear line.now }
-    ensures { OnOk result (out.new.items ≡ out.old.items ++ line_record page_margin (page_margin +ℤ line.now.top) frame_width line.now.height) }
+    ensures { OnOk result (out.new.items ≡ out.old.items ++
+        line_record page_margin (page_margin +ℤ line.now.top) frame_width line.now.height) }
 {
     let area = Area {
         x: i64::from(PAGE_MARGIN),

@@ -20,6 +20,7 @@ represented_by nodes n s (Some name) =
     (if bytes_eq name (codes "wbr") then some_part (226 ∷ 128 ∷ 139 ∷ []) s else
     (if bytes_eq name (codes "img") then some_part (attribute_text (attribute_at nodes n alt)) s else None))
 
--- the text that an element represents, where its style treats white space so: a newline that is kept for `br`, a zero width space for `wbr`, and the `alt` text for `img`
+-- the text that an element represents, where its style treats white space so: a newline that is kept for `br`, a zero width space for
+-- `wbr`, and the `alt` text for `img`
 abbrev pub represented_text : List Node → ℕ → WhiteSpace → Option TextPart
 represented_text nodes n s = represented_by nodes n s (name_at nodes n)

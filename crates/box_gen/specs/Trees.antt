@@ -28,7 +28,8 @@ below ps (suc d) n = side_by_side (below ps d) (children_of ps n)
 abbrev pub forest_of : List Node → Forest
 forest_of nodes = node 0 (below (parents_of nodes) (length nodes - 1) 0) none
 
--- what a flow is made from: nodes with their styles and counters, the face of each style, what each pseudo-element's content prints, and the running strings that each element assigns
+-- what a flow is made from: nodes with their styles and counters, the face of each style, what each pseudo-element's content prints, and
+-- the running strings that each element assigns
 pub record Source : Type 0 where
   pub nodes : List Node
   pub styles : List NodeStyles

@@ -13,7 +13,8 @@ use Rattle.box_gen.specs.Trees.{Source, Role, text, hidden, inline, block, role_
 use Rattle.box_gen.specs.Flow.{built_of, first_items, last_items, nothing, text_item, with_run}
 use Rattle.box_gen.specs.Gather.{Gathered, adds, begun, ended, make}
 
--- what the walk keeps: what is gathered, the styles of the open blocks, the innermost first, and the element that isn't shown in which it is
+-- what the walk keeps: what is gathered, the styles of the open blocks, the innermost first, and the element that isn't shown in which it
+-- is
 pub record Walk : Type 0 where
   pub gathered : Gathered
   pub blocks : List Style
@@ -79,4 +80,5 @@ walked src = after_steps src (walk (make nothing []) [] None) (steps_of src.node
 
 -- a walk over a document, with a stack of open blocks and no look ahead, builds its flow
 abbrev pub WalkBuildsFlow : Type 0
-WalkBuildsFlow = (src : Source) → IsTree src.nodes → built_of src ≡ with_run src initial_style true (walked src).gathered.built (walked src).gathered.run
+WalkBuildsFlow = (src : Source) → IsTree src.nodes →
+  built_of src ≡ with_run src initial_style true (walked src).gathered.built (walked src).gathered.run

@@ -120,7 +120,8 @@ fn push_text(
 ) -> Result<(), NoMem>
     requires short { length (string_bytes text.old) + length more.now ≤ most_text_bytes }
     ensures text { OnOk result (string_bytes text.new ≡ string_bytes text.old ++ more.now) }
-    ensures spans { OnOk result (spans.new.items ≡ spans.old.items ++ span_between style.now (length (string_bytes text.old)) (length (string_bytes text.old) + length more.now)) }
+    ensures spans { OnOk result (spans.new.items ≡ spans.old.items ++
+        span_between style.now (length (string_bytes text.old)) (length (string_bytes text.old) + length more.now)) }
 {
     let from = text.len() as u32;
     text.push_str(more)?;
@@ -151,7 +152,8 @@ fn fill(
     requires each { length texts.now ≡ length (styles_in marks.now) }
     requires short { length (string_bytes text.old) + length (joined texts.now) ≤ most_text_bytes }
     ensures text { OnOk result (string_bytes text.new ≡ string_bytes text.old ++ joined texts.now) }
-    ensures spans { OnOk result (spans.new.items ≡ spans.old.items ++ spans_from (length (string_bytes text.old)) (styles_in marks.now) texts.now) }
+    ensures spans { OnOk result (spans.new.items ≡ spans.old.items ++
+        spans_from (length (string_bytes text.old)) (styles_in marks.now) texts.now) }
     ensures starts { OnOk result (starts.new.items ≡ starts.old.items ++ starts_from (length (string_bytes text.old)) marks.now texts.now) }
 {
     let mut next = 0;

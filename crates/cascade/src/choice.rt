@@ -29,7 +29,8 @@ pub struct Applied<'s> {
 
 /// The better of a declaration and the best so far.
 fn better<'s>(candidate: &Candidate<'s>, best: Option<Candidate<'s>>) -> Option<Candidate<'s>>
-    ensures { option_map spec.candidate_in result ≡ spec.better_of (spec.candidate_in candidate.now) (option_map spec.candidate_in best.entry) }
+    ensures { option_map spec.candidate_in result ≡
+        spec.better_of (spec.candidate_in candidate.now) (option_map spec.candidate_in best.entry) }
 {
     match best {
         None => Some(*candidate),

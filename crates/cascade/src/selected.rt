@@ -90,7 +90,8 @@ fn push_selected<'s>(
     decls: &'s [ReadDecl],
     selectors: &'s [Selector],
 ) -> Result<(), NoMem>
-    ensures { OnOk result (map spec.selected_in all.new.items ≡ map spec.selected_in all.old.items ++ map (spec.selected_by place origin decls.now) selectors.now) }
+    ensures { OnOk result (map spec.selected_in all.new.items ≡ map spec.selected_in all.old.items ++
+        map (spec.selected_by place origin decls.now) selectors.now) }
 {
     for selector in selectors {
         let weight = weight_of(origin, place, selector);
@@ -140,7 +141,8 @@ fn push_named<'s>(
     selected: Option<&Selected<'s>>,
     wanted: Pseudo,
 ) -> Result<(), NoMem>
-    ensures { OnOk result (map applied_in rules.new.items ≡ map applied_in rules.old.items ++ spec.listed (spec.named wanted (option_map (λ s. spec.selected_in s.now) selected.entry))) }
+    ensures { OnOk result (map applied_in rules.new.items ≡ map applied_in rules.old.items ++
+        spec.listed (spec.named wanted (option_map (λ s. spec.selected_in s.now) selected.entry))) }
 {
     if let Some(selected) = selected {
         if is_same(pseudo(selected.selector), wanted) {
@@ -175,7 +177,8 @@ pub(crate) fn winners_by<'s>(
     styled: &'s [ReadDecl],
     wanted: Pseudo,
 ) -> Result<Items<Long>, NoMem>
-    ensures { IfOk result (λ longs. AreWinners (DeclaredBy (spec.rules_at (map spec.selected_in selected.now) places.now styled.now wanted)) longs) }
+    ensures { IfOk result
+        (λ longs. AreWinners (DeclaredBy (spec.rules_at (map spec.selected_in selected.now) places.now styled.now wanted)) longs) }
 {
     let mut rules = named(alloc, selected, places, wanted)?;
     if is_same(wanted, Pseudo::Element) {

@@ -39,7 +39,8 @@ held z = int_max z (pos 0)
 abbrev pub held_number : Number → Number
 held_number d = record { units = held d.units; places = d.places }
 
--- a length of the font size `font` and of the root's: an `ex` is half an `em` (CSS 2.1, 4.3.2; css-values-3, 5.1.1); a percentage is of `base`, over 100
+-- a length of the font size `font` and of the root's: an `ex` is half an `em` (CSS 2.1, 4.3.2; css-values-3, 5.1.1); a percentage is of
+-- `base`, over 100
 abbrev pub units_of : ℤ → ℤ → ℤ → Measure → ℤ
 units_of font root base (measure.Px p) = p
 units_of font root base (measure.Em d) = part d font 1

@@ -21,7 +21,8 @@ use style::long::{Given, Long};
 use style::style::Style;
 use style::values::Display;
 
-/// The computed style of an element below a parent, by its winners, but for its page name, which is 0. `root` is the root's font size, and None is the root itself.
+/// The computed style of an element below a parent, by its winners, but for its page name, which is 0. `root` is the root's font size,
+/// and None is the root itself.
 pub fn computed_style(
     alloc: Global,
     parent: &Style,

@@ -66,7 +66,8 @@ fn root(alloc: Global) -> Result<NodeWinners, NoMem> {
     Ok(winners)
 }
 
-/// Its child, which isn't shown: `smaller`, a line height of 150%, a margin of 1em, a border of 1rem whose style is hidden, and a text before it.
+/// Its child, which isn't shown: `smaller`, a line height of 150%, a margin of 1em, a border of 1rem whose style is hidden, and a text
+/// before it.
 fn child(alloc: Global) -> Result<NodeWinners, NoMem> {
     let mut winners = none(alloc);
     winners

@@ -111,7 +111,8 @@ pub(crate) fn chosen_len(given: &Given<Measure>, inherited: &Len, context: &Cont
 
 /// A margin above or below.
 pub(crate) fn chosen_upright(given: &Given<Measure>, inherited: &Len, context: &Context) -> Len
-    ensures { result ≡ given_by (λ m. without_auto (len_of context.now.font_size context.now.root_size m)) given.now inherited.now zero_len }
+    ensures { result ≡ given_by (λ m. without_auto (len_of context.now.font_size context.now.root_size m)) given.now inherited.now
+        zero_len }
 {
     match given {
         Given::Value(measure) => without_auto(&len_of(context, measure)),
@@ -121,7 +122,8 @@ pub(crate) fn chosen_upright(given: &Given<Measure>, inherited: &Len, context: &
 }
 
 pub(crate) fn chosen_padding(given: &Given<Measure>, inherited: &Len, context: &Context) -> Len
-    ensures { result ≡ given_by (λ m. held_len (without_auto (len_of context.now.font_size context.now.root_size m))) given.now inherited.now zero_len }
+    ensures { result ≡ given_by (λ m. held_len (without_auto (len_of context.now.font_size context.now.root_size m))) given.now
+        inherited.now zero_len }
 {
     match given {
         Given::Value(measure) => held_len(&without_auto(&len_of(context, measure))),
@@ -147,7 +149,8 @@ pub(crate) fn chosen_border(
     style: BorderStyle,
     context: &Context,
 ) -> Px
-    ensures { result ≡ width_of style (given_by (λ m. held (units_of context.now.font_size context.now.root_size (pos 0) m)) given.now inherited.now medium) }
+    ensures { result ≡ width_of style
+        (given_by (λ m. held (units_of context.now.font_size context.now.root_size (pos 0) m)) given.now inherited.now medium) }
 {
     let width = match given {
         Given::Value(measure) => {

@@ -16,7 +16,8 @@ pub record Kept : Type 0 where
   pub marks : List (List Mark)
   pub spots : List Spot
 
--- places are numbered in document order: four at each step into an element, itself, its call, its marker and its `::before`, and its `::after` at the step out of it
+-- places are numbered in document order: four at each step into an element, itself, its call, its marker and its `::before`, and its
+-- `::after` at the step out of it
 abbrev pub place_number : Option ℕ → Option ℕ → Pseudo → Option ℕ
 place_number into out pseudo.Element = option_map (λ i. 4 * i) into
 place_number into out pseudo.Call = option_map (λ i. 4 * i + 1) into

@@ -4,13 +4,15 @@ use Rattle.counters.specs.declared.scopes.Act.{Act}
 use Rattle.counters.specs.declared.scopes.Act.TheVariants as act
 use Rattle.counters.specs.declared.scopes.Event.{Event}
 
--- a scope: its place among all scopes of the counter; where it ends, which is after its parent's last place, and so after the following siblings with all that is in them; and the number that its reset gives
+-- a scope: its place among all scopes of the counter; where it ends, which is after its parent's last place, and so after the following
+-- siblings with all that is in them; and the number that its reset gives
 pub record Scope : Type 0 where
   pub id : ℕ
   pub end : ℕ
   pub number : ℤ
 
--- the scopes, latest first, less those of which a later reset takes the rest: one on a following sibling or on the element itself. The scopes of one parent's children end at one place
+-- the scopes, latest first, less those of which a later reset takes the rest: one on a following sibling or on the element itself. The
+-- scopes of one parent's children end at one place
 abbrev pub live : List Scope → List Scope
 live [] = []
 live (s ∷ older) = s ∷ filter (λ t. not (t.end == s.end)) (live older)

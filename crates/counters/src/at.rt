@@ -62,7 +62,8 @@ impl CounterAt {
         }
     }
 
-    /// The values of a counter at an element or a pseudo-element, the outermost scope first; `[0]` where no scope holds. It costs the scopes that hold after the counter's last change up to there, and a binary search for that change.
+    /// The values of a counter at an element or a pseudo-element, the outermost scope first; `[0]` where no scope holds. It costs the
+    /// scopes that hold after the counter's last change up to there, and a binary search for that change.
     pub fn values(
         &self,
         alloc: Global,

@@ -47,7 +47,11 @@ fn push_entered(
     into: &mut Vec<(Name, Event)>,
 ) -> Result<(), NoMem>
     requires { at + 3 < 2 ^ 32 }
-    ensures { OnOk result (into.new.items ≡ into.old.items ++ (named at outside (changes_at styles.now node.0 pseudo.Element) ++ (named (at + 1) inside (changes_at styles.now node.0 pseudo.Call) ++ (named (at + 2) inside (changes_at styles.now node.0 pseudo.Marker) ++ named (at + 3) inside (changes_at styles.now node.0 pseudo.Before))))) }
+    ensures { OnOk result (into.new.items ≡ into.old.items ++
+        (named at outside (changes_at styles.now node.0 pseudo.Element) ++
+        (named (at + 1) inside (changes_at styles.now node.0 pseudo.Call) ++
+        (named (at + 2) inside (changes_at styles.now node.0 pseudo.Marker) ++
+        named (at + 3) inside (changes_at styles.now node.0 pseudo.Before))))) }
 {
     let own = Place { at, end: outside };
     push_changes(alloc, own, styles, node, Pseudo::Element, into)?;

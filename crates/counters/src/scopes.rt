@@ -14,7 +14,8 @@ pub enum Act {
     Add(i64),
 }
 
-/// What is done to a counter at a place: the place's number in document order, and the number after the last place of its parent, where a scope that begins at the place ends.
+/// What is done to a counter at a place: the place's number in document order, and the number after the last place of its parent, where a
+/// scope that begins at the place ends.
 #[derive(Clone, Copy, Debug)]
 pub struct Event {
     pub at: u32,
@@ -91,7 +92,8 @@ fn values_from(alloc: Global, marks: &[Mark], from: Option<u32>) -> Result<Vec<i
     Ok(values)
 }
 
-/// The values at a place, the outermost scope first; 0 where no scope holds. It costs a binary search and the scopes that held after the last event up to the place.
+/// The values at a place, the outermost scope first; 0 where no scope holds. It costs a binary search and the scopes that held after the
+/// last event up to the place.
 ///
 /// # Errors
 ///

@@ -128,7 +128,8 @@ content_list p = first_and (one_part p) (many (next_part p))
 unfoldable pub content : Parser (Option (List Part))
 content = do
   t ← peek
-  if is_named kind.Ident t (codes "normal") || is_named kind.Ident t (codes "none") then (advance >> pure None) else (content_list place.Content >>= (λ ps. pure (Some ps)))
+  if is_named kind.Ident t (codes "normal") || is_named kind.Ident t (codes "none") then (advance >> pure None) else
+    (content_list place.Content >>= (λ ps. pure (Some ps)))
 
 -- ---- counters
 
@@ -149,7 +150,8 @@ unfoldable pub counter_list : ℤ → Parser (List (List ℕ × ℤ))
 counter_list other = do
   t ← peek
   s ← second
-  if is_named kind.Ident t (codes "none") && is_none s then (advance >> pure []) else first_and (entry other) (fewer_than 64 (next_entry other))
+  if is_named kind.Ident t (codes "none") && is_none s then (advance >> pure []) else
+    first_and (entry other) (fewer_than 64 (next_entry other))
 
 -- ---- named strings
 

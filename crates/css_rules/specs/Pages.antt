@@ -51,7 +51,8 @@ is_at_kind _ = false
 
 -- what stands where a declaration could begin
 unfoldable pub page_lead : Item → Lead
-page_lead t = if is_gap t then lead.Between else (if mark t == 125 then lead.Closer else (if is_at_kind t.kind then lead.At else lead.Content))
+page_lead t = if is_gap t then lead.Between else
+    (if mark t == 125 then lead.Closer else (if is_at_kind t.kind then lead.At else lead.Content))
 
 -- what stands between an At and the end of its rule's prelude, and what follows from there on
 unfoldable pub at_prelude : List Item → List Item
@@ -81,15 +82,22 @@ piece_end ts = after_from stop.BlockPiece [] ts
 pub data IsPageBlock : List Item → List Decl → List BoxOf → List Item → Type 0 where
   cut : IsPageBlock [] [] [] []
   closer : (t : Item) (ts : List Item) → page_lead t ≡ lead.Closer → IsPageBlock (t ∷ ts) [] [] ts
-  between : (t : Item) (ts : List Item) (ds : List Decl) (bs : List BoxOf) (rest : List Item) → page_lead t ≡ lead.Between → IsPageBlock ts ds bs rest → IsPageBlock (t ∷ ts) ds bs rest
-  margin_box : (t : Item) (ts : List Item) (ds : List Decl) (bs : List BoxOf) (rest : List Item) → page_lead t ≡ lead.At → is_margin_box t ts ≡ true
+  between : (t : Item) (ts : List Item) (ds : List Decl) (bs : List BoxOf) (rest : List Item) → page_lead t ≡ lead.Between →
+      IsPageBlock ts ds bs rest → IsPageBlock (t ∷ ts) ds bs rest
+  margin_box : (t : Item) (ts : List Item) (ds : List Decl) (bs : List BoxOf) (rest : List Item) → page_lead t ≡ lead.At →
+      is_margin_box t ts ≡ true
       → IsPageBlock (past_end (at_end ts)) ds bs rest → IsPageBlock (t ∷ ts) ds (box_of t (at_end ts) ∷ bs) rest
-  at_rule : (t : Item) (ts : List Item) (ds : List Decl) (bs : List BoxOf) (rest : List Item) → page_lead t ≡ lead.At → is_margin_box t ts ≡ false → (first_mark (at_end ts) == 125) ≡ false
+  at_rule : (t : Item) (ts : List Item) (ds : List Decl) (bs : List BoxOf) (rest : List Item) → page_lead t ≡ lead.At →
+      is_margin_box t ts ≡ false → (first_mark (at_end ts) == 125) ≡ false
       → IsPageBlock (past_end (at_end ts)) ds bs rest → IsPageBlock (t ∷ ts) ds bs rest
-  at_closer : (t : Item) (ts : List Item) → page_lead t ≡ lead.At → is_margin_box t ts ≡ false → (first_mark (at_end ts) == 125) ≡ true → IsPageBlock (t ∷ ts) [] [] (past_end (at_end ts))
-  piece : (t : Item) (ts : List Item) (ds : List Decl) (bs : List BoxOf) (rest : List Item) → page_lead t ≡ lead.Content → (first_mark (piece_end (t ∷ ts)) == 59) ≡ true
-      → IsPageBlock (rest_of (piece_end (t ∷ ts))) ds bs rest → IsPageBlock (t ∷ ts) (option_to_list (decl_of (piece_at (t ∷ ts))) ++ ds) bs rest
-  last : (t : Item) (ts : List Item) → page_lead t ≡ lead.Content → (first_mark (piece_end (t ∷ ts)) == 59) ≡ false → IsPageBlock (t ∷ ts) (option_to_list (decl_of (piece_at (t ∷ ts)))) [] (rest_of (piece_end (t ∷ ts)))
+  at_closer : (t : Item) (ts : List Item) → page_lead t ≡ lead.At → is_margin_box t ts ≡ false → (first_mark (at_end ts) == 125) ≡ true →
+      IsPageBlock (t ∷ ts) [] [] (past_end (at_end ts))
+  piece : (t : Item) (ts : List Item) (ds : List Decl) (bs : List BoxOf) (rest : List Item) → page_lead t ≡ lead.Content →
+      (first_mark (piece_end (t ∷ ts)) == 59) ≡ true
+      → IsPageBlock (rest_of (piece_end (t ∷ ts))) ds bs rest →
+      IsPageBlock (t ∷ ts) (option_to_list (decl_of (piece_at (t ∷ ts))) ++ ds) bs rest
+  last : (t : Item) (ts : List Item) → page_lead t ≡ lead.Content → (first_mark (piece_end (t ∷ ts)) == 59) ≡ false →
+      IsPageBlock (t ∷ ts) (option_to_list (decl_of (piece_at (t ∷ ts)))) [] (rest_of (piece_end (t ∷ ts)))
 
 -- what a part of the block adds: a declaration, a margin box or neither
 abbrev pub decls_in_part : PagePart → List Decl
@@ -101,7 +109,8 @@ boxes_in_part p = option_to_list (option_map box_in p.margin)
 -- a part was read between two lists of tokens, and the block goes on or ended with it
 abbrev pub IsPartOfPage : PagePart → List Item → List Item → Type 0
 IsPartOfPage p ts us = MatchBool p.more
-    ((ds : List Decl) (bs : List BoxOf) (rest : List Item) → IsPageBlock us ds bs rest → IsPageBlock ts (decls_in_part p ++ ds) (boxes_in_part p ++ bs) rest)
+    ((ds : List Decl) (bs : List BoxOf) (rest : List Item) → IsPageBlock us ds bs rest →
+    IsPageBlock ts (decls_in_part p ++ ds) (boxes_in_part p ++ bs) rest)
     (IsPageBlock ts (decls_in_part p) (boxes_in_part p) us)
 
 -- an at-rule in the block, whose At was passed

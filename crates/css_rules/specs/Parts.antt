@@ -51,12 +51,14 @@ with_tokens ts (p ∷ ps) = (ts ++ p) ∷ ps
 unfoldable pub parts_from : Stop → List ℕ → List Item → List Piece
 parts_from s open' [] = [] ∷ []
 parts_from s open' (t ∷ ts) =
-    if ends s open' t then (if mark t == separator s then [] ∷ parts_from s [] ts else [] ∷ []) else with_tokens (t ∷ []) (parts_from s (open_after open' t) ts)
+    if ends s open' t then (if mark t == separator s then [] ∷ parts_from s [] ts else [] ∷ []) else
+    with_tokens (t ∷ []) (parts_from s (open_after open' t) ts)
 
 -- what follows that end
 unfoldable pub past_from : Stop → List ℕ → List Item → List Item
 past_from s open' [] = []
-past_from s open' (t ∷ ts) = if ends s open' t then (if mark t == separator s then past_from s [] ts else ts) else past_from s (open_after open' t) ts
+past_from s open' (t ∷ ts) = if ends s open' t then (if mark t == separator s then past_from s [] ts else ts) else
+    past_from s (open_after open' t) ts
 
 -- what follows a block whose `{` was passed
 abbrev pub past_block : List Item → List Item

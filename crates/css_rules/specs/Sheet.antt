@@ -38,7 +38,8 @@ is_between_kind _ = false
 
 -- What stands where a rule could begin. The test tells whether an `@media` block is open.
 unfoldable pub lead_of : Bool → Item → Lead
-lead_of inside t = if is_between_kind t.kind then lead.Between else (if inside && mark t == 125 then lead.Closer else (if is_at_kind t.kind then lead.At else lead.Content))
+lead_of inside t = if is_between_kind t.kind then lead.Between else
+    (if inside && mark t == 125 then lead.Closer else (if is_at_kind t.kind then lead.At else lead.Content))
 
 -- where a prelude ends; inside a block also at the `}` that ends the block
 abbrev pub prelude_stop : Bool → Stop
@@ -63,7 +64,8 @@ at_after inside ts = after_from (at_stop inside) [] ts
 -- what an at-rule gives: an `@media` with a read list the rules of its block, an `@page` with a block a page rule, all others nothing
 abbrev pub kind_of_at : Bool → Item → List Item → ℕ → AtKind
 kind_of_at inside t front m =
-    if m == 123 then (if is_at_word t (codes "page") then at.Page else (if not inside && is_at_word t (codes "media") && is_media_list front then at.Media else at.Other)) else at.Other
+    if m == 123 then (if is_at_word t (codes "page") then at.Page else
+    (if not inside && is_at_word t (codes "media") && is_media_list front then at.Media else at.Other)) else at.Other
 
 unfoldable pub at_kind : Bool → Item → List Item → AtKind
 at_kind inside t ts = kind_of_at inside t (at_front inside ts) (first_mark (at_after inside ts))
@@ -84,17 +86,23 @@ rule_at inside ts = record { selectors = joined (prelude_at inside ts); decls = 
 
 pub data AreRules : Bool → List Item → List RuleOf → List PageOf → Type 0 where
   none : (m : Bool) → AreRules m [] [] []
-  between : (m : Bool) (t : Item) (ts : List Item) (rs : List RuleOf) (ps : List PageOf) → lead_of m t ≡ lead.Between → AreRules m ts rs ps → AreRules m (t ∷ ts) rs ps
-  closer : (m : Bool) (t : Item) (ts : List Item) (rs : List RuleOf) (ps : List PageOf) → lead_of m t ≡ lead.Closer → AreRules false ts rs ps → AreRules m (t ∷ ts) rs ps
+  between : (m : Bool) (t : Item) (ts : List Item) (rs : List RuleOf) (ps : List PageOf) → lead_of m t ≡ lead.Between →
+      AreRules m ts rs ps → AreRules m (t ∷ ts) rs ps
+  closer : (m : Bool) (t : Item) (ts : List Item) (rs : List RuleOf) (ps : List PageOf) → lead_of m t ≡ lead.Closer →
+      AreRules false ts rs ps → AreRules m (t ∷ ts) rs ps
   media : (m : Bool) (t : Item) (ts : List Item) (rs : List RuleOf) (ps : List PageOf) → lead_of m t ≡ lead.At → at_kind m t ts ≡ at.Media
       → AreRules true (rest_of (at_after m ts)) rs ps → AreRules m (t ∷ ts) rs ps
-  page : (m : Bool) (t : Item) (ts : List Item) (ds : List Decl) (bs : List BoxOf) (rest : List Item) (rs : List RuleOf) (ps : List PageOf) → lead_of m t ≡ lead.At → at_kind m t ts ≡ at.Page
-      → IsPageBlock (rest_of (at_after m ts)) ds bs rest → AreRules m rest rs ps → AreRules m (t ∷ ts) rs (record { selectors = joined (at_front m ts); decls = ds; boxes = bs } ∷ ps)
+  page : (m : Bool) (t : Item) (ts : List Item) (ds : List Decl) (bs : List BoxOf) (rest : List Item) (rs : List RuleOf)
+      (ps : List PageOf) → lead_of m t ≡ lead.At → at_kind m t ts ≡ at.Page
+      → IsPageBlock (rest_of (at_after m ts)) ds bs rest → AreRules m rest rs ps →
+      AreRules m (t ∷ ts) rs (record { selectors = joined (at_front m ts); decls = ds; boxes = bs } ∷ ps)
   other : (m : Bool) (t : Item) (ts : List Item) (rs : List RuleOf) (ps : List PageOf) → lead_of m t ≡ lead.At → at_kind m t ts ≡ at.Other
       → AreRules (stays m (at_after m ts)) (past_end (at_after m ts)) rs ps → AreRules m (t ∷ ts) rs ps
-  styled : (m : Bool) (t : Item) (ts : List Item) (rs : List RuleOf) (ps : List PageOf) → lead_of m t ≡ lead.Content → (first_mark (prelude_end m (t ∷ ts)) == 123) ≡ true
+  styled : (m : Bool) (t : Item) (ts : List Item) (rs : List RuleOf) (ps : List PageOf) → lead_of m t ≡ lead.Content →
+      (first_mark (prelude_end m (t ∷ ts)) == 123) ≡ true
       → AreRules m (past_block (rest_of (prelude_end m (t ∷ ts)))) rs ps → AreRules m (t ∷ ts) (rule_at m (t ∷ ts) ∷ rs) ps
-  headless : (m : Bool) (t : Item) (ts : List Item) (rs : List RuleOf) (ps : List PageOf) → lead_of m t ≡ lead.Content → (first_mark (prelude_end m (t ∷ ts)) == 123) ≡ false
+  headless : (m : Bool) (t : Item) (ts : List Item) (rs : List RuleOf) (ps : List PageOf) → lead_of m t ≡ lead.Content →
+      (first_mark (prelude_end m (t ∷ ts)) == 123) ≡ false
       → AreRules (stays m (prelude_end m (t ∷ ts))) (rest_of (prelude_end m (t ∷ ts))) rs ps → AreRules m (t ∷ ts) rs ps
 
 -- the sheet of a list of tokens
@@ -111,7 +119,8 @@ rule_count rs ps = length rs + page_count ps
 
 -- each list of tokens is one sheet
 abbrev pub HaveOneReading : Type 0
-HaveOneReading = (ts : List Item) → ((rs : List RuleOf) × (ps : List PageOf) × IsSheet ts rs ps) × ((rs qs : List RuleOf) (ps os : List PageOf) → IsSheet ts rs ps → IsSheet ts qs os → (rs ≡ qs) × (ps ≡ os))
+HaveOneReading = (ts : List Item) → ((rs : List RuleOf) × (ps : List PageOf) × IsSheet ts rs ps) ×
+    ((rs qs : List RuleOf) (ps os : List PageOf) → IsSheet ts rs ps → IsSheet ts qs os → (rs ≡ qs) × (ps ≡ os))
 
 -- what a step of the reader adds, and whether an `@media` block is open behind it
 abbrev pub rules_in_step : Step → List RuleOf
@@ -132,7 +141,8 @@ is_end _ = false
 
 -- a step was made between two lists of tokens
 abbrev pub GoesOn : Step → Bool → List Item → List Item → Type 0
-GoesOn s m ts us = (rs : List RuleOf) (ps : List PageOf) → AreRules (inside_after m s) us rs ps → AreRules m ts (rules_in_step s ++ rs) (pages_in_step s ++ ps)
+GoesOn s m ts us = (rs : List RuleOf) (ps : List PageOf) → AreRules (inside_after m s) us rs ps →
+    AreRules m ts (rules_in_step s ++ rs) (pages_in_step s ++ ps)
 
 abbrev pub rules_in : Sheet → List RuleOf
 rules_in s = map rule_in s.rules.items

@@ -148,7 +148,8 @@ impl Shallow {
     /// Passes a token; false where too many brackets would be open.
     #[tactic(auto, unfolding(crate::specs::Brackets::open_after))]
     fn pass(&mut self, token: &CssToken<'_>) -> bool
-        ensures open { MatchBool result (self.new ≡ open_after self.old (item_in token.now)) (most_brackets < length (open_after self.old (item_in token.now))) }
+        ensures open { MatchBool result (self.new ≡ open_after self.old (item_in token.now))
+            (most_brackets < length (open_after self.old (item_in token.now))) }
     {
         if let Some(closer) = token.closer() {
             return self.push(closer);
@@ -193,7 +194,8 @@ impl MediaReader {
 
     /// Passes a token. Answers whether the list is read, where that is settled whatever follows.
     fn pass(&mut self, token: &CssToken<'_>) -> Option<bool>
-        ensures { MatchOption result (spec.GoesOn (spec.state_in self.old) (item_in token.now) (spec.state_in self.new)) (λ answer. spec.IsSettled (spec.state_in self.old) (item_in token.now) answer) }
+        ensures { MatchOption result (spec.GoesOn (spec.state_in self.old) (item_in token.now) (spec.state_in self.new))
+            (λ answer. spec.IsSettled (spec.state_in self.old) (item_in token.now) answer) }
     {
         if self.ends_part(token) {
             return self.end_part();
@@ -209,7 +211,9 @@ impl MediaReader {
     }
 
     fn end_part(&mut self) -> Option<bool>
-        ensures { MatchOption result ((is_medium_seen self.old.seen ≡ false) × (spec.state_in self.new ≡ spec.next_part (spec.state_in self.old))) (λ answer. (is_medium_seen self.old.seen ≡ true) × (answer ≡ true)) }
+        ensures { MatchOption result ((is_medium_seen self.old.seen ≡ false) ×
+            (spec.state_in self.new ≡ spec.next_part (spec.state_in self.old))) (λ answer. (is_medium_seen self.old.seen ≡ true) ×
+            (answer ≡ true)) }
     {
         if is_medium_seen(self.seen) {
             return Some(true);

@@ -214,7 +214,8 @@ pub(crate) fn read_page<'a>(
     tokens: &mut CssTokens<'a>,
     found: &mut Vec<CssToken<'a>>,
 ) -> Result<PageSlice<'a>, NoMem>
-    ensures block { IfOk result (λ p. ((spec.page_in p).selectors ≡ selectors.now) × spec.IsPageBlock (tokens_of tokens.old.rest.now) (spec.page_in p).decls (spec.page_in p).boxes (tokens_of tokens.new.rest.now)) }
+    ensures block { IfOk result (λ p. ((spec.page_in p).selectors ≡ selectors.now) ×
+        spec.IsPageBlock (tokens_of tokens.old.rest.now) (spec.page_in p).decls (spec.page_in p).boxes (tokens_of tokens.new.rest.now)) }
     ensures within { IfOk result (λ _. length tokens.new.rest.now ≤ length tokens.old.rest.now) }
 {
     let mut decls = Vec::new(alloc);

@@ -104,8 +104,11 @@ pub(crate) fn next_part<'a>(
     stop: Stop,
     part: &mut Vec<CssToken<'a>>,
 ) -> Result<PartEnd, NoMem>
-    ensures parted { IfOk result (λ e. spec.parts_from stop [] (tokens_of tokens.old.rest.now) ≡ items_in part.new.items ∷ (if e.mark == spec.separator stop then spec.parts_from stop [] (tokens_of tokens.new.rest.now) else [])) }
-    ensures past { IfOk result (λ e. spec.past_from stop [] (tokens_of tokens.old.rest.now) ≡ (if e.mark == spec.separator stop then spec.past_from stop [] (tokens_of tokens.new.rest.now) else tokens_of tokens.new.rest.now)) }
+    ensures parted { IfOk result (λ e. spec.parts_from stop [] (tokens_of tokens.old.rest.now) ≡ items_in part.new.items ∷
+        (if e.mark == spec.separator stop then spec.parts_from stop [] (tokens_of tokens.new.rest.now) else [])) }
+    ensures past { IfOk result (λ e. spec.past_from stop [] (tokens_of tokens.old.rest.now) ≡
+        (if e.mark == spec.separator stop then spec.past_from stop [] (tokens_of tokens.new.rest.now) else
+        tokens_of tokens.new.rest.now)) }
     ensures closed { IfOk result (λ e. e.closed ≡ is_closed (items_in part.new.items)) }
     ensures front { IfOk result (λ _. (rest : List ℕ) × (tokens.old.rest.now ≡ spec.joined (items_in part.new.items) ++ rest)) }
     ensures within { length tokens.new.rest.now ≤ length tokens.old.rest.now }

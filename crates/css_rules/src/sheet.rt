@@ -122,7 +122,8 @@ fn stays(inside: bool, end: u8) -> bool
 
 /// Passes the block of an at-rule, where it ended with one.
 fn skip_block<'a>(alloc: Global, tokens: &mut CssTokens<'a>, end: u8) -> Result<(), NoMem>
-    ensures rest { OnOk result (tokens_of tokens.new.rest.now ≡ (if end == 123 then past_block (tokens_of tokens.old.rest.now) else tokens_of tokens.old.rest.now)) }
+    ensures rest { OnOk result (tokens_of tokens.new.rest.now ≡
+        (if end == 123 then past_block (tokens_of tokens.old.rest.now) else tokens_of tokens.old.rest.now)) }
     ensures within { OnOk result (length tokens.new.rest.now ≤ length tokens.old.rest.now) }
 {
     if end == b'{' {
@@ -139,7 +140,8 @@ fn read_at<'a>(
     tokens: &mut CssTokens<'a>,
     found: &mut Vec<CssToken<'a>>,
 ) -> Result<Step<'a>, NoMem>
-    ensures goes { IfOk result (λ s. spec.lead_of inside (item_in token.now) ≡ Lead.At → spec.GoesOn s inside (item_in token.now ∷ tokens_of tokens.old.rest.now) (tokens_of tokens.new.rest.now)) }
+    ensures goes { IfOk result (λ s. spec.lead_of inside (item_in token.now) ≡ Lead.At →
+        spec.GoesOn s inside (item_in token.now ∷ tokens_of tokens.old.rest.now) (tokens_of tokens.new.rest.now)) }
     ensures within { IfOk result (λ _. length tokens.new.rest.now ≤ length tokens.old.rest.now) }
     ensures goes_on { IfOk result (λ s. spec.is_end s ≡ false) }
 {
@@ -166,7 +168,8 @@ fn read_ruleset<'a>(
     tokens: &mut CssTokens<'a>,
     found: &mut Vec<CssToken<'a>>,
 ) -> Result<Step<'a>, NoMem>
-    ensures goes { IfOk result (λ s. (t : Item) (us : List Item) → tokens_of tokens.old.rest.now ≡ t ∷ us → spec.lead_of inside t ≡ Lead.Content → spec.GoesOn s inside (tokens_of tokens.old.rest.now) (tokens_of tokens.new.rest.now)) }
+    ensures goes { IfOk result (λ s. (t : Item) (us : List Item) → tokens_of tokens.old.rest.now ≡ t ∷ us →
+        spec.lead_of inside t ≡ Lead.Content → spec.GoesOn s inside (tokens_of tokens.old.rest.now) (tokens_of tokens.new.rest.now)) }
     ensures takes { IfOk result (λ _. 0 < length tokens.old.rest.now → length tokens.new.rest.now < length tokens.old.rest.now) }
     ensures goes_on { IfOk result (λ s. spec.is_end s ≡ false) }
 {
@@ -275,7 +278,8 @@ fn keep<'a>(
 fn read_rules<'a>(alloc: Global, text: &'a str) -> Result<Option<Sheet<'a>>, NoMem>
     ensures sheet { IfOk result (λ o. IfSome o (λ s. spec.IsSheet (tokens_of text.now) (spec.rules_in s) (spec.pages_in s))) }
     ensures few { IfOk result (λ o. IfSome o (λ s. spec.rule_count (spec.rules_in s) (spec.pages_in s) ≤ most_rules)) }
-    ensures many { IfOk result (λ o. IfNone o ((rs : List spec.RuleOf) (ps : List PageOf) → spec.IsSheet (tokens_of text.now) rs ps → most_rules < spec.rule_count rs ps)) }
+    ensures many { IfOk result (λ o. IfNone o ((rs : List spec.RuleOf) (ps : List PageOf) → spec.IsSheet (tokens_of text.now) rs ps →
+        most_rules < spec.rule_count rs ps)) }
 {
     let mut tokens = CssTokens::new(text);
     let mut found = Vec::new(alloc);
@@ -304,7 +308,8 @@ fn read_rules<'a>(alloc: Global, text: &'a str) -> Result<Option<Sheet<'a>>, NoM
 pub fn read_sheet<'a>(alloc: Global, text: &'a str) -> Result<Sheet<'a>, SheetErr>
     ensures sheet { IfOk result (λ s. spec.IsSheet (tokens_of text.now) (spec.rules_in s) (spec.pages_in s)) }
     ensures few { IfOk result (λ s. spec.rule_count (spec.rules_in s) (spec.pages_in s) ≤ most_rules) }
-    ensures many { IfErr result (λ e. e ≡ SheetErr.Rules → (rs : List spec.RuleOf) (ps : List PageOf) → spec.IsSheet (tokens_of text.now) rs ps → most_rules < spec.rule_count rs ps) }
+    ensures many { IfErr result (λ e. e ≡ SheetErr.Rules → (rs : List spec.RuleOf) (ps : List PageOf) →
+        spec.IsSheet (tokens_of text.now) rs ps → most_rules < spec.rule_count rs ps) }
 {
     match read_rules(alloc, text) {
         Ok(Some(sheet)) => Ok(sheet),

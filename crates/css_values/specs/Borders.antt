@@ -44,7 +44,8 @@ is_width t = of_kind kind.Number t || of_kind kind.Dimension t || is_some (width
 unfoldable pub border_part : Parser BorderPart
 border_part = do
   t ← peek
-  if is_width t then (border_width >>= (λ m. pure (part.Width m))) else (if is_some (style_word t) then (border_style >>= (λ s. pure (part.Style s))) else (border_color >>= (λ c. pure (part.Color c))))
+  if is_width t then (border_width >>= (λ m. pure (part.Width m))) else
+    (if is_some (style_word t) then (border_style >>= (λ s. pure (part.Style s))) else (border_color >>= (λ c. pure (part.Color c))))
 
 abbrev pub no_border : Border
 no_border = record { width = None; style = None; color = None }

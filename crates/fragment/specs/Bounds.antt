@@ -16,7 +16,9 @@ is_sided free (Some d) = not (free d)
 -- how many of some events, numbered from k on, are solids after a seam whose demand isn't free
 abbrev pub sided_among : (Demand → Bool) → Tree → ℕ → List Event → ℕ
 sided_among free t k [] = 0
-sided_among free t k (e ∷ es) = (if is_solid t.boxes e && is_sided free (seam_of t (record { event = k; offset = 0 }) (pos 0)).forced then 1 else 0) + sided_among free t (suc k) es
+sided_among free t k (e ∷ es) =
+    (if is_solid t.boxes e && is_sided free (seam_of t (record { event = k; offset = 0 }) (pos 0)).forced then 1 else 0) +
+    sided_among free t (suc k) es
 
 -- the forced seams of a tree whose demand isn't free, the start among them where it asks a side
 abbrev pub sided_in : (Demand → Bool) → Tree → ℕ

@@ -30,7 +30,8 @@ pub record HasMissed (first height : ℤ) (rows : List Row) (left : ℕ) : Type 
   pub at : slice_get rows count ≡ Some row
   pub breaks : is_break row ≡ true
   pub misses : ¬ (Fits first rows height count)
-  pub told : (k : ℕ) (r : Row) → k ≤ count → slice_get rows k ≡ Some r → (k + lines_after rows k < length rows) ⊎ (r.widows ≤ lines_after rows k + left)
+  pub told : (k : ℕ) (r : Row) → k ≤ count → slice_get rows k ≡ Some r →
+      (k + lines_after rows k < length rows) ⊎ (r.widows ≤ lines_after rows k + left)
 
 abbrev pub look_by : ℤ → ℤ → List Row → Look → Option ℕ → Type 0
 look_by first height rows l None = IsGoing first rows l
@@ -42,7 +43,8 @@ IsLook first height rows l = look_by first height rows l l.left
 
 -- the cut of the prefix of a page's solids is that of them all, and stands within the prefix where more follow
 abbrev pub Decides : ℤ → ℤ → List Row → List Row → Type 0
-Decides first height prefix rest = (level j : ℕ) → IsRowCut first prefix height level j → IsRowCut first (prefix ++ rest) height level j × ((rest ≡ []) ⊎ (j < length prefix))
+Decides first height prefix rest = (level j : ℕ) → IsRowCut first prefix height level j →
+    IsRowCut first (prefix ++ rest) height level j × ((rest ≡ []) ⊎ (j < length prefix))
 
 -- no seam behind the first solid is forced
 abbrev pub AreFree : List Row → Type 0
@@ -50,7 +52,8 @@ AreFree rows = (k : ℕ) (r : Row) → slice_get rows (suc k) ≡ Some r → r.s
 
 -- the prefix up to a point that misses decides the cut, once as many lines stand behind it as widows ask for. No seam inside it is forced
 abbrev pub PrefixesDecide : Type 0
-PrefixesDecide = (first height : ℤ) (prefix rest : List Row) → pos 0 ≤ℤ height → AreFree prefix → HasMissed first height prefix 0 → Decides first height prefix rest
+PrefixesDecide = (first height : ℤ) (prefix rest : List Row) → pos 0 ≤ℤ height → AreFree prefix → HasMissed first height prefix 0 →
+    Decides first height prefix rest
 
 -- a solid behind the first one whose seam is forced
 abbrev pub HasForced : List Row → Type 0

@@ -72,7 +72,8 @@ fn empty_before<Fr: Frames>(frames: &Fr, index: u32, demand: Option<Demand>) -> 
     requires low { 1 ≤ index }
     requires high { index ≤ most_pages + 1 }
     ensures meets { meets_at (record { meets = Fr.meets frames.now; frame_of = Fr.frame_of frames.now }) (index + result) demand ≡ true }
-    ensures least { (k : ℕ) → k < result → meets_at (record { meets = Fr.meets frames.now; frame_of = Fr.frame_of frames.now }) (index + k) demand ≡ false }
+    ensures least { (k : ℕ) → k < result →
+        meets_at (record { meets = Fr.meets frames.now; frame_of = Fr.frame_of frames.now }) (index + k) demand ≡ false }
 {
     match demand {
         None => 0,
@@ -94,9 +95,14 @@ fn add_blanks<Fr: Frames>(
     requires high { index ≤ most_pages + 1 }
     ensures count { IfOk result (λ to. length pages.new.items + 1 ≡ to) }
     ensures few { IfOk result (λ to. to ≤ most_pages) }
-    ensures meets { IfOk result (λ to. meets_at (record { meets = Fr.meets frames.now; frame_of = Fr.frame_of frames.now }) to demand ≡ true) }
-    ensures blanks { IfOk result (λ to. AddsBlanks (record { meets = Fr.meets frames.now; frame_of = Fr.frame_of frames.now }) name demand index to pages.old.items pages.new.items) }
-    ensures many { IfErr result (λ err. err ≡ PageErr.Pages → AddsBlanks (record { meets = Fr.meets frames.now; frame_of = Fr.frame_of frames.now }) name demand index (most_pages + 1) pages.old.items pages.new.items) }
+    ensures meets { IfOk result (λ to. meets_at (record { meets = Fr.meets frames.now; frame_of = Fr.frame_of frames.now }) to demand ≡
+        true) }
+    ensures blanks { IfOk result
+        (λ to. AddsBlanks (record { meets = Fr.meets frames.now; frame_of = Fr.frame_of frames.now }) name demand index to pages.old.items
+        pages.new.items) }
+    ensures many { IfErr result (λ err. err ≡ PageErr.Pages →
+        AddsBlanks (record { meets = Fr.meets frames.now; frame_of = Fr.frame_of frames.now }) name demand index (most_pages + 1)
+        pages.old.items pages.new.items) }
 {
     let empty = empty_before(frames, index, demand);
     for k in 0..empty {
@@ -149,16 +155,19 @@ pub fn paginate<Fr: Frames, L: Ledger>(
     steps: &mut Steps<L>,
 ) -> Result<PageList, PageErr>
     requires flow { CanBePaged faces.now flow.now }
-    ensures pages { IfOk result (λ list. IsPaged faces.now flow.now.main (record { meets = Fr.meets frames.now; frame_of = Fr.frame_of frames.now }) list.pages) }
+    ensures pages { IfOk result
+        (λ list. IsPaged faces.now flow.now.main (record { meets = Fr.meets frames.now; frame_of = Fr.frame_of frames.now }) list.pages) }
     ensures whole { IfOk result (λ list. HoldsAll flow.now.main (solids_of list.pages)) }
     ensures text { IfOk result (λ list. HoldsText flow.now.main (solids_of list.pages)) }
     ensures edges { IfOk result (λ list. HoldsEdges flow.now.main (solids_of list.pages)) }
-    ensures breaks { IfOk result (λ list. HoldsBreaks flow.now.main (record { meets = Fr.meets frames.now; frame_of = Fr.frame_of frames.now }) list.pages) }
+    ensures breaks { IfOk result
+        (λ list. HoldsBreaks flow.now.main (record { meets = Fr.meets frames.now; frame_of = Fr.frame_of frames.now }) list.pages) }
     ensures inside { IfOk result (λ list. EndInside list.pages) }
     ensures bound { IfOk result (λ list. length list.pages ≤ most_pages_of (Fr.is_free frames.now) (Fr.bound frames.now) flow.now.main) }
     ensures tops { IfOk result (λ list. HaveNearTops list.pages) }
     ensures few { IfOk result (λ list. length list.pages ≤ most_pages) }
-    ensures many { IfErr result (λ err. err ≡ PageErr.Pages → LeavesSome faces.now flow.now.main (record { meets = Fr.meets frames.now; frame_of = Fr.frame_of frames.now }) most_pages) }
+    ensures many { IfErr result (λ err. err ≡ PageErr.Pages →
+        LeavesSome faces.now flow.now.main (record { meets = Fr.meets frames.now; frame_of = Fr.frame_of frames.now }) most_pages) }
 {
     let tree = &flow.main;
     let _count = tree.count();

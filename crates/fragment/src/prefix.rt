@@ -82,7 +82,8 @@ impl Look {
         requires gap_high { gap ≤ℤ pos (2 ^ 32) }
         requires height_low { pos 0 ≤ℤ row.now.height }
         requires height_high { row.now.height ≤ℤ pos (2 ^ 32) }
-        ensures look { (first : ℤ) (rows : List Row) → gap ≡ gap_above first (rows ++ row.now ∷ []) (length rows) → IsLook first height rows self.old → IsLook first height (rows ++ row.now ∷ []) self.new }
+        ensures look { (first : ℤ) (rows : List Row) → gap ≡ gap_above first (rows ++ row.now ∷ []) (length rows) →
+            IsLook first height rows self.old → IsLook first height (rows ++ row.now ∷ []) self.new }
         ensures low { self.old.reach.bottom ≤ℤ (self.new.reach.bottom +ℤ pos (2 ^ 33)) }
         ensures high { self.new.reach.bottom ≤ℤ (self.old.reach.bottom +ℤ pos (2 ^ 33)) }
     {

@@ -55,7 +55,8 @@ abbrev pub kept_text : List Node → List NodeStyles → ℕ → Step → List �
 kept_text nodes styles e (Enter n) = if is_kept nodes styles e n.0 then attribute_text (text_at nodes n.0) else []
 kept_text nodes styles e (Leave n) = []
 
--- the texts below an element in tree order, joined, without those of elements that aren't shown and of note elements (DOM, "descendant text content")
+-- the texts below an element in tree order, joined, without those of elements that aren't shown and of note elements (DOM, "descendant
+-- text content")
 abbrev pub texts_below : List Node → List NodeStyles → ℕ → List ℕ
 texts_below nodes styles e = flat_map (kept_text nodes styles e) (tours_of (parents_of nodes) (children_of (parents_of nodes) e))
 

@@ -15,7 +15,9 @@ use std::alloc::Global;
 use style::content::{Content, Part};
 use style::styles::Styles;
 
-/// The text of a list of content at an element, or at a pseudo-element of it: what its parts print, joined. The parts of margin boxes alone print nothing. It costs what its parts cost: a look-up of an id for each reference, the scopes that hold for each counter, and the texts below the element for `content()`.
+/// The text of a list of content at an element, or at a pseudo-element of it: what its parts print, joined. The parts of margin boxes
+/// alone print nothing. It costs what its parts cost: a look-up of an id for each reference, the scopes that hold for each counter, and
+/// the texts below the element for `content()`.
 ///
 /// # Errors
 ///
@@ -54,7 +56,8 @@ fn push_parts(
     into: &mut Vec<u8>,
 ) -> Result<(), NoMem>
     requires { node.0 < length dom.now }
-    ensures { OnOk result (PrintsParts (place_of dom.now styles.now node.0 pseudo counters.now table.now) parts.now into.old.items into.new.items) }
+    ensures { OnOk result
+        (PrintsParts (place_of dom.now styles.now node.0 pseudo counters.now table.now) parts.now into.old.items into.new.items) }
 {
     for part in parts {
         push_part(
@@ -77,7 +80,8 @@ fn push_part(
     into: &mut Vec<u8>,
 ) -> Result<(), NoMem>
     requires { node.0 < length dom.now }
-    ensures ok { OnOk result (PrintsPart (place_of dom.now styles.now node.0 pseudo counters.now table.now) part.now into.old.items into.new.items) }
+    ensures ok { OnOk result
+        (PrintsPart (place_of dom.now styles.now node.0 pseudo counters.now table.now) part.now into.old.items into.new.items) }
     ensures err { OnErr result (into.new.items ≡ into.old.items) }
 {
     match part {

@@ -20,7 +20,9 @@ pub enum Ending {
     Space,
 }
 
-/// Appends what `content()` prints: the texts below an element in tree order, without those of elements that aren't shown and of note elements, each run of white space as one space, trimmed. It costs the nodes below the element, but for those below elements that are left out, and looks at each byte of their texts once.
+/// Appends what `content()` prints: the texts below an element in tree order, without those of elements that aren't shown and of note
+/// elements, each run of white space as one space, trimmed. It costs the nodes below the element, but for those below elements that are
+/// left out, and looks at each byte of their texts once.
 pub fn print_own(
     dom: &Dom,
     styles: &Styles,

@@ -1,4 +1,5 @@
-//! What the parts of a list of content print (CSS 2.1, 12.2 and 12.4; css-gcpm-3). Each function appends a part's text. Where memory ends, what it appends to is as before.
+//! What the parts of a list of content print (CSS 2.1, 12.2 and 12.4; css-gcpm-3). Each function appends a part's text. Where memory
+//! ends, what it appends to is as before.
 
 ghost use Rattle.std.specs.Prelude.{◌≡◌, ◌<◌, ◌++◌, OnOk, OnErr, Some, option_map, length};
 ghost use Rattle.std.specs.List.{flat_map};
@@ -52,7 +53,8 @@ pub fn print_counter(
     style: NumStyle,
     into: &mut Vec<u8>,
 ) -> Result<(), NoMem>
-    ensures ok { OnOk result (into.new.items ≡ into.old.items ++ innermost_text style (counter_values counters.now node.0 pseudo name.now)) }
+    ensures ok { OnOk result (into.new.items ≡ into.old.items ++
+        innermost_text style (counter_values counters.now node.0 pseudo name.now)) }
     ensures err { OnErr result (into.new.items ≡ into.old.items) }
 {
     let values = counters.values(alloc, node, pseudo, name)?;
@@ -69,7 +71,8 @@ fn print_innermost(values: &[i64], style: NumStyle, into: &mut Vec<u8>) -> Resul
     }
 }
 
-/// Appends what `counters()` prints: all values of a counter at an element or a pseudo-element, the outermost first, with a text between them.
+/// Appends what `counters()` prints: all values of a counter at an element or a pseudo-element, the outermost first, with a text between
+/// them.
 pub fn print_counters(
     alloc: Global,
     counters: &CounterAt,
@@ -80,7 +83,8 @@ pub fn print_counters(
     style: NumStyle,
     into: &mut Vec<u8>,
 ) -> Result<(), NoMem>
-    ensures ok { OnOk result (into.new.items ≡ into.old.items ++ joined_text between.now style (counter_values counters.now node.0 pseudo name.now)) }
+    ensures ok { OnOk result (into.new.items ≡ into.old.items ++
+        joined_text between.now style (counter_values counters.now node.0 pseudo name.now)) }
     ensures err { OnErr result (into.new.items ≡ into.old.items) }
 {
     let values = counters.values(alloc, node, pseudo, name)?;
@@ -134,7 +138,8 @@ fn push_after(value: i64, between: &str, style: NumStyle, into: &mut Vec<u8>) ->
     numeral(value, style, into)
 }
 
-/// Appends what `target-counter()` prints: for the counter `page` the number of the target's page in a table, for another one its innermost value at the target. It is nothing where the link leads to no shown element, or the table has none for it.
+/// Appends what `target-counter()` prints: for the counter `page` the number of the target's page in a table, for another one its
+/// innermost value at the target. It is nothing where the link leads to no shown element, or the table has none for it.
 pub fn print_reference(
     alloc: Global,
     dom: &Dom,
@@ -148,7 +153,8 @@ pub fn print_reference(
     into: &mut Vec<u8>,
 ) -> Result<(), NoMem>
     requires { node.0 < length dom.now }
-    ensures ok { OnOk result (PrintsReference dom.now styles.now counters.now table.now node.0 link.now name.now style into.old.items into.new.items) }
+    ensures ok { OnOk result
+        (PrintsReference dom.now styles.now counters.now table.now node.0 link.now name.now style into.old.items into.new.items) }
     ensures err { OnErr result (into.new.items ≡ into.old.items) }
 {
     let target = target(dom, styles, node, link);
@@ -164,7 +170,8 @@ fn print_at(
     table: &Table,
     into: &mut Vec<u8>,
 ) -> Result<(), NoMem>
-    ensures ok { OnOk result (into.new.items ≡ into.old.items ++ reference_text counters.now table.now name.now style (option_map (λ n. n.0) target)) }
+    ensures ok { OnOk result (into.new.items ≡ into.old.items ++
+        reference_text counters.now table.now name.now style (option_map (λ n. n.0) target)) }
     ensures err { OnErr result (into.new.items ≡ into.old.items) }
 {
     if name == "page" {

@@ -17,7 +17,8 @@ use std::alloc::Global;
 use style::content::{Content, Link, Part};
 use style::styles::Styles;
 
-/// The shown elements that page references lead to, ascending, each once. A page reference is `target-counter()` with the counter `page`, in the content of a pseudo-element that is there (css-gcpm-3). It costs a look-up of an id for each.
+/// The shown elements that page references lead to, ascending, each once. A page reference is `target-counter()` with the counter `page`,
+/// in the content of a pseudo-element that is there (css-gcpm-3). It costs a look-up of an id for each.
 pub fn targets(alloc: Global, dom: &Dom, styles: &Styles) -> Result<Items<NodeId>, NoMem>
     ensures { IfOk result (λ list. AreTargets dom.now styles.now list) }
 {

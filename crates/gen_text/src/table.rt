@@ -91,7 +91,8 @@ fn count_before(entries: &[Entry], node: u32) -> usize
     entries.partition_point(|entry| entry.node.0 < node)
 }
 
-/// Appends what a page reference prints: the number of its target in a style, or nothing where there is no target or the table has none for it.
+/// Appends what a page reference prints: the number of its target in a style, or nothing where there is no target or the table has none
+/// for it.
 ///
 /// # Errors
 ///

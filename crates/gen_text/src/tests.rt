@@ -15,7 +15,8 @@ use style::lists::CounterList;
 use style::style::Style;
 use style::styles::Styles;
 
-/// What a node is to its styles: a text, or an element that is shown, is hidden, is a note, stands in a note, begins a list, or is an item of one.
+/// What a node is to its styles: a text, or an element that is shown, is hidden, is a note, stands in a note, begins a list, or is an
+/// item of one.
 #[derive(Clone, Copy, Debug)]
 enum Kind {
     Text,

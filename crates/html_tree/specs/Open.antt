@@ -1,4 +1,5 @@
--- Which elements are open at a token, told by what tokens open and close (HTML, 13.2.4.2 "The stack of open elements"), and the laws that join this to the tree's definition.
+-- Which elements are open at a token, told by what tokens open and close (HTML, 13.2.4.2 "The stack of open elements"), and the laws that
+-- join this to the tree's definition.
 use Rattle.std.specs.Prelude.{◌≡◌, ◌↔◌, ◌⊎◌, ℕ, zero, suc, ◌+◌, ◌<◌, ◌≤◌, Bool, true, false, List, [], ◌∷◌, None, Some, Ok, Contains, fold, length, take, slice_get, codes}
 use Rattle.std.specs.Str.{bytes_eq}
 use Rattle.bk_num.specs.declared.ids.NodeId.{NodeId}
@@ -11,7 +12,8 @@ use Rattle.html_tree.specs.Tree.{State, number_of, name_in, kept, after_rule, is
 
 -- ---- what closes among the open elements
 
--- the open element at place k is of `closes` and has none of `scope` inside it, among the first n (HTML, 13.2.4.2 "have a particular element in a specific scope")
+-- the open element at place k is of `closes` and has none of `scope` inside it, among the first n (HTML, 13.2.4.2 "have a particular
+-- element in a specific scope")
 pub record IsInScope (closes scope : List ℕ → Bool) (nodes : List Node) (opened : List NodeId) (n k : ℕ) : Type 0 where
   pub within : k < n
   pub closed : closes (name_in nodes (slice_get opened k)) ≡ true
@@ -42,9 +44,11 @@ pub record ClosesByRow (table : List Rule) (name : List ℕ) (nodes : List Node)
 
 -- an end tag closes by its name, a start tag other than `html` by the table, and a text that isn't blank closes `head`
 abbrev pub KindCloses : KindView → List ℕ → State → NodeId → Type 0
-KindCloses text bytes s o = (is_blank (text_of true bytes) ≡ false) × ClosesInnermost (has_name (codes "head" ∷ [])) (has_name []) s.nodes s.opened o
+KindCloses text bytes s o = (is_blank (text_of true bytes) ≡ false) ×
+  ClosesInnermost (has_name (codes "head" ∷ [])) (has_name []) s.nodes s.opened o
 KindCloses raw bytes s o = ⊥
-KindCloses (start name attrs) bytes s o = (bytes_eq (name_of name) (codes "html") ≡ false) × ClosesByRow rules (name_of name) s.nodes s.opened o
+KindCloses (start name attrs) bytes s o = (bytes_eq (name_of name) (codes "html") ≡ false) ×
+  ClosesByRow rules (name_of name) s.nodes s.opened o
 KindCloses (close name) bytes s o = ClosesInnermost (has_name (name_of name ∷ [])) (has_name []) s.nodes s.opened o
 KindCloses skip bytes s o = ⊥
 
@@ -148,7 +152,8 @@ NodesAreAdded = (tokens : List TokenView) (t : ℕ) (s : State) (k : ℕ) → Is
 
 -- the parent of a node that a token added is the last opened element that is open after that token's closings
 abbrev pub ParentIsLastOpened : Type 0
-ParentIsLastOpened = (tokens : List TokenView) (u t : ℕ) (s : State) (k : ℕ) (n : Node) → IsStateAt tokens t s → u < t → Adds tokens u k → slice_get s.nodes k ≡ Some n →
+ParentIsLastOpened = (tokens : List TokenView) (u t : ℕ) (s : State) (k : ℕ) (n : Node) → IsStateAt tokens t s → u < t → Adds tokens u k →
+  slice_get s.nodes k ≡ Some n →
     (p : ℕ) × (n.parent ≡ Some p) × IsParentAt tokens u p
 
 -- the nodes of a tree are those after the last token

@@ -10,7 +10,8 @@ texts names = map (λ n. n.now) names
 abbrev pub has_name : List (List ℕ) → List ℕ → Bool
 has_name names name = list_any (λ n. bytes_eq n name) names
 
--- a row of the table: it counts for these start tags or for all but them, and closes an element of `closes` that has none of `scope` inside it
+-- a row of the table: it counts for these start tags or for all but them, and closes an element of `closes` that has none of `scope`
+-- inside it
 pub record Rule : Type 0 where
   pub all_but : Bool
   pub tags : List (List ℕ)

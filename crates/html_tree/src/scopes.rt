@@ -24,7 +24,8 @@ fn has_within(row: &(bool, &[&str], &[&str], &[&str]), name: &str, outer: bool) 
 
 /// The same for each row.
 pub(crate) fn scopes_within(outer: [bool; ROWS], name: &str) -> [bool; ROWS]
-    ensures { (i : ℕ) (r : Rule) → slice_get rules i ≡ Some r → slice_index_or result i false ≡ has_within r name.now (slice_index_or outer i false) }
+    ensures { (i : ℕ) (r : Rule) → slice_get rules i ≡ Some r →
+        slice_index_or result i false ≡ has_within r name.now (slice_index_or outer i false) }
 {
     let mut scopes = outer;
     for row in 0..ROWS {
@@ -35,7 +36,8 @@ pub(crate) fn scopes_within(outer: [bool; ROWS], name: &str) -> [bool; ROWS]
 
 /// Whether each row has an element in scope among all that are open.
 pub(crate) fn last_scopes(scopes: &[[bool; ROWS]]) -> [bool; ROWS]
-    ensures { (nodes : List Node) (opened : List NodeId) → HaveScopes nodes opened scopes.now → AreScopes nodes opened (length opened) result }
+    ensures { (nodes : List Node) (opened : List NodeId) → HaveScopes nodes opened scopes.now →
+        AreScopes nodes opened (length opened) result }
 {
     match scopes.last() {
         Some(last) => *last,

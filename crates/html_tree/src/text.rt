@@ -89,7 +89,8 @@ fn normalize(out: &mut String, text: &str) -> Result<(), NoMem>
 /// Appends what the first byte becomes, which is U+000D or U+0000.
 fn push_normalized(out: &mut String, bytes: &[u8]) -> Result<(), NoMem>
     requires { IsTrue (is_byte2 13 0 (slice_index bytes.now 0)) }
-    ensures { OnOk result (string_bytes out.new ≡ string_bytes out.old ++ normalized_byte (slice_index bytes.now 0) (slice_index bytes.now 1)) }
+    ensures { OnOk result (string_bytes out.new ≡ string_bytes out.old ++
+        normalized_byte (slice_index bytes.now 0) (slice_index bytes.now 1)) }
 {
     match bytes {
         [b'\r', b'\n', ..] => {}

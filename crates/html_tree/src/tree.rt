@@ -90,7 +90,8 @@ impl Builder {
     pub(crate) fn read(&mut self, alloc: Global, token: &Token<'_>) -> Result<(), DomErr>
         requires { IsBuilt self.old }
         ensures built { OnOk result (IsBuilt self.new) }
-        ensures state { Answers (after_kind (view_of token.now).kind (view_of token.now).slice (state_of self.old)) result (λ _. state_of self.new) }
+        ensures state { Answers (after_kind (view_of token.now).kind (view_of token.now).slice (state_of self.old)) result
+            (λ _. state_of self.new) }
     {
         match token.kind {
             TokenKind::Text => self.read_text(alloc, token.slice),
@@ -132,7 +133,8 @@ impl Builder {
     fn read_raw(&mut self, alloc: Global, slice: &str) -> Result<(), DomErr>
         requires { IsBuilt self.old }
         ensures built { OnOk result (IsBuilt self.new) }
-        ensures state { Answers (add_text (text_of (is_escapable (current_name (state_of self.old))) slice.now) (state_of self.old)) result (λ _. state_of self.new) }
+        ensures state { Answers (add_text (text_of (is_escapable (current_name (state_of self.old))) slice.now) (state_of self.old))
+            result (λ _. state_of self.new) }
     {
         let escapable = self.is_in_escapable();
         let Ok(text) = text_of(alloc, slice, escapable) else {
@@ -168,7 +170,9 @@ impl Builder {
     fn read_end(&mut self, alloc: Global, name: &str) -> Result<(), DomErr>
         requires { IsBuilt self.old }
         ensures built { OnOk result (IsBuilt self.new) }
-        ensures state { Answers (Ok (record (state_of self.old) { opened = without (name_of name.now) (state_of self.old).nodes (state_of self.old).opened })) result (λ _. state_of self.new) }
+        ensures state { Answers
+            (Ok (record (state_of self.old) { opened = without (name_of name.now) (state_of self.old).nodes (state_of self.old).opened }))
+            result (λ _. state_of self.new) }
     {
         let Ok(name) = name_of(alloc, name) else {
             return Err(DomErr::NoMemory);
@@ -181,7 +185,8 @@ impl Builder {
     fn close(&mut self, name: &str)
         requires { IsBuilt self.old }
         ensures built { IsBuilt self.new }
-        ensures state { state_of self.new ≡ record (state_of self.old) { opened = without name.now (state_of self.old).nodes (state_of self.old).opened } }
+        ensures state { state_of self.new ≡ record (state_of self.old) { opened =
+            without name.now (state_of self.old).nodes (state_of self.old).opened } }
     {
         close_named(&self.dom, &mut self.opened, name);
         self.scopes.truncate(self.opened.len());
@@ -191,7 +196,8 @@ impl Builder {
     fn close_head(&mut self)
         requires { IsBuilt self.old }
         ensures built { IsBuilt self.new }
-        ensures state { state_of self.new ≡ record (state_of self.old) { opened = without (codes "head") (state_of self.old).nodes (state_of self.old).opened } }
+        ensures state { state_of self.new ≡ record (state_of self.old) { opened =
+            without (codes "head") (state_of self.old).nodes (state_of self.old).opened } }
     {
         if last_scopes(&self.scopes)[HEAD] {
             self.close("head");
@@ -202,7 +208,8 @@ impl Builder {
     fn close_for(&mut self, name: &str)
         requires { IsBuilt self.old }
         ensures built { IsBuilt self.new }
-        ensures state { state_of self.new ≡ record (state_of self.old) { opened = fold (after_rule name.now (state_of self.old).nodes) (state_of self.old).opened rules } }
+        ensures state { state_of self.new ≡ record (state_of self.old) { opened =
+            fold (after_rule name.now (state_of self.old).nodes) (state_of self.old).opened rules } }
     {
         close_rows(&self.dom, &mut self.opened, &mut self.scopes, name);
     }
@@ -222,7 +229,9 @@ impl Builder {
     fn add_to_root(&mut self, alloc: Global, attrs: &str) -> Result<(), DomErr>
         requires { IsBuilt self.old }
         ensures built { OnOk result (IsBuilt self.new) }
-        ensures state { Answers (Ok (record (state_of self.old) { nodes = put_all 0 (attributes_of attrs.now) (state_of self.old).nodes })) result (λ _. state_of self.new) }
+        ensures state { Answers
+            (Ok (record (state_of self.old) { nodes = put_all 0 (attributes_of attrs.now) (state_of self.old).nodes })) result
+            (λ _. state_of self.new) }
     {
         if put_attributes(&mut self.dom, alloc, NodeId(0), attrs).is_err() {
             return Err(DomErr::NoMemory);
@@ -263,7 +272,8 @@ impl Builder {
         requires built { IsBuilt self.old }
         requires waits { 0 < length (string_bytes self.old.text) }
         ensures built { OnOk result (IsBuilt self.new) }
-        ensures state { OnOk result (state_of self.new ≡ record (state_of self.old) { nodes = appended (state_of self.old).nodes more.now }) }
+        ensures state { OnOk result (state_of self.new ≡ record (state_of self.old) { nodes =
+            appended (state_of self.old).nodes more.now }) }
         ensures err { IfErr result (λ e. e ≡ DomErr.NoMemory) }
     {
         if self.text.push_str(more).is_err() {
@@ -325,7 +335,8 @@ fn keep_open(
     node: NodeId,
 ) -> Result<(), NoMem>
     ensures opened { OnOk result (opened.new.items ≡ opened_after name.now node.0 opened.old.items) }
-    ensures scopes { (nodes : List Node) → HaveScopes nodes opened.old.items scopes.old.items → name_in nodes (Some node) ≡ name.now → OnOk result (HaveScopes nodes opened.new.items scopes.new.items) }
+    ensures scopes { (nodes : List Node) → HaveScopes nodes opened.old.items scopes.old.items → name_in nodes (Some node) ≡ name.now →
+        OnOk result (HaveScopes nodes opened.new.items scopes.new.items) }
 {
     if is_void(name) {
         return Ok(());
@@ -352,7 +363,8 @@ fn is_escapable(name: &str) -> bool
     name == "title" || name == "textarea"
 }
 
-/// The tree of an HTML text. Want of memory aside it answers Nodes or Depth exactly where the first token that adds too many nodes, or too deep an element, does.
+/// The tree of an HTML text. Want of memory aside it answers Nodes or Depth exactly where the first token that adds too many nodes, or
+/// too deep an element, does.
 #[tactic(auto, unfolding(crate::specs::Tree::tree_of))]
 pub fn read_html(alloc: Global, text: &str) -> Result<Dom, DomErr>
     ensures tree { Answers (tree_of text.now) result (λ dom. dom) }

@@ -153,7 +153,9 @@ fn put(texts: &mut Vec<String>, gap: Gap, class: Class, c: char, part: usize) ->
 fn pass_part(texts: &mut Vec<String>, gap: Gap, part: &TextPart, index: usize) -> Result<Gap, NoMem>
     requires gap { IsWithin gap (vec_len texts.old) }
     requires index { index < vec_len texts.old }
-    ensures goes { IfOk result (λ g. (rest : List Char) → placed (texts_of texts.old) (left_from gap (chars_of_part index part.now ++ rest)) ≡ placed (texts_of texts.new) (left_from g rest)) }
+    ensures goes { IfOk result (λ g. (rest : List Char) →
+        placed (texts_of texts.old) (left_from gap (chars_of_part index part.now ++ rest)) ≡
+        placed (texts_of texts.new) (left_from g rest)) }
     ensures within { IfOk result (λ g. IsWithin g (vec_len texts.new)) }
     ensures len { vec_len texts.new ≡ vec_len texts.old }
 {

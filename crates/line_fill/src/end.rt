@@ -40,7 +40,8 @@ pub(crate) fn measure_at(leaf: &Leaf, from: u32, measure: i64) -> i64
 fn is_stop(bytes: &[u8], to: usize) -> bool
     requires some { 0 < to }
     requires within { to ≤ length bytes.now }
-    ensures { MatchBool result ((slice_index bytes.now (to - 1) ≡ 10) ⊎ (to ≡ length bytes.now)) ((slice_index bytes.now (to - 1) ≢ 10) × (to < length bytes.now)) }
+    ensures { MatchBool result ((slice_index bytes.now (to - 1) ≡ 10) ⊎ (to ≡ length bytes.now)) ((slice_index bytes.now (to - 1) ≢ 10) ×
+        (to < length bytes.now)) }
 {
     bytes[to - 1] == b'\n' || to == bytes.len()
 }
@@ -98,7 +99,9 @@ fn pass_span(
     requires order { max room.from span.now.from ≤ span.now.to }
     requires here { (k : ℕ) → span.now.from ≤ k → k < span.now.to → span_at leaf.now.spans k ≡ Some span.now }
     requires filled { IsFilled faces.now leaf.now room.from room.units (max room.from span.now.from) line_width.old found.old }
-    ensures { MatchOption result (IsFilled faces.now leaf.now room.from room.units span.now.to line_width.new found.new) (λ to. IsLineEnd (FitsIn faces.now leaf.now room.from room.units) (IsOrdinary leaf.now.text leaf.now.places room.from) (IsEmergency leaf.now room.from) to) }
+    ensures { MatchOption result (IsFilled faces.now leaf.now room.from room.units span.now.to line_width.new found.new)
+        (λ to. IsLineEnd (FitsIn faces.now leaf.now room.from room.units) (IsOrdinary leaf.now.text leaf.now.places room.from)
+        (IsEmergency leaf.now room.from) to) }
 {
     let text = leaf.text.as_str();
     let bytes = text.as_bytes();
@@ -150,7 +153,8 @@ pub(crate) fn line_end(faces: &Faces, leaf: &Leaf, room: Room) -> usize
     requires few { length leaf.now.text < 2 ^ 32 }
     requires faced { All (λ s. s.face.0 < length faces.now) leaf.now.spans }
     requires from { room.from < length leaf.now.text }
-    ensures { IsLineEnd (FitsIn faces.now leaf.now room.from room.units) (IsOrdinary leaf.now.text leaf.now.places room.from) (IsEmergency leaf.now room.from) result }
+    ensures { IsLineEnd (FitsIn faces.now leaf.now room.from room.units) (IsOrdinary leaf.now.text leaf.now.places room.from)
+        (IsEmergency leaf.now room.from) result }
 {
     let text = leaf.text.as_str();
     let spans = leaf.spans.as_slice();

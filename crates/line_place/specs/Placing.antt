@@ -16,7 +16,8 @@ use Rattle.line_place.specs.Sums.{count_free, left_at, run_of}
 
 -- what a line leaves of its measure, at least nothing
 unfoldable pub slack_of : List FontFace → Leaf → LineView → ℤ → ℕ
-slack_of faces leaf line measure = unsigned_abs (int_max (pos 0) (line_measure leaf line.from measure -ℤ pos (width_to faces leaf line.from line.to)))
+slack_of faces leaf line measure =
+  unsigned_abs (int_max (pos 0) (line_measure leaf line.from measure -ℤ pos (width_to faces leaf line.from line.to)))
 
 abbrev pub is_justify : Align → Bool
 is_justify align.Left = false
@@ -26,11 +27,13 @@ is_justify align.Justify = true
 
 -- whether a line that ends at an offset shares its slack: a justified one with slack that ends neither with a newline nor at the leaf's end
 unfoldable pub has_shares : Leaf → ℕ → ℕ → Bool
-has_shares leaf to slack = is_justify leaf.align && not (slack == 0) && nat_lt to (length leaf.text) && not (slice_index leaf.text (to - 1) == 10)
+has_shares leaf to slack =
+  is_justify leaf.align && not (slack == 0) && nat_lt to (length leaf.text) && not (slice_index leaf.text (to - 1) == 10)
 
 -- where the spaces end that take shares: where the hanging spaces begin, or at the line's beginning
 unfoldable pub free_end : Leaf → LineView → ℕ → ℕ
-free_end leaf line slack = if has_shares leaf line.to slack then line.from + shown_len leaf.text line.from (line.to - line.from) else line.from
+free_end leaf line slack = if has_shares leaf line.to slack then line.from + shown_len leaf.text line.from (line.to - line.from) else
+  line.from
 
 abbrev pub shift_of : Align → ℕ → ℕ
 shift_of align.Left slack = 0
@@ -57,12 +60,15 @@ number_at (s ∷ spans) k = if nat_lt k s.to then 0 else suc (number_at spans k)
 
 -- a shown hyphen stands behind the last character, in the span of the soft hyphen
 abbrev pub hyphens_of : List FontFace → Leaf → LineView → ℕ → Setting → List Run
-hyphens_of faces leaf line end s = if line.hyphen then record { x = left_at faces leaf end line.from s line.to; from = line.to; to = line.to; span = number_at leaf.spans (line.to - 2); hyphen = true } ∷ [] else []
+hyphens_of faces leaf line end s =
+  if line.hyphen then record { x = left_at faces leaf end line.from s line.to; from = line.to; to = line.to; span =
+  number_at leaf.spans (line.to - 2); hyphen = true } ∷ [] else []
 
 -- the runs of a line with a slack, the hyphen among them
 abbrev pub runs_with : List FontFace → Leaf → LineView → ℤ → ℕ → List Run
 runs_with faces leaf line measure slack =
-    map (run_of faces leaf (free_end leaf line slack) line.from (setting_of leaf line measure slack)) (line_pieces (is_free leaf.text (free_end leaf line slack)) line.from line.to 0 leaf.spans)
+    map (run_of faces leaf (free_end leaf line slack) line.from (setting_of leaf line measure slack))
+      (line_pieces (is_free leaf.text (free_end leaf line slack)) line.from line.to 0 leaf.spans)
     ++ hyphens_of faces leaf line (free_end leaf line slack) (setting_of leaf line measure slack)
 
 -- the runs of a line

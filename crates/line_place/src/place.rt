@@ -67,7 +67,8 @@ fn run_at(setting: Setting, sums: Sums, piece: Piece) -> Run
     requires low { neg_ℤ (pos (2 ^ 44)) ≤ℤ setting.start }
     requires high { setting.start ≤ℤ pos (2 ^ 44) }
     requires width { sums.width ≤ 2 ^ 60 }
-    ensures { result ≡ record { x = setting.start +ℤ pos (sums.width + spec.share_of setting.slack setting.count sums.passed); from = piece.from; to = piece.to; span = piece.span; hyphen = false } }
+    ensures { result ≡ record { x = setting.start +ℤ pos (sums.width + spec.share_of setting.slack setting.count sums.passed); from =
+        piece.from; to = piece.to; span = piece.span; hyphen = false } }
 {
     let x = left(setting, sums);
     Run {

@@ -254,7 +254,8 @@ fn setting_at(leaf: &Leaf, line: Line, measure: i64, ends: Ends, slack: u64, pas
 fn push_hyphen(runs: &mut Items<Run>, leaf: &Leaf, line: Line, x: i64) -> Result<(), NoMem>
     requires good { IsGoodLeaf leaf.now }
     requires line { IsInLeaf leaf.now line }
-    ensures { OnOk result (runs.new ≡ runs.old ++ (if line.hyphen then record { x = x; from = line.to; to = line.to; span = number_at leaf.now.spans (line.to - 2); hyphen = true } ∷ [] else [])) }
+    ensures { OnOk result (runs.new ≡ runs.old ++ (if line.hyphen then
+        record { x = x; from = line.to; to = line.to; span = number_at leaf.now.spans (line.to - 2); hyphen = true } ∷ [] else [])) }
 {
     if line.hyphen() {
         let span = hyphen_span(leaf, line.to()) as u32;

@@ -9,7 +9,8 @@ use Rattle.bk_num.specs.declared.values.Side.TheVariants as side
 use Rattle.boxes.specs.declared.frames.PageKind.{PageKind}
 use Rattle.boxes.specs.declared.frames.PageKind.TheVariants as kind
 
--- a byte of a string: `"` and `\` have a `\` before them, LF is `\n`, other controls are `\x` and two digits; other characters stand as they are
+-- a byte of a string: `"` and `\` have a `\` before them, LF is `\n`, other controls are `\x` and two digits; other characters stand as
+-- they are
 unfoldable pub escape : ℕ → List ℕ
 escape b = if b == 34 || b == 92 then 92 ∷ b ∷ [] else
     if b == 10 then codes "\\n" else
@@ -51,7 +52,9 @@ book_record pages passes = codes "book" ++ field (pos pages) ++ field (pos passe
 
 -- `page INDEX NUMBER SIDE KIND NAME WIDTH HEIGHT`
 unfoldable pub page_record : ℕ → ℤ → Side → PageKind → List ℕ → ℤ → ℤ → List ℕ
-page_record index number side kind name width height = codes "page" ++ field (pos index) ++ field number ++ word (side_name side) ++ word (kind_name kind) ++ string_field name ++ field width ++ field height ++ codes "\n"
+page_record index number side kind name width height =
+  codes "page" ++ field (pos index) ++ field number ++ word (side_name side) ++ word (kind_name kind) ++ string_field name ++
+  field width ++ field height ++ codes "\n"
 
 -- `line X Y W H`
 unfoldable pub line_record : ℤ → ℤ → ℤ → ℤ → List ℕ
@@ -66,7 +69,8 @@ face_field name italic weight = codes " " ++ name ++ style_name italic ++ signed
 
 -- `text X Y FACE SIZE COLOR STRING`, with the face by its name, style and weight
 unfoldable pub text_record : ℤ → ℤ → List ℕ → ℤ → Color → List ℕ → List ℕ
-text_record x y face size color text = codes "text" ++ field x ++ field y ++ face ++ field size ++ color_field color ++ string_field text ++ codes "\n"
+text_record x y face size color text =
+  codes "text" ++ field x ++ field y ++ face ++ field size ++ color_field color ++ string_field text ++ codes "\n"
 
 -- `end`
 unfoldable pub end_record : List ℕ

@@ -81,7 +81,8 @@ fn kind_name(kind: PageKind) -> &'static str
 /// Appends a page's record.
 #[tactic(auto, unfolding(crate::specs::Records::page_record))]
 pub fn push_page(out: &mut Vec<u8>, head: &PageHead<'_>) -> Result<(), AllocError>
-    ensures { OnOk result (out.new.items ≡ out.old.items ++ page_record head.now.index head.now.number head.now.side head.now.kind head.now.name.now head.now.width head.now.height) }
+    ensures { OnOk result (out.new.items ≡ out.old.items ++
+        page_record head.now.index head.now.number head.now.side head.now.kind head.now.name.now head.now.width head.now.height) }
 {
     out.extend_from_slice(b"page")?;
     push_field(out, head.index as i64)?;
@@ -112,7 +113,9 @@ pub fn push_line(out: &mut Vec<u8>, area: &Area) -> Result<(), AllocError>
 /// Appends a text's record.
 #[tactic(auto, unfolding(crate::specs::Records::text_record))]
 pub fn push_text(out: &mut Vec<u8>, style: &Style<'_>, text: &str) -> Result<(), AllocError>
-    ensures { OnOk result (out.new.items ≡ out.old.items ++ text_record style.now.x style.now.y (face_field style.now.face.name.now style.now.face.italic style.now.face.weight) style.now.size style.now.color text.now) }
+    ensures { OnOk result (out.new.items ≡ out.old.items ++
+        text_record style.now.x style.now.y (face_field style.now.face.name.now style.now.face.italic style.now.face.weight)
+        style.now.size style.now.color text.now) }
 {
     out.extend_from_slice(b"text")?;
     push_field(out, style.x)?;

@@ -24,7 +24,9 @@ fn add_paragraph(alloc: Global, tree: &mut BoxTree, paragraph: Paragraph) -> Res
     requires place { IsTrue (takes_box tree.old.events) }
     requires good { IsGoodParagraph (paragraph_in paragraph) }
     requires short { string_len paragraph.text ≤ 2 ^ 25 }
-    ensures { OnOk result (tree.new ≡ with_close (with_leaf (with_box tree.old (props_in (paragraph_in paragraph))) (leaf_in (paragraph_in paragraph))) (length tree.old.boxes)) }
+    ensures { OnOk result (tree.new ≡
+        with_close (with_leaf (with_box tree.old (props_in (paragraph_in paragraph))) (leaf_in (paragraph_in paragraph)))
+        (length tree.old.boxes)) }
 {
     let Paragraph { style, text } = paragraph;
     let leaf = leaf_of(alloc, &style, text)?;
@@ -64,8 +66,10 @@ pub fn flow_of(alloc: Global, paragraphs: Vec<Paragraph>) -> Result<Flow, NoMem>
     ensures whole { IfOk result (λ f. IsWhole f.main.events) }
     ensures depth { IfOk result (λ f. depth_of f.main.events ≤ 2048) }
     ensures bytes { IfOk result (λ f. text_size f.main.leaves f.main.events ≤ 2 ^ 25) }
-    ensures paged { IfOk result (λ f. (faces : List FontFace) → All (λ p. p.style.face.0 < length faces) paragraphs.items → CanBePaged faces f) }
-    ensures leaves { IfOk result (λ f. (faces : List FontFace) → All (λ p. p.style.face.0 < length faces) paragraphs.items → HasPlainLeaves faces f.main) }
+    ensures paged { IfOk result (λ f. (faces : List FontFace) → All (λ p. p.style.face.0 < length faces) paragraphs.items →
+        CanBePaged faces f) }
+    ensures leaves { IfOk result (λ f. (faces : List FontFace) → All (λ p. p.style.face.0 < length faces) paragraphs.items →
+        HasPlainLeaves faces f.main) }
 {
     Ok(Flow {
         main: tree_of(alloc, paragraphs)?,

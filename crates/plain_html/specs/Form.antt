@@ -36,7 +36,8 @@ abbrev pub is_head_name : List ℕ → Bool
 is_head_name name = bytes_eq name (codes "title") || bytes_eq name (codes "meta") || bytes_eq name (codes "style")
 
 abbrev pub is_inner_name : List Node → List ℕ → ℕ → Bool
-is_inner_name nodes name k = is_named nodes (codes "head") (Some k) && is_head_name name || is_named nodes (codes "body") (Some k) && bytes_eq name (codes "p")
+is_inner_name nodes name k =
+  is_named nodes (codes "head") (Some k) && is_head_name name || is_named nodes (codes "body") (Some k) && bytes_eq name (codes "p")
 
 abbrev pub is_inner_allowed : List Node → List ℕ → ℕ → Bool
 is_inner_allowed nodes name k = is_zero (above nodes k) && is_inner_name nodes name k
@@ -53,7 +54,8 @@ is_free nodes (Some k) = is_named nodes (codes "title") (Some k) || is_named nod
 
 -- whether this text may stand under this parent
 abbrev pub is_fit : List Node → Option ℕ → List ℕ → Bool
-is_fit nodes parent text = if is_named nodes (codes "p") parent then list_all is_plain text else (is_free nodes parent || list_all is_blank text)
+is_fit nodes parent text = if is_named nodes (codes "p") parent then list_all is_plain text else
+  (is_free nodes parent || list_all is_blank text)
 
 abbrev pub is_unbuilt_text : List Node → Option ℕ → Option (List ℕ) → Bool
 is_unbuilt_text nodes parent None = false
@@ -63,7 +65,8 @@ abbrev pub is_unbuilt_node : List Node → ℕ → Option (List ℕ) → Option 
 is_unbuilt_node nodes k (Some name) text = not (is_allowed nodes name (above nodes k)) || is_some (attribute_at nodes k (codes "style"))
 is_unbuilt_node nodes k None text = is_unbuilt_text nodes (above nodes k) text
 
--- whether a node has another form: an element that its place doesn't allow, a `style` attribute, or a text with other characters than its place allows
+-- whether a node has another form: an element that its place doesn't allow, a `style` attribute, or a text with other characters than its
+-- place allows
 unfoldable pub is_unbuilt : List Node → ℕ → Bool
 is_unbuilt nodes k = is_unbuilt_node nodes k (name_at nodes k) (text_at nodes k)
 

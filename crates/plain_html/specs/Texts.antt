@@ -4,7 +4,8 @@ use Rattle.dom.specs.Nodes.{Node, text_at}
 use Rattle.plain_html.specs.declared.texts.ParagraphText.{ParagraphText}
 use Rattle.plain_html.specs.Form.{is_blank, is_named, above}
 
--- what a character leaves of itself where white space is collapsed (CSS 2.1, 16.6.1, `normal`), after other white space or the start, or not
+-- what a character leaves of itself where white space is collapsed (CSS 2.1, 16.6.1, `normal`), after other white space or the start, or
+-- not
 abbrev pub left_of : Bool → ℕ → List ℕ
 left_of spaced b = if is_blank b then (if spaced then [] else 32 ∷ []) else b ∷ []
 

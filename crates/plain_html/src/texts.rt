@@ -18,7 +18,8 @@ pub struct ParagraphText {
     pub text: String,
 }
 
-/// The texts of the paragraphs of a document with their elements, in tree order, or the first node that has another form than the one that is built.
+/// The texts of the paragraphs of a document with their elements, in tree order, or the first node that has another form than the one
+/// that is built.
 pub fn read_paragraphs(
     alloc: Global,
     dom: &Dom,
@@ -80,7 +81,8 @@ fn push_text(
     text: &[u8],
 ) -> Result<(), NoMem>
     requires { list_all is_plain text.now ≡ true }
-    ensures texts { OnOk result (map element_text_in texts.new.items ≡ map element_text_in texts.old.items ++ if_some element.0 (collapsed text.now)) }
+    ensures texts { OnOk result (map element_text_in texts.new.items ≡ map element_text_in texts.old.items ++
+        if_some element.0 (collapsed text.now)) }
     ensures count { OnOk result (length texts.new.items ≤ length texts.old.items + 1) }
 {
     let text = collapse(alloc, text)?;

@@ -118,7 +118,8 @@ impl Widths {
 
     /// Closes the innermost open box.
     pub(crate) fn close_box(&mut self)
-        ensures { (t : Tree) (measure : ℤ) (boxes : List ℕ) → self.old ≡ widths_of t measure boxes → self.new ≡ widths_of t measure (rest_of boxes) }
+        ensures { (t : Tree) (measure : ℤ) (boxes : List ℕ) → self.old ≡ widths_of t measure boxes →
+            self.new ≡ widths_of t measure (rest_of boxes) }
     {
         if self.count > 0 {
             self.count -= 1;

@@ -78,7 +78,8 @@ fn verdict_on_file(rules: usize) -> Verdict
 
 /// How many rules a sheet has; None where they are more than 20,000.
 fn rules_of(alloc: Global, text: &str) -> Result<Option<usize>, NoMem>
-    ensures { IfOk result (λ o. (count : List ℕ → ℕ) → IsRuleCount count → MatchOption o (20000 < count text.now) (λ n. (n ≡ count text.now) × (n ≤ 20000))) }
+    ensures { IfOk result (λ o. (count : List ℕ → ℕ) → IsRuleCount count →
+        MatchOption o (20000 < count text.now) (λ n. (n ≡ count text.now) × (n ≤ 20000))) }
 {
     one_reading();
     match read_sheet(alloc, text) {

@@ -41,7 +41,8 @@ fn push_sheet(
 /// The sheets of a document in tree order: its `style` elements whose `media` is read, each with its text
 /// (HTML, 4.2.6). None exactly where they are more than 15.
 pub fn list_sheets(alloc: Global, dom: &Dom) -> Result<Option<Items<ElementSheet>>, NoMem>
-    ensures { IfOk result (λ found. MatchOption found (15 < length (element_sheets dom.now)) (λ sheets. map sheet_in sheets ≡ element_sheets dom.now)) }
+    ensures { IfOk result
+        (λ found. MatchOption found (15 < length (element_sheets dom.now)) (λ sheets. map sheet_in sheets ≡ element_sheets dom.now)) }
 {
     if MOST_ELEMENTS < count_of_elements(dom) {
         return Ok(None);

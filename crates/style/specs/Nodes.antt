@@ -4,7 +4,8 @@ use Rattle.bk_num.specs.declared.values.Pseudo.{Pseudo}
 use Rattle.bk_num.specs.declared.values.Pseudo.TheVariants as pseudo
 use Rattle.style.specs.declared.style.Style.{Style}
 
--- what a node has: its own style, those of its pseudo-elements, whether it is shown, whether it is a note element, and whether it is one or stands in one
+-- what a node has: its own style, those of its pseudo-elements, whether it is shown, whether it is a note element, and whether it is one
+-- or stands in one
 pub record NodeStyles : Type 0 where
   pub own : Option Style
   pub before : Option Style
@@ -21,7 +22,8 @@ no_styles = record { own = None; before = None; after = None; call = None; marke
 
 -- what an element without pseudo-elements has
 abbrev pub own_style : Style → Bool → Bool → Bool → NodeStyles
-own_style style shown note in_note = record { own = Some style; before = None; after = None; call = None; marker = None; shown = shown; note = note; in_note = in_note }
+own_style style shown note in_note =
+  record { own = Some style; before = None; after = None; call = None; marker = None; shown = shown; note = note; in_note = in_note }
 
 abbrev pub style_in : NodeStyles → Pseudo → Option Style
 style_in n pseudo.Element = n.own

@@ -75,7 +75,8 @@ initial_style = record {
 abbrev pub passed : {T : Type 0} → Longhand → T → T → T
 passed h inherited initial = if is_inherited h then inherited else initial
 
--- the style of a child without declarations: a border's color is the child's own, and the page name is the parent's, which `auto` stands for
+-- the style of a child without declarations: a border's color is the child's own, and the page name is the parent's, which `auto` stands
+-- for
 abbrev pub child_style : Style → Style
 child_style p = record {
   display = passed longhand.Display p.display initial_style.display;

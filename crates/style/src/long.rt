@@ -19,7 +19,8 @@ pub enum Given<T> {
     Initial,
 }
 
-/// A declaration of a longhand. Of `bool`: `float` is `footnote`, `font-style` is italic, `overflow-wrap` breaks anywhere, and `break-inside` avoids. `None` is `currentcolor`, `transparent`, no content, and the page name `auto`.
+/// A declaration of a longhand. Of `bool`: `float` is `footnote`, `font-style` is italic, `overflow-wrap` breaks anywhere, and
+/// `break-inside` avoids. `None` is `currentcolor`, `transparent`, no content, and the page name `auto`.
 #[derive(Drop)]
 pub enum Long {
     Display(Given<Display>),

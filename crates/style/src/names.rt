@@ -11,7 +11,8 @@ use indexmap::IndexSet;
 use std::alloc::Global;
 use std::marker::Model;
 
-/// The names of pages, in the order in which they were first seen. Contracts see the list of their texts; the first one is empty, for no name.
+/// The names of pages, in the order in which they were first seen. Contracts see the list of their texts; the first one is empty, for no
+/// name.
 #[derive(Drop)]
 pub struct Names {
     names: IndexSet<String>,

@@ -21,7 +21,9 @@ const BLACK: Color = Color {
     blue: 0,
 };
 
-/// A computed style. `page` is the number of the used page name. Of `bool`: `float` is `footnote`, `font_style` is italic, `overflow_wrap` breaks anywhere, and `break_inside` avoids. Colours of borders are those that are painted, and a border whose style is none or hidden has the width 0.
+/// A computed style. `page` is the number of the used page name. Of `bool`: `float` is `footnote`, `font_style` is italic,
+/// `overflow_wrap` breaks anywhere, and `break_inside` avoids. Colours of borders are those that are painted, and a border whose style is
+/// none or hidden has the width 0.
 #[derive(Drop)]
 pub struct Style {
     pub display: Display,
@@ -126,7 +128,8 @@ impl Style {
         })
     }
 
-    /// The style of an element without declarations below one with this style: what is inherited comes from the parent, and else it is initial. So its borders' colours are its own colour, and its page name is the parent's.
+    /// The style of an element without declarations below one with this style: what is inherited comes from the parent, and else it is
+    /// initial. So its borders' colours are its own colour, and its page name is the parent's.
     pub fn child(parent: &Style, alloc: Global) -> Result<Style, NoMem>
         ensures { IfOk result (λ style. style ≡ child_style parent.now) }
     {
