@@ -40,14 +40,14 @@ plain nodes styles = record {
 abbrev pub parted : Source
 parted = plain
     (element_in None 1 (codes "html") ∷ element_in (Some 0) 2 (codes "div") ∷ text_in 1 3 (codes "a") ∷
-      element_in (Some 1) 3 (codes "p") ∷ text_in 3 4 (codes "b") ∷ text_in 1 3 (codes "c") ∷ [])
+    element_in (Some 1) 3 (codes "p") ∷ text_in 3 4 (codes "b") ∷ text_in 1 3 (codes "c") ∷ [])
     (shown block_style ∷ shown block_style ∷ no_styles ∷ shown block_style ∷ no_styles ∷ no_styles ∷ [])
 
 -- `<html><p> a <b> b</b></p>`
 abbrev pub spaced : Source
 spaced = plain
     (element_in None 1 (codes "html") ∷ element_in (Some 0) 2 (codes "p") ∷ text_in 1 3 (codes " a ") ∷
-      element_in (Some 1) 3 (codes "b") ∷ text_in 3 4 (codes " b") ∷ [])
+    element_in (Some 1) 3 (codes "b") ∷ text_in 3 4 (codes " b") ∷ [])
     (shown block_style ∷ shown block_style ∷ no_styles ∷ shown initial_style ∷ no_styles ∷ [])
 
 -- `<html><pre>a`, a tab, `b` and a newline
@@ -63,9 +63,9 @@ leaf_texts src = map (λ l. l.text) (built_of src).tree.leaves
 pub record PartsText : Type 0 where
   pub texts : leaf_texts parted ≡ codes "a" ∷ codes "b" ∷ codes "c" ∷ []
   pub events : (built_of parted).tree.events ≡ Opens 0 ∷ Opens 1 ∷ Opens 2 ∷ Leaf 0 ∷ Closes 2 ∷ Opens 3 ∷ Leaf 1 ∷ Closes 3 ∷ Opens 4 ∷
-    Leaf 2 ∷ Closes 4 ∷ Closes 1 ∷ Closes 0 ∷ []
+      Leaf 2 ∷ Closes 4 ∷ Closes 1 ∷ Closes 0 ∷ []
   pub nodes : map (λ p. p.node) (built_of parted).tree.boxes ≡ Some (record { 0 = 0 }) ∷ Some (record { 0 = 1 }) ∷ None ∷
-    Some (record { 0 = 3 }) ∷ None ∷ []
+      Some (record { 0 = 3 }) ∷ None ∷ []
 
 -- white space collapses over the elements of a leaf, and a tab that is kept is eight spaces
 pub record Collapses : Type 0 where

@@ -78,7 +78,7 @@ abbrev pub with_node : Source → Style → ℕ → Role → (Style → Content 
 with_node src s n hidden inside rest = rest
 with_node src s n (text t) inside rest = with_item (text_item src s t) rest
 with_node src s n (inline u) inside rest =
-  with_item (item.Start (record { 0 = n })) (with_items (first_items src u n) (inside u (with_items (last_items src n) rest)))
+    with_item (item.Start (record { 0 = n })) (with_items (first_items src u n) (inside u (with_items (last_items src n) rest)))
 with_node src s n (block u) inside rest = box n u (with_items (first_items src u n) (inside u (with_items (last_items src n) end))) rest
 
 -- what nodes in an element of a style put into the content of the block around them
@@ -132,12 +132,12 @@ leads_by src s owner (Some t) = lead_by t (text_style_of s s.white_space (src.fa
 -- the marker of an element, whose box has this number (CSS 2.1, 12.5)
 abbrev pub leads_of : Source → ℕ → Style → ℕ → List Lead
 leads_of src n s owner =
-  if has_marker (n == 0) s then leads_by src s owner (marker_text s.list_style_type (list_values src.counters n)) else []
+    if has_marker (n == 0) s then leads_by src s owner (marker_text s.list_style_type (list_values src.counters n)) else []
 
 -- the box of a block opens: the element begins there, and its marker waits for a line
 abbrev pub opened : Source → ℕ → Style → Built → Built
 opened src n s b = built (with_box b.tree (props_of s n)) (b.starts ++ start_at n (length b.tree.events) 0 ∷ []) (b.pending ++
-  leads_of src n s (length b.tree.boxes))
+    leads_of src n s (length b.tree.boxes))
 
 -- where the elements of a run begin, whose leaf is an event
 abbrev pub starts_by : ℕ → List InlineStart → List Start
@@ -146,11 +146,11 @@ starts_by event starts = map (λ a. start_at a.node.0 event a.offset) starts
 abbrev pub put_by : Bool → Bool → LeafStyle → BoxProps → Built → List InlineItem → Built
 put_by true wrap look anonymous b items = built b.tree (b.starts ++ starts_by (length b.tree.events) (starts_of items)) b.pending
 put_by false true look anonymous b items =
-  built (shut (with_leaf (with_box b.tree anonymous) (leaf_by (text_of items) (spans_of items) look b.pending))) (b.starts ++
-  starts_by (suc (length b.tree.events)) (starts_of items)) []
+    built (shut (with_leaf (with_box b.tree anonymous) (leaf_by (text_of items) (spans_of items) look b.pending))) (b.starts ++
+    starts_by (suc (length b.tree.events)) (starts_of items)) []
 put_by false false look anonymous b items =
-  built (with_leaf b.tree (leaf_by (text_of items) (spans_of items) look b.pending)) (b.starts ++
-  starts_by (length b.tree.events) (starts_of items)) []
+    built (with_leaf b.tree (leaf_by (text_of items) (spans_of items) look b.pending)) (b.starts ++
+    starts_by (length b.tree.events) (starts_of items)) []
 
 -- a run is a leaf, which stands in an anonymous box beside blocks and takes the markers that wait. A run without a character is none, and
 -- its elements begin at the next event
@@ -184,7 +184,7 @@ page_resets (Some s) = map (λ c. c.1) (filter (λ c. bytes_eq c.0 (codes "page"
 -- the resets of the page number where elements begin (css-page-3)
 abbrev pub resets_of : Source → List Start → List Reset
 resets_of src starts =
-  flat_map (λ a. map (λ v. record { value = v; at = a.at }) (page_resets (style_at src.styles a.node.0 pseudo.Element))) starts
+    flat_map (λ a. map (λ v. record { value = v; at = a.at }) (page_resets (style_at src.styles a.node.0 pseudo.Element))) starts
 
 -- the flow of a document without notes
 abbrev pub flow_of : Source → Flow

@@ -30,7 +30,7 @@ abbrev pub gather_node : Source → Style → Style → ℕ → Role → (Style 
 gather_node src s b n hidden inside g = g
 gather_node src s b n (text t) inside g = adds (text_item src s t ∷ []) g
 gather_node src s b n (inline u) inside g =
-  adds (last_items src n) (inside u b (adds (first_items src u n) (adds (item.Start (record { 0 = n }) ∷ []) g)))
+    adds (last_items src n) (inside u b (adds (first_items src u n) (adds (item.Start (record { 0 = n }) ∷ []) g)))
 gather_node src s b n (block u) inside g = ended src u (adds (last_items src n) (inside u u (begun src b n u g)))
 
 unfoldable pub gathered : Source → Style → Style → Forest → Gathered → Gathered

@@ -81,4 +81,4 @@ walked src = after_steps src (walk (make nothing []) [] None) (steps_of src.node
 -- a walk over a document, with a stack of open blocks and no look ahead, builds its flow
 abbrev pub WalkBuildsFlow : Type 0
 WalkBuildsFlow = (src : Source) → IsTree src.nodes →
-  built_of src ≡ with_run src initial_style true (walked src).gathered.built (walked src).gathered.run
+    built_of src ≡ with_run src initial_style true (walked src).gathered.built (walked src).gathered.run

@@ -42,8 +42,18 @@ is_author origin.Author = true
 -- what the declarations of the rule at a place weigh by a selector
 abbrev pub weight_of : Origin → ℕ → SelectorView → Weight
 weight_of o place s =
-    record { important = false; author = is_author o; styled = false; ids = (specificity_of s).0; classes = (specificity_of s).1; types =
-      (specificity_of s).2; rule = place; decl = 0; place = 0 }
+    record {
+      important = false;
+      author = is_author o;
+      styled = false;
+      ids = (specificity_of s).0;
+      classes = (specificity_of s).1;
+      types =
+          (specificity_of s).2;
+      rule = place;
+      decl = 0;
+      place = 0;
+    }
 
 -- a rule applies to a pseudo-element of a node, or to the node: a selector of it matches the node and has that pseudo-element
 pub record IsRuleApplied (dom : Tree) (sheets : List ReadSheet) (n : ℕ) (p : Pseudo) (a : AppliedOf) : Type 0 where

@@ -12,22 +12,22 @@ use Rattle.cascade.specs.Document.{IsDeclaredAt}
 abbrev pub ArePlaced : List AppliedOf → Type 0
 ArePlaced rules =
     (j k : ℕ) (r s : AppliedOf) → slice_get rules j ≡ Some r → slice_get rules k ≡ Some s → r.weight.styled ≡ s.weight.styled →
-      r.weight.rule ≡ s.weight.rule → r.decls ≡ s.decls
+    r.weight.rule ≡ s.weight.rule → r.decls ≡ s.decls
 
 -- a longhand has one winner
 abbrev pub OneWins : Type 0
 OneWins =
     (rules : List AppliedOf) → ArePlaced rules → (slot : ℕ) (a b : Declared) → IsWinner (DeclaredBy rules) slot a →
-      IsWinner (DeclaredBy rules) slot b → a.long ≡ b.long
+    IsWinner (DeclaredBy rules) slot b → a.long ≡ b.long
 
 -- so has a longhand of a node or of its pseudo-element
 abbrev pub OneWinsAt : Type 0
 OneWinsAt =
     (dom : Tree) (sheets : List ReadSheet) (n : ℕ) (p : Pseudo) (slot : ℕ) (a b : Declared) →
-      IsWinner (IsDeclaredAt dom sheets n p) slot a → IsWinner (IsDeclaredAt dom sheets n p) slot b → a.long ≡ b.long
+    IsWinner (IsDeclaredAt dom sheets n p) slot a → IsWinner (IsDeclaredAt dom sheets n p) slot b → a.long ≡ b.long
 
 -- what wins for a node or for its pseudo-element is one list
 abbrev pub WinnersAreOne : Type 0
 WinnersAreOne =
     (dom : Tree) (sheets : List ReadSheet) (n : ℕ) (p : Pseudo) (longs more : List Long) →
-      AreWinners (IsDeclaredAt dom sheets n p) longs → AreWinners (IsDeclaredAt dom sheets n p) more → longs ≡ more
+    AreWinners (IsDeclaredAt dom sheets n p) longs → AreWinners (IsDeclaredAt dom sheets n p) more → longs ≡ more

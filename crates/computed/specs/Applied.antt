@@ -40,31 +40,39 @@ abbrev pub applied : Style → Context → Style → Long → Style
 applied p c s (long.Display g) = record s { display = given_by same g p.display initial_style.display }
 applied p c s (long.Float g) = record s { float = given_by same g p.float initial_style.float }
 applied p c s (long.MarginTop g) =
-  record s { margin_top = given_by (λ m. without_auto (len_of c.font_size c.root_size m)) g p.margin_top zero_len }
+    record s { margin_top = given_by (λ m. without_auto (len_of c.font_size c.root_size m)) g p.margin_top zero_len }
 applied p c s (long.MarginRight g) = record s { margin_right = given_by (len_of c.font_size c.root_size) g p.margin_right zero_len }
 applied p c s (long.MarginBottom g) =
-  record s { margin_bottom = given_by (λ m. without_auto (len_of c.font_size c.root_size m)) g p.margin_bottom zero_len }
+    record s { margin_bottom = given_by (λ m. without_auto (len_of c.font_size c.root_size m)) g p.margin_bottom zero_len }
 applied p c s (long.MarginLeft g) = record s { margin_left = given_by (len_of c.font_size c.root_size) g p.margin_left zero_len }
 applied p c s (long.PaddingTop g) =
-  record s { padding_top = given_by (λ m. held_len (without_auto (len_of c.font_size c.root_size m))) g p.padding_top zero_len }
+    record s { padding_top = given_by (λ m. held_len (without_auto (len_of c.font_size c.root_size m))) g p.padding_top zero_len }
 applied p c s (long.PaddingRight g) =
-  record s { padding_right = given_by (λ m. held_len (without_auto (len_of c.font_size c.root_size m))) g p.padding_right zero_len }
+    record s { padding_right = given_by (λ m. held_len (without_auto (len_of c.font_size c.root_size m))) g p.padding_right zero_len }
 applied p c s (long.PaddingBottom g) =
-  record s { padding_bottom = given_by (λ m. held_len (without_auto (len_of c.font_size c.root_size m))) g p.padding_bottom zero_len }
+    record s { padding_bottom = given_by (λ m. held_len (without_auto (len_of c.font_size c.root_size m))) g p.padding_bottom zero_len }
 applied p c s (long.PaddingLeft g) =
-  record s { padding_left = given_by (λ m. held_len (without_auto (len_of c.font_size c.root_size m))) g p.padding_left zero_len }
+    record s { padding_left = given_by (λ m. held_len (without_auto (len_of c.font_size c.root_size m))) g p.padding_left zero_len }
 applied p c s (long.BorderTopWidth g) =
-  record s { border_top_width =
-  width_of c.border_top_style (given_by (λ m. held (units_of c.font_size c.root_size (pos 0) m)) g p.border_top_width medium) }
+    record s {
+      border_top_width =
+          width_of c.border_top_style (given_by (λ m. held (units_of c.font_size c.root_size (pos 0) m)) g p.border_top_width medium);
+    }
 applied p c s (long.BorderRightWidth g) =
-  record s { border_right_width =
-  width_of c.border_right_style (given_by (λ m. held (units_of c.font_size c.root_size (pos 0) m)) g p.border_right_width medium) }
+    record s {
+      border_right_width =
+          width_of c.border_right_style (given_by (λ m. held (units_of c.font_size c.root_size (pos 0) m)) g p.border_right_width medium);
+    }
 applied p c s (long.BorderBottomWidth g) =
-  record s { border_bottom_width =
-  width_of c.border_bottom_style (given_by (λ m. held (units_of c.font_size c.root_size (pos 0) m)) g p.border_bottom_width medium) }
+    record s {
+      border_bottom_width =
+          width_of c.border_bottom_style (given_by (λ m. held (units_of c.font_size c.root_size (pos 0) m)) g p.border_bottom_width medium);
+    }
 applied p c s (long.BorderLeftWidth g) =
-  record s { border_left_width =
-  width_of c.border_left_style (given_by (λ m. held (units_of c.font_size c.root_size (pos 0) m)) g p.border_left_width medium) }
+    record s {
+      border_left_width =
+          width_of c.border_left_style (given_by (λ m. held (units_of c.font_size c.root_size (pos 0) m)) g p.border_left_width medium);
+    }
 applied p c s (long.BorderTopStyle g) = s
 applied p c s (long.BorderRightStyle g) = s
 applied p c s (long.BorderBottomStyle g) = s
@@ -81,7 +89,7 @@ applied p c s (long.FontSize g) = s
 applied p c s (long.FontStyle g) = record s { font_style = given_by same g p.font_style initial_style.font_style }
 applied p c s (long.FontWeight g) = record s { font_weight = given_by (weight_of p.font_weight) g p.font_weight 400 }
 applied p c s (long.LineHeight g) =
-  record s { line_height = given_by (height_of c.font_size c.root_size) g p.line_height initial_style.line_height }
+    record s { line_height = given_by (height_of c.font_size c.root_size) g p.line_height initial_style.line_height }
 applied p c s (long.TextAlign g) = record s { text_align = given_by same g p.text_align initial_style.text_align }
 applied p c s (long.TextIndent g) = record s { text_indent = given_by (len_of c.font_size c.root_size) g p.text_indent zero_len }
 applied p c s (long.WhiteSpace g) = record s { white_space = given_by same g p.white_space initial_style.white_space }
@@ -90,7 +98,7 @@ applied p c s (long.ListStyleType g) = record s { list_style_type = given_by sam
 applied p c s (long.Content g) = record s { content = given_by same g p.content initial_style.content }
 applied p c s (long.CounterReset g) = record s { counter_reset = given_by same g p.counter_reset initial_style.counter_reset }
 applied p c s (long.CounterIncrement g) =
-  record s { counter_increment = given_by same g p.counter_increment initial_style.counter_increment }
+    record s { counter_increment = given_by same g p.counter_increment initial_style.counter_increment }
 applied p c s (long.StringSet g) = record s { string_set = given_by same g p.string_set initial_style.string_set }
 applied p c s (long.BreakBefore g) = record s { break_before = given_by same g p.break_before initial_style.break_before }
 applied p c s (long.BreakAfter g) = record s { break_after = given_by same g p.break_after initial_style.break_after }

@@ -12,8 +12,16 @@ use Rattle.computed.specs.Values.{given_by, same, size_of}
 
 -- that of an element without winners
 abbrev pub bare : Style → Context
-bare p = record { font_size = p.font_size; root_size = p.font_size; color = p.color; border_top_style = border.Off; border_right_style =
-  border.Off; border_bottom_style = border.Off; border_left_style = border.Off }
+bare p = record {
+  font_size = p.font_size;
+  root_size = p.font_size;
+  color = p.color;
+  border_top_style = border.Off;
+  border_right_style =
+      border.Off;
+  border_bottom_style = border.Off;
+  border_left_style = border.Off;
+}
 
 -- with what a winner gives, where a `rem` is `root`
 abbrev pub noted : Style → ℤ → Context → Long → Context

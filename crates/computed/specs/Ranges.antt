@@ -50,5 +50,5 @@ pub record AreMargins (t b : Len) : Type 0 where
 abbrev pub IsInRange : Style → Type 0
 IsInRange s =
     AreFont s.font_size s.line_height × AreBorders s.border_top_width s.border_right_width s.border_bottom_width s.border_left_width ×
-      ArePaddings s.padding_top s.padding_right s.padding_bottom s.padding_left × AreMargins s.margin_top s.margin_bottom ×
-      IsNotNegative s.width
+    ArePaddings s.padding_top s.padding_right s.padding_bottom s.padding_left × AreMargins s.margin_top s.margin_bottom ×
+    IsNotNegative s.width

@@ -16,13 +16,13 @@ with_option p (Some s) = with_style p s
 -- the last node with those of all its pseudo-elements
 abbrev pub all_put : Generated → List NodeStyles → List NodeStyles
 all_put g rows = change_last (with_option pseudo.Marker g.marker)
-  (change_last (with_option pseudo.Call g.call)
-  (change_last (with_option pseudo.After g.after) (change_last (with_option pseudo.Before g.before) rows)))
+    (change_last (with_option pseudo.Call g.call)
+    (change_last (with_option pseudo.After g.after) (change_last (with_option pseudo.Before g.before) rows)))
 
 -- each is there exactly where the element may have it and it is generated
 pub record AreGenerated (names : List (List ℕ)) (own : Style) (root : ℤ) (shown note : Bool) (w : NodeWinners) (g : Generated) : Type 0
-    where
-  pub before : HasPseudo names own root shown w.before g.before
-  pub after : HasPseudo names own root shown w.after g.after
-  pub call : HasPseudo names own root note w.call g.call
-  pub marker : HasPseudo names own root note w.marker g.marker
+  where
+    pub before : HasPseudo names own root shown w.before g.before
+    pub after : HasPseudo names own root shown w.after g.after
+    pub call : HasPseudo names own root note w.call g.call
+    pub marker : HasPseudo names own root note w.marker g.marker

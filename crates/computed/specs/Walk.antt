@@ -47,15 +47,18 @@ is_generated s = is_displayed s.display && is_some s.content
 
 -- the style of a pseudo-element of an element, which is inline
 pub record IsPseudo (names : List (List ℕ)) (own : Style) (root : ℤ) (winners : List Long) (s : Style) : Type 0 where
-  pub values : s ≡ record (computed_style own (Some root) winners) { display =
-    inline_display (computed_style own (Some root) winners).display; page = s.page }
+  pub values : s ≡ record (computed_style own (Some root) winners) {
+    display =
+        inline_display (computed_style own (Some root) winners).display;
+    page = s.page;
+  }
   pub page : IsPage names own.page.0 (page_in winners) s.page.0
 
 -- a pseudo-element has a style exactly where the element may have it and it is there
 abbrev pub HasPseudo : List (List ℕ) → Style → ℤ → Bool → List Long → Option Style → Type 0
 HasPseudo names own root allowed winners None = (allowed && is_generated (computed_style own (Some root) winners)) ≡ false
 HasPseudo names own root allowed winners (Some s) = ((allowed && is_generated (computed_style own (Some root) winners)) ≡ true) ×
-  IsPseudo names own root winners s
+    IsPseudo names own root winners s
 
 -- what the root takes for its parent's style
 abbrev pub style_above : Option NodeStyles → Style
@@ -106,7 +109,7 @@ IsNode names rows parent true w r = IsElement names rows parent w r
 -- each node among those that have rows has what its winners and its parent's row give
 abbrev pub AreNodes : List (List ℕ) → List Node → List NodeWinners → List NodeStyles → Type 0
 AreNodes names nodes winners rows = (k : ℕ) (w : NodeWinners) (r : NodeStyles) → slice_get winners k ≡ Some w →
-  slice_get rows k ≡ Some r → IsNode names rows (parent_at (parents_of nodes) k) (is_some (name_at nodes k)) w r
+    slice_get rows k ≡ Some r → IsNode names rows (parent_at (parents_of nodes) k) (is_some (name_at nodes k)) w r
 
 -- the styles of a document, and the page names
 pub record AreStyles (names : List (List ℕ)) (nodes : List Node) (winners : List NodeWinners) (rows : List NodeStyles) : Type 0 where

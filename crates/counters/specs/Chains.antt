@@ -103,4 +103,4 @@ height (Some i) = suc i
 -- the marks of events in document order keep the values of every place
 abbrev pub MarksKeepValues : Type 0
 MarksKeepValues = (events : List Event) (marks : List Mark) (k : ℕ) → AreNested events → AreMarked events marks →
-  kept_values marks k ≡ values_by events k
+    kept_values marks k ≡ values_by events k

@@ -147,10 +147,10 @@ named at end changes = map (λ c. (c.0, record { at = at; end = end; act = c.1 }
 -- pseudo-element counts as a child of its element
 abbrev pub step_events : List (Option ℕ) → List NodeStyles → List Step → ℕ → Step → List (List ℕ × Event)
 step_events ps styles steps i (Enter n) =
-  named (4 * i) (end_under steps (parent_at ps n.0)) (changes_at styles n.0 pseudo.Element) ++
-  (named (4 * i + 1) (end_in steps n.0) (changes_at styles n.0 pseudo.Call) ++
-  (named (4 * i + 2) (end_in steps n.0) (changes_at styles n.0 pseudo.Marker) ++
-  named (4 * i + 3) (end_in steps n.0) (changes_at styles n.0 pseudo.Before)))
+    named (4 * i) (end_under steps (parent_at ps n.0)) (changes_at styles n.0 pseudo.Element) ++
+    (named (4 * i + 1) (end_in steps n.0) (changes_at styles n.0 pseudo.Call) ++
+    (named (4 * i + 2) (end_in steps n.0) (changes_at styles n.0 pseudo.Marker) ++
+    named (4 * i + 3) (end_in steps n.0) (changes_at styles n.0 pseudo.Before)))
 step_events ps styles steps i (Leave n) = named (4 * i) (end_in steps n.0) (changes_at styles n.0 pseudo.After)
 
 abbrev pub events_from : List (Option ℕ) → List NodeStyles → List Step → ℕ → List Step → List (List ℕ × Event)
@@ -171,7 +171,7 @@ values_up_to events (Some k) = values_by events k
 -- the values of a counter at an element or a pseudo-element, the outermost scope first
 abbrev pub values_of : List Node → List NodeStyles → ℕ → Pseudo → List ℕ → List ℤ
 values_of nodes styles n p name =
-  values_up_to (events_of nodes styles name) (place_number (into (steps_of nodes) n) (out_of (steps_of nodes) n) p)
+    values_up_to (events_of nodes styles name) (place_number (into (steps_of nodes) n) (out_of (steps_of nodes) n) p)
 
 -- ---- law
 

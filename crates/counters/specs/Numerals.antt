@@ -18,8 +18,8 @@ IsLonger old new = (more : List ℕ) × (new ≡ old ++ more)
 -- a decimal digit in roman letters: those for one, five and ten of its place
 abbrev pub roman_digit : ℕ → ℕ → ℕ → ℕ → List ℕ
 roman_digit one five ten d =
-  get_or ([] ∷ (one ∷ []) ∷ (one ∷ one ∷ []) ∷ (one ∷ one ∷ one ∷ []) ∷ (one ∷ five ∷ []) ∷ (five ∷ []) ∷ (five ∷ one ∷ []) ∷
-  (five ∷ one ∷ one ∷ []) ∷ (five ∷ one ∷ one ∷ one ∷ []) ∷ (one ∷ ten ∷ []) ∷ []) d []
+    get_or ([] ∷ (one ∷ []) ∷ (one ∷ one ∷ []) ∷ (one ∷ one ∷ one ∷ []) ∷ (one ∷ five ∷ []) ∷ (five ∷ []) ∷ (five ∷ one ∷ []) ∷
+    (five ∷ one ∷ one ∷ []) ∷ (five ∷ one ∷ one ∷ one ∷ []) ∷ (one ∷ ten ∷ []) ∷ []) d []
 
 -- the letters for 1, 5, 10, 50, 100, 500 and 1000
 abbrev pub lower_roman : RomanLetters
@@ -31,7 +31,7 @@ upper_roman = record { i = 73; v = 86; x = 88; l = 76; c = 67; d = 68; m = 77 }
 -- a number below 4000: its digits from the thousands on
 abbrev pub roman : RomanLetters → ℕ → List ℕ
 roman r n = roman_digit r.m r.m r.m (n / 1000) ++
-  (roman_digit r.c r.d r.m (n / 100 % 10) ++ (roman_digit r.x r.l r.c (n / 10 % 10) ++ roman_digit r.i r.v r.x (n % 10)))
+    (roman_digit r.c r.d r.m (n / 100 % 10) ++ (roman_digit r.x r.l r.c (n / 10 % 10) ++ roman_digit r.i r.v r.x (n % 10)))
 
 -- a number in the 26 letters from `first` on, of at most so many letters
 abbrev pub letters_within : ℕ → ℕ → ℕ → List ℕ

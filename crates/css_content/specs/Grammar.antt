@@ -129,7 +129,7 @@ unfoldable pub content : Parser (Option (List Part))
 content = do
   t ← peek
   if is_named kind.Ident t (codes "normal") || is_named kind.Ident t (codes "none") then (advance >> pure None) else
-    (content_list place.Content >>= (λ ps. pure (Some ps)))
+      (content_list place.Content >>= (λ ps. pure (Some ps)))
 
 -- ---- counters
 
@@ -151,7 +151,7 @@ counter_list other = do
   t ← peek
   s ← second
   if is_named kind.Ident t (codes "none") && is_none s then (advance >> pure []) else
-    first_and (entry other) (fewer_than 64 (next_entry other))
+      first_and (entry other) (fewer_than 64 (next_entry other))
 
 -- ---- named strings
 

@@ -45,7 +45,7 @@ unfoldable pub border_part : Parser BorderPart
 border_part = do
   t ← peek
   if is_width t then (border_width >>= (λ m. pure (part.Width m))) else
-    (if is_some (style_word t) then (border_style >>= (λ s. pure (part.Style s))) else (border_color >>= (λ c. pure (part.Color c))))
+      (if is_some (style_word t) then (border_style >>= (λ s. pure (part.Style s))) else (border_color >>= (λ c. pure (part.Color c))))
 
 abbrev pub no_border : Border
 no_border = record { width = None; style = None; color = None }

@@ -39,7 +39,7 @@ length_of None = None
 length_of (Some t) =
     if of_kind kind.Number (Some t) then (if is_zero (decimal_of t.slice) then Some no_length else None)
     else (if of_kind kind.Dimension (Some t) then
-      option_map (λ s. measured s (decimal_of t.slice)) (find_word scales (unit_of t.slice)) else None)
+    option_map (λ s. measured s (decimal_of t.slice)) (find_word scales (unit_of t.slice)) else None)
 
 unfoldable pub percent_of : Option Item → Option Measure
 percent_of None = None

@@ -70,15 +70,15 @@ padding_longs s = long.PaddingTop s.top ∷ long.PaddingRight s.right ∷ long.P
 
 abbrev pub width_longs : Sides (Given Measure) → List Long
 width_longs s = long.BorderTopWidth s.top ∷ long.BorderRightWidth s.right ∷ long.BorderBottomWidth s.bottom ∷
-  long.BorderLeftWidth s.left ∷ []
+    long.BorderLeftWidth s.left ∷ []
 
 abbrev pub style_longs : Sides (Given BorderStyle) → List Long
 style_longs s = long.BorderTopStyle s.top ∷ long.BorderRightStyle s.right ∷ long.BorderBottomStyle s.bottom ∷
-  long.BorderLeftStyle s.left ∷ []
+    long.BorderLeftStyle s.left ∷ []
 
 abbrev pub color_longs : Sides (Given (Option Color)) → List Long
 color_longs s = long.BorderTopColor s.top ∷ long.BorderRightColor s.right ∷ long.BorderBottomColor s.bottom ∷
-  long.BorderLeftColor s.left ∷ []
+    long.BorderLeftColor s.left ∷ []
 
 abbrev pub value : {A : Type 0} → A → Given A
 value x = given.Value x
@@ -99,7 +99,7 @@ or_initial (Some x) = given.Value x
 
 unfoldable pub border_longs : Border → List Long
 border_longs b = width_longs (same (or_initial b.width)) ++ style_longs (same (or_initial b.style)) ++
-  color_longs (same (or_initial b.color))
+    color_longs (same (or_initial b.color))
 
 -- the longhands of one side, of these three
 abbrev pub side_longs : (Given Measure → Long) → (Given BorderStyle → Long) → (Given (Option Color) → Long) → Border → List Long
@@ -114,9 +114,9 @@ read_shorthand shorthand.BorderColor = given_four border_color >>= (λ s. pure (
 read_shorthand shorthand.Border = border >>= (λ b. pure (border_longs b))
 read_shorthand shorthand.BorderTop = border >>= (λ b. pure (side_longs long.BorderTopWidth long.BorderTopStyle long.BorderTopColor b))
 read_shorthand shorthand.BorderRight =
-  border >>= (λ b. pure (side_longs long.BorderRightWidth long.BorderRightStyle long.BorderRightColor b))
+    border >>= (λ b. pure (side_longs long.BorderRightWidth long.BorderRightStyle long.BorderRightColor b))
 read_shorthand shorthand.BorderBottom =
-  border >>= (λ b. pure (side_longs long.BorderBottomWidth long.BorderBottomStyle long.BorderBottomColor b))
+    border >>= (λ b. pure (side_longs long.BorderBottomWidth long.BorderBottomStyle long.BorderBottomColor b))
 read_shorthand shorthand.BorderLeft = border >>= (λ b. pure (side_longs long.BorderLeftWidth long.BorderLeftStyle long.BorderLeftColor b))
 
 -- each of these longhands with one of the two words

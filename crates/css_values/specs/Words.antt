@@ -23,18 +23,18 @@ use Rattle.css_values.specs.declared.fonts.SizeWord.TheVariants as word
 unfoldable pub scales : List (List ℕ × Scale)
 scales =
     (codes "px", scale.Absolute unit.Px) ∷ (codes "in", scale.Absolute unit.In) ∷ (codes "cm", scale.Absolute unit.Cm) ∷
-      (codes "mm", scale.Absolute unit.Mm)
+    (codes "mm", scale.Absolute unit.Mm)
     ∷ (codes "pt", scale.Absolute unit.Pt) ∷ (codes "pc", scale.Absolute unit.Pc) ∷ (codes "em", scale.Em) ∷ (codes "rem", scale.Rem) ∷
-      (codes "ex", scale.Ex) ∷ []
+    (codes "ex", scale.Ex) ∷ []
 
 unfoldable pub displays : List (List ℕ × Display)
 displays =
     (codes "inline", display.Inline) ∷ (codes "block", display.Block) ∷ (codes "list-item", display.ListItem) ∷
-      (codes "none", display.Hidden)
+    (codes "none", display.Hidden)
     ∷ (codes "flow-root", display.Block) ∷ (codes "table", display.Block) ∷ (codes "table-row-group", display.Block) ∷
-      (codes "table-header-group", display.Block)
+    (codes "table-header-group", display.Block)
     ∷ (codes "table-footer-group", display.Block) ∷ (codes "table-row", display.Block) ∷ (codes "table-cell", display.Block) ∷
-      (codes "table-caption", display.Block) ∷ []
+    (codes "table-caption", display.Block) ∷ []
 
 -- whether the element is a footnote (css-gcpm-3, 2)
 unfoldable pub floats : List (List ℕ × Bool)
@@ -47,9 +47,9 @@ border_widths = (codes "thin", pos 64) ∷ (codes "medium", pos 192) ∷ (codes 
 unfoldable pub border_styles : List (List ℕ × BorderStyle)
 border_styles =
     (codes "none", border.Off) ∷ (codes "hidden", border.Hidden) ∷ (codes "solid", border.Solid) ∷ (codes "dotted", border.Solid) ∷
-      (codes "dashed", border.Solid)
+    (codes "dashed", border.Solid)
     ∷ (codes "double", border.Solid) ∷ (codes "groove", border.Solid) ∷ (codes "ridge", border.Solid) ∷ (codes "inset", border.Solid) ∷
-      (codes "outset", border.Solid) ∷ []
+    (codes "outset", border.Solid) ∷ []
 
 abbrev pub rgb : ℕ → ℕ → ℕ → Color
 rgb r g b = record { red = r; green = g; blue = b }
@@ -61,13 +61,13 @@ colors =
     ∷ (codes "maroon", rgb 128 0 0) ∷ (codes "red", rgb 255 0 0) ∷ (codes "purple", rgb 128 0 128) ∷ (codes "fuchsia", rgb 255 0 255)
     ∷ (codes "green", rgb 0 128 0) ∷ (codes "lime", rgb 0 255 0) ∷ (codes "olive", rgb 128 128 0) ∷ (codes "yellow", rgb 255 255 0)
     ∷ (codes "navy", rgb 0 0 128) ∷ (codes "blue", rgb 0 0 255) ∷ (codes "teal", rgb 0 128 128) ∷ (codes "aqua", rgb 0 255 255) ∷
-      (codes "orange", rgb 255 165 0) ∷ []
+    (codes "orange", rgb 255 165 0) ∷ []
 
 -- the sizes of fonts, in 1/64 px: 9, 10, 13, 16, 18, 24 and 32 px
 unfoldable pub sizes : List (List ℕ × SizeWord)
 sizes =
     (codes "xx-small", word.Units (pos 576)) ∷ (codes "x-small", word.Units (pos 640)) ∷ (codes "small", word.Units (pos 832)) ∷
-      (codes "medium", word.Units (pos 1024))
+    (codes "medium", word.Units (pos 1024))
     ∷ (codes "large", word.Units (pos 1152)) ∷ (codes "x-large", word.Units (pos 1536)) ∷ (codes "xx-large", word.Units (pos 2048))
     ∷ (codes "smaller", word.Smaller) ∷ (codes "larger", word.Larger) ∷ []
 
@@ -77,7 +77,7 @@ slopes = (codes "normal", false) ∷ (codes "italic", true) ∷ (codes "oblique"
 
 unfoldable pub weights : List (List ℕ × Weight)
 weights = (codes "normal", weight.Number 400) ∷ (codes "bold", weight.Number 700) ∷ (codes "bolder", weight.Bolder) ∷
-  (codes "lighter", weight.Lighter) ∷ []
+    (codes "lighter", weight.Lighter) ∷ []
 
 unfoldable pub aligns : List (List ℕ × Align)
 aligns =
@@ -87,7 +87,7 @@ aligns =
 unfoldable pub spaces : List (List ℕ × WhiteSpace)
 spaces =
     (codes "normal", space.Normal) ∷ (codes "nowrap", space.NoWrap) ∷ (codes "pre", space.Pre) ∷ (codes "pre-wrap", space.PreWrap) ∷
-      (codes "pre-line", space.PreLine) ∷ []
+    (codes "pre-line", space.PreLine) ∷ []
 
 -- whether words are broken where they don't fit
 unfoldable pub wraps : List (List ℕ × Bool)
@@ -102,7 +102,7 @@ breaks =
 unfoldable pub page_breaks : List (List ℕ × BreakAt)
 page_breaks =
     (codes "auto", break.Auto) ∷ (codes "avoid", break.Avoid) ∷ (codes "always", break.Page) ∷ (codes "left", break.Left) ∷
-      (codes "right", break.Right) ∷ []
+    (codes "right", break.Right) ∷ []
 
 -- whether breaks inside are avoided
 unfoldable pub inside_breaks : List (List ℕ × Bool)

@@ -22,7 +22,7 @@ pub record Place : Type 0 where
 
 abbrev pub place_of : List Node → List NodeStyles → ℕ → Pseudo → Kept → List Entry → Place
 place_of nodes styles node pseudo counters table =
-  record { nodes = nodes; styles = styles; node = node; pseudo = pseudo; counters = counters; table = table }
+    record { nodes = nodes; styles = styles; node = node; pseudo = pseudo; counters = counters; table = table }
 
 -- a text with what a part prints at its end. The parts of margin boxes alone print nothing in the flow
 abbrev pub PrintsPart : Place → Part → List ℕ → List ℕ → Type 0
@@ -30,7 +30,7 @@ PrintsPart p (part.Text text) old new = new ≡ old ++ text
 PrintsPart p (part.Attr name) old new = new ≡ old ++ attribute_text (attribute_at p.nodes p.node name)
 PrintsPart p (part.Counter name style) old new = new ≡ old ++ innermost_text style (counter_values p.counters p.node p.pseudo name)
 PrintsPart p (part.Counters name between style) old new =
-  new ≡ old ++ joined_text between style (counter_values p.counters p.node p.pseudo name)
+    new ≡ old ++ joined_text between style (counter_values p.counters p.node p.pseudo name)
 PrintsPart p (part.Target link name style) old new = PrintsReference p.nodes p.styles p.counters p.table p.node link name style old new
 PrintsPart p part.Own old new = new ≡ old ++ own_text p.nodes p.styles p.node
 PrintsPart p (part.Running name keyword) old new = new ≡ old

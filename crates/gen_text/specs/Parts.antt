@@ -42,4 +42,4 @@ reference_text counters table name style t = if is_page name then page_text tabl
 -- a text with what a reference prints at its end
 abbrev pub PrintsReference : List Node → List NodeStyles → Kept → List Entry → ℕ → Link → List ℕ → NumStyle → List ℕ → List ℕ → Type 0
 PrintsReference nodes styles counters table n link name style old new =
-  (t : Option ℕ) × IsTarget nodes styles n link t × (new ≡ old ++ reference_text counters table name style t)
+    (t : Option ℕ) × IsTarget nodes styles n link t × (new ≡ old ++ reference_text counters table name style t)

@@ -40,8 +40,8 @@ links_of (Some s) = links_in_some s.content
 -- the links of page references in the content of a node's pseudo-elements, as many as there are
 abbrev pub page_links : List NodeStyles → ℕ → List Link
 page_links styles n =
-  links_of (style_at styles n pseudo.Before) ++
-  (links_of (style_at styles n pseudo.After) ++ (links_of (style_at styles n pseudo.Call) ++ links_of (style_at styles n pseudo.Marker)))
+    links_of (style_at styles n pseudo.Before) ++
+    (links_of (style_at styles n pseudo.After) ++ (links_of (style_at styles n pseudo.Call) ++ links_of (style_at styles n pseudo.Marker)))
 
 -- one of these links at a node leads to t
 abbrev pub LeadTo : List Node → List NodeStyles → ℕ → List Link → ℕ → Type 0
@@ -83,4 +83,4 @@ pub record AreMarked (marks : List Bool) (list : List NodeId) : Type 0 where
 -- a document has one such list
 abbrev pub TargetsAreOne : Type 0
 TargetsAreOne = (nodes : List Node) (styles : List NodeStyles) (a b : List NodeId) → AreTargets nodes styles a →
-  AreTargets nodes styles b → a ≡ b
+    AreTargets nodes styles b → a ≡ b

@@ -45,10 +45,10 @@ pub record ClosesByRow (table : List Rule) (name : List ℕ) (nodes : List Node)
 -- an end tag closes by its name, a start tag other than `html` by the table, and a text that isn't blank closes `head`
 abbrev pub KindCloses : KindView → List ℕ → State → NodeId → Type 0
 KindCloses text bytes s o = (is_blank (text_of true bytes) ≡ false) ×
-  ClosesInnermost (has_name (codes "head" ∷ [])) (has_name []) s.nodes s.opened o
+    ClosesInnermost (has_name (codes "head" ∷ [])) (has_name []) s.nodes s.opened o
 KindCloses raw bytes s o = ⊥
 KindCloses (start name attrs) bytes s o = (bytes_eq (name_of name) (codes "html") ≡ false) ×
-  ClosesByRow rules (name_of name) s.nodes s.opened o
+    ClosesByRow rules (name_of name) s.nodes s.opened o
 KindCloses (close name) bytes s o = ClosesInnermost (has_name (name_of name ∷ [])) (has_name []) s.nodes s.opened o
 KindCloses skip bytes s o = ⊥
 
@@ -153,7 +153,7 @@ NodesAreAdded = (tokens : List TokenView) (t : ℕ) (s : State) (k : ℕ) → Is
 -- the parent of a node that a token added is the last opened element that is open after that token's closings
 abbrev pub ParentIsLastOpened : Type 0
 ParentIsLastOpened = (tokens : List TokenView) (u t : ℕ) (s : State) (k : ℕ) (n : Node) → IsStateAt tokens t s → u < t → Adds tokens u k →
-  slice_get s.nodes k ≡ Some n →
+    slice_get s.nodes k ≡ Some n →
     (p : ℕ) × (n.parent ≡ Some p) × IsParentAt tokens u p
 
 -- the nodes of a tree are those after the last token

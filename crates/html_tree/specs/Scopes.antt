@@ -17,7 +17,7 @@ has_within r name outer = has_name r.closes name || outer && not (has_name r.sco
 -- for each row whether it has one among the first n
 abbrev pub AreScopes : List Node → List NodeId → ℕ → List Bool → Type 0
 AreScopes nodes opened n flags = (i : ℕ) (r : Rule) → slice_get rules i ≡ Some r →
-  slice_index_or flags i false ≡ has_in_scope r nodes opened n
+    slice_index_or flags i false ≡ has_in_scope r nodes opened n
 
 -- each open element has those of the elements up to it
 pub record HaveScopes (nodes : List Node) (opened : List NodeId) (scopes : List (List Bool)) : Type 0 where

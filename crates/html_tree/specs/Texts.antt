@@ -56,7 +56,7 @@ numeric base lead bs = if digits_len base bs == 0 then plain else counted base l
 abbrev pub named : List (List ℕ × ℕ) → List ℕ → Reference
 named [] bs = plain
 named (r ∷ rows) bs = if starts_with nat_eq bs r.0 && closing_len (drop (length r.0) bs) == 1 then
-  record { code = r.1; len = 1 + length r.0 + 1 } else named rows bs
+    record { code = r.1; len = 1 + length r.0 + 1 } else named rows bs
 
 -- the named references that are read: each a name and its character (HTML, 13.5, in part)
 unfoldable pub named_references : List (List ℕ × ℕ)
@@ -76,16 +76,16 @@ named_references =
 -- the reference at an `&`: a number in hexadecimal digits, one in decimal digits, or a name
 unfoldable pub reference_at : List ℕ → Reference
 reference_at bs = if slice_index bs 1 == 35 then
-  (if slice_index bs 2 == 120 || slice_index bs 2 == 88 then numeric 16 3 (drop 3 bs) else numeric 10 2 (drop 2 bs)) else
-  named named_references (drop 1 bs)
+    (if slice_index bs 2 == 120 || slice_index bs 2 == 88 then numeric 16 3 (drop 3 bs) else numeric 10 2 (drop 2 bs)) else
+    named named_references (drop 1 bs)
 
 -- the text with its references read, where the first n bytes belong to one that is read
 unfoldable pub referred_after : ℕ → List ℕ → List ℕ
 referred_after n [] = []
 referred_after (suc n) (b ∷ bs) = referred_after n bs
 referred_after zero (b ∷ bs) =
-  if b == 38 then encode_utf8 (reference_at (b ∷ bs)).code ++ referred_after ((reference_at (b ∷ bs)).len - 1) bs else
-  b ∷ referred_after 0 bs
+    if b == 38 then encode_utf8 (reference_at (b ∷ bs)).code ++ referred_after ((reference_at (b ∷ bs)).len - 1) bs else
+    b ∷ referred_after 0 bs
 
 -- line ends are normalized first, and then references are read where there are any
 unfoldable pub text_of : Bool → List ℕ → List ℕ

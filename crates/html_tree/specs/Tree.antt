@@ -38,7 +38,7 @@ closed_by closes scope nodes opened = take (unwrap_or (kept closes scope nodes o
 -- what is open after a row of the table
 abbrev pub after_rule : List ℕ → List Node → List NodeId → Rule → List NodeId
 after_rule name nodes opened rule = if names_tag rule name then closed_by (has_name rule.closes) (has_name rule.scope) nodes opened else
-  opened
+    opened
 
 -- and after the innermost element of a name is closed, where there is one
 abbrev pub without : List ℕ → List Node → List NodeId → List NodeId
@@ -73,13 +73,13 @@ appended nodes more = changed_at (λ n. record n { what = longer more n.what }) 
 
 abbrev pub new_text : ℕ → List ℕ → State → Result State DomErr
 new_text parent bytes s = if nat_le most_nodes (length s.nodes) then Err Nodes else
-  Ok (record s { nodes = s.nodes ++ child_of s.nodes parent (Text bytes) ∷ [] })
+    Ok (record s { nodes = s.nodes ++ child_of s.nodes parent (Text bytes) ∷ [] })
 
 -- a text that isn't empty goes to the last node where that is a text child of the current element, and is a new node else
 abbrev pub add_text : List ℕ → State → Result State DomErr
 add_text [] s = Ok s
 add_text (b ∷ bs) s = if is_text_under (current s.opened) (last_of s.nodes) then Ok (record s { nodes = appended s.nodes (b ∷ bs) }) else
-  new_text (current s.opened) (b ∷ bs) s
+    new_text (current s.opened) (b ∷ bs) s
 
 -- an attribute, unless the node has one of the name
 abbrev pub put : ℕ → List Node → List ℕ × List ℕ → List Node

@@ -185,8 +185,10 @@ impl Builder {
     fn close(&mut self, name: &str)
         requires { IsBuilt self.old }
         ensures built { IsBuilt self.new }
-        ensures state { state_of self.new ≡ record (state_of self.old) { opened =
-            without name.now (state_of self.old).nodes (state_of self.old).opened } }
+        ensures state { state_of self.new ≡ record (state_of self.old) {
+          opened =
+              without name.now (state_of self.old).nodes (state_of self.old).opened;
+        } }
     {
         close_named(&self.dom, &mut self.opened, name);
         self.scopes.truncate(self.opened.len());
@@ -196,8 +198,10 @@ impl Builder {
     fn close_head(&mut self)
         requires { IsBuilt self.old }
         ensures built { IsBuilt self.new }
-        ensures state { state_of self.new ≡ record (state_of self.old) { opened =
-            without (codes "head") (state_of self.old).nodes (state_of self.old).opened } }
+        ensures state { state_of self.new ≡ record (state_of self.old) {
+          opened =
+              without (codes "head") (state_of self.old).nodes (state_of self.old).opened;
+        } }
     {
         if last_scopes(&self.scopes)[HEAD] {
             self.close("head");
@@ -208,8 +212,10 @@ impl Builder {
     fn close_for(&mut self, name: &str)
         requires { IsBuilt self.old }
         ensures built { IsBuilt self.new }
-        ensures state { state_of self.new ≡ record (state_of self.old) { opened =
-            fold (after_rule name.now (state_of self.old).nodes) (state_of self.old).opened rules } }
+        ensures state { state_of self.new ≡ record (state_of self.old) {
+          opened =
+              fold (after_rule name.now (state_of self.old).nodes) (state_of self.old).opened rules;
+        } }
     {
         close_rows(&self.dom, &mut self.opened, &mut self.scopes, name);
     }
@@ -272,8 +278,10 @@ impl Builder {
         requires built { IsBuilt self.old }
         requires waits { 0 < length (string_bytes self.old.text) }
         ensures built { OnOk result (IsBuilt self.new) }
-        ensures state { OnOk result (state_of self.new ≡ record (state_of self.old) { nodes =
-            appended (state_of self.old).nodes more.now }) }
+        ensures state { OnOk result (state_of self.new ≡ record (state_of self.old) {
+          nodes =
+              appended (state_of self.old).nodes more.now;
+        }) }
         ensures err { IfErr result (λ e. e ≡ DomErr.NoMemory) }
     {
         if self.text.push_str(more).is_err() {

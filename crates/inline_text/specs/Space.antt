@@ -26,8 +26,8 @@ folds_newlines space.PreLine = false
 
 abbrev pub class_of : ℕ → WhiteSpace → Class
 class_of c s = if c == 32 then (if collapses s then Blank else Plain) else
-  (if c == 9 then (if collapses s then Blank else Tab) else
-  (if c == 10 then (if folds_newlines s then SoftBreak else HardBreak) else Plain))
+    (if c == 9 then (if collapses s then Blank else Tab) else
+    (if c == 10 then (if folds_newlines s then SoftBreak else HardBreak) else Plain))
 
 -- a character of a part
 pub record Char : Type 0 where
@@ -80,13 +80,13 @@ meets_newline (c ∷ cs) = if is_blank c.class then meets_newline cs else is_new
 abbrev pub trimmed : Bool → List Char → List Char
 trimmed after [] = []
 trimmed after (c ∷ cs) = if is_blank c.class then (if after || meets_newline cs then trimmed after cs else c ∷ trimmed after cs) else
-  c ∷ trimmed (is_newline c.class) cs
+    c ∷ trimmed (is_newline c.class) cs
 
 -- without the spaces after a space, after a newline or at the start: whether one of these came before, or not
 abbrev pub squeezed : Bool → List Char → List Char
 squeezed spaced [] = []
 squeezed spaced (c ∷ cs) = if is_space c.class then (if spaced then squeezed spaced cs else c ∷ squeezed true cs) else
-  c ∷ squeezed (is_newline c.class) cs
+    c ∷ squeezed (is_newline c.class) cs
 
 -- what is printed of a character that is left
 abbrev pub spelled : Class → ℕ → List ℕ

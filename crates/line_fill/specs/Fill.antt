@@ -46,7 +46,7 @@ noted fits ordinary emergency from to f = record {
 -- if there was none
 unfoldable pub chosen : ℕ → ℕ → Found → ℕ
 chosen from to f = if not (f.best == from) then f.best else if not (f.emergency == from) then f.emergency else
-  if not (f.least == from) then f.least else to
+    if not (f.least == from) then f.least else to
 
 -- the places up to `at`: the greatest of each kind that fits, and the least one; `from` stands for none
 pub record AreFound (Fitting Ordinary Emergency : ℕ → Type 0) (from at : ℕ) (f : Found) : Type 0 where

@@ -17,8 +17,8 @@ last_piece span start at = if start == at then [] else record { span = span; fro
 abbrev pub cut_pieces : (ℕ → Bool) → ℕ → ℕ → ℕ → ℕ → List Piece
 cut_pieces free span start at zero = last_piece span start at
 cut_pieces free span start at (suc n) =
-  if free at then record { span = span; from = start; to = suc at } ∷ cut_pieces free span (suc at) (suc at) n else
-  cut_pieces free span start (suc at) n
+    if free at then record { span = span; from = start; to = suc at } ∷ cut_pieces free span (suc at) (suc at) n else
+    cut_pieces free span start (suc at) n
 
 -- what the place `at` cuts off, and where the next piece begins
 abbrev pub cut_here : Bool → ℕ → ℕ → ℕ → List Piece
@@ -44,7 +44,7 @@ Covers from (p ∷ pieces) to = (p.from ≡ from) × (p.from < p.to) × Covers p
 -- the pieces of a line cover it once
 abbrev pub PiecesCover : Type 0
 PiecesCover = (text : List ℕ) (free : ℕ → Bool) (spans : List Span) (from to : ℕ) → AreSpans text 0 spans → from ≤ to → to ≤ length text →
-  Covers from (line_pieces free from to 0 spans) to
+    Covers from (line_pieces free from to 0 spans) to
 
 -- what the byte at a place of a text in a span's style adds to a width
 abbrev pub unit_in : List FontFace → Span → List ℕ → ℕ → ℕ

@@ -33,9 +33,9 @@ pub record IsInside (spans : List Span) (p : Piece) : Type 0 where
 -- beginning as the text between is wide, with the shares of the spaces passed
 abbrev pub left_at : List FontFace → Leaf → ℕ → ℕ → Setting → ℕ → ℤ
 left_at faces leaf end from s at =
-  s.start +ℤ pos (sum_from (unit_at faces leaf) from (at - from) + share_of s.slack s.count (count_free leaf.text end from (at - from)))
+    s.start +ℤ pos (sum_from (unit_at faces leaf) from (at - from) + share_of s.slack s.count (count_free leaf.text end from (at - from)))
 
 -- the run of a piece
 abbrev pub run_of : List FontFace → Leaf → ℕ → ℕ → Setting → Piece → Run
 run_of faces leaf end from s p =
-  record { x = left_at faces leaf end from s p.from; from = p.from; to = p.to; span = p.span; hyphen = false }
+    record { x = left_at faces leaf end from s p.from; from = p.from; to = p.to; span = p.span; hyphen = false }

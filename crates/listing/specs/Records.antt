@@ -53,8 +53,8 @@ book_record pages passes = codes "book" ++ field (pos pages) ++ field (pos passe
 -- `page INDEX NUMBER SIDE KIND NAME WIDTH HEIGHT`
 unfoldable pub page_record : ℕ → ℤ → Side → PageKind → List ℕ → ℤ → ℤ → List ℕ
 page_record index number side kind name width height =
-  codes "page" ++ field (pos index) ++ field number ++ word (side_name side) ++ word (kind_name kind) ++ string_field name ++
-  field width ++ field height ++ codes "\n"
+    codes "page" ++ field (pos index) ++ field number ++ word (side_name side) ++ word (kind_name kind) ++ string_field name ++
+    field width ++ field height ++ codes "\n"
 
 -- `line X Y W H`
 unfoldable pub line_record : ℤ → ℤ → ℤ → ℤ → List ℕ
@@ -70,7 +70,7 @@ face_field name italic weight = codes " " ++ name ++ style_name italic ++ signed
 -- `text X Y FACE SIZE COLOR STRING`, with the face by its name, style and weight
 unfoldable pub text_record : ℤ → ℤ → List ℕ → ℤ → Color → List ℕ → List ℕ
 text_record x y face size color text =
-  codes "text" ++ field x ++ field y ++ face ++ field size ++ color_field color ++ string_field text ++ codes "\n"
+    codes "text" ++ field x ++ field y ++ face ++ field size ++ color_field color ++ string_field text ++ codes "\n"
 
 -- `end`
 unfoldable pub end_record : List ℕ

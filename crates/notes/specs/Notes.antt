@@ -72,4 +72,4 @@ MustNeverFalls = (list more : List NoteSolid) (c : ℕ) → must_of list c ≤ m
 -- so what has to stand on a page takes no less room where more notes are called on it
 abbrev pub NeedNeverFalls : Type 0
 NeedNeverFalls = (list more : List NoteSolid) (c : ℕ) → c ≤ length list →
-  area_of list (must_of list c) ≤ℤ area_of (list ++ more) (must_of (list ++ more) c)
+    area_of list (must_of list c) ≤ℤ area_of (list ++ more) (must_of (list ++ more) c)

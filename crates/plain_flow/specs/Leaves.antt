@@ -12,10 +12,27 @@ black = record { red = 0; green = 0; blue = 0 }
 
 -- a span over so many bytes, from the first one on
 abbrev pub span_of : ParagraphStyle → ℕ → Span
-span_of style len = record { from = 0; to = len; face = style.face; size = style.size; line_height = style.line_height; color =
-  style.color; wrap = true; anywhere = false }
+span_of style len = record {
+  from = 0;
+  to = len;
+  face = style.face;
+  size = style.size;
+  line_height = style.line_height;
+  color =
+      style.color;
+  wrap = true;
+  anywhere = false;
+}
 
 -- the leaf of a text. Its strut is its span
 abbrev pub leaf_of : ParagraphStyle → List ℕ → Leaf
-leaf_of style text = record { text = text; spans = span_of style (length text) ∷ []; places = places_of text; graphemes = []; leads = [];
-  indent = style.indent; align = style.align; strut = span_of style (length text) }
+leaf_of style text = record {
+  text = text;
+  spans = span_of style (length text) ∷ [];
+  places = places_of text;
+  graphemes = [];
+  leads = [];
+  indent = style.indent;
+  align = style.align;
+  strut = span_of style (length text);
+}

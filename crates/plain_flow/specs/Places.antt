@@ -5,7 +5,7 @@ use Rattle.std.specs.List.{filter, range_with_len}
 -- whether a line may end before an offset: behind a space or a hyphen, and before neither a space nor a newline
 abbrev pub is_opportunity : List ℕ → ℕ → Bool
 is_opportunity text at =
-  (slice_index text (at - 1) == 32 || slice_index text (at - 1) == 45) && not (slice_index text at == 32 || slice_index text at == 10)
+    (slice_index text (at - 1) == 32 || slice_index text (at - 1) == 45) && not (slice_index text at == 32 || slice_index text at == 10)
 
 -- the offsets inside a text before which a line may end, in their order
 unfoldable pub places_of : List ℕ → List ℕ

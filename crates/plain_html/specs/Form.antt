@@ -37,7 +37,7 @@ is_head_name name = bytes_eq name (codes "title") || bytes_eq name (codes "meta"
 
 abbrev pub is_inner_name : List Node → List ℕ → ℕ → Bool
 is_inner_name nodes name k =
-  is_named nodes (codes "head") (Some k) && is_head_name name || is_named nodes (codes "body") (Some k) && bytes_eq name (codes "p")
+    is_named nodes (codes "head") (Some k) && is_head_name name || is_named nodes (codes "body") (Some k) && bytes_eq name (codes "p")
 
 abbrev pub is_inner_allowed : List Node → List ℕ → ℕ → Bool
 is_inner_allowed nodes name k = is_zero (above nodes k) && is_inner_name nodes name k
@@ -55,7 +55,7 @@ is_free nodes (Some k) = is_named nodes (codes "title") (Some k) || is_named nod
 -- whether this text may stand under this parent
 abbrev pub is_fit : List Node → Option ℕ → List ℕ → Bool
 is_fit nodes parent text = if is_named nodes (codes "p") parent then list_all is_plain text else
-  (is_free nodes parent || list_all is_blank text)
+    (is_free nodes parent || list_all is_blank text)
 
 abbrev pub is_unbuilt_text : List Node → Option ℕ → Option (List ℕ) → Bool
 is_unbuilt_text nodes parent None = false

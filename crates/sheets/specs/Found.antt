@@ -13,7 +13,7 @@ element_of (Some s) = s.element
 abbrev pub IsRulesAt : (List ℕ → ℕ) → List Sheet → ℕ → Option ℕ → Type 0
 IsRulesAt count sheets k None = list_any (has_many count) sheets ≡ true
 IsRulesAt count sheets k (Some n) = (list_any (has_many count) sheets ≡ false) ×
-  (element_of (find (has_rules count) sheets) ≡ (if nat_lt 0 n then Some k else None))
+    (element_of (find (has_rules count) sheets) ≡ (if nat_lt 0 n then Some k else None))
 
 abbrev pub elements_by : Option ℕ → Elements
 elements_by None = found.NoRules
@@ -21,4 +21,4 @@ elements_by (Some k) = found.First (record { 0 = k })
 
 abbrev pub elements_of : (List ℕ → ℕ) → List Sheet → Elements
 elements_of count sheets = if list_any (has_many count) sheets then found.TooManyRules else
-  elements_by (element_of (find (has_rules count) sheets))
+    elements_by (element_of (find (has_rules count) sheets))

@@ -65,8 +65,13 @@ shown_by keyword.FirstExcept s = unless s.first s.entry
 -- what a page knows of a string, by the marks of its assignments
 abbrev pub shown_in : Tree → List Page → List Assign → List (Option ℕ) → ℕ → Shown
 shown_in t pages assigns marks page =
-  record { first = first_on page marks; last = last_on page marks; entry = entry_of page marks; starts =
-  starts_page t (slice_get pages page) (assign_at assigns (first_on page marks)) }
+    record {
+      first = first_on page marks;
+      last = last_on page marks;
+      entry = entry_of page marks;
+      starts =
+          starts_page t (slice_get pages page) (assign_at assigns (first_on page marks));
+    }
 
 abbrev pub shown_on : Tree → List Page → List Assign → List ℕ → ℕ → Shown
 shown_on t pages assigns name page = shown_in t pages assigns (marks_of t pages assigns name) page

@@ -7,14 +7,14 @@ use Rattle.style.specs.declared.longhand.Longhand.TheVariants as longhand
 unfoldable pub longhands : List Longhand
 longhands =
     longhand.Display ∷ longhand.Float ∷ longhand.MarginTop ∷ longhand.MarginRight ∷ longhand.MarginBottom ∷ longhand.MarginLeft ∷
-      longhand.PaddingTop ∷ longhand.PaddingRight ∷ longhand.PaddingBottom ∷ longhand.PaddingLeft ∷ longhand.BorderTopWidth ∷
-      longhand.BorderRightWidth ∷ longhand.BorderBottomWidth ∷ longhand.BorderLeftWidth ∷ longhand.BorderTopStyle ∷
-      longhand.BorderRightStyle ∷ longhand.BorderBottomStyle ∷ longhand.BorderLeftStyle ∷ longhand.BorderTopColor ∷
-      longhand.BorderRightColor ∷ longhand.BorderBottomColor ∷ longhand.BorderLeftColor ∷ longhand.Width ∷ longhand.Color ∷
-      longhand.BackgroundColor ∷ longhand.FontFamily ∷ longhand.FontSize ∷ longhand.FontStyle ∷ longhand.FontWeight ∷
-      longhand.LineHeight ∷ longhand.TextAlign ∷ longhand.TextIndent ∷ longhand.WhiteSpace ∷ longhand.OverflowWrap ∷
-      longhand.ListStyleType ∷ longhand.Content ∷ longhand.CounterReset ∷ longhand.CounterIncrement ∷ longhand.StringSet ∷
-      longhand.BreakBefore ∷ longhand.BreakAfter ∷ longhand.BreakInside ∷ longhand.Widows ∷ longhand.Orphans ∷ longhand.Page ∷ []
+    longhand.PaddingTop ∷ longhand.PaddingRight ∷ longhand.PaddingBottom ∷ longhand.PaddingLeft ∷ longhand.BorderTopWidth ∷
+    longhand.BorderRightWidth ∷ longhand.BorderBottomWidth ∷ longhand.BorderLeftWidth ∷ longhand.BorderTopStyle ∷
+    longhand.BorderRightStyle ∷ longhand.BorderBottomStyle ∷ longhand.BorderLeftStyle ∷ longhand.BorderTopColor ∷
+    longhand.BorderRightColor ∷ longhand.BorderBottomColor ∷ longhand.BorderLeftColor ∷ longhand.Width ∷ longhand.Color ∷
+    longhand.BackgroundColor ∷ longhand.FontFamily ∷ longhand.FontSize ∷ longhand.FontStyle ∷ longhand.FontWeight ∷
+    longhand.LineHeight ∷ longhand.TextAlign ∷ longhand.TextIndent ∷ longhand.WhiteSpace ∷ longhand.OverflowWrap ∷
+    longhand.ListStyleType ∷ longhand.Content ∷ longhand.CounterReset ∷ longhand.CounterIncrement ∷ longhand.StringSet ∷
+    longhand.BreakBefore ∷ longhand.BreakAfter ∷ longhand.BreakInside ∷ longhand.Widows ∷ longhand.Orphans ∷ longhand.Page ∷ []
 
 -- the place of each in that list
 abbrev pub number_of : Longhand → ℕ

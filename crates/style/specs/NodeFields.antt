@@ -12,8 +12,17 @@ numbered styles None = None
 numbered styles (Some i) = slice_get styles i
 
 abbrev pub node_of : List Style → Row → NodeStyles
-node_of styles r = record { own = numbered styles r.own; before = numbered styles r.before; after = numbered styles r.after; call =
-  numbered styles r.call; marker = numbered styles r.marker; shown = r.shown; note = r.note; in_note = r.in_note }
+node_of styles r = record {
+  own = numbered styles r.own;
+  before = numbered styles r.before;
+  after = numbered styles r.after;
+  call =
+      numbered styles r.call;
+  marker = numbered styles r.marker;
+  shown = r.shown;
+  note = r.note;
+  in_note = r.in_note;
+}
 
 abbrev pub nodes_of : Inside → List NodeStyles
 nodes_of a = map (node_of a.styles.items) a.rows.items

@@ -23,7 +23,7 @@ no_styles = record { own = None; before = None; after = None; call = None; marke
 -- what an element without pseudo-elements has
 abbrev pub own_style : Style → Bool → Bool → Bool → NodeStyles
 own_style style shown note in_note =
-  record { own = Some style; before = None; after = None; call = None; marker = None; shown = shown; note = note; in_note = in_note }
+    record { own = Some style; before = None; after = None; call = None; marker = None; shown = shown; note = note; in_note = in_note }
 
 abbrev pub style_in : NodeStyles → Pseudo → Option Style
 style_in n pseudo.Element = n.own
