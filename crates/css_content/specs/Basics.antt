@@ -3,7 +3,7 @@ use Rattle.std.specs.Prelude.{ℕ, ◌==◌, ◌&&◌, if◌then◌else◌, List
 use Rattle.css_tok.specs.declared.kind.CssKind.TheVariants as kind
 use Rattle.css_tok.specs.Numbers.{decimal_of}
 use Rattle.css_tok.specs.Tokens.{Item}
-use Rattle.css_words.specs.Parser.{Parser, ◌>>◌, pure, refuse, on_some, peek, advance}
+use Rattle.css_words.specs.Parser.{Parser, ◌>>=◌, ◌>>◌, pure, refuse, on_some, peek, advance}
 use Rattle.css_words.specs.Table.{find_word}
 use Rattle.css_words.specs.Words.{of_kind, slice_of}
 

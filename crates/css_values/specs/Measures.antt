@@ -5,7 +5,7 @@ use Rattle.bk_num.specs.Numbers.{Number}
 use Rattle.css_tok.specs.declared.kind.CssKind.TheVariants as kind
 use Rattle.css_tok.specs.Numbers.{is_numeric_kind, decimal_of, unit_of}
 use Rattle.css_tok.specs.Tokens.{Item}
-use Rattle.css_words.specs.Parser.{Parser, ◌>>◌, pure, refuse, on_some, peek, advance}
+use Rattle.css_words.specs.Parser.{Parser, ◌>>=◌, ◌>>◌, pure, refuse, on_some, peek, advance}
 use Rattle.css_words.specs.Table.{find_word}
 use Rattle.css_words.specs.Words.{of_kind, is_named}
 use Rattle.style.specs.declared.values.Measure.{Measure}

@@ -6,7 +6,7 @@ use Rattle.css_tok.specs.declared.kind.CssKind.TheVariants as kind
 use Rattle.css_tok.specs.Tokens.{Item}
 use Rattle.css_tok.specs.Plain.{plain_of, is_word}
 use Rattle.css_tok.specs.Value.{value_slice}
-use Rattle.css_words.specs.Parser.{Parser, ◌>>◌, pure, refuse, peek, advance}
+use Rattle.css_words.specs.Parser.{Parser, ◌>>=◌, ◌>>◌, pure, refuse, peek, advance}
 
 abbrev pub is_kind : CssKind → CssKind → Bool
 is_kind kind.Space kind.Space = true
