@@ -1,7 +1,7 @@
 //! The text that an element represents (HTML, 3.2.1), between its `::before` and its `::after`.
 
 ghost use Rattle.std.specs.Prelude.{◌≡◌, ◌<◌, IfOk, length};
-ghost use Rattle.dom.specs.Nodes.attribute_at;
+ghost use Rattle.dom.specs.Nodes.{attribute_at};
 ghost use Rattle.gen_text.specs.Parts.{attribute_text};
 ghost use Rattle.box_gen.specs.Represented as spec;
 
