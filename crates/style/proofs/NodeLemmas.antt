@@ -1,13 +1,13 @@
 -- Rows and styles that grow.
-use Rattle.std.proofs.Common.{◌≡◌, ℕ, Bool, get_or, zero, suc, ◌+◌, ◌-◌, ◌<◌, ◌≤◌, List, [], ◌∷◌, ◌++◌, Option, None, Some, Result, Ok, Err, OnOk, OnErr, length, length-append, map, slice_get, slice_set, refl, sym, ap, subst, arith, ◌⊎◌, inl, inr}
+use Rattle.std.proofs.Common.{◌≡◌, ℕ, Bool, get_or, zero, suc, ◌+◌, ◌<◌, ◌≤◌, List, [], ◌∷◌, ◌++◌, Option, None, Some, Result, Ok, Err, OnOk, OnErr, length, length-append, map, option_map, slice_get, slice_set, refl, sym, ◌∙◌, ap, subst, arith, ◌⊎◌, inl, inr}
 use Rattle.std.proofs.lemmas.List.{map-append}
-use Rattle.std.proofs.lemmas.Option.{slice_get_read}
+use Rattle.std.proofs.lemmas.Option.{slice_get-map, slice_get_read}
 use Rattle.bk_num.specs.declared.values.Pseudo.{Pseudo}
 use Rattle.bk_num.specs.declared.values.Pseudo.TheVariants as pseudo
 use Rattle.bk_num.proofs.ListLemmas.{get-push, get-before, get-end}
 use Rattle.style.specs.declared.style.Style.{Style}
 use Rattle.style.specs.declared.styles.Row.{Row}
-use Rattle.style.specs.Nodes.{NodeStyles, change_last, with_style, own_style}
+use Rattle.style.specs.Nodes.{NodeStyles, AddsLike, change_last, with_style, own_style}
 use Rattle.style.specs.NodeFields.{numbered, node_of, with_number, IsNumber, HasNumbers, AreNumbered}
 
 is-more : (n m : ℕ) → n ≤ m → (o : Option ℕ) → IsNumber n o → IsNumber m o
@@ -110,3 +110,8 @@ sound-more styles more s rows e h = rw e (all-more styles s rows h)
 
 pub get-last : {A : Type 0} (xs : List A) (k : ℕ) (x : A) → k < length xs → x ≡ get_or xs k x → slice_get xs k ≡ Some x
 get-last xs k x l e = slice_get_read xs (length xs) k x refl l e
+
+-- a row more that is there already
+pub like-added : {A E : Type 0} (res : Result A E) (styles : List Style) (rows next : List Row) (k : ℕ) (row : Row) → slice_get rows k ≡ Some row → OnOk res (next ≡ rows ++ row ∷ []) → OnOk res (AddsLike (map (node_of styles) rows) k (map (node_of styles) next))
+like-added (Ok a) styles rows next k row at ok = record { row = node_of styles row; there = slice_get-map (node_of styles) rows k ∙ ap (option_map (node_of styles)) at; added = ap (map (node_of styles)) ok ∙ map-append (node_of styles) rows (row ∷ []) }
+like-added (Err a) styles rows next k row at ok = tt

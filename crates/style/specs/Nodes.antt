@@ -1,5 +1,5 @@
 -- The styles of a document's nodes.
-use Rattle.std.specs.Prelude.{ℕ, Bool, false, List, [], ◌∷◌, Option, None, Some, slice_get}
+use Rattle.std.specs.Prelude.{◌≡◌, ℕ, Bool, false, List, [], ◌∷◌, ◌++◌, Option, None, Some, slice_get}
 use Rattle.bk_num.specs.declared.values.Pseudo.{Pseudo}
 use Rattle.bk_num.specs.declared.values.Pseudo.TheVariants as pseudo
 use Rattle.style.specs.declared.style.Style.{Style}
@@ -65,3 +65,9 @@ is_note_in (Some n) = n.note
 abbrev pub is_in_note_in : Option NodeStyles → Bool
 is_in_note_in None = false
 is_in_note_in (Some n) = n.in_note
+
+-- a node is added that has what an earlier one has
+pub record AddsLike (nodes : List NodeStyles) (n : ℕ) (more : List NodeStyles) : Type 0 where
+  pub row : NodeStyles
+  pub there : slice_get nodes n ≡ Some row
+  pub added : more ≡ nodes ++ row ∷ []

@@ -2,7 +2,7 @@
 
 ghost use Rattle.std.specs.Prelude.{◌≡◌, ◌<◌, ◌+◌, [], ◌∷◌, ◌++◌, OnOk, OnErr, IfOk, None, Some, option_map, length, slice_get};
 ghost use Rattle.style.specs.NodeFields.{number_in, with_number};
-ghost use Rattle.style.specs.Nodes.{no_styles, own_style, style_at, with_style, change_last, is_shown_in, is_note_in, is_in_note_in};
+ghost use Rattle.style.specs.Nodes.{no_styles, own_style, style_at, with_style, change_last, is_shown_in, is_note_in, is_in_note_in, AddsLike};
 
 use crate::style::Style;
 use bk_num::ids::NodeId;
@@ -108,6 +108,16 @@ impl Styles {
             note: false,
             in_note: false,
         };
+        push_row(&mut self.rows, row)
+    }
+
+    /// Adds a node that has all that an earlier one has. It takes the memory of a row of numbers.
+    pub fn add_like(&mut self, node: NodeId) -> Result<(), NoMem>
+        requires { node.0 < length self.old }
+        ensures ok { OnOk result (AddsLike self.old node.0 self.new) }
+        ensures err { OnErr result (self.new ≡ self.old) }
+    {
+        let row = self.rows[node.0 as usize];
         push_row(&mut self.rows, row)
     }
 
