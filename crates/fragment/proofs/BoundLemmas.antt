@@ -1,8 +1,11 @@
 -- How many pages a flow has at most: each flow page takes an edge or a character, and blank pages stand before sides that are asked.
-use Rattle.std.proofs.Common.{◌≡◌, ◌≢◌, ◌<◌, ◌≤◌, ◌+◌, ◌-◌, ◌*◌, ◌==◌, ℕ, zero, suc, ℤ, pos, Bool, true, false, cond, eqb, List, [], ◌∷◌, Option, None, Some, length, max, drop, slice_get, refl, sym, ap, ◌∙◌, subst, arith, add-one, ◌⊎◌, ⊎_elim, inl, inr, suc-mul}
-use Rattle.std.specs.Prelude.{◌&&◌}
+use Rattle.std.proofs.Common.{◌≡◌, ◌≢◌, ◌<◌, ◌≤◌, ◌+◌, ◌-◌, ◌*◌, ◌==◌, ℕ, zero, suc, ℤ, pos, Bool, true, false, cond, eqb, List, [], ◌∷◌, Option, None, Some, length, max, take, drop, get_or, slice_get, refl, sym, ap, ◌∙◌, subst, arith, add-one, ◌⊎◌, ⊎_elim, inl, inr, suc-mul}
+use Rattle.std.specs.Prelude.{◌&&◌, ◌||◌, nat_lt, nat_le}
+use Rattle.std.specs.Fmt.{char_count, is_char_start}
+use Rattle.std.specs.Str.{IsCharBoundary}
+use Rattle.std.proofs.lemmas.Str.{IsCharBoundary-start}
 use Rattle.std.proofs.Math.Nat.{mul-le-mul_right, max-eq_right, le-max_left}
-use Rattle.std.proofs.lemmas.Bool.{cases_lt}
+use Rattle.std.proofs.lemmas.Bool.{cases_lt, lt-ltb, le-leb}
 use Rattle.std.proofs.lemmas.Bool.Decides.{eqb_tells}
 use Rattle.std.proofs.lemmas.List.{length-map}
 use Rattle.metrics.specs.Face.{FontFace}
@@ -19,7 +22,7 @@ use Rattle.boxes.specs.declared.place.Event.TheVariants.{Opens, Closes, Leaf}
 use Rattle.boxes.specs.declared.place.Position.{Position}
 use Rattle.boxes.specs.declared.props.BoxProps.{BoxProps}
 use Rattle.boxes.proofs.ListLemmas.{slice_get_at}
-use Rattle.line_fill.proofs.EndLemmas.{lines_go_on}
+use Rattle.line_fill.proofs.EndLemmas.{lines_go_on, end_stands}
 use Rattle.seams.specs.Runs.{solid_after, is_solid, is_solid_at}
 use Rattle.seams.specs.Seams.{seam_of, seam_before, seam_between, solid_behind, line_seam}
 use Rattle.seams.specs.declared.seam_info.SeamInfo.{SeamInfo}
@@ -27,13 +30,13 @@ use Rattle.seams.proofs.RunLemmas.{after_solid}
 use Rattle.cursor.specs.Remainder.{SolidView, IsSolid, IsContent, IsLineSolid, IsRemainder, leaf_measure, end_of}
 use Rattle.cursor.specs.Remainder.IsContent.{of_line, of_open, of_close}
 use Rattle.cursor.proofs.RemLemmas.{Stands, solid_stands, begins_of, found_of}
-use Rattle.fragment.specs.Bounds.{is_sided, sided_among, sided_in, most_pages_of}
-use Rattle.fragment.specs.Pages.{CutsSolids, IsEnded, IsFlowCut, IsPaged, IsStep, PageFrames, State, after_flow, meets_at, name_at, place_after, rows_of, row_of, first_gap, start_of, text_size}
+use Rattle.fragment.specs.Bounds.{HaveTexts, chars_among, chars_by, is_sided, sided_among, sided_in, most_pages_of}
+use Rattle.fragment.specs.Pages.{CutsSolids, IsEnded, IsFlowCut, IsPaged, IsStep, PageFrames, State, after_flow, meets_at, name_at, place_after, rows_of, row_of, first_gap, start_of}
 use Rattle.fragment.specs.Pages.IsStep.{blank, flow}
-use Rattle.fragment.specs.Parted.{edges_among}
+use Rattle.fragment.specs.Parted.{edges_among, text_at, text_by, text_of}
 use Rattle.fragment.specs.declared.next_cut.Cut.{Cut}
 use Rattle.fragment.proofs.BreakLemmas.{cut_breaks, seam_next}
-use Rattle.fragment.proofs.PageLemmas.{cut_within, drop_get, drop_drop, size_later, size_here, solid_at}
+use Rattle.fragment.proofs.PageLemmas.{cut_within, drop_get, drop_drop, solid_at}
 use Rattle.fragment.proofs.PartLemmas.{cut_stands, start_stands}
 
 abbrev place : ℕ → ℕ → Position
@@ -41,7 +44,72 @@ place event offset = record { event = event; offset = offset }
 
 -- ---- the edges and characters from an event on
 abbrev left : Tree → ℕ → ℕ
-left t k = text_size t.leaves (drop k t.events) + length (edges_among t.boxes (drop k t.events))
+left t k = chars_among t.leaves (drop k t.events) + length (edges_among t.boxes (drop k t.events))
+
+chars_mono : (leaves : List LeafData) (es : List Event) (j : ℕ) → chars_among leaves (drop j es) ≤ chars_among leaves es
+chars_mono leaves es zero = omega arith
+chars_mono leaves [] (suc j) = omega arith
+chars_mono leaves (Opens b ∷ es) (suc j) = chars_mono leaves es j
+chars_mono leaves (Closes b ∷ es) (suc j) = chars_mono leaves es j
+chars_mono leaves (Leaf l ∷ es) (suc j) = let rest = chars_mono leaves es j in omega arith
+
+chars_later : (leaves : List LeafData) (es : List Event) (j k : ℕ) → j ≤ k → chars_among leaves (drop k es) ≤ chars_among leaves (drop j es)
+chars_later leaves es j k low =
+    let n : j + (k - j) ≡ k = omega arith in
+    let e : drop (k - j) (drop j es) ≡ drop k es = drop_drop es j (k - j) ∙ ap (λ (m : ℕ). drop m es) n in
+    subst (λ (xs : List Event). chars_among leaves xs ≤ chars_among leaves (drop j es)) e (chars_mono leaves (drop j es) (k - j))
+
+-- ---- the characters before an offset of a text
+abbrev count_to : List ℕ → ℕ → ℕ
+count_to text n = char_count (take n text)
+
+count_none : (text : List ℕ) → count_to text 0 ≡ 0
+unfolding char_count
+count_none text = refl
+
+count_within : (text : List ℕ) (n : ℕ) → count_to text n ≤ char_count text
+unfolding char_count
+count_within text zero = omega arith
+count_within [] (suc n) = omega arith
+count_within (b ∷ text) (suc n) = let rest = count_within text n in omega arith
+
+count_all : (text : List ℕ) → count_to text (length text) ≡ char_count text
+unfolding char_count
+count_all [] = refl
+count_all (b ∷ text) = ap (λ (n : ℕ). cond (is_char_start b) 1 0 + n) (count_all text)
+
+-- a part of a text that begins at a character has one
+count_more : (text : List ℕ) (a b : ℕ) → a < b → a < length text → is_char_start (get_or text a 0) ≡ true → suc (count_to text a) ≤ count_to text b
+unfolding char_count
+count_more [] a b less inside start = absurd (omega arith)
+count_more (c ∷ text) a zero less inside start = absurd (omega arith)
+count_more (c ∷ text) zero (suc b) less inside start = rw start (omega arith)
+count_more (c ∷ text) (suc a) (suc b) less inside start = let rest = count_more text a b (omega arith) (omega arith) start in omega arith
+
+or_true : (b : Bool) → (b || true) ≡ true
+or_true true = refl
+or_true false = refl
+
+starts_char : (text : List ℕ) (a : ℕ) → IsCharBoundary text a → a < length text → is_char_start (get_or text a 0) ≡ true
+starts_char text a stands inside = by (cases_lt (get_or text a 0) 128)
+  where
+    by : (get_or text a 0 < 128) ⊎ (128 ≤ get_or text a 0) → is_char_start (get_or text a 0) ≡ true
+    by (inl h) = ap (λ (b : Bool). b || nat_le 192 (get_or text a 0)) (lt-ltb (get_or text a 0) 128 h)
+    by (inr h) = ap (λ (b : Bool). nat_lt (get_or text a 0) 128 || b) (le-leb 192 (get_or text a 0) (stands.1 inside h)) ∙ or_true (nat_lt (get_or text a 0) 128)
+
+-- the characters of the leaf of a place that stand before it
+abbrev passed : Tree → Position → ℕ
+passed t at = count_to (text_at t at.event) at.offset
+
+text_here : (t : Tree) (event l : ℕ) (leaf : LeafData) → slice_get t.events event ≡ Some (Leaf l) → slice_get t.leaves l ≡ Some leaf → text_at t event ≡ leaf.text
+text_here t event l leaf names has = ap (λ (o : Option Event). text_by t.leaves o) names ∙ ap text_of has
+
+-- a place that stands at a character
+abbrev IsAtChar : Tree → Position → Type 0
+IsAtChar t at = (l : ℕ) (leaf : LeafData) → slice_get t.events at.event ≡ Some (Leaf l) → slice_get t.leaves l ≡ Some leaf → IsCharBoundary leaf.text at.offset
+
+begin_at_char : (t : Tree) (event : ℕ) → HaveTexts t → IsAtChar t (record { event = event; offset = 0 })
+begin_at_char t event texts l leaf names has = IsCharBoundary-start leaf.text (texts event l leaf names has)
 
 edges_mono : (boxes : List BoxProps) (es : List Event) (j : ℕ) → length (edges_among boxes (drop j es)) ≤ length (edges_among boxes es)
 edges_mono boxes es zero = omega arith
@@ -63,34 +131,42 @@ left_later t j k low =
     let n : j + (k - j) ≡ k = omega arith in
     let e : drop (k - j) (drop j t.events) ≡ drop k t.events = drop_drop t.events j (k - j) ∙ ap (λ (m : ℕ). drop m t.events) n in
     let edges = subst (λ (xs : List Event). length (edges_among t.boxes xs) ≤ length (edges_among t.boxes (drop j t.events))) e (edges_mono t.boxes (drop j t.events) (k - j)) in
-    let text = size_later t.leaves t.events j k low in
+    let text = chars_later t.leaves t.events j k low in
     omega arith
 
 edge_here : (t : Tree) (n : ℕ) (e : Event) → slice_get t.events n ≡ Some e → is_solid t.boxes e ≡ true → ((l : ℕ) → e ≡ Leaf l → ⊥) → suc (left t (n + 1)) ≡ left t n
 edge_here t n (Opens b) at is other =
     let next : left t (n + 1) ≡ left t (suc n) = ap (left t) (add-one n) in
-    let size : text_size t.leaves (drop n t.events) ≡ text_size t.leaves (drop (suc n) t.events) = ap (text_size t.leaves) (drop_get t.events n (Opens b) at) in
+    let size : chars_among t.leaves (drop n t.events) ≡ chars_among t.leaves (drop (suc n) t.events) = ap (chars_among t.leaves) (drop_get t.events n (Opens b) at) in
     let edges : length (edges_among t.boxes (drop n t.events)) ≡ suc (length (edges_among t.boxes (drop (suc n) t.events))) =
     ap (λ (es : List Event). length (edges_among t.boxes es)) (drop_get t.events n (Opens b) at) ∙ ap (λ (c : Bool). length (cond c (OpenEdge b ∷ edges_among t.boxes (drop (suc n) t.events)) (edges_among t.boxes (drop (suc n) t.events)))) is in
     omega arith
 edge_here t n (Closes b) at is other =
     let next : left t (n + 1) ≡ left t (suc n) = ap (left t) (add-one n) in
-    let size : text_size t.leaves (drop n t.events) ≡ text_size t.leaves (drop (suc n) t.events) = ap (text_size t.leaves) (drop_get t.events n (Closes b) at) in
+    let size : chars_among t.leaves (drop n t.events) ≡ chars_among t.leaves (drop (suc n) t.events) = ap (chars_among t.leaves) (drop_get t.events n (Closes b) at) in
     let edges : length (edges_among t.boxes (drop n t.events)) ≡ suc (length (edges_among t.boxes (drop (suc n) t.events))) =
     ap (λ (es : List Event). length (edges_among t.boxes es)) (drop_get t.events n (Closes b) at) ∙ ap (λ (c : Bool). length (cond c (CloseEdge b ∷ edges_among t.boxes (drop (suc n) t.events)) (edges_among t.boxes (drop (suc n) t.events)))) is in
     omega arith
 edge_here t n (Leaf l) at is other = absurd (other l refl)
 
-line_here : (t : Tree) (n l : ℕ) (leaf : LeafData) → slice_get t.events n ≡ Some (Leaf l) → slice_get t.leaves l ≡ Some leaf → left t n ≡ length leaf.text + left t (suc n)
+line_here : (t : Tree) (n l : ℕ) (leaf : LeafData) → slice_get t.events n ≡ Some (Leaf l) → slice_get t.leaves l ≡ Some leaf → left t n ≡ char_count leaf.text + left t (suc n)
 line_here t n l leaf at has =
-    let size = size_here t n l leaf at has in
+    let size : chars_among t.leaves (drop n t.events) ≡ char_count leaf.text + chars_among t.leaves (drop (suc n) t.events) = ap (chars_among t.leaves) (drop_get t.events n (Leaf l) at) ∙ ap (λ (o : Option LeafData). chars_by o + chars_among t.leaves (drop (suc n) t.events)) has in
     let edges : length (edges_among t.boxes (drop n t.events)) ≡ length (edges_among t.boxes (drop (suc n) t.events)) = ap (λ (es : List Event). length (edges_among t.boxes es)) (drop_get t.events n (Leaf l) at) in
     omega arith
 
-offset_low : (t : Tree) (at : Position) → Stands t at → at.offset ≤ left t at.event
-offset_low t at st = ⊎_elim
-    (λ (o : 0 < at.offset). let p = st.offset o in let size = line_here t at.event p.0 p.1 p.2 p.3 in let less = p.4 in omega arith)
-    (λ (o : at.offset ≤ 0). omega arith)
+passed_none : (t : Tree) (at : Position) → at.offset ≡ 0 → passed t at ≡ 0
+passed_none t at e = ap (count_to (text_at t at.event)) e ∙ count_none (text_at t at.event)
+
+passed_low : (t : Tree) (at : Position) → Stands t at → passed t at ≤ left t at.event
+passed_low t at st = ⊎_elim
+    (λ (o : 0 < at.offset).
+    let p = st.offset o in
+    let size = line_here t at.event p.0 p.1 p.2 p.3 in
+    let text = ap (λ (bs : List ℕ). count_to bs at.offset) (text_here t at.event p.0 p.1 p.2 p.3) in
+    let low = count_within p.1.text at.offset in
+    omega arith)
+    (λ (o : at.offset ≤ 0). let e = passed_none t at (omega arith) in omega arith)
     (cases_lt 0 at.offset)
 
 -- ---- the event after the seam at a place
@@ -113,14 +189,16 @@ beyond_in at some = by (eqb_tells at.offset 0)
 
 -- what one solid takes
 record Takes (t : Tree) (from : Position) (s : SolidView) : Type 0 where
-  later : left t s.placed_at.event + from.offset ≤ left t from.event + s.placed_at.offset
-  takes : suc (left t s.end.event) + s.placed_at.offset ≤ left t s.placed_at.event + s.end.offset
+  later : left t s.placed_at.event + passed t from ≤ left t from.event + passed t s.placed_at
+  takes : suc (left t s.end.event) + passed t s.placed_at ≤ left t s.placed_at.event + passed t s.end
+  placed : IsAtChar t s.placed_at
+  at_char : IsAtChar t s.end
   grows : beyond from ≤ beyond s.placed_at
   ends : suc s.placed_at.event ≤ beyond s.end
   solid : is_solid_at t.boxes (slice_get t.events s.placed_at.event) ≡ true
 
-solid_takes : (faces : List FontFace) (t : Tree) (w : ℤ) (from : Position) (s : SolidView) → IsTree t → Stands t from → IsSolid faces t w from s → Takes t from s
-solid_takes faces t w from s tree st is = record { later = (place_by (eqb_tells s.placed_at.event from.event)).0; grows = (place_by (eqb_tells s.placed_at.event from.event)).1; takes = (by is.content).0; ends = (by is.content).1; solid = here }
+solid_takes : (faces : List FontFace) (t : Tree) (w : ℤ) (from : Position) (s : SolidView) → IsTree t → HaveTexts t → Stands t from → IsAtChar t from → IsSolid faces t w from s → Takes t from s
+solid_takes faces t w from s tree texts st char is = record { later = (place_by (eqb_tells s.placed_at.event from.event)).0; grows = (place_by (eqb_tells s.placed_at.event from.event)).1; placed = placed; takes = (by is.content).0; at_char = (by is.content).2; ends = (by is.content).1; solid = here }
   where
     here : is_solid_at t.boxes (slice_get t.events s.placed_at.event) ≡ true
     here = (after_solid t from.event s.placed_at.event is.found).1
@@ -128,11 +206,11 @@ solid_takes faces t w from s tree st is = record { later = (place_by (eqb_tells 
     after : from.event ≤ s.placed_at.event
     after = (after_solid t from.event s.placed_at.event is.found).0
 
-    place_by : ((eqb s.placed_at.event from.event ≡ true) × (s.placed_at.event ≡ from.event)) ⊎ ((eqb s.placed_at.event from.event ≡ false) × (s.placed_at.event ≢ from.event)) → (left t s.placed_at.event + from.offset ≤ left t from.event + s.placed_at.offset) × (beyond from ≤ beyond s.placed_at)
+    place_by : ((eqb s.placed_at.event from.event ≡ true) × (s.placed_at.event ≡ from.event)) ⊎ ((eqb s.placed_at.event from.event ≡ false) × (s.placed_at.event ≢ from.event)) → (left t s.placed_at.event + passed t from ≤ left t from.event + passed t s.placed_at) × (beyond from ≤ beyond s.placed_at)
     place_by (inl e) =
         let offset : s.placed_at.offset ≡ from.offset = begins_of faces t w from s st is ∙ ap (λ (b : Bool). cond b from.offset 0) e.0 in
         let same : s.placed_at ≡ from = ap (λ (n : ℕ). place n s.placed_at.offset) e.1 ∙ ap (place from.event) offset in
-        subst (λ (p : Position). (left t p.event + from.offset ≤ left t from.event + p.offset) × (beyond from ≤ beyond p)) (sym same) (omega arith, omega arith)
+        subst (λ (p : Position). (left t p.event + passed t from ≤ left t from.event + passed t p) × (beyond from ≤ beyond p)) (sym same) (omega arith, omega arith)
     place_by (inr e) = ⊎_elim
         (λ (o : 0 < from.offset).
         let p = st.offset o in
@@ -141,6 +219,7 @@ solid_takes faces t w from s tree st is = record { later = (place_by (eqb_tells 
         absurd (e.1 (let n : from.event ≡ s.placed_at.event = cc in sym n)))
         (λ (o : from.offset ≤ 0).
         let l = left_later t from.event s.placed_at.event after in
+        let none = passed_none t from (omega arith) in
         let a = after in
         let n = e.1 in
         let more : suc from.event ≤ s.placed_at.event = less from.event s.placed_at.event a (λ g. n (sym g)) in
@@ -152,29 +231,74 @@ solid_takes faces t w from s tree st is = record { later = (place_by (eqb_tells 
         less : (x y : ℕ) → x ≤ y → x ≢ y → suc x ≤ y
         less x y low other = ⊎_elim (λ (h : x < y). omega arith) (λ (h : y ≤ x). absurd (other (omega arith))) (cases_lt x y)
 
+    -- the solid begins where the run does, or where an event does
+    placed : IsAtChar t s.placed_at
+    placed = go (eqb_tells s.placed_at.event from.event)
+      where
+        go : ((eqb s.placed_at.event from.event ≡ true) × (s.placed_at.event ≡ from.event)) ⊎ ((eqb s.placed_at.event from.event ≡ false) × (s.placed_at.event ≢ from.event)) → IsAtChar t s.placed_at
+        go (inl e) =
+            let offset : s.placed_at.offset ≡ from.offset = begins_of faces t w from s st is ∙ ap (λ (b : Bool). cond b from.offset 0) e.0 in
+            let same : s.placed_at ≡ from = ap (λ (n : ℕ). place n s.placed_at.offset) e.1 ∙ ap (place from.event) offset in
+            subst (IsAtChar t) (sym same) char
+        go (inr e) =
+            let offset : s.placed_at.offset ≡ 0 = begins_of faces t w from s st is ∙ ap (λ (b : Bool). cond b from.offset 0) e.0 in
+            let same : s.placed_at ≡ place s.placed_at.event 0 = ap (place s.placed_at.event) offset in
+            subst (IsAtChar t) (sym same) (begin_at_char t s.placed_at.event texts)
+
     Taken : Position → Type 0
-    Taken p = (suc (left t p.event) + s.placed_at.offset ≤ left t s.placed_at.event + p.offset) × (suc s.placed_at.event ≤ beyond p)
+    Taken p = (suc (left t p.event) + passed t s.placed_at ≤ left t s.placed_at.event + passed t p) × (suc s.placed_at.event ≤ beyond p) × IsAtChar t p
 
     edge : (e : Event) → slice_get t.events s.placed_at.event ≡ Some e → ((l : ℕ) → e ≡ Leaf l → ⊥) → s.placed_at.offset ≡ 0 → s.end ≡ place (s.placed_at.event + 1) 0 → Taken s.end
     edge e at other begins ends =
         let h = edge_here t s.placed_at.event e at (sym (ap (λ o. is_solid_at t.boxes o) at) ∙ here) other in
-        subst Taken (sym ends) (omega arith, omega arith)
+        let none = passed_none t s.placed_at begins in
+        let next = passed_none t (place (s.placed_at.event + 1) 0) refl in
+        subst Taken (sym ends) (omega arith, omega arith, begin_at_char t (s.placed_at.event + 1) texts)
 
     line : (l : IsLineSolid faces t w from s) → Taken s.end
     line l =
         let f = found_of faces t w from s tree st is.found l in
         let text = lines_go_on faces l.leaf s.placed_at.offset (leaf_measure t w s.placed_at.event) l.line_of f.inside l.fills in
-        to_by (eqb_tells l.line_of.to (length l.leaf.text)) l.ends text.0 text.1 (line_here t s.placed_at.event l.number l.leaf l.names l.has)
+        let stands = end_stands l.leaf f.good (texts s.placed_at.event l.number l.leaf l.names l.has) s.placed_at.offset l.line_of.to f.inside l.fills.ends in
+        to_by (eqb_tells l.line_of.to (length l.leaf.text)) l.ends text.0 text.1 f.inside stands
       where
-        to_by : {to len : ℕ} → ((eqb to len ≡ true) × (to ≡ len)) ⊎ ((eqb to len ≡ false) × (to ≢ len)) → s.end ≡ end_of s.placed_at.event len to → s.placed_at.offset < to → to ≤ len → left t s.placed_at.event ≡ len + left t (suc s.placed_at.event) → Taken s.end
-        to_by {to} {len} (inl h) ends a b size =
+        size : left t s.placed_at.event ≡ char_count l.leaf.text + left t (suc s.placed_at.event)
+        size = line_here t s.placed_at.event l.number l.leaf l.names l.has
+
+        same_text : text_at t s.placed_at.event ≡ l.leaf.text
+        same_text = text_here t s.placed_at.event l.number l.leaf l.names l.has
+
+        begins : passed t s.placed_at ≡ count_to l.leaf.text s.placed_at.offset
+        begins = ap (λ (bs : List ℕ). count_to bs s.placed_at.offset) same_text
+
+        more : (to : ℕ) → s.placed_at.offset < to → s.placed_at.offset < length l.leaf.text → suc (passed t s.placed_at) ≤ count_to l.leaf.text to
+        more to less inside =
+            let start = starts_char l.leaf.text s.placed_at.offset (placed l.number l.leaf l.names l.has) inside in
+            let count = count_more l.leaf.text s.placed_at.offset to less inside start in
+            let b = begins in
+            omega arith
+
+        to_by : {to : ℕ} → ((eqb to (length l.leaf.text) ≡ true) × (to ≡ length l.leaf.text)) ⊎ ((eqb to (length l.leaf.text) ≡ false) × (to ≢ length l.leaf.text)) → s.end ≡ end_of s.placed_at.event (length l.leaf.text) to → s.placed_at.offset < to → to ≤ length l.leaf.text → s.placed_at.offset < length l.leaf.text → IsCharBoundary l.leaf.text to → Taken s.end
+        to_by {to} (inl h) ends a b inside stands =
             let e : s.end ≡ place (suc s.placed_at.event) 0 = ends ∙ ap (λ (x : Bool). cond x (record { event = s.placed_at.event + 1; offset = 0 }) (record { event = s.placed_at.event; offset = to })) h.0 ∙ ap (λ (n : ℕ). place n 0) (add-one s.placed_at.event) in
-            let same = h.1 in
-            subst Taken (sym e) (omega arith, omega arith)
-        to_by {to} {len} (inr h) ends a b size =
+            let one = more (length l.leaf.text) inside inside in
+            let all = count_all l.leaf.text in
+            let next = passed_none t (place (suc s.placed_at.event) 0) refl in
+            let z = size in
+            subst Taken (sym e) (omega arith, omega arith, begin_at_char t (suc s.placed_at.event) texts)
+        to_by {to} (inr h) ends a b inside stands =
             let e : s.end ≡ place s.placed_at.event to = ends ∙ ap (λ (x : Bool). cond x (record { event = s.placed_at.event + 1; offset = 0 }) (record { event = s.placed_at.event; offset = to })) h.0 in
             let far = beyond_in (place s.placed_at.event to) (omega arith) in
-            subst Taken (sym e) (omega arith, omega arith)
+            let one = more to a inside in
+            let there : passed t (place s.placed_at.event to) ≡ count_to l.leaf.text to = ap (λ (bs : List ℕ). count_to bs to) same_text in
+            subst Taken (sym e) (omega arith, omega arith, λ n leaf names has. subst (λ (x : LeafData). IsCharBoundary x.text to) (one_leaf n leaf names has) stands)
+          where
+            one_leaf : (n : ℕ) (leaf : LeafData) → slice_get t.events s.placed_at.event ≡ Some (Leaf n) → slice_get t.leaves n ≡ Some leaf → l.leaf ≡ leaf
+            one_leaf n leaf names has =
+                let named : Some (Leaf l.number) ≡ Some (Leaf n) = sym l.names ∙ names in
+                let number : l.number ≡ n = cc in
+                let same : Some l.leaf ≡ Some leaf = sym l.has ∙ ap (slice_get t.leaves) number ∙ has in
+                cc
 
     by : IsContent faces t w from s → Taken s.end
     by (of_line l) = line l
@@ -183,24 +307,26 @@ solid_takes faces t w from s tree st is = record { later = (place_by (eqb_tells 
 
 -- what a number of solids take before one of them
 record Reached (t : Tree) (from : Position) (n : ℕ) (v : SolidView) : Type 0 where
-  taken : n + left t v.placed_at.event + from.offset ≤ left t from.event + v.placed_at.offset
-  some : suc v.placed_at.offset ≤ left t v.placed_at.event
+  taken : n + left t v.placed_at.event + passed t from ≤ left t from.event + passed t v.placed_at
+  some : suc (passed t v.placed_at) ≤ left t v.placed_at.event
+  at_char : IsAtChar t v.placed_at
   grows : beyond from ≤ beyond v.placed_at
   solid : is_solid_at t.boxes (slice_get t.events v.placed_at.event) ≡ true
 
-reached : (faces : List FontFace) (t : Tree) (w : ℤ) → IsTree t → (from : Position) (solids : List SolidView) (n : ℕ) (v : SolidView) → Stands t from → IsRemainder faces t w from solids → slice_get solids n ≡ Some v → Reached t from n v
-reached faces t w tree from [] n v st r e = absurd (cc)
-reached faces t w tree from (x ∷ xs) zero v st r e =
+reached : (faces : List FontFace) (t : Tree) (w : ℤ) → IsTree t → HaveTexts t → (from : Position) (solids : List SolidView) (n : ℕ) (v : SolidView) → Stands t from → IsAtChar t from → IsRemainder faces t w from solids → slice_get solids n ≡ Some v → Reached t from n v
+reached faces t w tree texts from [] n v st char r e = absurd (cc)
+reached faces t w tree texts from (x ∷ xs) zero v st char r e =
     let same : x ≡ v = cc in
-    let a = solid_takes faces t w from x tree st r.1.0 in
-    let low = offset_low t x.end (solid_stands faces t w from x tree st r.1.0) in
+    let a = solid_takes faces t w from x tree texts st char r.1.0 in
+    let low = passed_low t x.end (solid_stands faces t w from x tree st r.1.0) in
     let b = a.takes in
     let c = a.later in
-    subst (Reached t from 0) same (record { taken = omega arith; some = omega arith; grows = a.grows; solid = a.solid })
-reached faces t w tree from (x ∷ xs) (suc n) v st r e =
-    let a = solid_takes faces t w from x tree st r.1.0 in
+    subst (Reached t from 0) same (record { taken = omega arith; some = omega arith; at_char = a.placed; grows = a.grows; solid = a.solid })
+reached faces t w tree texts from (x ∷ xs) (suc n) v st char r e =
+    let a = solid_takes faces t w from x tree texts st char r.1.0 in
     let there = subst (Stands t) (sym r.1.1) (solid_stands faces t w from x tree st r.1.0) in
-    let more = subst (λ (p : Position). Reached t p n v) r.1.1 (reached faces t w tree r.0 xs n v there r.2 e) in
+    let char_there = subst (IsAtChar t) (sym r.1.1) a.at_char in
+    let more = subst (λ (p : Position). Reached t p n v) r.1.1 (reached faces t w tree texts r.0 xs n v there char_there r.2 e) in
     let b = a.takes in
     let c = a.later in
     let d = more.taken in
@@ -208,14 +334,15 @@ reached faces t w tree from (x ∷ xs) (suc n) v st r e =
     let on = more.grows in
     let up = a.grows in
     let near = (beyond_low x.placed_at).1 in
-    record { taken = omega arith; some = more.some; grows = omega arith; solid = more.solid }
+    record { taken = omega arith; some = more.some; at_char = more.at_char; grows = omega arith; solid = more.solid }
 
 -- a later solid stands beyond the first one
-past_first : (faces : List FontFace) (t : Tree) (w : ℤ) → IsTree t → (from : Position) (x : SolidView) (xs : List SolidView) (n : ℕ) (v : SolidView) → Stands t from → IsRemainder faces t w from (x ∷ xs) → slice_get (x ∷ xs) (suc n) ≡ Some v → suc x.placed_at.event ≤ beyond v.placed_at
-past_first faces t w tree from x xs n v st r e =
-    let a = solid_takes faces t w from x tree st r.1.0 in
+past_first : (faces : List FontFace) (t : Tree) (w : ℤ) → IsTree t → HaveTexts t → (from : Position) (x : SolidView) (xs : List SolidView) (n : ℕ) (v : SolidView) → Stands t from → IsAtChar t from → IsRemainder faces t w from (x ∷ xs) → slice_get (x ∷ xs) (suc n) ≡ Some v → suc x.placed_at.event ≤ beyond v.placed_at
+past_first faces t w tree texts from x xs n v st char r e =
+    let a = solid_takes faces t w from x tree texts st char r.1.0 in
     let there = subst (Stands t) (sym r.1.1) (solid_stands faces t w from x tree st r.1.0) in
-    let more = subst (λ (p : Position). Reached t p n v) r.1.1 (reached faces t w tree r.0 xs n v there r.2 e) in
+    let char_there = subst (IsAtChar t) (sym r.1.1) a.at_char in
+    let more = subst (λ (p : Position). Reached t p n v) r.1.1 (reached faces t w tree texts r.0 xs n v there char_there r.2 e) in
     let far = a.ends in
     let on = more.grows in
     omega arith
@@ -268,23 +395,23 @@ module _ (free : Demand → Bool) (t : Tree) where
   bit b = cond b 1 0
 
   -- a page takes the side that is asked at its start
-  page_asks : (faces : List FontFace) (w : ℤ) → IsTree t → (from : Position) (x : SolidView) (xs : List SolidView) (n : ℕ) (v : SolidView) → Stands t from → IsRemainder faces t w from (x ∷ xs) → slice_get (x ∷ xs) (suc n) ≡ Some v → bit (asks_at from) + sided_from (beyond v.placed_at) ≤ sided_from (beyond from)
-  page_asks faces w tree from x xs n v st r e = by (asks_at from) refl
+  page_asks : (faces : List FontFace) (w : ℤ) → IsTree t → HaveTexts t → (from : Position) (x : SolidView) (xs : List SolidView) (n : ℕ) (v : SolidView) → Stands t from → IsAtChar t from → IsRemainder faces t w from (x ∷ xs) → slice_get (x ∷ xs) (suc n) ≡ Some v → bit (asks_at from) + sided_from (beyond v.placed_at) ≤ sided_from (beyond from)
+  page_asks faces w tree texts from x xs n v st char r e = by (asks_at from) refl
     where
       grows : beyond from ≤ beyond v.placed_at
-      grows = (reached faces t w tree from (x ∷ xs) (suc n) v st r e).grows
+      grows = (reached faces t w tree texts from (x ∷ xs) (suc n) v st char r e).grows
 
       by : (b : Bool) → asks_at from ≡ b → bit b + sided_from (beyond v.placed_at) ≤ sided_from (beyond from)
       by false h = let l = sided_later (beyond from) (beyond v.placed_at) grows in omega arith
       by true h =
-          let a = solid_takes faces t w from x tree st r.1.0 in
+          let a = solid_takes faces t w from x tree texts st char r.1.0 in
           let asks : asks_at x.placed_at ≡ true = ap (λ (i : SeamInfo). is_sided free i.forced) (sym (seam_next faces t w from x st r.1.0 (pos 0))) ∙ h in
           let s = sided_at x.placed_at a.solid asks in
           let head = s.1 in
           let flat : beyond x.placed_at ≡ x.placed_at.event = ap (λ (o : ℕ). cond (o == 0) x.placed_at.event (suc x.placed_at.event)) s.0 in
           let up = a.grows in
           let one = sided_later (beyond from) x.placed_at.event (omega arith) in
-          let two = sided_later (suc x.placed_at.event) (beyond v.placed_at) (past_first faces t w tree from x xs n v st r e) in
+          let two = sided_later (suc x.placed_at.event) (beyond v.placed_at) (past_first faces t w tree texts from x xs n v st char r e) in
           omega arith
 
   -- a side that the flow's start asks is asked before its first solid
@@ -315,17 +442,18 @@ none_after faces t frames u (p ∷ pages) done r = by r.1
 
 -- a place's edges and characters
 abbrev rest_at : Tree → Position → ℕ
-rest_at t at = left t at.event - at.offset
+rest_at t at = left t at.event - passed t at
 
 -- what a cut that doesn't end the flow leaves
 record Leaves (free : Demand → Bool) (t : Tree) (from to : Position) : Type 0 where
   less : suc (rest_at t to) ≤ rest_at t from
   some : 1 ≤ rest_at t to
+  at_char : IsAtChar t to
   asks : bit free t (asks_at free t from) + sided_from free t (beyond to) ≤ sided_from free t (beyond from)
   next : asks_at free t to ≡ true → 1 ≤ sided_from free t (beyond to)
 
-cut_leaves : (free : Demand → Bool) (faces : List FontFace) (t : Tree) (frame : Frame) (from : Position) (kept : Bool) (cut : Cut) → IsTree t → Stands t from → IsFlowCut faces t frame from kept cut → cut.ended ≡ false → Leaves free t from cut.to
-cut_leaves free faces t frame from kept cut tree st is going = by is.solids is.rest is.cuts
+cut_leaves : (free : Demand → Bool) (faces : List FontFace) (t : Tree) (frame : Frame) (from : Position) (kept : Bool) (cut : Cut) → IsTree t → HaveTexts t → Stands t from → IsAtChar t from → IsFlowCut faces t frame from kept cut → cut.ended ≡ false → Leaves free t from cut.to
+cut_leaves free faces t frame from kept cut tree texts st char is going = by is.solids is.rest is.cuts
   where
     by : (solids : List SolidView) → IsRemainder faces t frame.width from solids → CutsSolids t frame.height kept solids cut → Leaves free t from cut.to
     by [] r e = absurd (let f : true ≡ false = sym (ap (λ (c : Cut). c.ended) e) ∙ going in cc)
@@ -337,14 +465,15 @@ cut_leaves free faces t frame from kept cut tree st is going = by is.solids is.r
         let other : suc n ≢ length (x ∷ xs) = unlike (suc n) (length (x ∷ xs)) (sym at.ended_is ∙ going) in
         let v = slice_get_at (x ∷ xs) (suc n) (under (suc n) (length (x ∷ xs)) (omega arith) other) in
         let to : cut.to ≡ v.0.placed_at = at.to_is ∙ ap (place_after t) v.1 in
-        let far = reached faces t frame.width tree from (x ∷ xs) (suc n) v.0 st r v.1 in
+        let far = reached faces t frame.width tree texts from (x ∷ xs) (suc n) v.0 st char r v.1 in
         let taken = far.taken in
         let some = far.some in
-        let low = offset_low t from st in
-        let asks = page_asks free t faces frame.width tree from x xs n v.0 st r v.1 in
+        let low = passed_low t from st in
+        let asks = page_asks free t faces frame.width tree texts from x xs n v.0 st char r v.1 in
         subst (Leaves free t from) (sym to) (record {
           less = omega arith;
           some = omega arith;
+          at_char = far.at_char;
           asks = asks;
           next = λ h.
               let s = sided_at free t v.0.placed_at far.solid h in
@@ -363,14 +492,14 @@ cut_leaves free faces t frame from kept cut tree st is going = by is.solids is.r
 abbrev pub AreNear : PageFrames → (Demand → Bool) → ℕ → Type 0
 AreNear frames free bound = (index : ℕ) (d : Option Demand) → (k : ℕ) × (k ≤ cond (is_sided free d) bound 0) × (meets_at frames (index + k) d ≡ true)
 
-module _ (free : Demand → Bool) (bound : ℕ) (faces : List FontFace) (t : Tree) (frames : PageFrames) (tree : IsTree t) (near : AreNear frames free bound) where
-  bound_on : (s : State) (pages : List Page) (k asked : ℕ) → Stands t s.at → s.done ≡ false → s.demand ≡ (seam_of t s.at (pos 0)).forced → meets_at frames (s.index + k) s.demand ≡ true →
+module _ (free : Demand → Bool) (bound : ℕ) (faces : List FontFace) (t : Tree) (frames : PageFrames) (tree : IsTree t) (texts : HaveTexts t) (near : AreNear frames free bound) where
+  bound_on : (s : State) (pages : List Page) (k asked : ℕ) → Stands t s.at → IsAtChar t s.at → s.done ≡ false → s.demand ≡ (seam_of t s.at (pos 0)).forced → meets_at frames (s.index + k) s.demand ≡ true →
       sided_from free t (beyond s.at) ≤ bit free t (asks_at free t s.at) + asked → IsRun (IsStep faces t frames) IsEnded s pages → length pages ≤ k + (max 1 (rest_at t s.at) + asked * bound)
-  bound_on s [] k asked st going asks met sided ended = absurd (let f : true ≡ false = sym ended ∙ going in cc)
-  bound_on s (p ∷ pages) k asked st going asks met sided r = by r.0 r.1 r.2 (λ j n st' going' asks' met' sided'. bound_on r.0 pages j n st' going' asks' met' sided' r.2)
+  bound_on s [] k asked st char going asks met sided ended = absurd (let f : true ≡ false = sym ended ∙ going in cc)
+  bound_on s (p ∷ pages) k asked st char going asks met sided r = by r.0 r.1 r.2 (λ j n st' char' going' asks' met' sided'. bound_on r.0 pages j n st' char' going' asks' met' sided' r.2)
     where
       More : State → Type 0
-      More u = (j n : ℕ) → Stands t u.at → u.done ≡ false → u.demand ≡ (seam_of t u.at (pos 0)).forced → meets_at frames (u.index + j) u.demand ≡ true → sided_from free t (beyond u.at) ≤ bit free t (asks_at free t u.at) + n → length pages ≤ j + (max 1 (rest_at t u.at) + n * bound)
+      More u = (j n : ℕ) → Stands t u.at → IsAtChar t u.at → u.done ≡ false → u.demand ≡ (seam_of t u.at (pos 0)).forced → meets_at frames (u.index + j) u.demand ≡ true → sided_from free t (beyond u.at) ≤ bit free t (asks_at free t u.at) + n → length pages ≤ j + (max 1 (rest_at t u.at) + n * bound)
 
       Goal : Type 0
       Goal = length (p ∷ pages) ≤ k + (max 1 (rest_at t s.at) + asked * bound)
@@ -384,10 +513,10 @@ module _ (free : Demand → Bool) (bound : ℕ) (faces : List FontFace) (t : Tre
       page cut is more on =
           let f : Frame = frames.frame_of s.index (name_at t s.at) kind.Flow in
           let there = cut_stands faces t f s.at s.kept cut tree st is in
-          let l = cut_leaves free faces t f s.at s.kept cut tree st is on in
+          let l = cut_leaves free faces t f s.at s.kept cut tree texts st char is on in
           let next : cut.forced ≡ (seam_of t cut.to (pos 0)).forced = (cut_breaks faces t f s.at s.kept cut st is).next on in
           let m = near (suc s.index) cut.forced in
-          asked_by l m.0 (asks_at free t cut.to) refl (subst (λ (d : Option Demand). m.0 ≤ cond (is_sided free d) bound 0) next m.1) (λ n sided'. more m.0 n there on next m.2 sided')
+          asked_by l m.0 (asks_at free t cut.to) refl (subst (λ (d : Option Demand). m.0 ≤ cond (is_sided free d) bound 0) next m.1) (λ n sided'. more m.0 n there l.at_char on next m.2 sided')
         where
           Size : ℕ → ℕ → Type 0
           Size j n = length pages ≤ j + (max 1 (rest_at t cut.to) + n * bound)
@@ -423,7 +552,7 @@ module _ (free : Demand → Bool) (bound : ℕ) (faces : List FontFace) (t : Tre
         where
           short : (j : ℕ) → meets_at frames (s.index + j) s.demand ≡ true → meets_at frames s.index s.demand ≡ false → More (record s { index = suc s.index }) → (length pages ≤ (j - 1) + (max 1 (rest_at t s.at) + asked * bound)) ⊎ (j ≡ 0)
           short zero meets n on = inr refl
-          short (suc j) meets n on = let i : s.index + suc j ≡ suc s.index + j = omega arith in inl (let h = on j asked st going asks (subst (λ (m : ℕ). meets_at frames m s.demand ≡ true) i meets) sided in omega arith)
+          short (suc j) meets n on = let i : s.index + suc j ≡ suc s.index + j = omega arith in inl (let h = on j asked st char going asks (subst (λ (m : ℕ). meets_at frames m s.demand ≡ true) i meets) sided in omega arith)
       by u (flow going' m cut is p_is u_is) run more = ended_by cut.ended refl
         where
           ended_by : (b : Bool) → cut.ended ≡ b → Goal
@@ -438,12 +567,12 @@ module _ (free : Demand → Bool) (bound : ℕ) (faces : List FontFace) (t : Tre
   page_bound pages paged =
       let demand : Option Demand = (start_of t).demand in
       let first = near 1 demand in
-      by (asks_at free t (start_of t).at) refl first.1 (λ n sided. bound_on (start_of t) pages first.0 n (start_stands t) refl refl first.2 sided paged)
+      by (asks_at free t (start_of t).at) refl first.1 (λ n sided. bound_on (start_of t) pages first.0 n (start_stands t) (begin_at_char t 0 texts) refl refl first.2 sided paged)
     where
       by : {j : ℕ} (b : Bool) → asks_at free t (start_of t).at ≡ b → j ≤ cond b bound 0 → ((n : ℕ) → sided_from free t 0 ≤ bit free t (asks_at free t (start_of t).at) + n → length pages ≤ j + (max 1 (rest_at t (start_of t).at) + n * bound)) → length pages ≤ most_pages_of free bound t
-      by {j} false h small rest = let size = rest (sided_from free t 0) (omega arith) in omega arith
+      by {j} false h small rest = let size = rest (sided_from free t 0) (omega arith) in let none = passed_none t (start_of t).at refl in omega arith
       by {j} true h small rest = go (sided_from free t 0) refl
         where
           go : (n : ℕ) → sided_from free t 0 ≡ n → length pages ≤ most_pages_of free bound t
           go zero e = absurd (let low = start_sided free t h in omega arith)
-          go (suc n) e = let size = rest n (rw h (omega arith)) in let step : suc n * bound ≡ n * bound + bound = suc-mul n bound in let all : sided_in free t * bound ≡ suc n * bound = ap (λ (m : ℕ). m * bound) e in omega arith
+          go (suc n) e = let none = passed_none t (start_of t).at refl in let size = rest n (rw h (omega arith)) in let step : suc n * bound ≡ n * bound + bound = suc-mul n bound in let all : sided_in free t * bound ≡ suc n * bound = ap (λ (m : ℕ). m * bound) e in omega arith

@@ -1,11 +1,14 @@
 -- How many pages a flow without notes has at most.
-use Rattle.std.specs.Prelude.{ℕ, suc, ◌+◌, ◌*◌, pos, List, [], ◌∷◌, Option, None, Some, Bool, false, not, ◌&&◌, length, max, if◌then◌else◌}
+use Rattle.std.specs.Prelude.{◌≡◌, ℕ, suc, ◌+◌, ◌*◌, pos, List, [], ◌∷◌, Option, None, Some, Bool, false, not, ◌&&◌, length, max, slice_get, if◌then◌else◌}
+use Rattle.std.specs.Fmt.{char_count}
+use Rattle.std.specs.Str.{IsUtf8}
 use Rattle.boxes.specs.Tree.{Tree}
+use Rattle.boxes.specs.declared.leaf.Leaf.{Leaf as LeafData}
 use Rattle.boxes.specs.declared.frames.Demand.{Demand}
 use Rattle.boxes.specs.declared.place.Event.{Event}
+use Rattle.boxes.specs.declared.place.Event.TheVariants.{Opens, Closes, Leaf}
 use Rattle.seams.specs.Runs.{is_solid}
 use Rattle.seams.specs.Seams.{seam_of}
-use Rattle.fragment.specs.Pages.{text_size}
 use Rattle.fragment.specs.Parted.{edges_among}
 
 -- whether a seam has a demand that isn't free: not each page meets it
@@ -24,10 +27,30 @@ sided_among free t k (e ∷ es) =
 abbrev pub sided_in : (Demand → Bool) → Tree → ℕ
 sided_in free t = sided_among free t 0 t.events
 
--- the edges that a tree has, and the bytes of its text
+-- how many characters a leaf has
+abbrev pub chars_by : Option LeafData → ℕ
+chars_by None = 0
+chars_by (Some leaf) = char_count leaf.text
+
+-- the characters of the leaves among events
+abbrev pub chars_among : List LeafData → List Event → ℕ
+chars_among leaves [] = 0
+chars_among leaves (Opens b ∷ es) = chars_among leaves es
+chars_among leaves (Closes b ∷ es) = chars_among leaves es
+chars_among leaves (Leaf l ∷ es) = chars_by (slice_get leaves l) + chars_among leaves es
+
+-- the edges that a tree has, and the characters of its text
 abbrev pub parts_in : Tree → ℕ
-parts_in t = text_size t.leaves t.events + length (edges_among t.boxes t.events)
+parts_in t = chars_among t.leaves t.events + length (edges_among t.boxes t.events)
 
 -- as many pages as parts, at least one, and before each side that is asked as many blank ones as frames need at most
 abbrev pub most_pages_of : (Demand → Bool) → ℕ → Tree → ℕ
 most_pages_of free bound t = max 1 (parts_in t) + sided_in free t * bound
+
+-- what stands in the leaf of an event is a text
+abbrev pub HasText : Tree → ℕ → Type 0
+HasText t event = (l : ℕ) (leaf : LeafData) → slice_get t.events event ≡ Some (Leaf l) → slice_get t.leaves l ≡ Some leaf → IsUtf8 leaf.text
+
+-- what stands in each leaf is a text
+abbrev pub HaveTexts : Tree → Type 0
+HaveTexts t = (event : ℕ) → HasText t event

@@ -2,7 +2,7 @@
 
 ghost use Rattle.std.specs.Prelude.{◌≡◌, ℕ, ◌+◌, ◌<◌, ◌≤◌, length, true, false, IfOk, IfErr};
 ghost use Rattle.bk_num.specs.Limits.{most_pages};
-ghost use Rattle.fragment.specs.Bounds.{most_pages_of};
+ghost use Rattle.fragment.specs.Bounds.{HasText, HaveTexts, most_pages_of};
 ghost use Rattle.fragment.specs.Conditions.{CanBePaged};
 ghost use Rattle.fragment.specs.Inside.{EndInside};
 ghost use Rattle.fragment.specs.Pages.{HasOnePageList, HasSomePageList, HaveNearTops, IsPaged, LeavesNothing, LeavesSome, flow_page_of, blank_of, meets_at, AddsBlanks};
@@ -17,7 +17,8 @@ use bk_num::steps::Steps;
 use boxes::flow::Flow;
 use boxes::frames::{Demand, Frame, Frames, PageKind};
 use boxes::page::{Page, PageList};
-use boxes::place::Position;
+use boxes::place::{Event, Position};
+use boxes::tree::BoxTree;
 use cursor::laws::remainder_is_one;
 use metrics::Faces;
 use seams::seam::seam;
@@ -121,6 +122,26 @@ fn add_blanks<Fr: Frames>(
     Ok(index + empty)
 }
 
+/// The leaf of an event has a text, whose characters are counted.
+fn has_text(tree: &BoxTree, event: u32)
+    requires { event < length tree.now.events }
+    ensures { HasText tree.now event }
+{
+    let _count = tree.count();
+    if let Event::Leaf(number) = tree.event(event) {
+        let _text = tree.leaf(number).text.as_str();
+    }
+}
+
+/// So has each leaf of a tree.
+fn have_texts(tree: &BoxTree)
+    ensures { HaveTexts tree.now }
+{
+    for event in 0..tree.count() {
+        has_text(tree, event);
+    }
+}
+
 /// Two page lists of one flow are equal.
 pub fn one_page_list()
     ensures { HasOnePageList }
@@ -171,6 +192,7 @@ pub fn paginate<Fr: Frames, L: Ledger>(
 {
     let tree = &flow.main;
     let _count = tree.count();
+    have_texts(tree);
     let mut pages = Vec::new(alloc);
     let mut from = CutFrom {
         at: Position {

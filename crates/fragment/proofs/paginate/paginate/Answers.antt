@@ -81,7 +81,7 @@ near_pages g c index (Some d) = by (g.Fr.Frames.is_free c.args.frames.now d) ref
 
 pub returns-then-ended-clause-bound : goal.returns-then-ended-clause-bound
 returns-then-ended-clause-bound g c =
-    page_bound (g.Fr.Frames.is_free c.args.frames.now) (g.Fr.Frames.bound c.args.frames.now) c.args.faces.now c.args.flow.now.main (record { meets = g.Fr.Frames.meets c.args.frames.now; frame_of = g.Fr.Frames.frame_of c.args.frames.now }) c.count-count.ensures.tree (near_pages g (goal.at.returns-then-ended-clause-bound g c).After-page_of) c.of.result (returns-then-ended-clause-pages g c)
+    page_bound (g.Fr.Frames.is_free c.args.frames.now) (g.Fr.Frames.bound c.args.frames.now) c.args.faces.now c.args.flow.now.main (record { meets = g.Fr.Frames.meets c.args.frames.now; frame_of = g.Fr.Frames.frame_of c.args.frames.now }) c.count-count.ensures.tree c.have_texts.ensures (near_pages g (goal.at.returns-then-ended-clause-bound g c).After-page_of) c.of.result (returns-then-ended-clause-pages g c)
 
 pub returns-then-ended-clause-tops : goal.returns-then-ended-clause-tops
 returns-then-ended-clause-tops g c =
