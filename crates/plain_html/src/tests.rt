@@ -6,19 +6,37 @@ use dom::{Dom, DomErr};
 use std::alloc::Global;
 use std::test::Fail;
 
+/// Adds an element, where its parent is one.
+fn add(alloc: Global, dom: &mut Dom, parent: u32, name: &str) -> Result<(), DomErr> {
+    if parent >= dom.len() || dom.name(NodeId(parent)).is_none() {
+        return Err(DomErr::NoMemory);
+    }
+    dom.add_element(alloc, NodeId(parent), name)?;
+    Ok(())
+}
+
+/// Adds a text, where its parent is an element.
+fn add_text(alloc: Global, dom: &mut Dom, parent: u32, text: &str) -> Result<(), DomErr> {
+    if parent >= dom.len() || dom.name(NodeId(parent)).is_none() {
+        return Err(DomErr::NoMemory);
+    }
+    dom.add_text(alloc, NodeId(parent), text)?;
+    Ok(())
+}
+
 /// `html` with `head` (1) that has a `title` (2) and a `style` (4), each with a text, and `p` (6) with a text (7) and `p` (8)
 /// with white space (9).
 fn small(alloc: Global) -> Result<Dom, DomErr> {
     let mut dom = Dom::new(alloc)?;
-    dom.add_element(alloc, NodeId(0), "head")?;
-    dom.add_element(alloc, NodeId(1), "title")?;
-    dom.add_text(alloc, NodeId(2), "Ä title")?;
-    dom.add_element(alloc, NodeId(1), "style")?;
-    dom.add_text(alloc, NodeId(4), "p::before{content:'Ä'}")?;
-    dom.add_element(alloc, NodeId(0), "p")?;
-    dom.add_text(alloc, NodeId(6), "\t a \n\n b ")?;
-    dom.add_element(alloc, NodeId(0), "p")?;
-    dom.add_text(alloc, NodeId(8), " \n")?;
+    add(alloc, &mut dom, 0, "head")?;
+    add(alloc, &mut dom, 1, "title")?;
+    add_text(alloc, &mut dom, 2, "Ä title")?;
+    add(alloc, &mut dom, 1, "style")?;
+    add_text(alloc, &mut dom, 4, "p::before{content:'Ä'}")?;
+    add(alloc, &mut dom, 0, "p")?;
+    add_text(alloc, &mut dom, 6, "\t a \n\n b ")?;
+    add(alloc, &mut dom, 0, "p")?;
+    add_text(alloc, &mut dom, 8, " \n")?;
     Ok(dom)
 }
 
@@ -39,22 +57,21 @@ fn paragraphs_have_their_texts_collapsed(rt: HostRuntime) -> Result<(), Fail> {
     Ok(())
 }
 
+/// The number of the node that isn't built, once one more element stands below the root.
+fn unbuilt_with(alloc: Global, name: &str) -> Result<Option<u32>, DomErr> {
+    let mut dom = small(alloc)?;
+    add(alloc, &mut dom, 0, name)?;
+    match read_paragraphs(alloc, &dom) {
+        Ok(Ok(_)) => Ok(None),
+        Ok(Err(node)) => Ok(Some(node.0)),
+        Err(_) => Err(DomErr::NoMemory),
+    }
+}
+
 #[test]
 fn an_element_at_another_place_is_told_by_its_number(rt: HostRuntime) -> Result<(), Fail> {
     for name in ["b", "style", "title"] {
-        let mut dom = small(rt.alloc())?;
-        if dom.len() != 10 {
-            return Err(Fail::new("another number of nodes"));
-        }
-        dom.add_element(rt.alloc(), NodeId(0), name)?;
-        let Ok(read) = read_paragraphs(rt.alloc(), &dom) else {
-            return Err(Fail::new("no memory"));
-        };
-        let node = match read {
-            Ok(_) => None,
-            Err(node) => Some(node.0),
-        };
-        assert_eq!(rt; node, Some(10), "of {name}");
+        assert_eq!(rt; unbuilt_with(rt.alloc(), name)?, Some(10), "of {name}");
     }
     Ok(())
 }
