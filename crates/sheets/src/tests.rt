@@ -3,145 +3,156 @@
 use crate::check::{Verdict, check_sheets};
 use crate::list::list_sheets;
 use bk_num::ids::NodeId;
-use bk_num::name::NoMem;
-use dom::{Dom, DomErr};
+use dom::Dom;
 use std::alloc::Global;
-use std::test::Fail;
+
+/// A row of a document: the number of an element, what it gets (`e` an element, `t` a text, `m` a media list), and its name,
+/// text or value.
+fn grow(alloc: Global, dom: &mut Dom, row: &str) -> Option<()> {
+    let (number, rest) = row.split_once(' ')?;
+    let (kind, text) = rest.split_once(' ')?;
+    let node = NodeId(number.parse::<u32>().ok()?);
+    if node.0 >= dom.len() || dom.name(node).is_none() {
+        return None;
+    }
+    match kind {
+        "e" => dom.add_element(alloc, node, text).ok().map(|_| ()),
+        "t" => dom.add_text(alloc, node, text).ok().map(|_| ()),
+        _ => dom.add_attr(alloc, node, "media", text).ok().map(|_| ()),
+    }
+}
+
+/// The document of rows.
+fn document(alloc: Global, rows: &str) -> Option<Dom> {
+    let mut dom = Dom::new(alloc).ok()?;
+    for row in rows.split('\n') {
+        grow(alloc, &mut dom, row)?;
+    }
+    Some(dom)
+}
 
 /// `html` with `head` (1) that has two `style` (2 with `media` and 4), each with a text, and `p` (6) with one.
-fn document(alloc: Global, media: &str, first: &str, second: &str) -> Result<Dom, DomErr> {
-    let mut dom = Dom::new(alloc)?;
-    dom.add_element(alloc, NodeId(0), "head")?;
-    dom.add_element(alloc, NodeId(1), "style")?;
-    if dom.add_attr(alloc, NodeId(2), "media", media).is_err() {
-        return Err(DomErr::NoMemory);
+fn two_sheets(alloc: Global, media: &str, first: &str, second: &str) -> Option<Dom> {
+    let rows = format!(in alloc;
+        "0 e head\n1 e style\n2 m {media}\n2 t {first}\n1 e style\n4 t {second}\n0 e p\n6 t p{{}}"
+    );
+    document(alloc, rows.ok()?.as_str())
+}
+
+/// A verdict in a word, or the number of the element.
+fn word_of(verdict: Verdict) -> u32 {
+    match verdict {
+        Verdict::Built => 0,
+        Verdict::ElementHasRules(node) => node.0,
+        Verdict::FileHasRules => 100,
+        Verdict::TooManySheets => 101,
+        Verdict::TooManyRules => 102,
     }
-    dom.add_text(alloc, NodeId(2), first)?;
-    dom.add_element(alloc, NodeId(1), "style")?;
-    dom.add_text(alloc, NodeId(4), second)?;
-    dom.add_element(alloc, NodeId(0), "p")?;
-    dom.add_text(alloc, NodeId(6), "p{}")?;
-    Ok(dom)
+}
+
+/// Rows: the media list of the first element, the sheets of both, that of the file, and the verdict: 0 where all are built, the
+/// number of an element, or 100 for the file.
+const ROWS: &str = "\
+||||0
+print|/**/@x;|@y{p{}}|<!-- -->|0
+print|p{}|q{}|r{}|2
+all||@page{}|r{}|4
+screen|p{}|||0
+screen|p{}|q{}||4
+screen|p{}||q{}|100
+|||p{}|100
+|p{|||2";
+
+/// Whether a row has its verdict.
+fn holds(alloc: Global, row: &str) -> Option<bool> {
+    let mut fields = row.split('|');
+    let (media, first) = (fields.next()?, fields.next()?);
+    let dom = two_sheets(alloc, media, first, fields.next()?)?;
+    let verdict = check_sheets(alloc, &dom, fields.next()?).ok()?;
+    Some(word_of(verdict) == fields.next()?.parse::<u32>().ok()?)
 }
 
 #[test]
-fn the_first_sheet_with_a_rule_is_told(rt: HostRuntime) -> Result<(), Fail> {
-    for (media, first, second, file, want) in [
-        ("", "", "", "", Verdict::Built),
-        ("print", "/**/@x;", "@y{p{}}", "<!-- -->", Verdict::Built),
-        (
-            "print",
-            "p{}",
-            "q{}",
-            "r{}",
-            Verdict::ElementHasRules(NodeId(2)),
-        ),
-        (
-            "all",
-            "",
-            "@page{}",
-            "r{}",
-            Verdict::ElementHasRules(NodeId(4)),
-        ),
-        ("screen", "p{}", "", "", Verdict::Built),
-        (
-            "screen",
-            "p{}",
-            "q{}",
-            "",
-            Verdict::ElementHasRules(NodeId(4)),
-        ),
-        ("screen", "p{}", "", "q{}", Verdict::FileHasRules),
-        ("", "", "", "p{}", Verdict::FileHasRules),
-        ("", "p{", "", "", Verdict::ElementHasRules(NodeId(2))),
-    ] {
-        let dom = document(rt.alloc(), media, first, second)?;
-        assert_eq!(rt;
-            check_sheets(rt.alloc(), &dom, file)?,
-            want,
-            "of {first} {second} {file}"
-        );
+fn the_first_sheet_with_a_rule_is_told(rt: HostRuntime) {
+    for row in ROWS.split('\n') {
+        assert_eq!(rt; holds(rt.alloc(), row), Some(true), "{row}");
     }
-    Ok(())
+}
+
+/// The verdict on a document of rows and a file's sheet.
+fn verdict(alloc: Global, rows: &str, file: &str) -> Option<u32> {
+    let dom = document(alloc, rows)?;
+    let verdict = check_sheets(alloc, &dom, file).ok()?;
+    Some(word_of(verdict))
 }
 
 #[test]
-fn texts_of_an_element_are_joined(rt: HostRuntime) -> Result<(), Fail> {
-    let mut dom = Dom::new(rt.alloc())?;
-    dom.add_element(rt.alloc(), NodeId(0), "style")?;
-    dom.add_text(rt.alloc(), NodeId(1), "/*")?;
-    dom.add_element(rt.alloc(), NodeId(1), "b")?;
-    dom.add_text(rt.alloc(), NodeId(3), "*/")?;
-    dom.add_text(rt.alloc(), NodeId(1), "p{}")?;
-    assert_eq!(rt; check_sheets(rt.alloc(), &dom, "")?, Verdict::Built);
-    Ok(())
+fn texts_of_an_element_are_joined(rt: HostRuntime) {
+    let rows = "0 e style\n1 t /*\n1 e b\n3 t */\n1 t p{}";
+    assert_eq!(rt; verdict(rt.alloc(), rows, ""), Some(0));
 }
 
-#[test]
-fn sheets_are_listed_with_their_texts(rt: HostRuntime) -> Result<(), Fail> {
-    let dom = document(rt.alloc(), "screen", "p{}", "q{}")?;
-    let found = list_sheets(rt.alloc(), &dom)?;
-    assert_eq!(rt; found.map(|sheets| sheets.as_slice().len()), Some(1));
-    let dom = document(rt.alloc(), "", "p{}", "q{}")?;
-    let Some(sheets) = list_sheets(rt.alloc(), &dom)? else {
-        return Err(Fail::from(NoMem));
-    };
-    match sheets.as_slice() {
-        [first, second] => {
-            assert_eq!(rt; first.element, NodeId(2));
-            assert_eq!(rt; first.text.as_str(), "p{}");
-            assert_eq!(rt; second.element, NodeId(4));
-            assert_eq!(rt; second.text.as_str(), "q{}");
+/// Whether the listed sheets of a document are these elements, each with its text.
+fn are_listed(alloc: Global, dom: &Dom, want: &str) -> Option<bool> {
+    let sheets = list_sheets(alloc, dom).ok()??;
+    let mut words = want.split(' ');
+    for sheet in sheets.as_slice() {
+        let number = words.next()?.parse::<u32>().ok()?;
+        if sheet.element.0 != number || sheet.text.as_str() != words.next()? {
+            return Some(false);
         }
-        _ => assert!(rt; false),
     }
-    Ok(())
-}
-
-/// Adds a `style` to the root.
-fn add_style(alloc: Global, dom: &mut Dom) -> Result<(), DomErr> {
-    if dom.len() == 0 || dom.name(NodeId(0)).is_none() {
-        return Err(DomErr::NoMemory);
-    }
-    dom.add_element(alloc, NodeId(0), "style")?;
-    Ok(())
+    Some(words.next().is_none())
 }
 
 #[test]
-fn more_than_sixteen_sheets_come_first(rt: HostRuntime) -> Result<(), Fail> {
-    let mut dom = Dom::new(rt.alloc())?;
-    for _ in 0..15 {
-        add_style(rt.alloc(), &mut dom)?;
+fn sheets_are_listed_with_their_texts(rt: HostRuntime) {
+    for (media, want) in [("screen", "4 q{}"), ("", "2 p{} 4 q{}")] {
+        let listed = two_sheets(rt.alloc(), media, "p{}", "q{}").and_then(|dom| are_listed(
+            rt.alloc(),
+            &dom,
+            want,
+        ));
+        assert_eq!(rt; listed, Some(true), "{media}");
     }
-    assert_eq!(rt; check_sheets(rt.alloc(), &dom, "")?, Verdict::Built);
-    add_style(rt.alloc(), &mut dom)?;
-    assert_eq!(rt;
-        check_sheets(rt.alloc(), &dom, "p{}")?,
-        Verdict::TooManySheets
-    );
-    Ok(())
+}
+
+/// A text a number of times.
+fn repeated(alloc: Global, text: &str, count: usize) -> Option<String> {
+    let mut all = String::new(alloc);
+    for _ in 0..count {
+        all.push_str(text).ok()?;
+    }
+    Some(all)
+}
+
+/// The verdict on a document of so many `style` in its root, and on a sheet of so many rules and one more.
+fn limited(alloc: Global, elements: usize, rules: usize, last: &str) -> Option<u32> {
+    let mut rows = repeated(alloc, "0 e style\n", elements)?;
+    rows.push_str("0 e p").ok()?;
+    let mut file = repeated(alloc, "p{}", rules)?;
+    file.push_str(last).ok()?;
+    verdict(alloc, rows.as_str(), file.as_str())
 }
 
 #[test]
-fn too_many_rules_come_before_a_rule(rt: HostRuntime) -> Result<(), Fail> {
-    let mut text = String::new(rt.alloc());
-    for _ in 0..20_000 {
-        text.push_str("p{}")?;
-    }
-    let dom = document(rt.alloc(), "", "p{}", "")?;
-    assert_eq!(rt;
-        check_sheets(rt.alloc(), &dom, text.as_str())?,
-        Verdict::ElementHasRules(NodeId(2))
-    );
-    text.push_str("@page{}")?;
-    assert_eq!(rt;
-        check_sheets(rt.alloc(), &dom, text.as_str())?,
-        Verdict::TooManyRules
-    );
-    let dom = document(rt.alloc(), "", "p{}", text.as_str())?;
-    assert_eq!(rt;
-        check_sheets(rt.alloc(), &dom, "q{}")?,
-        Verdict::TooManyRules
-    );
-    Ok(())
+fn limits_come_before_rules(rt: HostRuntime) {
+    assert_eq!(rt; limited(rt.alloc(), 15, 0, ""), Some(0));
+    assert_eq!(rt; limited(rt.alloc(), 16, 0, "p{}"), Some(101));
+    assert_eq!(rt; limited(rt.alloc(), 0, 20_000, ""), Some(100));
+    assert_eq!(rt; limited(rt.alloc(), 1, 20_000, "@page{}"), Some(102));
+}
+
+/// The verdict on an element with so many rules, and on a file with one.
+fn of_element(alloc: Global, rules: usize) -> Option<u32> {
+    let sheet = repeated(alloc, "p{}", rules)?;
+    let dom = two_sheets(alloc, "", "p{}", sheet.as_str())?;
+    let verdict = check_sheets(alloc, &dom, "q{}").ok()?;
+    Some(word_of(verdict))
+}
+
+#[test]
+fn too_many_rules_of_an_element_come_before_a_rule(rt: HostRuntime) {
+    assert_eq!(rt; of_element(rt.alloc(), 20_000), Some(2));
+    assert_eq!(rt; of_element(rt.alloc(), 20_001), Some(102));
 }
