@@ -251,38 +251,45 @@ fn pages_of(alloc: Global, margin: i64, list: &[&str], height: i64) -> Option<Pa
     counted::<Brand>(alloc, &style(margin, 2, 2), list, height, Blank::new(1))
 }
 
+/// Rows separated by `;`: the margin and the height; for each page its number of lines and the level of its end; and then the
+/// texts.
+const ROWS: &str = "\
+0 3840| 0 0;\
+0 3840| 2 0 2 0|aaaaaaaaaa bbbbbbbbbb cccccccccc dddddddddd;\
+0 3840| 1 0 3 0|a|bbbbbbbbbb cccccccccc dddddddddd;\
+0 2560| 2 2 1 0|aaaaaaaaaa bbbbbbbbbb cccccccccc;\
+0 2560| 2 0|aaaa bbbb-cccc dddd;\
+640 3840| 2 0 1 0|a|b|c;\
+640 3839| 1 0 2 0|a|b|c;\
+-640 1920| 3 0|a|b|c";
+
+/// Pages in numbers.
+fn printed(alloc: Global, pages: &[(usize, u8)]) -> Option<String> {
+    let mut text = String::new(alloc);
+    for (count, level) in pages {
+        let page = format!(in alloc; " {count} {level}").ok()?;
+        text.push_str(page.as_str()).ok()?;
+    }
+    Some(text)
+}
+
+/// Whether the pages of a row are those that it has.
+fn is_cut(alloc: Global, row: &str) -> Option<bool> {
+    let mut fields = row.split('|');
+    let (margin, height) = fields.next()?.split_once(' ')?;
+    let want = fields.next()?;
+    let mut texts = Vec::new(alloc);
+    for text in fields {
+        texts.push(text).ok()?;
+    }
+    let margin = margin.parse::<i64>().ok()?;
+    let pages = pages_of(alloc, margin, texts.as_slice(), height.parse::<i64>().ok()?)?;
+    Some(printed(alloc, pages.as_slice())?.as_str() == want)
+}
+
 #[test]
 fn pages_end_where_widows_orphans_and_gaps_allow(rt: HostRuntime) {
-    let cases: [(i64, &[&str], i64, &[(usize, u8)]); 8] = [
-        (0, &[], 3840, &[(0, 0)]),
-        (
-            0,
-            &["aaaaaaaaaa bbbbbbbbbb cccccccccc dddddddddd"],
-            3840,
-            &[(2, 0), (2, 0)],
-        ),
-        (
-            0,
-            &["a", "bbbbbbbbbb cccccccccc dddddddddd"],
-            3840,
-            &[(1, 0), (3, 0)],
-        ),
-        (
-            0,
-            &["aaaaaaaaaa bbbbbbbbbb cccccccccc"],
-            2560,
-            &[(2, 2), (1, 0)],
-        ),
-        (0, &["aaaa bbbb-cccc dddd"], 2560, &[(2, 0)]),
-        (640, &["a", "b", "c"], 3840, &[(2, 0), (1, 0)]),
-        (640, &["a", "b", "c"], 3839, &[(1, 0), (2, 0)]),
-        (-640, &["a", "b", "c"], 1920, &[(3, 0)]),
-    ];
-    for (margin, texts, height, want) in cases {
-        let pages = pages_of(rt.alloc(), margin, texts, height);
-        assert!(rt;
-            pages.is_some_and(|pages| pages.as_slice() == want),
-            "{texts:?} in {height}"
-        );
+    for row in ROWS.split(';') {
+        assert_eq!(rt; is_cut(rt.alloc(), row), Some(true), "{row}");
     }
 }

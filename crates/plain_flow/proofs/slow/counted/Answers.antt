@@ -4,7 +4,7 @@ use Rattle.std.proofs.lemmas.List.Elements.{All-weaker}
 use Rattle.plain_flow.specs.declared.style.Paragraph.{Paragraph}
 use Rattle.plain_flow.proofs.slow.counted.Goals as goal
 
-pub paginate-requires-clause-flow : goal.paginate-requires-clause-flow
-paginate-requires-clause-flow g c =
+pub paginate-requires : goal.paginate-requires
+paginate-requires g c =
     let some : 0 < length c.in_ok-faces.faces = omega (arith, c.len.ensures.count, c.if-len-eq0.false) in
-    c.in-Ok.ensures.paged c.in_ok-faces.faces (All-weaker (λ (p : Paragraph). p.style.face.0 ≡ 0) (λ (p : Paragraph). p.style.face.0 < length c.in_ok-faces.faces) (λ p h. omega (arith, some, h)) c.in_ok-paragraphs.paragraphs.items c.in_ok-paragraphs.ensures.faces)
+    record { flow = c.in-Ok.ensures.paged c.in_ok-faces.faces (All-weaker (λ (p : Paragraph). p.style.face.0 ≡ 0) (λ (p : Paragraph). p.style.face.0 < length c.in_ok-faces.faces) (λ p h. omega (arith, some, h)) c.in_ok-paragraphs.paragraphs.items c.in_ok-paragraphs.ensures.faces) }
