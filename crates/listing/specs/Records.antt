@@ -6,6 +6,8 @@ use Rattle.std.specs.Char.{digit_char}
 use Rattle.bk_num.specs.declared.values.Color.{Color}
 use Rattle.bk_num.specs.declared.values.Side.{Side}
 use Rattle.bk_num.specs.declared.values.Side.TheVariants as side
+use Rattle.boxes.specs.declared.item.Item.{Item}
+use Rattle.boxes.specs.declared.item.Item.TheVariants as item
 use Rattle.boxes.specs.declared.frames.PageKind.{PageKind}
 use Rattle.boxes.specs.declared.frames.PageKind.TheVariants as kind
 
@@ -56,9 +58,13 @@ page_record index number side kind name width height =
     codes "page" ++ field (pos index) ++ field number ++ word (side_name side) ++ word (kind_name kind) ++ string_field name ++
     field width ++ field height ++ codes "\n"
 
+-- the left, top, width and height of an area
+abbrev pub area_fields : ℤ → ℤ → ℤ → ℤ → List ℕ
+area_fields x y w h = field x ++ field y ++ field w ++ field h
+
 -- `line X Y W H`
 unfoldable pub line_record : ℤ → ℤ → ℤ → ℤ → List ℕ
-line_record x y w h = codes "line" ++ field x ++ field y ++ field w ++ field h ++ codes "\n"
+line_record x y w h = codes "line" ++ area_fields x y w h ++ codes "\n"
 
 -- a space and `NAME/STYLE/WEIGHT`
 unfoldable pub style_name : Bool → List ℕ
@@ -71,6 +77,30 @@ face_field name italic weight = codes " " ++ name ++ style_name italic ++ signed
 unfoldable pub text_record : ℤ → ℤ → List ℕ → ℤ → Color → List ℕ → List ℕ
 text_record x y face size color text =
     codes "text" ++ field x ++ field y ++ face ++ field size ++ color_field color ++ string_field text ++ codes "\n"
+
+-- `rect X Y W H COLOR`
+unfoldable pub rect_record : ℤ → ℤ → ℤ → ℤ → Color → List ℕ
+rect_record x y w h color = codes "rect" ++ area_fields x y w h ++ color_field color ++ codes "\n"
+
+abbrev pub edge_name : Bool → List ℕ
+edge_name opens = if opens then codes "open" else codes "close"
+
+-- `edge open X Y W H` or `edge close X Y W H`, with the border box's left and width
+unfoldable pub edge_record : Bool → ℤ → ℤ → ℤ → ℤ → List ℕ
+edge_record opens x y w h = codes "edge" ++ word (edge_name opens) ++ area_fields x y w h ++ codes "\n"
+
+-- `hyphen X Y FACE SIZE COLOR "-"`
+unfoldable pub hyphen_record : ℤ → ℤ → List ℕ → ℤ → Color → List ℕ
+hyphen_record x y face size color =
+    codes "hyphen" ++ field x ++ field y ++ face ++ field size ++ color_field color ++ string_field (codes "-") ++ codes "\n"
+
+-- the record of what a page prints
+unfoldable pub item_record : Item → List ℕ
+item_record (item.Rect x y w h color) = rect_record x y w h color
+item_record (item.Edge opens x y w h) = edge_record opens x y w h
+item_record (item.Line x y w h) = line_record x y w h
+item_record (item.Text x y face size color text) = text_record x y (word face) size color text
+item_record (item.Hyphen x y face size color) = hyphen_record x y (word face) size color
 
 -- `end`
 unfoldable pub end_record : List ℕ

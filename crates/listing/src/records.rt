@@ -1,7 +1,8 @@
 //! Appends the records of a listing.
 
 ghost use Rattle.std.specs.Prelude.{◌≡◌, ◌++◌, OnOk};
-ghost use Rattle.listing.specs.Records.{book_record, page_record, line_record, text_record, end_record, face_field, side_name, kind_name};
+ghost use Rattle.listing.specs.Records.{book_record, page_record, rect_record, edge_record, line_record, text_record, hyphen_record, end_record};
+ghost use Rattle.listing.specs.Records.{area_fields, edge_name, face_field, kind_name, side_name};
 
 use crate::fields::{push_color, push_face, push_field, push_string, push_word};
 use bk_num::values::{Color, Side};
@@ -96,16 +97,23 @@ pub fn push_page(out: &mut Vec<u8>, head: &PageHead<'_>) -> Result<(), AllocErro
     Ok(())
 }
 
+/// Appends the left, top, width and height of an area.
+fn push_area(out: &mut Vec<u8>, area: &Area) -> Result<(), AllocError>
+    ensures { OnOk result (out.new.items ≡ out.old.items ++ area_fields area.now.x area.now.y area.now.width area.now.height) }
+{
+    push_field(out, area.x)?;
+    push_field(out, area.y)?;
+    push_field(out, area.width)?;
+    push_field(out, area.height)
+}
+
 /// Appends a line's record.
 #[tactic(auto, unfolding(crate::specs::Records::line_record))]
 pub fn push_line(out: &mut Vec<u8>, area: &Area) -> Result<(), AllocError>
     ensures { OnOk result (out.new.items ≡ out.old.items ++ line_record area.now.x area.now.y area.now.width area.now.height) }
 {
     out.extend_from_slice(b"line")?;
-    push_field(out, area.x)?;
-    push_field(out, area.y)?;
-    push_field(out, area.width)?;
-    push_field(out, area.height)?;
+    push_area(out, area)?;
     out.push(b'\n')?;
     Ok(())
 }
@@ -124,6 +132,54 @@ pub fn push_text(out: &mut Vec<u8>, style: &Style<'_>, text: &str) -> Result<(),
     push_field(out, style.size as i64)?;
     push_color(out, style.color)?;
     push_string(out, text)?;
+    out.push(b'\n')?;
+    Ok(())
+}
+
+/// Appends a rectangle's record.
+#[tactic(auto, unfolding(crate::specs::Records::rect_record))]
+pub fn push_rect(out: &mut Vec<u8>, area: &Area, color: Color) -> Result<(), AllocError>
+    ensures { OnOk result (out.new.items ≡ out.old.items ++ rect_record area.now.x area.now.y area.now.width area.now.height color) }
+{
+    out.extend_from_slice(b"rect")?;
+    push_area(out, area)?;
+    push_color(out, color)?;
+    out.push(b'\n')?;
+    Ok(())
+}
+
+fn edge_name(opens: bool) -> &'static str
+    ensures { result.now ≡ edge_name opens }
+{
+    if opens { "open" } else { "close" }
+}
+
+/// Appends the record of an upper or a lower edge of a box.
+#[tactic(auto, unfolding(crate::specs::Records::edge_record))]
+pub fn push_edge(out: &mut Vec<u8>, opens: bool, area: &Area) -> Result<(), AllocError>
+    ensures { OnOk result (out.new.items ≡ out.old.items ++ edge_record opens area.now.x area.now.y area.now.width area.now.height) }
+{
+    out.extend_from_slice(b"edge")?;
+    push_word(out, edge_name(opens))?;
+    push_area(out, area)?;
+    out.push(b'\n')?;
+    Ok(())
+}
+
+/// Appends the record of a shown hyphen.
+#[tactic(auto, unfolding(crate::specs::Records::hyphen_record))]
+pub fn push_hyphen(out: &mut Vec<u8>, style: &Style<'_>) -> Result<(), AllocError>
+    ensures { OnOk result (out.new.items ≡ out.old.items ++
+        hyphen_record style.now.x style.now.y (face_field style.now.face.name.now style.now.face.italic style.now.face.weight)
+        style.now.size style.now.color) }
+{
+    out.extend_from_slice(b"hyphen")?;
+    push_field(out, style.x)?;
+    push_field(out, style.y)?;
+    push_face(out, &style.face)?;
+    push_field(out, style.size as i64)?;
+    push_color(out, style.color)?;
+    push_string(out, "-")?;
     out.push(b'\n')?;
     Ok(())
 }
