@@ -1,3 +1,4 @@
 pub mod Frames
 pub mod Numbers
+pub mod Owners
 pub mod Places

@@ -1,6 +1,7 @@
 //! The pages to which places of the main tree belong.
 
 ghost use Rattle.std.specs.Prelude.{◌≡◌, ◌≤◌, length, map, if◌then◌else◌, IfOk};
+ghost use Rattle.page_seq.specs.Owners.{HaveOwners};
 ghost use Rattle.page_seq.specs.Places.{NeverFall, anchor_of, has_end_after, has_solid, is_before, last_page, page_at, page_of};
 
 use bk_num::name::NoMem;
@@ -110,3 +111,9 @@ pub fn pages_of(
     }
     Ok(numbers)
 }
+
+/// On a page list whose solids ascend, the page of a place has the solid to which what stands at the place belongs: the
+/// one that holds it, else the next one, else the last one.
+pub fn places_have_owners()
+    ensures { HaveOwners }
+{}
