@@ -1,4 +1,5 @@
 pub mod NumeralLemmas
+pub mod TextLemmas
 pub mod ChainLemmas
 pub mod ScopeLemmas
 pub mod ValueLemmas

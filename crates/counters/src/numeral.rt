@@ -1,13 +1,13 @@
 //! How the number of a counter is printed (CSS 2.1, 12.4.2).
 
-ghost use Rattle.std.specs.Prelude.{◌≡◌, ◌+◌, ◌<◌, ◌≤◌, ◌++◌, [], OnOk, OnErr};
+ghost use Rattle.std.specs.Prelude.{◌≡◌, ◌+◌, ◌<◌, ◌≤◌, ◌++◌, [], IfOk, OnOk, OnErr, string_bytes};
 ghost use Rattle.std.specs.Fmt.{signed_decimal};
 ghost use Rattle.counters.specs.Numerals.{is_among, letters, roman, roman_digit, numeral_of, with_zero, in_roman, in_letters, IsLonger};
 
 use bk_num::name::NoMem;
 use bk_num::values::NumStyle;
 use itoa::Buffer;
-use std::alloc::AllocError;
+use std::alloc::{AllocError, Global};
 
 /// The letters for 1, 5, 10, 50, 100, 500 and 1000.
 #[derive(Clone, Copy, Debug)]
@@ -56,6 +56,22 @@ pub fn numeral(n: i64, style: NumStyle, into: &mut Vec<u8>) -> Result<(), NoMem>
         return Err(NoMem);
     }
     Ok(())
+}
+
+/// The text of a number in a style; outside the style's range it is printed as decimal.
+///
+/// # Errors
+///
+/// `NoMem`.
+pub fn numeral_text(alloc: Global, n: i64, style: NumStyle) -> Result<String, NoMem>
+    ensures { IfOk result (λ text. string_bytes text ≡ numeral_of style n) }
+{
+    let mut bytes = Vec::new(alloc);
+    numeral(n, style, &mut bytes)?;
+    match String::from_utf8(bytes) {
+        Ok(text) => Ok(text),
+        Err(_) => unreachable!(),
+    }
 }
 
 /// Appends a number in a style, or a part of it.
