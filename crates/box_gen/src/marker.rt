@@ -1,6 +1,6 @@
 //! The markers of list items (CSS 2.1, 12.5).
 
-ghost use Rattle.std.specs.Prelude.{◌≡◌, IfOk};
+ghost use Rattle.std.specs.Prelude.{◌≡◌, IfOk, string_bytes};
 ghost use Rattle.box_gen.specs.Markers as spec;
 ghost use Rattle.box_gen.specs.Markers.{lead_by, list_values, number_text};
 
@@ -10,7 +10,8 @@ use bk_num::name::{Name, NoMem};
 use bk_num::values::{NumStyle, Pseudo};
 use boxes::leaf::Lead;
 use counters::at::CounterAt;
-use gen_text::parts::{print_counter, print_text};
+use gen_text::parts::print_counter;
+use gen_text::table::print_text;
 use std::alloc::Global;
 use style::style::Style;
 use style::values::Display;
@@ -29,10 +30,10 @@ fn number_text(
     counters: &CounterAt,
     node: NodeId,
     style: NumStyle,
-) -> Result<Vec<u8>, NoMem>
-    ensures { IfOk result (λ text. text.items ≡ number_text style (list_values counters.now node.0)) }
+) -> Result<String, NoMem>
+    ensures { IfOk result (λ text. string_bytes text ≡ number_text style (list_values counters.now node.0)) }
 {
-    let mut text = Vec::new(alloc);
+    let mut text = String::new(alloc);
     print_counter(
         alloc,
         counters,
@@ -47,13 +48,10 @@ fn number_text(
 }
 
 /// A text as a name.
-fn named(bytes: Vec<u8>) -> Result<Option<Name>, NoMem>
-    ensures { IfOk result (λ name. name ≡ spec.some_text bytes.items) }
+fn named(text: String) -> Option<Name>
+    ensures { result ≡ spec.some_text (string_bytes text) }
 {
-    match String::from_utf8(bytes) {
-        Ok(text) => Ok(Some(Name::from_string(text))),
-        Err(_) => Err(NoMem),
-    }
+    Some(Name::from_string(text))
 }
 
 fn bullet(alloc: Global, text: &str) -> Result<Option<Name>, NoMem>
@@ -76,7 +74,7 @@ pub fn marker_text(
         NumStyle::Disc => bullet(alloc, "• "),
         NumStyle::Circle => bullet(alloc, "◦ "),
         NumStyle::Square => bullet(alloc, "▪ "),
-        _ => named(number_text(alloc, counters, node, style)?),
+        _ => Ok(named(number_text(alloc, counters, node, style)?)),
     }
 }
 

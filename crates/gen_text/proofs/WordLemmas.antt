@@ -1,10 +1,12 @@
 -- the words of a text, character by character
-use Rattle.std.proofs.Common.{◌≡◌, ℕ, ◌+◌, ◌<◌, Bool, true, false, List, [], ◌∷◌, ◌++◌, length, get_or, take, refl, sym, ◌∙◌, ap, append_assoc, append-nil}
-use Rattle.std.proofs.lemmas.List.{take_more}
+use Rattle.std.proofs.Common.{◌≡◌, ℕ, suc, ◌+◌, ◌<◌, ◌≤◌, Bool, true, false, cond, List, [], ◌∷◌, ◌++◌, length, get_or, refl, sym, ◌∙◌, ap, append_assoc, append-nil, ◌⊎◌, inl, inr, arith}
+use Rattle.std.proofs.lemmas.Bool.{ne_eqb, cases_lt}
+use Rattle.std.proofs.lemmas.Str.{encode_ascii, inside_one, length-encode, len_utf8_bounds}
+use Rattle.std.specs.Char.{encode_utf8}
 use Rattle.std.specs.List.{join_with_byte}
 use Rattle.gen_text.specs.declared.own.Ending.{Ending}
 use Rattle.gen_text.specs.declared.own.Ending.TheVariants as ending
-use Rattle.gen_text.specs.Own.{is_white, words_after, trimmed, added_by, ending_by, added, ending_after}
+use Rattle.gen_text.specs.Own.{is_white, words_after, trimmed, lead, added_by, added_by_char, ending_by, added, ending_after}
 
 -- a word that has begun stands among the words
 some-word : (x : ℕ) (w bs : List ℕ) → (y : List ℕ) × (ys : List (List ℕ)) × (words_after (x ∷ w) bs ≡ y ∷ ys)
@@ -52,12 +54,66 @@ pub ending-append : (t : Ending) (xs ys : List ℕ) → ending_after t (xs ++ ys
 ending-append t [] ys = refl
 ending-append t (x ∷ xs) ys = ending-append (ending_by t x) xs ys
 
--- one character more
-pub words_turn : (t : Ending) (text : List ℕ) (i d : ℕ) (u : Ending) (old middle new : List ℕ) → i < length text → middle ≡ old ++ added t (take i text) → u ≡ ending_after t (take i text) → new ≡ middle ++ added_by u (get_or text i d) → new ≡ old ++ added t (take (i + 1) text)
-words_turn t text i d u old middle new within h e g =
-    let b : ℕ = get_or text i d in
-    let more : added t (take (i + 1) text) ≡ added t (take i text) ++ added_by (ending_after t (take i text)) b = ap (added t) (take_more text i d within) ∙ added-append t (take i text) (b ∷ []) ∙ ap (λ l. added t (take i text) ++ l) (append-nil (added_by (ending_after t (take i text)) b)) in
-    g ∙ ap (λ l. l ++ added_by u b) h ∙ append_assoc old (added t (take i text)) (added_by u b) ∙ ap (λ v. old ++ (added t (take i text) ++ added_by v b)) e ∙ ap (λ l. old ++ l) (sym more)
+-- ---- characters
 
-pub ending_turn : (t : Ending) (text : List ℕ) (i d : ℕ) (u v : Ending) → i < length text → u ≡ ending_after t (take i text) → v ≡ ending_by u (get_or text i d) → v ≡ ending_after t (take (i + 1) text)
-ending_turn t text i d u v within e g = g ∙ ap (λ w. ending_by w (get_or text i d)) e ∙ sym (ending-append t (take i text) (get_or text i d ∷ [])) ∙ ap (ending_after t) (sym (take_more text i d within))
+white_high : (b : ℕ) → 128 ≤ b → is_white b ≡ false
+white_high b h = rw (ne_eqb b 9 (λ e. omega arith), ne_eqb b 10 (λ e. omega arith), ne_eqb b 12 (λ e. omega arith), ne_eqb b 13 (λ e. omega arith), ne_eqb b 32 (λ e. omega arith)) refl
+
+-- no byte is ASCII
+IsHigh : List ℕ → Type 0
+IsHigh bs = (i : ℕ) → i < length bs → 128 ≤ get_or bs i 0
+
+high_tail : (b : ℕ) (bs : List ℕ) → IsHigh (b ∷ bs) → IsHigh bs
+unfolding IsHigh
+high_tail b bs h i l = h (suc i) (omega arith)
+
+high_head : (b : ℕ) (bs : List ℕ) → IsHigh (b ∷ bs) → is_white b ≡ false
+unfolding IsHigh
+high_head b bs h = white_high b (h 0 (omega arith))
+
+word_more : (bs : List ℕ) → IsHigh bs → (added ending.Word bs ≡ bs) × (ending_after ending.Word bs ≡ ending.Word)
+word_more [] h = (refl, refl)
+word_more (b ∷ bs) h = let (text, end) = word_more bs (high_tail b bs h) in (rw (high_head b bs h) (ap (λ l. b ∷ l) text), rw (high_head b bs h) end)
+
+high_more : (t : Ending) (bs : List ℕ) → 0 < length bs → IsHigh bs → (added t bs ≡ lead t ++ bs) × (ending_after t bs ≡ ending.Word)
+high_more t [] some h = absurd (omega arith)
+high_more t (b ∷ bs) some h = let (text, end) = word_more bs (high_tail b bs h) in (rw (high_head b bs h) (ap (λ l. (lead t ++ b ∷ []) ++ l) text ∙ append_assoc (lead t) (b ∷ []) bs), rw (high_head b bs h) end)
+
+encode_high : (c : ℕ) → 128 ≤ c → IsHigh (encode_utf8 c)
+unfolding IsHigh
+encode_high c h i l = by (cases_lt (get_or (encode_utf8 c) i 0) 128)
+  where
+    by : (get_or (encode_utf8 c) i 0 < 128) ⊎ (128 ≤ get_or (encode_utf8 c) i 0) → 128 ≤ get_or (encode_utf8 c) i 0
+    by (inl low) = let same = inside_one c [] (encode_utf8 c) i (sym (append-nil (encode_utf8 c))) l low in absurd (omega arith)
+    by (inr high) = high
+
+-- all bytes of a character, or none
+pub char_more : (t : Ending) (c : ℕ) → (added t (encode_utf8 c) ≡ added_by_char t c) × (ending_after t (encode_utf8 c) ≡ ending_by t c)
+char_more t c = by (cases_lt c 128)
+  where
+    some : 0 < length (encode_utf8 c)
+    some = let len = length-encode c in let bounds = len_utf8_bounds c in let least = bounds.0 in omega (arith, len, least)
+
+    by : (c < 128) ⊎ (128 ≤ c) → (added t (encode_utf8 c) ≡ added_by_char t c) × (ending_after t (encode_utf8 c) ≡ ending_by t c)
+    by (inl low) = let e = encode_ascii c low in (ap (added t) e ∙ append-nil (added_by t c) ∙ ap (λ l. cond (is_white c) [] (lead t ++ l)) (sym e), ap (ending_after t) e)
+    by (inr high) = let (text, end) = high_more t (encode_utf8 c) some (encode_high c high) in (rw (white_high c high) text, rw (white_high c high) end)
+
+-- one character more
+pub chars_turn : (t u v : Ending) (text rest more : List ℕ) (c : ℕ) (old middle new : List ℕ) → middle ++ added u rest ≡ old ++ added t text → rest ≡ encode_utf8 c ++ more → new ≡ middle ++ added_by_char u c → v ≡ ending_by u c → new ++ added v more ≡ old ++ added t text
+chars_turn t u v text rest more c old middle new h spell e g =
+    let (text, end) = char_more u c in
+    ap (λ l. l ++ added v more) (e ∙ ap (λ l. middle ++ l) (sym text)) ∙ append_assoc middle (added u (encode_utf8 c)) (added v more) ∙ ap (λ w. middle ++ (added u (encode_utf8 c) ++ added w more)) (g ∙ sym end) ∙ ap (λ l. middle ++ l) (sym (added-append u (encode_utf8 c) more)) ∙ ap (λ l. middle ++ added u l) (sym spell) ∙ h
+
+pub chars_ending_turn : (t u v : Ending) (text rest more : List ℕ) (c : ℕ) → ending_after u rest ≡ ending_after t text → rest ≡ encode_utf8 c ++ more → v ≡ ending_by u c → ending_after v more ≡ ending_after t text
+chars_ending_turn t u v text rest more c h spell g =
+    let (text, end) = char_more u c in
+    ap (λ w. ending_after w more) (g ∙ sym end) ∙ sym (ending-append u (encode_utf8 c) more) ∙ ap (ending_after u) (sym spell) ∙ h
+
+-- no character is left
+pub chars_end : (t u : Ending) (text rest old middle : List ℕ) → middle ++ added u rest ≡ old ++ added t text → length rest ≡ 0 → middle ≡ old ++ added t text
+chars_end t u text [] old middle h e = sym (append-nil middle) ∙ h
+chars_end t u text (b ∷ rest) old middle h e = absurd (omega arith)
+
+pub chars_ending_end : (t u : Ending) (text rest : List ℕ) → ending_after u rest ≡ ending_after t text → length rest ≡ 0 → u ≡ ending_after t text
+chars_ending_end t u text [] h e = h
+chars_ending_end t u text (b ∷ rest) h e = absurd (omega arith)

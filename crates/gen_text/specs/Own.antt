@@ -1,5 +1,6 @@
 -- An element's own text, which `content()` prints (css-gcpm-3, "string-set").
 use Rattle.std.specs.Prelude.{ℕ, ◌-◌, ◌==◌, ◌&&◌, ◌||◌, Bool, false, not, if◌then◌else◌, List, [], ◌∷◌, ◌++◌, Option, None, Some, slice_get}
+use Rattle.std.specs.Char.{encode_utf8}
 use Rattle.std.specs.List.{flat_map, list_all, join_with_byte}
 use Rattle.dom.specs.Nodes.{Node, parents_of, parent_at, first_child_of, next_of, depth_at, is_element_at, text_at}
 use Rattle.dom.specs.Order.{way}
@@ -64,7 +65,7 @@ texts_below nodes styles e = flat_map (kept_text nodes styles e) (tours_of (pare
 abbrev pub own_text : List Node → List NodeStyles → ℕ → List ℕ
 own_text nodes styles e = trimmed (texts_below nodes styles e)
 
--- ---- how it is read, character by character and step by step
+-- ---- how it is read, byte by byte, character by character and step by step
 
 -- how a text ends, once more white space has come
 abbrev pub spaced : Ending → Ending
@@ -78,12 +79,16 @@ lead ending.Nothing = []
 lead ending.Word = []
 lead ending.Space = 32 ∷ []
 
--- what a character adds to the words of a text, and how the text then ends
+-- what a byte adds to the words of a text, and how the text then ends
 abbrev pub added_by : Ending → ℕ → List ℕ
 added_by t b = if is_white b then [] else lead t ++ b ∷ []
 
 abbrev pub ending_by : Ending → ℕ → Ending
 ending_by t b = if is_white b then spaced t else ending.Word
+
+-- what a character adds, which is all of its bytes or none
+abbrev pub added_by_char : Ending → ℕ → List ℕ
+added_by_char t c = if is_white c then [] else lead t ++ encode_utf8 c
 
 -- what more of a text adds, and how the text then ends
 abbrev pub added : Ending → List ℕ → List ℕ

@@ -1,11 +1,11 @@
 //! The text of a list of content (CSS 2.1, 12.2; css-gcpm-3).
 
-ghost use Rattle.std.specs.Prelude.{◌≡◌, ◌<◌, IfOk, OnOk, OnErr, length};
+ghost use Rattle.std.specs.Prelude.{◌≡◌, ◌<◌, IfOk, OnOk, OnErr, length, string_bytes};
 ghost use Rattle.gen_text.specs.Content.{IsTextOf, PrintsPart, PrintsParts, place_of};
 
 use crate::own::print_own;
-use crate::parts::{print_attribute, print_counter, print_counters, print_reference, print_text};
-use crate::table::Table;
+use crate::parts::{print_attribute, print_counter, print_counters, print_reference};
+use crate::table::{Table, print_text};
 use bk_num::ids::NodeId;
 use bk_num::name::{Name, NoMem};
 use bk_num::values::Pseudo;
@@ -35,12 +35,12 @@ pub fn eval(
     requires { node.0 < length dom.now }
     ensures { IfOk result (λ name. IsTextOf (place_of dom.now styles.now node.0 pseudo counters.now table.now) content.now name) }
 {
-    let mut text = Vec::new(alloc);
+    let mut text = String::new(alloc);
     let parts = content.as_slice();
     push_parts(
         alloc, dom, styles, node, pseudo, parts, counters, table, &mut text,
     )?;
-    name_of(text)
+    Ok(Name::from_string(text))
 }
 
 /// Appends what parts print, or a part of that.
@@ -53,11 +53,11 @@ fn push_parts(
     parts: &[Part],
     counters: &CounterAt,
     table: &Table,
-    into: &mut Vec<u8>,
+    into: &mut String,
 ) -> Result<(), NoMem>
     requires { node.0 < length dom.now }
     ensures { OnOk result
-        (PrintsParts (place_of dom.now styles.now node.0 pseudo counters.now table.now) parts.now into.old.items into.new.items) }
+        (PrintsParts (place_of dom.now styles.now node.0 pseudo counters.now table.now) parts.now (string_bytes into.old) (string_bytes into.new)) }
 {
     for part in parts {
         push_part(
@@ -77,12 +77,12 @@ fn push_part(
     part: &Part,
     counters: &CounterAt,
     table: &Table,
-    into: &mut Vec<u8>,
+    into: &mut String,
 ) -> Result<(), NoMem>
     requires { node.0 < length dom.now }
     ensures ok { OnOk result
-        (PrintsPart (place_of dom.now styles.now node.0 pseudo counters.now table.now) part.now into.old.items into.new.items) }
-    ensures err { OnErr result (into.new.items ≡ into.old.items) }
+        (PrintsPart (place_of dom.now styles.now node.0 pseudo counters.now table.now) part.now (string_bytes into.old) (string_bytes into.new)) }
+    ensures err { OnErr result (string_bytes into.new ≡ string_bytes into.old) }
 {
     match part {
         Part::Text(text) => print_text(text.as_str(), into),
@@ -112,17 +112,7 @@ fn push_part(
             table,
             into,
         ),
-        Part::Own => print_own(dom, styles, node, into),
+        Part::Own => print_own(alloc, dom, styles, node, into),
         Part::Running(_, _) | Part::Page(_) | Part::Pages(_) => Ok(()),
-    }
-}
-
-/// The name that owns these bytes.
-fn name_of(bytes: Vec<u8>) -> Result<Name, NoMem>
-    ensures { IfOk result (λ name. name ≡ bytes.items) }
-{
-    match String::from_utf8(bytes) {
-        Ok(text) => Ok(Name::from_string(text)),
-        Err(_) => Err(NoMem),
     }
 }

@@ -2,6 +2,8 @@
 #![tactic(auto)]
 
 pub mod eval;
+pub mod generate;
+pub mod generated;
 pub mod laws;
 pub mod own;
 pub mod parts;

@@ -1,15 +1,16 @@
 //! An element's own text, which `content()` prints (css-gcpm-3, "string-set").
 
-ghost use Rattle.std.specs.Prelude.{◌≡◌, ◌<◌, ◌++◌, OnOk, OnErr, length, option_map};
-ghost use Rattle.counters.specs.Numerals.{IsLonger};
+ghost use Rattle.std.specs.Prelude.{◌≡◌, ◌<◌, ◌++◌, IfOk, OnOk, OnErr, length, option_map, string_bytes};
 ghost use Rattle.dom.specs.Nodes.{parent_at, parents_of};
 ghost use Rattle.dom.specs.Walk.{node_of};
-ghost use Rattle.gen_text.specs.Own.{added, added_by, ending_after, ending_by, goes_out, is_left_out, is_white, own_text, spaced, step_after, step_beyond, step_inside, step_out, text_of_step};
+ghost use Rattle.gen_text.specs.Own.{added, added_by_char, ending_after, ending_by, goes_out, is_left_out, is_white, own_text, spaced, step_after, step_beyond, step_inside, step_out, text_of_step};
 ghost use Rattle.gen_text.specs.Parts.{attribute_text};
 
+use crate::table::print_text;
 use bk_num::ids::NodeId;
 use bk_num::name::NoMem;
 use dom::{Dom, Step};
+use std::alloc::Global;
 use style::styles::Styles;
 
 /// How a text ends, of which the words are kept: before its first word, with a word, or with white space after one.
@@ -20,49 +21,47 @@ pub enum Ending {
     Space,
 }
 
-/// Appends what `content()` prints: the texts below an element in tree order, without those of elements that aren't shown and of note
-/// elements, each run of white space as one space, trimmed. It costs the nodes below the element, but for those below elements that are
-/// left out, and looks at each byte of their texts once.
+/// Appends what `content()` prints: the texts below an element in tree order, without those of elements that aren't shown and of note elements, each run of white space as one space, trimmed. It costs the nodes below the element, but for those below elements that are left out, and looks at each character of their texts once.
+///
+/// # Errors
+///
+/// `NoMem`, and then `into` is as before.
 pub fn print_own(
+    alloc: Global,
     dom: &Dom,
     styles: &Styles,
     element: NodeId,
-    into: &mut Vec<u8>,
+    into: &mut String,
 ) -> Result<(), NoMem>
     requires { element.0 < length dom.now }
-    ensures ok { OnOk result (into.new.items ≡ into.old.items ++ own_text dom.now styles.now element.0) }
-    ensures err { OnErr result (into.new.items ≡ into.old.items) }
+    ensures ok { OnOk result (string_bytes into.new ≡ string_bytes into.old ++ own_text dom.now styles.now element.0) }
+    ensures err { OnErr result (string_bytes into.new ≡ string_bytes into.old) }
 {
-    let before = into.len();
-    if push_own(dom, styles, element, into).is_err() {
-        into.truncate(before);
-        return Err(NoMem);
-    }
-    Ok(())
+    let text = own_text(alloc, dom, styles, element)?;
+    print_text(text.as_str(), into)
 }
 
-/// Appends an element's own text, or a part of that.
-fn push_own(dom: &Dom, styles: &Styles, element: NodeId, into: &mut Vec<u8>) -> Result<(), NoMem>
+/// An element's own text.
+fn own_text(alloc: Global, dom: &Dom, styles: &Styles, element: NodeId) -> Result<String, NoMem>
     requires { element.0 < length dom.now }
-    ensures ok { OnOk result (into.new.items ≡ into.old.items ++ own_text dom.now styles.now element.0) }
-    ensures longer { IsLonger into.old.items into.new.items }
+    ensures { IfOk result (λ text. string_bytes text ≡ own_text dom.now styles.now element.0) }
 {
     let _ = dom.len();
+    let mut text = String::new(alloc);
     let mut ending = Ending::Nothing;
     let mut step = inside(dom, element);
     'steps: while !goes_out(step, element) {
-        push_step(dom, step, &mut ending, into)?;
+        push_step(dom, step, &mut ending, &mut text)?;
         step = after(dom, styles, step);
     }
-    Ok(())
+    Ok(text)
 }
 
-/// Appends what the text of a step adds, or a part of that.
-fn push_step(dom: &Dom, step: Step, ending: &mut Ending, into: &mut Vec<u8>) -> Result<(), NoMem>
+/// Appends what the text of a step adds.
+fn push_step(dom: &Dom, step: Step, ending: &mut Ending, into: &mut String) -> Result<(), NoMem>
     requires { node_of step < length dom.now }
-    ensures ok { OnOk result (into.new.items ≡ into.old.items ++ added ending.old (text_of_step dom.now step)) }
+    ensures ok { OnOk result (string_bytes into.new ≡ string_bytes into.old ++ added ending.old (text_of_step dom.now step)) }
     ensures ending { OnOk result (ending.new ≡ ending_after ending.old (text_of_step dom.now step)) }
-    ensures longer { IsLonger into.old.items into.new.items }
 {
     match step {
         Step::Enter(node) => push_text(dom.text(node), ending, into),
@@ -70,52 +69,49 @@ fn push_step(dom: &Dom, step: Step, ending: &mut Ending, into: &mut Vec<u8>) -> 
     }
 }
 
-fn push_text(text: Option<&str>, ending: &mut Ending, into: &mut Vec<u8>) -> Result<(), NoMem>
-    ensures ok { OnOk result (into.new.items ≡ into.old.items ++ added ending.old (attribute_text (option_map (λ s. s.now) text.entry))) }
+fn push_text(text: Option<&str>, ending: &mut Ending, into: &mut String) -> Result<(), NoMem>
+    ensures ok { OnOk result (string_bytes into.new ≡ string_bytes into.old ++ added ending.old (attribute_text (option_map (λ s. s.now) text.entry))) }
     ensures ending { OnOk result (ending.new ≡ ending_after ending.old (attribute_text (option_map (λ s. s.now) text.entry))) }
-    ensures longer { IsLonger into.old.items into.new.items }
 {
     match text {
-        Some(text) => push_words(text.as_bytes(), ending, into),
+        Some(text) => push_words(text, ending, into),
         None => Ok(()),
     }
 }
 
-/// Appends what more of a text adds, or a part of that.
-fn push_words(text: &[u8], ending: &mut Ending, into: &mut Vec<u8>) -> Result<(), NoMem>
-    ensures ok { OnOk result (into.new.items ≡ into.old.items ++ added ending.old text.now) }
+/// Appends what more of a text adds.
+fn push_words(text: &str, ending: &mut Ending, into: &mut String) -> Result<(), NoMem>
+    ensures ok { OnOk result (string_bytes into.new ≡ string_bytes into.old ++ added ending.old text.now) }
     ensures ending { OnOk result (ending.new ≡ ending_after ending.old text.now) }
-    ensures longer { IsLonger into.old.items into.new.items }
 {
-    for b in text {
-        push_byte(*b, ending, into)?;
+    for c in text.chars() {
+        push_char(c, ending, into)?;
     }
     Ok(())
 }
 
-/// Appends what a character adds, or a part of that.
-fn push_byte(b: u8, ending: &mut Ending, into: &mut Vec<u8>) -> Result<(), NoMem>
-    ensures ok { OnOk result (into.new.items ≡ into.old.items ++ added_by ending.old b) }
-    ensures ending { OnOk result (ending.new ≡ ending_by ending.old b) }
-    ensures longer { IsLonger into.old.items into.new.items }
+/// Appends what a character adds.
+fn push_char(c: char, ending: &mut Ending, into: &mut String) -> Result<(), NoMem>
+    ensures ok { OnOk result (string_bytes into.new ≡ string_bytes into.old ++ added_by_char ending.old c) }
+    ensures ending { OnOk result (ending.new ≡ ending_by ending.old c) }
 {
-    if is_white(b) {
+    if is_white(c) {
         *ending = ending.spaced();
         return Ok(());
     }
     if matches!(ending, Ending::Space) {
-        into.push(b' ')?;
+        into.push(' ')?;
     }
-    into.push(b)?;
+    into.push(c)?;
     *ending = Ending::Word;
     Ok(())
 }
 
-/// Whether a byte is white space (HTML, "ASCII whitespace").
-fn is_white(b: u8) -> bool
-    ensures { result ≡ is_white b }
+/// Whether a character is white space (HTML, "ASCII whitespace").
+fn is_white(c: char) -> bool
+    ensures { result ≡ is_white c }
 {
-    matches!(b, b'\t' | b'\n' | 12 | b'\r' | b' ')
+    matches!(c, '\t' | '\n' | '\u{c}' | '\r' | ' ')
 }
 
 impl Ending {

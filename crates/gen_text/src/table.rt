@@ -1,6 +1,7 @@
 //! The numbers that page references print.
 
-ghost use Rattle.std.specs.Prelude.{◌≡◌, ◌<◌, ◌≤◌, ◌++◌, ℕ, Some, OnOk, OnErr, option_map, slice_get};
+ghost use Rattle.std.specs.Prelude.{◌≡◌, ◌<◌, ◌≤◌, ◌++◌, ℕ, Some, OnOk, OnErr, option_map, slice_get, string_bytes};
+ghost use Rattle.counters.specs.Numerals.{numeral_of};
 ghost use Rattle.gen_text.specs.Table.{Ascend, number_in, number_for, page_text};
 ghost use Rattle.gen_text.specs.declared.table.Entry.{Entry};
 
@@ -8,7 +9,8 @@ use bk_num::ids::NodeId;
 use bk_num::items::Items;
 use bk_num::name::NoMem;
 use bk_num::values::NumStyle;
-use counters::numeral::numeral;
+use counters::numeral::numeral_text;
+use std::alloc::Global;
 use std::marker::Model;
 
 /// The number of a target's page.
@@ -91,23 +93,56 @@ fn count_before(entries: &[Entry], node: u32) -> usize
     entries.partition_point(|entry| entry.node.0 < node)
 }
 
-/// Appends what a page reference prints: the number of its target in a style, or nothing where there is no target or the table has none
-/// for it.
+/// Appends a text.
+///
+/// # Errors
+///
+/// `NoMem`, and then `into` is as before.
+pub fn print_text(text: &str, into: &mut String) -> Result<(), NoMem>
+    ensures ok { OnOk result (string_bytes into.new ≡ string_bytes into.old ++ text.now) }
+    ensures err { OnErr result (string_bytes into.new ≡ string_bytes into.old) }
+{
+    match into.push_str(text) {
+        Ok(_) => Ok(()),
+        Err(_) => Err(NoMem),
+    }
+}
+
+/// Appends a number in a style.
+///
+/// # Errors
+///
+/// `NoMem`, and then `into` is as before.
+pub fn print_number(
+    alloc: Global,
+    number: i64,
+    style: NumStyle,
+    into: &mut String,
+) -> Result<(), NoMem>
+    ensures ok { OnOk result (string_bytes into.new ≡ string_bytes into.old ++ numeral_of style number) }
+    ensures err { OnErr result (string_bytes into.new ≡ string_bytes into.old) }
+{
+    let text = numeral_text(alloc, number, style)?;
+    print_text(text.as_str(), into)
+}
+
+/// Appends what a page reference prints: the number of its target in a style, or nothing where there is no target or the table has none for it.
 ///
 /// # Errors
 ///
 /// `NoMem`, and then `into` is as before.
 pub fn print_page(
+    alloc: Global,
     table: &Table,
     target: Option<NodeId>,
     style: NumStyle,
-    into: &mut Vec<u8>,
+    into: &mut String,
 ) -> Result<(), NoMem>
-    ensures ok { OnOk result (into.new.items ≡ into.old.items ++ page_text table.now (option_map (λ n. n.0) target) style) }
-    ensures err { OnErr result (into.new.items ≡ into.old.items) }
+    ensures ok { OnOk result (string_bytes into.new ≡ string_bytes into.old ++ page_text table.now (option_map (λ n. n.0) target) style) }
+    ensures err { OnErr result (string_bytes into.new ≡ string_bytes into.old) }
 {
     match numbered(table, target) {
-        Some(number) => numeral(number, style, into),
+        Some(number) => print_number(alloc, number, style, into),
         None => Ok(()),
     }
 }

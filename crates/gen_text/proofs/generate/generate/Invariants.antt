@@ -1,0 +1,5 @@
+use Rattle.gen_text.specs.Generated.{AreBelow, source_of}
+use Rattle.gen_text.proofs.generate.generate.Given as goal
+
+abbrev pub invariant-loop-index : goal.invariant-loop-index
+invariant-loop-index l = AreBelow (source_of l.dom l.styles l.counters l.table) l.index l.nodes
