@@ -4,3 +4,9 @@ pub mod TreeLemmas
 pub mod FlowLemmas
 pub mod WalkLemmas
 pub mod ExampleLemmas
+pub mod FaceLemmas
+pub mod PutLemmas
+pub mod OwnerLemmas
+pub mod SoundLemmas
+pub mod ByteLemmas
+pub mod RangeLemmas

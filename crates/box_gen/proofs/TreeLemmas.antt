@@ -1,5 +1,5 @@
 -- Open boxes and last events of what is built.
-use Rattle.std.proofs.Common.{◌≡◌, ◌∙◌, ℕ, ◌+◌, ◌-◌, Bool, true, false, List, [], ◌∷◌, ◌++◌, Some, length, slice_get, ◌==◌, refl, ap, arith, length-append}
+use Rattle.std.proofs.Common.{◌≡◌, ◌∙◌, ℕ, ◌-◌, Bool, true, false, List, [], ◌∷◌, ◌++◌, Some, length, slice_get, ◌==◌, refl, ap, arith, length-append}
 use Rattle.boxes.specs.Tree.{Tree, with_box, with_leaf, with_close, open_after, first_of, rest_of, last_event, is_opening, takes_leaf}
 use Rattle.boxes.specs.declared.leaf.Leaf.{Leaf as LeafData}
 use Rattle.boxes.specs.declared.place.Event.{Event}

@@ -21,7 +21,7 @@ use Rattle.box_gen.specs.Walk.{Walk, WalkBuildsFlow, walk, element_style, style_
 use Rattle.box_gen.proofs.FlowLemmas.{grows, grown-end}
 
 -- the steps through nodes
-steps_in : Forest → List Step
+unfoldable pub steps_in : Forest → List Step
 steps_in none = []
 steps_in (node n kids more) = Enter (record { 0 = n }) ∷ steps_in kids ++ Leave (record { 0 = n }) ∷ steps_in more
 
@@ -30,7 +30,7 @@ after-append src w [] ys = refl
 after-append src w (x ∷ xs) ys = after-append src (after_step src w x) xs ys
 
 -- numbers of nodes that are all greater than one
-Greater : ℕ → Forest → Type 0
+unfoldable pub Greater : ℕ → Forest → Type 0
 Greater h none = Unit {0}
 Greater h (node n kids more) = (h < n) × Greater h kids × Greater h more
 
@@ -49,14 +49,14 @@ skips src h (node n kids more) g bs far =
     by false e = refl
 
 -- how the children of a node stand: none is in a text, and those of an element in its style
-abbrev PlacedIn : ℕ → Role → Forest → (Style → Type 0) → Type 0
+abbrev pub PlacedIn : ℕ → Role → Forest → (Style → Type 0) → Type 0
 PlacedIn n hidden kids in_style = Greater n kids
 PlacedIn n (text t) kids in_style = kids ≡ none
 PlacedIn n (inline u) kids in_style = in_style u
 PlacedIn n (block u) kids in_style = in_style u
 
 -- nodes in an element of a style
-Placed : Source → Style → Forest → Type 0
+unfoldable pub Placed : Source → Style → Forest → Type 0
 Placed src s none = Unit {0}
 Placed src s (node n kids more) = (style_around src n ≡ s) × PlacedIn n (role_of src n) kids (λ u. Placed src u kids) × Placed src s more
 
@@ -113,7 +113,7 @@ unfolding steps_in IsToured tour
 toured ps zero = λ n. ap (λ (l : List Step). Enter (record { 0 = n }) ∷ l ++ Leave (record { 0 = n }) ∷ []) (no-tours ps (children_of ps n))
 toured ps (suc d) = λ n. ap (λ (l : List Step). Enter (record { 0 = n }) ∷ l ++ Leave (record { 0 = n }) ∷ []) (tours ps d (children_of ps n) (toured ps d))
 
-all-steps : (nodes : List Node) → 0 < length nodes → steps_of nodes ≡ steps_in (forest_of nodes)
+pub all-steps : (nodes : List Node) → 0 < length nodes → steps_of nodes ≡ steps_in (forest_of nodes)
 unfolding steps_in IsToured
 all-steps nodes some = by (length nodes) refl
   where
@@ -123,7 +123,7 @@ all-steps nodes some = by (length nodes) refl
 
 -- ---- how the nodes of a document stand
 
-own-of : (src : Source) (n : ℕ) (u : Style) → (role_of src n ≡ inline u) ⊎ (role_of src n ≡ block u) → style_at src.styles n pseudo.Element ≡ Some u
+pub own-of : (src : Source) (n : ℕ) (u : Style) → (role_of src n ≡ inline u) ⊎ (role_of src n ≡ block u) → style_at src.styles n pseudo.Element ≡ Some u
 own-of src n u h = by (text_at src.nodes n) (slice_get src.styles n) h
   where
     shows : (b : Bool) (o : Option Style) → (cond b (shown_role (n == 0) o) hidden ≡ inline u) ⊎ (cond b (shown_role (n == 0) o) hidden ≡ block u) → o ≡ Some u
@@ -202,7 +202,7 @@ element-parent nodes t k p g = by (slice_get nodes k) refl (sym (slice_get-map (
     by (Some n) e h = let q : n.parent ≡ Some p = cc in (subst (λ o. HasPlace nodes k n o) q (t.placed k n e)).1
 
 -- a text is no element
-text-only : (src : Source) (n : ℕ) (x : List ℕ) → role_of src n ≡ text x → is_element_at src.nodes n ≡ false
+pub text-only : (src : Source) (n : ℕ) (x : List ℕ) → role_of src n ≡ text x → is_element_at src.nodes n ≡ false
 text-only src n x h = by (slice_get src.nodes n) h
   where
     shows : (b : Bool) (o : Option Style) → cond b (shown_role (n == 0) o) hidden ≡ text x → ⊥
@@ -227,7 +227,7 @@ text-only src n x h = by (slice_get src.nodes n) h
         of (Text y) q = refl
 
 -- the nodes below a node stand in its style
-placed-in : (src : Source) → IsTree src.nodes → (d n : ℕ) → PlacedIn n (role_of src n) (below (parents_of src.nodes) d n) (λ u. Placed src u (below (parents_of src.nodes) d n))
+pub placed-in : (src : Source) → IsTree src.nodes → (d n : ℕ) → PlacedIn n (role_of src n) (below (parents_of src.nodes) d n) (λ u. Placed src u (below (parents_of src.nodes) d n))
 unfolding Placed Under Greater
 placed-in src t zero n = by (role_of src n)
   where

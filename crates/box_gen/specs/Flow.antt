@@ -1,5 +1,5 @@
 -- The flow of a document (CSS 2.1, 9.2; css-gcpm-3).
-use Rattle.std.specs.Prelude.{ℕ, suc, ◌==◌, ℤ, Bool, true, false, List, [], ◌∷◌, ◌++◌, Option, None, Some, map, filter, length, codes, if◌then◌else◌}
+use Rattle.std.specs.Prelude.{ℕ, suc, ◌==◌, ℤ, Bool, true, false, not, List, [], ◌∷◌, ◌++◌, Option, None, Some, map, filter, length, codes, if◌then◌else◌}
 use Rattle.std.specs.List.{flat_map}
 use Rattle.std.specs.Str.{bytes_eq}
 use Rattle.bk_num.specs.declared.values.Pseudo.{Pseudo}
@@ -9,6 +9,7 @@ use Rattle.boxes.specs.declared.flow.Flow.{Flow}
 use Rattle.boxes.specs.declared.flow.Reset.{Reset}
 use Rattle.boxes.specs.declared.flow.Start.{Start}
 use Rattle.boxes.specs.declared.leaf.Lead.{Lead}
+use Rattle.boxes.specs.declared.place.Position.{Position}
 use Rattle.boxes.specs.declared.props.BoxProps.{BoxProps}
 use Rattle.boxes.specs.Tree.{Tree, no_tree, with_box, with_leaf, with_close, innermost_of}
 use Rattle.inline_text.specs.declared.space.TextPart.{TextPart}
@@ -119,7 +120,7 @@ shut t = close_by t (innermost_of t.events)
 -- markers but those of a box
 abbrev pub without : Option ℕ → List Lead → List Lead
 without None leads = leads
-without (Some b) leads = filter (λ lead. if lead.owner == b then false else true) leads
+without (Some b) leads = filter (λ lead. not (lead.owner == b)) leads
 
 -- the innermost box is closed: an item without a line shows no marker
 abbrev pub closed : Built → Built
@@ -173,18 +174,29 @@ grown src s wrap b (box n u inside rest) = grown src s wrap (closed (grown src u
 abbrev pub built_of : Source → Built
 built_of src = grown src initial_style true nothing (content_of src initial_style (forest_of src.nodes) end)
 
+abbrev pub assigns_at : Position → List (List ℕ × List ℕ) → List Assign
+assigns_at at xs = map (λ x. record { name = x.0; value = x.1; at = at }) xs
+
 -- the running strings that are assigned where elements begin (css-gcpm-3, `string-set`)
 abbrev pub strings_of : Source → List Start → List Assign
-strings_of src starts = flat_map (λ a. map (λ x. record { name = x.0; value = x.1; at = a.at }) (src.assigned a.node.0)) starts
+strings_of src starts = flat_map (λ a. assigns_at a.at (src.assigned a.node.0)) starts
+
+abbrev pub is_page : List ℕ × ℤ → Bool
+is_page c = bytes_eq c.0 (codes "page")
+
+abbrev pub page_values : List (List ℕ × ℤ) → List ℤ
+page_values counters = map (λ c. c.1) (filter is_page counters)
 
 abbrev pub page_resets : Option Style → List ℤ
 page_resets None = []
-page_resets (Some s) = map (λ c. c.1) (filter (λ c. bytes_eq c.0 (codes "page")) s.counter_reset)
+page_resets (Some s) = page_values s.counter_reset
+
+abbrev pub resets_at : Position → List ℤ → List Reset
+resets_at at values = map (λ v. record { value = v; at = at }) values
 
 -- the resets of the page number where elements begin (css-page-3)
 abbrev pub resets_of : Source → List Start → List Reset
-resets_of src starts =
-    flat_map (λ a. map (λ v. record { value = v; at = a.at }) (page_resets (style_at src.styles a.node.0 pseudo.Element))) starts
+resets_of src starts = flat_map (λ a. resets_at a.at (page_resets (style_at src.styles a.node.0 pseudo.Element))) starts
 
 -- the flow of a document without notes
 abbrev pub flow_of : Source → Flow

@@ -8,4 +8,9 @@ pub mod Trees
 pub mod Flow
 pub mod Gather
 pub mod Walk
+pub mod Faces
+pub mod Sources
+pub mod Kinds
+pub mod Sites
+pub mod Steps
 pub mod Examples

@@ -1,6 +1,7 @@
 //! A law of flows, and the flows of small documents, which show what the definitions say. Each function is empty and carries one.
 
 ghost use Rattle.box_gen.specs.Examples.{Collapses, PartsText};
+ghost use Rattle.box_gen.specs.Faces.{FaceIsChosen};
 ghost use Rattle.box_gen.specs.Walk.{WalkBuildsFlow};
 
 /// `<div>a<p>b</p>c</div>` has three leaves, the first and the last of them in anonymous boxes.
@@ -16,4 +17,9 @@ pub fn white_space_collapses()
 /// Law: a walk over the nodes, with a stack of the open blocks and no look ahead, builds the flow.
 pub fn a_walk_builds_the_flow()
     ensures { WalkBuildsFlow }
+{}
+
+/// Law: the face of a style's texts is the one that its families, its font style and its weight choose.
+pub fn faces_are_chosen()
+    ensures { FaceIsChosen }
 {}

@@ -5,6 +5,7 @@ ghost use Rattle.std.specs.List.{All};
 ghost use Rattle.bk_num.specs.Limits.{most_text_bytes};
 ghost use Rattle.boxes.specs.Contents.{IsGoodLeaf, IsGoodSpan, IsNotAuto};
 ghost use Rattle.metrics.specs.Choice.{Chooses};
+ghost use Rattle.box_gen.specs.Faces.{face_of};
 ghost use Rattle.box_gen.specs.Leaves.{IsGoodRun, leaf_by, leaf_style_of};
 ghost use Rattle.box_gen.specs.Runs.{AreGoodTexts, AreTexts, joined, mark_of, marks_in, parts_in, span_between, spans_from, spans_of, starts_from, starts_of, styles_in, text_of};
 ghost use Rattle.box_gen.specs.TextStyles.{IsGoodTextStyle};
@@ -41,7 +42,7 @@ pub struct LeafStyle {
 
 /// What a block of a style gives to the leaves in it.
 pub fn leaf_style(faces: &Faces, style: &Style) -> LeafStyle
-    ensures value { result ≡ leaf_style_of style.now result.strut.face }
+    ensures value { result ≡ leaf_style_of style.now (face_of faces.now style.now) }
     ensures face { result.strut.face.0 < length faces.now }
     ensures chosen { Chooses faces.now style.now.font_family style.now.font_style style.now.font_weight result.strut.face }
 {

@@ -2,6 +2,7 @@
 
 ghost use Rattle.std.specs.Prelude.{◌≡◌, ◌<◌, length};
 ghost use Rattle.metrics.specs.Choice.{Chooses};
+ghost use Rattle.box_gen.specs.Faces.{face_of};
 ghost use Rattle.box_gen.specs.TextStyles as spec;
 ghost use Rattle.box_gen.specs.TextStyles.{span_by, text_style_of, used_line_height};
 
@@ -45,16 +46,26 @@ fn used_line_height(size: Px, height: &LineHeight) -> Px
     }
 }
 
+/// The face that a style's families, its font style and its weight choose.
+fn face_of(faces: &Faces, style: &Style) -> FaceId
+    ensures face { result ≡ face_of faces.now style.now }
+    ensures within { result.0 < length faces.now }
+    ensures chosen { Chooses faces.now style.now.font_family style.now.font_style style.now.font_weight result }
+{
+    prove!(faces.len() > 0);
+    let families = style.font_family.as_slice();
+    faces.choose(families, style.font_style, style.font_weight)
+}
+
 /// How a style sets a text whose white space is treated so: in the face that its families, its font style and its
 /// weight choose.
 pub fn text_style(faces: &Faces, style: &Style, space: WhiteSpace) -> TextStyle
-    ensures value { result ≡ text_style_of style.now space result.face }
+    ensures value { result ≡ text_style_of style.now space (face_of faces.now style.now) }
     ensures face { result.face.0 < length faces.now }
     ensures chosen { Chooses faces.now style.now.font_family style.now.font_style style.now.font_weight result.face }
 {
-    let families = style.font_family.as_slice();
     TextStyle {
-        face: faces.choose(families, style.font_style, style.font_weight),
+        face: face_of(faces, style),
         size: style.font_size,
         line_height: used_line_height(style.font_size, &style.line_height),
         color: style.color,

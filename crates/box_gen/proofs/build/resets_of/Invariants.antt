@@ -1,0 +1,7 @@
+use Rattle.std.proofs.Common.{◌≡◌, ◌++◌, drop}
+use Rattle.box_gen.specs.Flow.{resets_of}
+use Rattle.box_gen.specs.Sources.{source_in}
+use Rattle.box_gen.proofs.build.resets_of.Given as goal
+
+abbrev pub invariant-loop-start : goal.invariant-loop-start
+invariant-loop-start l = l.resets.items ++ resets_of (source_in l.input) (drop l.start-index l.starts) ≡ resets_of (source_in l.input) l.starts

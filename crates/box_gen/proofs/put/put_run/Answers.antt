@@ -1,0 +1,16 @@
+use Rattle.std.proofs.Common.{arith}
+use Rattle.box_gen.specs.Faces.{face_of}
+use Rattle.box_gen.specs.Leaves.{leaf_style_of}
+use Rattle.box_gen.specs.Props.{anonymous_props}
+use Rattle.box_gen.specs.Sites.{built_in}
+use Rattle.box_gen.proofs.ByteLemmas.{bytes-put}
+use Rattle.box_gen.proofs.put.put_run.Goals as goal
+
+pub returns-in-Err-clause-cause : goal.returns-in-Err-clause-cause
+returns-in-Err-clause-cause c = λ e.
+    let s = c.args.style.now in
+    let long = c.in-Err.ensures.cause e in
+    let all = bytes-put (leaf_style_of s (face_of c.args.faces.now s)) (anonymous_props s) c.args.wrap (built_in c.args.site.now) c.args.items.items in
+    let n = c.requires.count.count in
+    let f = c.requires.count.few in
+    omega (arith, long, all, n, f)

@@ -1,0 +1,34 @@
+-- What is built so far, as the code keeps it.
+use Rattle.std.specs.Prelude.{◌≡◌, ◌≤◌, ℕ, suc, ◌+◌, ◌==◌, Bool, true, false, List, [], ◌∷◌, ◌++◌, length, if◌then◌else◌}
+use Rattle.bk_num.specs.Limits.{most_text_bytes}
+use Rattle.boxes.specs.declared.leaf.Leaf.{Leaf}
+use Rattle.boxes.specs.declared.leaf.Span.{Span}
+use Rattle.boxes.specs.declared.props.BoxProps.{BoxProps}
+use Rattle.boxes.specs.Tree.{with_box, with_leaf}
+use Rattle.box_gen.specs.declared.inline.InlineStart.{InlineStart}
+use Rattle.box_gen.specs.declared.leaf.LeafStyle.{LeafStyle}
+use Rattle.box_gen.specs.declared.put.Site.{Site}
+use Rattle.box_gen.specs.Flow.{Built, built, shut, starts_by}
+use Rattle.box_gen.specs.Leaves.{leaf_by}
+
+abbrev pub built_in : Site → Built
+built_in site = built site.tree site.starts.items site.pending.items
+
+-- how many bytes the texts of leaves have
+abbrev pub leaf_bytes : List Leaf → ℕ
+leaf_bytes [] = 0
+leaf_bytes (l ∷ ls) = length l.text + leaf_bytes ls
+
+-- the bytes of the leaves are counted, and not too many
+pub record IsCounted (site : Site) : Type 0 where
+  pub count : site.bytes ≡ leaf_bytes site.tree.leaves
+  pub few : site.bytes ≤ most_text_bytes
+
+-- a leaf of a text with its spans is put, in an anonymous box or not, in which elements begin
+abbrev pub with_text : Bool → LeafStyle → BoxProps → Built → List ℕ → List Span → List InlineStart → Built
+with_text true look anonymous b text spans starts = built (shut (with_leaf (with_box b.tree anonymous) (leaf_by text spans look b.pending))) (b.starts ++ starts_by (suc (length b.tree.events)) starts) []
+with_text false look anonymous b text spans starts = built (with_leaf b.tree (leaf_by text spans look b.pending)) (b.starts ++ starts_by (length b.tree.events) starts) []
+
+-- the same, unless the text is empty
+abbrev pub with_any : Bool → LeafStyle → BoxProps → Built → List ℕ → List Span → List InlineStart → Built
+with_any wrap look anonymous b text spans starts = if length text == 0 then built b.tree (b.starts ++ starts_by (length b.tree.events) starts) b.pending else with_text wrap look anonymous b text spans starts

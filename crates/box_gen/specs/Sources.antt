@@ -1,0 +1,96 @@
+-- What a flow is made from, as the arguments have it.
+use Rattle.std.specs.Prelude.{◌≡◌, ◌≤ℤ◌, ℕ, pos, List, [], Option, None, Some, slice_get}
+use Rattle.bk_num.specs.declared.values.Pseudo.{Pseudo}
+use Rattle.bk_num.specs.declared.values.Pseudo.TheVariants as pseudo
+use Rattle.boxes.specs.Contents.{IsNotAuto, IsNotNegative}
+use Rattle.counters.specs.At.{Kept}
+use Rattle.dom.specs.Nodes.{Node}
+use Rattle.metrics.specs.Face.{FontFace}
+use Rattle.style.specs.declared.style.Style.{Style}
+use Rattle.style.specs.declared.values.LineHeight.{LineHeight}
+use Rattle.style.specs.declared.values.LineHeight.TheVariants as height
+use Rattle.style.specs.Nodes.{NodeStyles, style_at}
+use Rattle.style.specs.Styles.{initial_style}
+use Rattle.box_gen.specs.declared.texts.NodeTexts.{NodeTexts}
+use Rattle.box_gen.specs.declared.input.Input.{Input}
+use Rattle.box_gen.specs.Faces.{face_of}
+use Rattle.box_gen.specs.Trees.{Source}
+
+-- ---- generated texts
+
+abbrev pub text_or_empty : Option (List ℕ) → List ℕ
+text_or_empty None = []
+text_or_empty (Some t) = t
+
+abbrev pub text_for : NodeTexts → Pseudo → List ℕ
+text_for t pseudo.Element = []
+text_for t pseudo.Before = text_or_empty t.before
+text_for t pseudo.After = text_or_empty t.after
+text_for t pseudo.Call = []
+text_for t pseudo.Marker = []
+
+abbrev pub text_by : Option NodeTexts → Pseudo → List ℕ
+text_by None p = []
+text_by (Some t) p = text_for t p
+
+-- what the content of a pseudo-element prints
+abbrev pub generated_in : List NodeTexts → ℕ → Pseudo → List ℕ
+generated_in texts n p = text_by (slice_get texts n) p
+
+abbrev pub assigned_by : Option NodeTexts → List (List ℕ × List ℕ)
+assigned_by None = []
+assigned_by (Some t) = t.assigned
+
+-- the running strings that an element assigns, with their values
+abbrev pub assigned_in : List NodeTexts → ℕ → List (List ℕ × List ℕ)
+assigned_in texts n = assigned_by (slice_get texts n)
+
+-- ---- the source
+
+-- nodes with their styles, counters and generated texts, set in some faces
+abbrev pub source_of : List Node → List NodeStyles → Kept → List FontFace → List NodeTexts → Source
+source_of nodes styles counters faces texts = record {
+  nodes = nodes;
+  styles = styles;
+  counters = counters;
+  face = λ s. face_of faces s;
+  generated = λ n p. generated_in texts n p;
+  assigned = λ n. assigned_in texts n;
+}
+
+abbrev pub source_in : Input → Source
+source_in i = source_of i.dom.now i.styles.now i.counters.now i.faces.now i.texts.now
+
+-- ---- ranges
+
+abbrev pub IsHeight : LineHeight → Type 0
+IsHeight (height.Number d) = pos 0 ≤ℤ d.units
+IsHeight (height.Px p) = pos 0 ≤ℤ p
+
+-- what is asked of a style: no font size, line height, border width, padding or width is negative, and no padding or indent is auto (CSS 2.1, 8.4, 8.5.1, 10.2, 10.8.1, 15.7 and 16.1)
+pub record IsInRange (s : Style) : Type 0 where
+  pub size : pos 0 ≤ℤ s.font_size
+  pub height : IsHeight s.line_height
+  pub border_top : pos 0 ≤ℤ s.border_top_width
+  pub border_right : pos 0 ≤ℤ s.border_right_width
+  pub border_bottom : pos 0 ≤ℤ s.border_bottom_width
+  pub border_left : pos 0 ≤ℤ s.border_left_width
+  pub padding_top : IsNotNegative s.padding_top
+  pub padding_right : IsNotNegative s.padding_right
+  pub padding_bottom : IsNotNegative s.padding_bottom
+  pub padding_left : IsNotNegative s.padding_left
+  pub given_top : IsNotAuto s.padding_top
+  pub given_right : IsNotAuto s.padding_right
+  pub given_bottom : IsNotAuto s.padding_bottom
+  pub given_left : IsNotAuto s.padding_left
+  pub width : IsNotNegative s.width
+  pub indent : IsNotAuto s.text_indent
+
+-- each style of nodes and pseudo-elements is in range
+abbrev pub AreInRange : List NodeStyles → Type 0
+AreInRange styles = (n : ℕ) (p : Pseudo) (s : Style) → style_at styles n p ≡ Some s → IsInRange s
+
+-- what holds of the input of a walk
+pub record IsInput (i : Input) : Type 0 where
+  pub initial : i.initial.now ≡ initial_style
+  pub ranges : AreInRange i.styles.now

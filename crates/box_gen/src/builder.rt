@@ -1,0 +1,347 @@
+//! The walk over the nodes of a document, step by step.
+
+ghost use Rattle.std.specs.Prelude.{◌≡◌, ◌<◌, ◌≤◌, ◌++◌, ◌∷◌, ◌==◌, [], None, filter, length, not, IfErr, OnOk, IsSome, IsTrue, option_map};
+ghost use Rattle.bk_num.specs.Limits.{most_text_bytes};
+ghost use Rattle.boxes.specs.Tree.{innermost_of, takes_box};
+ghost use Rattle.dom.specs.Walk.{node_of};
+ghost use Rattle.box_gen.specs.Flow as spec;
+ghost use Rattle.box_gen.specs.Flow.{built_of, closed, leads_of, opened};
+ghost use Rattle.box_gen.specs.declared.inline.InlineItem.TheVariants as item;
+ghost use Rattle.box_gen.specs.Gather.{adds, begun, ended, make};
+ghost use Rattle.box_gen.specs.Kinds.{HasRange, role_in};
+ghost use Rattle.box_gen.specs.Sites.{IsCounted, built_in, leaf_bytes};
+ghost use Rattle.box_gen.specs.Sources.{IsInput, IsInRange, source_in};
+ghost use Rattle.box_gen.specs.Steps.{CanBegin, CanEnd, CanEnterNode, CanLeaveNode, CanStep, styles_of, walk_in};
+ghost use Rattle.box_gen.specs.Trees.{role_of};
+ghost use Rattle.box_gen.specs.Walk as walk;
+ghost use Rattle.box_gen.specs.Walk.{after_step, enter_node, leave_node};
+
+use crate::inline::{BuildErr, InlineItem};
+use crate::input::{Input, Kind, kind_of, style_around, style_of};
+use crate::marker::{has_marker, lead_of, marker_text};
+use crate::pieces::{push_first, push_last, push_text};
+use crate::props::props_of;
+use crate::put::{Site, has_room, put_run, start_at};
+use crate::text_style::text_style;
+use bk_num::ids::NodeId;
+use bk_num::name::NoMem;
+use boxes::leaf::Lead;
+use boxes::tree::BoxTree;
+use dom::{Step, Walk};
+use std::alloc::Global;
+use style::style::Style;
+
+/// What the walk keeps: what is built, the run that isn't put yet, the open blocks, and the element that isn't shown
+/// in which it is.
+#[derive(Drop)]
+pub(crate) struct Builder {
+    pub(crate) site: Site,
+    pub(crate) run: Vec<InlineItem>,
+    pub(crate) blocks: Vec<NodeId>,
+    pub(crate) unshown: Option<NodeId>,
+}
+
+/// The builder before the first step.
+pub(crate) fn new_builder(alloc: Global) -> Builder
+    ensures walk { walk_in [] result ≡ walk.walk (make spec.nothing []) [] None }
+    ensures blocks { result.blocks.items ≡ [] }
+    ensures count { IsCounted result.site }
+{
+    Builder {
+        site: Site {
+            tree: BoxTree::new(alloc),
+            starts: Vec::new(alloc),
+            pending: Vec::new(alloc),
+            bytes: 0,
+        },
+        run: Vec::new(alloc),
+        blocks: Vec::new(alloc),
+        unshown: None,
+    }
+}
+
+/// The style of the innermost open block.
+fn innermost<'a>(input: &Input<'a>, blocks: &[NodeId]) -> &'a Style
+    requires { IsInput input.now }
+    ensures value { result.now ≡ walk.innermost (styles_of input.now.styles.now blocks.now) }
+    ensures range { IsInRange result.now }
+{
+    match blocks.last() {
+        Some(node) => style_of(input, *node),
+        None => input.initial,
+    }
+}
+
+/// Adds the marker of an element whose box has a number.
+fn push_lead(
+    alloc: Global,
+    input: &Input,
+    node: NodeId,
+    style: &Style,
+    owner: u32,
+    pending: &mut Vec<Lead>,
+) -> Result<(), NoMem>
+    ensures { OnOk result (pending.new.items ≡ pending.old.items ++ leads_of (source_in input.now) node.0 style.now owner) }
+{
+    if !has_marker(node.0 == 0, style) {
+        return Ok(());
+    }
+    match marker_text(alloc, input.counters, node, style.list_style_type)? {
+        None => Ok(()),
+        Some(text) => {
+            let look = text_style(input.faces, style, style.white_space);
+            pending.push(lead_of(text, &look, owner)?)?;
+            Ok(())
+        }
+    }
+}
+
+/// Opens the box of a block.
+fn open_box(
+    alloc: Global,
+    input: &Input,
+    node: NodeId,
+    style: &Style,
+    site: &mut Site,
+) -> Result<(), NoMem>
+    requires range { IsInRange style.now }
+    requires few { length site.old.tree.events < 7999995 }
+    requires place { IsTrue (takes_box site.old.tree.events) }
+    ensures built { OnOk result (built_in site.new ≡ opened (source_in input.now) node.0 style.now (built_in site.old)) }
+    ensures bytes { OnOk result (site.new.bytes ≡ site.old.bytes) }
+{
+    let event = site.tree.count();
+    let owner = site.tree.add_box(props_of(style, node))?;
+    site.starts.push(start_at(node, event, 0))?;
+    push_lead(alloc, input, node, style, owner, &mut site.pending)?;
+    Ok(())
+}
+
+/// Markers but those of one box.
+fn drop_leads_of(pending: &mut Vec<Lead>, owner: u32)
+    ensures { pending.new.items ≡ filter (λ lead. not (lead.owner == owner)) pending.old.items }
+{
+    pending.retain(|lead| lead.owner != owner);
+}
+
+/// Markers but those of a box.
+fn drop_leads(pending: &mut Vec<Lead>, owner: Option<u32>)
+    ensures { pending.new.items ≡ spec.without owner pending.old.items }
+{
+    if let Some(owner) = owner {
+        drop_leads_of(pending, owner);
+    }
+}
+
+/// Closes the innermost box. An item without a line shows no marker.
+fn close_box(site: &mut Site) -> Result<(), NoMem>
+    requires few { length site.old.tree.events < 7999995 }
+    requires open { IsSome (innermost_of site.old.tree.events) }
+    ensures built { OnOk result (built_in site.new ≡ closed (built_in site.old)) }
+    ensures bytes { OnOk result (site.new.bytes ≡ site.old.bytes) }
+{
+    let inner = site.tree.around(site.tree.count());
+    site.tree.close_box()?;
+    drop_leads(&mut site.pending, inner);
+    Ok(())
+}
+
+/// Enters an inline element.
+fn enter_inline(
+    alloc: Global,
+    input: &Input,
+    node: NodeId,
+    style: &Style,
+    run: &mut Vec<InlineItem>,
+) -> Result<(), NoMem>
+    requires { node.0 < length input.now.dom.now }
+    ensures { OnOk result (run.new.items ≡ (run.old.items ++ item.Start node ∷ []) ++ spec.first_items (source_in input.now) style.now node.0) }
+{
+    run.push(InlineItem::Start(node))?;
+    push_first(alloc, input, node, style, run)?;
+    Ok(())
+}
+
+/// Enters a block: the run before it is put, and its box opened.
+fn enter_block(
+    alloc: Global,
+    input: &Input,
+    node: NodeId,
+    style: &Style,
+    builder: &mut Builder,
+) -> Result<(), BuildErr>
+    requires input { IsInput input.now }
+    requires node { node.0 < length input.now.dom.now }
+    requires range { IsInRange style.now }
+    requires count { IsCounted builder.old.site }
+    requires can { CanBegin (source_in input.now) (walk.innermost (styles_of input.now.styles.now builder.old.blocks.items)) (make (built_in builder.old.site) builder.old.run.items) }
+    ensures gathered { OnOk result (make (built_in builder.new.site) builder.new.run.items ≡ begun (source_in input.now) (walk.innermost (styles_of input.now.styles.now builder.old.blocks.items)) node.0 style.now (make (built_in builder.old.site) builder.old.run.items)) }
+    ensures blocks { OnOk result (builder.new.blocks.items ≡ builder.old.blocks.items ++ node ∷ []) }
+    ensures unshown { OnOk result (builder.new.unshown ≡ builder.old.unshown) }
+    ensures count { OnOk result (IsCounted builder.new.site) }
+    ensures cause { IfErr result (λ e. e ≡ BuildErr.Text → most_text_bytes < leaf_bytes (begun (source_in input.now) (walk.innermost (styles_of input.now.styles.now builder.old.blocks.items)) node.0 style.now (make (built_in builder.old.site) builder.old.run.items)).built.tree.leaves) }
+{
+    if !has_room(&builder.site.tree) {
+        return Err(BuildErr::NoMemory);
+    }
+    let around = innermost(input, &builder.blocks);
+    let items = std::mem::replace(&mut builder.run, Vec::new(alloc));
+    put_run(alloc, input.faces, around, true, &mut builder.site, items)?;
+    let Ok(()) = open_box(alloc, input, node, style, &mut builder.site) else {
+        return Err(BuildErr::NoMemory);
+    };
+    let Ok(()) = builder.blocks.push(node) else {
+        return Err(BuildErr::NoMemory);
+    };
+    let Ok(()) = push_first(alloc, input, node, style, &mut builder.run) else {
+        return Err(BuildErr::NoMemory);
+    };
+    Ok(())
+}
+
+/// Leaves a block of a style: the run at its end is put, and its box closed.
+fn leave_block(
+    alloc: Global,
+    input: &Input,
+    node: NodeId,
+    style: &Style,
+    builder: &mut Builder,
+) -> Result<(), BuildErr>
+    requires range { IsInRange style.now }
+    requires count { IsCounted builder.old.site }
+    requires can { CanEnd (source_in input.now) style.now (adds (spec.last_items (source_in input.now) node.0) (make (built_in builder.old.site) builder.old.run.items)) }
+    ensures gathered { OnOk result (make (built_in builder.new.site) builder.new.run.items ≡ ended (source_in input.now) style.now (adds (spec.last_items (source_in input.now) node.0) (make (built_in builder.old.site) builder.old.run.items))) }
+    ensures blocks { OnOk result (builder.new.blocks ≡ builder.old.blocks) }
+    ensures unshown { OnOk result (builder.new.unshown ≡ builder.old.unshown) }
+    ensures count { OnOk result (IsCounted builder.new.site) }
+    ensures cause { IfErr result (λ e. e ≡ BuildErr.Text → most_text_bytes < leaf_bytes (ended (source_in input.now) style.now (adds (spec.last_items (source_in input.now) node.0) (make (built_in builder.old.site) builder.old.run.items))).built.tree.leaves) }
+{
+    if !has_room(&builder.site.tree) {
+        return Err(BuildErr::NoMemory);
+    }
+    let Ok(()) = push_last(alloc, input, node, &mut builder.run) else {
+        return Err(BuildErr::NoMemory);
+    };
+    let wrap = !builder.site.tree.takes_leaf();
+    let items = std::mem::replace(&mut builder.run, Vec::new(alloc));
+    put_run(alloc, input.faces, style, wrap, &mut builder.site, items)?;
+    let Ok(()) = close_box(&mut builder.site) else {
+        return Err(BuildErr::NoMemory);
+    };
+    Ok(())
+}
+
+/// The step into a node that is shown.
+fn enter(
+    alloc: Global,
+    input: &Input,
+    node: NodeId,
+    kind: Kind,
+    builder: &mut Builder,
+) -> Result<(), BuildErr>
+    requires input { IsInput input.now }
+    requires node { node.0 < length input.now.dom.now }
+    requires role { role_in kind ≡ role_of (source_in input.now) node.0 }
+    requires range { HasRange kind }
+    requires shown { builder.old.unshown ≡ None }
+    requires count { IsCounted builder.old.site }
+    requires can { CanEnterNode (source_in input.now) (role_in kind) (walk_in input.now.styles.now builder.old) }
+    ensures walk { OnOk result (walk_in input.now.styles.now builder.new ≡ enter_node (source_in input.now) node.0 (role_in kind.entry) (walk_in input.now.styles.now builder.old)) }
+    ensures count { OnOk result (IsCounted builder.new.site) }
+    ensures cause { IfErr result (λ e. e ≡ BuildErr.Text → most_text_bytes < leaf_bytes (enter_node (source_in input.now) node.0 (role_in kind.entry) (walk_in input.now.styles.now builder.old)).gathered.built.tree.leaves) }
+{
+    match kind {
+        Kind::Hidden => builder.unshown = Some(node),
+        Kind::Text(text) => {
+            let style = style_around(input, node);
+            let Ok(()) = push_text(alloc, input, style, text, &mut builder.run) else {
+                return Err(BuildErr::NoMemory);
+            };
+        }
+        Kind::Inline(style) => {
+            let Ok(()) = enter_inline(alloc, input, node, style, &mut builder.run) else {
+                return Err(BuildErr::NoMemory);
+            };
+        }
+        Kind::Block(style) => enter_block(alloc, input, node, style, builder)?,
+    }
+    Ok(())
+}
+
+/// The step out of a node that is shown.
+fn leave(
+    alloc: Global,
+    input: &Input,
+    node: NodeId,
+    kind: Kind,
+    builder: &mut Builder,
+) -> Result<(), BuildErr>
+    requires range { HasRange kind }
+    requires shown { builder.old.unshown ≡ None }
+    requires count { IsCounted builder.old.site }
+    requires can { CanLeaveNode (source_in input.now) node.0 (role_in kind) (walk_in input.now.styles.now builder.old) }
+    ensures walk { OnOk result (walk_in input.now.styles.now builder.new ≡ leave_node (source_in input.now) node.0 (role_in kind.entry) (walk_in input.now.styles.now builder.old)) }
+    ensures count { OnOk result (IsCounted builder.new.site) }
+    ensures cause { IfErr result (λ e. e ≡ BuildErr.Text → most_text_bytes < leaf_bytes (leave_node (source_in input.now) node.0 (role_in kind.entry) (walk_in input.now.styles.now builder.old)).gathered.built.tree.leaves) }
+{
+    match kind {
+        Kind::Hidden | Kind::Text(_) => {}
+        Kind::Inline(_) => {
+            let Ok(()) = push_last(alloc, input, node, &mut builder.run) else {
+                return Err(BuildErr::NoMemory);
+            };
+        }
+        Kind::Block(style) => {
+            leave_block(alloc, input, node, style, builder)?;
+            builder.blocks.pop();
+        }
+    }
+    Ok(())
+}
+
+/// A step of the walk. Nothing is gathered in an element that isn't shown, up to the step out of it.
+fn pass(alloc: Global, input: &Input, step: Step, builder: &mut Builder) -> Result<(), BuildErr>
+    requires input { IsInput input.now }
+    requires node { node_of step < length input.now.dom.now }
+    requires count { IsCounted builder.old.site }
+    requires can { CanStep (source_in input.now) (walk_in input.now.styles.now builder.old) step }
+    ensures walk { OnOk result (walk_in input.now.styles.now builder.new ≡ after_step (source_in input.now) (walk_in input.now.styles.now builder.old) step) }
+    ensures count { OnOk result (IsCounted builder.new.site) }
+    ensures cause { IfErr result (λ e. e ≡ BuildErr.Text → most_text_bytes < leaf_bytes (after_step (source_in input.now) (walk_in input.now.styles.now builder.old) step).gathered.built.tree.leaves) }
+{
+    match (step, builder.unshown) {
+        (Step::Enter(node), None) => enter(alloc, input, node, kind_of(input, node), builder),
+        (Step::Leave(node), None) => leave(alloc, input, node, kind_of(input, node), builder),
+        (Step::Enter(_), Some(_)) => Ok(()),
+        (Step::Leave(node), Some(hidden)) => {
+            if hidden == node {
+                builder.unshown = None;
+            }
+            Ok(())
+        }
+    }
+}
+
+/// The whole walk.
+pub(crate) fn walk_through(
+    alloc: Global,
+    input: &Input,
+    builder: &mut Builder,
+) -> Result<(), BuildErr>
+    requires input { IsInput input.now }
+    requires count { IsCounted builder.old.site }
+    requires start { walk_in input.now.styles.now builder.old ≡ walk.walk (make spec.nothing []) [] None }
+    ensures walk { OnOk result (built_of (source_in input.now) ≡ built_in builder.new.site) }
+    ensures count { OnOk result (IsCounted builder.new.site) }
+    ensures cause { IfErr result (λ e. e ≡ BuildErr.Text → most_text_bytes < leaf_bytes (built_of (source_in input.now)).tree.leaves) }
+{
+    prove!(input.dom.len() > 0);
+    let mut steps = Walk::new(input.dom);
+    while let Some(step) = steps.next() {
+        match pass(alloc, input, step, builder) {
+            Ok(()) => {}
+            Err(e) => return Err(e),
+        }
+    }
+    Ok(())
+}

@@ -1,0 +1,125 @@
+//! The pieces of runs: texts, generated texts, and the texts that elements represent.
+
+ghost use Rattle.std.specs.Prelude.{◌≡◌, ◌<◌, ◌++◌, ◌∷◌, [], length, OnOk};
+ghost use Rattle.box_gen.specs.Flow as spec;
+ghost use Rattle.box_gen.specs.Flow.{styled, text_item, generated_items};
+ghost use Rattle.box_gen.specs.Represented as represented;
+ghost use Rattle.box_gen.specs.Sources.{source_in};
+
+use crate::inline::{InlineItem, StyledText};
+use crate::input::Input;
+use crate::represented::represented_text;
+use crate::text_style::text_style;
+use crate::texts::generated_in;
+use bk_num::ids::NodeId;
+use bk_num::name::{Name, NoMem};
+use bk_num::values::Pseudo;
+use inline_text::space::TextPart;
+use std::alloc::Global;
+use style::style::Style;
+
+/// Adds a text that a style sets.
+fn push_styled(
+    input: &Input,
+    style: &Style,
+    part: TextPart,
+    run: &mut Vec<InlineItem>,
+) -> Result<(), NoMem>
+    ensures { OnOk result (run.new.items ≡ run.old.items ++ styled (source_in input.now) style.now part ∷ []) }
+{
+    let style = text_style(input.faces, style, part.space);
+    run.push(InlineItem::Text(StyledText { part, style }))?;
+    Ok(())
+}
+
+/// Adds a text of an element of a style.
+pub(crate) fn push_text(
+    alloc: Global,
+    input: &Input,
+    style: &Style,
+    text: &str,
+    run: &mut Vec<InlineItem>,
+) -> Result<(), NoMem>
+    ensures { OnOk result (run.new.items ≡ run.old.items ++ text_item (source_in input.now) style.now text.now ∷ []) }
+{
+    let part = TextPart {
+        text: Name::new(alloc, text)?,
+        space: style.white_space,
+    };
+    push_styled(input, style, part, run)?;
+    Ok(())
+}
+
+/// Adds the text of a pseudo-element that is there.
+fn push_generated(
+    alloc: Global,
+    input: &Input,
+    node: NodeId,
+    pseudo: Pseudo,
+    run: &mut Vec<InlineItem>,
+) -> Result<(), NoMem>
+    ensures { OnOk result (run.new.items ≡ run.old.items ++ generated_items (source_in input.now) node.0 pseudo) }
+{
+    match input.styles.of(node, pseudo) {
+        None => Ok(()),
+        Some(style) => {
+            push_text(
+                alloc,
+                input,
+                style,
+                generated_in(input.texts, node, pseudo),
+                run,
+            )?;
+            Ok(())
+        }
+    }
+}
+
+/// Adds the text that an element represents.
+fn push_represented(
+    alloc: Global,
+    input: &Input,
+    node: NodeId,
+    style: &Style,
+    run: &mut Vec<InlineItem>,
+) -> Result<(), NoMem>
+    requires { node.0 < length input.now.dom.now }
+    ensures { OnOk result (run.new.items ≡ run.old.items ++ spec.represented_items (source_in input.now) style.now (represented.represented_text input.now.dom.now node.0 style.now.white_space)) }
+{
+    match represented_text(alloc, input.dom, node, style.white_space)? {
+        None => Ok(()),
+        Some(part) => {
+            push_styled(input, style, part, run)?;
+            Ok(())
+        }
+    }
+}
+
+/// Adds what stands in an element before its children.
+pub(crate) fn push_first(
+    alloc: Global,
+    input: &Input,
+    node: NodeId,
+    style: &Style,
+    run: &mut Vec<InlineItem>,
+) -> Result<(), NoMem>
+    requires { node.0 < length input.now.dom.now }
+    ensures { OnOk result (run.new.items ≡ run.old.items ++ spec.first_items (source_in input.now) style.now node.0) }
+{
+    push_generated(alloc, input, node, Pseudo::Before, run)?;
+    push_represented(alloc, input, node, style, run)?;
+    Ok(())
+}
+
+/// Adds what stands in an element after its children.
+pub(crate) fn push_last(
+    alloc: Global,
+    input: &Input,
+    node: NodeId,
+    run: &mut Vec<InlineItem>,
+) -> Result<(), NoMem>
+    ensures { OnOk result (run.new.items ≡ run.old.items ++ spec.last_items (source_in input.now) node.0) }
+{
+    push_generated(alloc, input, node, Pseudo::After, run)?;
+    Ok(())
+}

@@ -1,0 +1,238 @@
+//! A run is put into the tree.
+
+ghost use Rattle.std.specs.Prelude.{◌≡◌, suc, ◌+◌, ◌<◌, ◌≤◌, ◌++◌, ◌∷◌, [], ◌==◌, length, IfOk, OnOk, IfErr, IsTrue, if◌then◌else◌};
+ghost use Rattle.std.specs.List.{All};
+ghost use Rattle.bk_num.specs.Limits.{most_text_bytes};
+ghost use Rattle.boxes.specs.Contents.{IsGoodBox, IsGoodLeaf, IsGoodSpan, IsNotAuto};
+ghost use Rattle.boxes.specs.Tree.{HaveOwners, takes_box, takes_leaf, with_box, with_leaf};
+ghost use Rattle.box_gen.specs.Faces.{face_of};
+ghost use Rattle.box_gen.specs.Flow as spec;
+ghost use Rattle.box_gen.specs.Flow.{put, shut, starts_by};
+ghost use Rattle.box_gen.specs.Leaves.{IsGoodRun, leaf_style_of};
+ghost use Rattle.box_gen.specs.Props as props;
+ghost use Rattle.box_gen.specs.Runs.{AreGoodTexts};
+ghost use Rattle.box_gen.specs.Sites.{IsCounted, built_in, leaf_bytes, with_any, with_text};
+ghost use Rattle.box_gen.specs.Sources.{IsInRange};
+ghost use Rattle.box_gen.specs.TextStyles.{IsGoodTextStyle};
+
+use crate::inline::{BuildErr, InlineItem, InlineStart};
+use crate::leaf::{LeafStyle, RunText, leaf_of, leaf_style, run_text};
+use crate::props::anonymous_props;
+use bk_num::ids::NodeId;
+use bk_num::items::Items;
+use bk_num::limits::{MOST_EVENTS, MOST_TEXT_BYTES};
+use bk_num::name::NoMem;
+use boxes::flow::Start;
+use boxes::leaf::{Lead, Leaf};
+use boxes::place::Position;
+use boxes::props::BoxProps;
+use boxes::tree::BoxTree;
+use metrics::Faces;
+use std::alloc::Global;
+use style::style::Style;
+
+/// The tree so far, where elements begin, the markers that have no line yet, and how many bytes the leaves have.
+#[derive(Drop)]
+pub(crate) struct Site {
+    pub(crate) tree: BoxTree,
+    pub(crate) starts: Vec<Start>,
+    pub(crate) pending: Vec<Lead>,
+    pub(crate) bytes: u32,
+}
+
+/// Whether a step may add its events, of which there are four at most. It always may: a document of 400,000 nodes
+/// has fewer than 800,000 steps.
+pub(crate) fn has_room(tree: &BoxTree) -> bool
+    ensures { IsTrue result → length tree.now.events < 7999990 }
+{
+    tree.count() < MOST_EVENTS - 10
+}
+
+/// Where an element begins.
+pub(crate) fn start_at(node: NodeId, event: u32, offset: u32) -> Start
+    ensures { result ≡ spec.start_at node.0 event offset }
+{
+    Start {
+        node,
+        note: None,
+        at: Position { event, offset },
+    }
+}
+
+/// Adds where the elements of a run begin, whose leaf is an event.
+fn push_starts(starts: &mut Vec<Start>, event: u32, of: &[InlineStart]) -> Result<(), NoMem>
+    ensures { OnOk result (starts.new.items ≡ starts.old.items ++ starts_by event of.now) }
+{
+    for start in of {
+        starts.push(start_at(start.node, event, start.offset))?;
+    }
+    Ok(())
+}
+
+/// Puts a leaf in an anonymous box.
+fn put_wrapped(tree: &mut BoxTree, anonymous: BoxProps, leaf: Leaf) -> Result<(), NoMem>
+    requires few { length tree.old.events < 7999990 }
+    requires place { IsTrue (takes_box tree.old.events) }
+    requires boxed { IsGoodBox anonymous }
+    requires good { IsGoodLeaf leaf }
+    requires owners { HaveOwners tree.old.events leaf.leads }
+    ensures { OnOk result (tree.new ≡ shut (with_leaf (with_box tree.old anonymous) leaf)) }
+{
+    tree.add_box(anonymous)?;
+    tree.add_leaf(leaf)?;
+    tree.close_box()
+}
+
+/// Puts a leaf, in an anonymous box or not.
+fn put_leaf(tree: &mut BoxTree, wrap: bool, anonymous: BoxProps, leaf: Leaf) -> Result<(), NoMem>
+    requires few { length tree.old.events < 7999990 }
+    requires place { IsTrue (if wrap then takes_box tree.old.events else takes_leaf tree.old.events) }
+    requires boxed { IsGoodBox anonymous }
+    requires good { IsGoodLeaf leaf }
+    requires owners { HaveOwners tree.old.events leaf.leads }
+    ensures { OnOk result (tree.new ≡ (if wrap then shut (with_leaf (with_box tree.old anonymous) leaf) else with_leaf tree.old leaf)) }
+{
+    if wrap {
+        put_wrapped(tree, anonymous, leaf)
+    } else {
+        tree.add_leaf(leaf)?;
+        Ok(())
+    }
+}
+
+/// The event of a leaf that is put next, in an anonymous box or not.
+fn leaf_event(tree: &BoxTree, wrap: bool) -> u32
+    requires { length tree.now.events < 7999990 }
+    ensures { result ≡ (if wrap then suc (length tree.now.events) else length tree.now.events) }
+{
+    if wrap { tree.count() + 1 } else { tree.count() }
+}
+
+/// Puts a text that isn't empty: a leaf, which takes the markers that wait.
+fn put_some(
+    alloc: Global,
+    site: &mut Site,
+    wrap: bool,
+    look: &LeafStyle,
+    anonymous: BoxProps,
+    run: RunText,
+) -> Result<(), NoMem>
+    requires some { 0 < length run.text }
+    requires good { IsGoodRun run }
+    requires sizes { All IsGoodSpan run.spans }
+    requires strut { IsGoodTextStyle look.now.strut }
+    requires indent { IsNotAuto look.now.indent }
+    requires boxed { IsGoodBox anonymous }
+    requires few { length site.old.tree.events < 7999990 }
+    requires place { IsTrue (if wrap then takes_box site.old.tree.events else takes_leaf site.old.tree.events) }
+    requires owners { HaveOwners site.old.tree.events site.old.pending.items }
+    requires leads { All (λ lead. IsGoodSpan lead.span) site.old.pending.items }
+    ensures built { OnOk result (built_in site.new ≡ with_text wrap look.now anonymous (built_in site.old) run.text run.spans run.starts) }
+    ensures bytes { OnOk result (site.new.bytes ≡ site.old.bytes) }
+{
+    let event = leaf_event(&site.tree, wrap);
+    push_starts(&mut site.starts, event, run.starts.as_slice())?;
+    let leads = std::mem::replace(&mut site.pending, Vec::new(alloc));
+    let leaf = leaf_of(alloc, run, look, Items::of(leads))?;
+    put_leaf(&mut site.tree, wrap, anonymous, leaf)?;
+    Ok(())
+}
+
+/// Puts a text, or only the places where elements begin in it.
+fn put_any(
+    alloc: Global,
+    site: &mut Site,
+    wrap: bool,
+    look: &LeafStyle,
+    anonymous: BoxProps,
+    run: RunText,
+) -> Result<(), NoMem>
+    requires good { IsGoodRun run }
+    requires sizes { All IsGoodSpan run.spans }
+    requires strut { IsGoodTextStyle look.now.strut }
+    requires indent { IsNotAuto look.now.indent }
+    requires boxed { IsGoodBox anonymous }
+    requires few { length site.old.tree.events < 7999990 }
+    requires place { IsTrue (if wrap then takes_box site.old.tree.events else takes_leaf site.old.tree.events) }
+    requires owners { HaveOwners site.old.tree.events site.old.pending.items }
+    requires leads { All (λ lead. IsGoodSpan lead.span) site.old.pending.items }
+    ensures built { OnOk result (built_in site.new ≡ with_any wrap look.now anonymous (built_in site.old) run.text run.spans run.starts) }
+    ensures bytes { OnOk result (site.new.bytes ≡ site.old.bytes) }
+{
+    if run.text.as_str().is_empty() {
+        let event = site.tree.count();
+        push_starts(&mut site.starts, event, run.starts.as_slice())?;
+        Ok(())
+    } else {
+        put_some(alloc, site, wrap, look, anonymous, run)
+    }
+}
+
+/// How many bytes the text of a run has.
+fn bytes_of(run: &RunText) -> u32
+    requires { length run.now.text ≤ most_text_bytes }
+    ensures { result ≡ length run.now.text }
+{
+    run.text.as_str().len() as u32
+}
+
+/// Puts the text of a run into a block of a style, and counts its bytes.
+fn put_text(
+    alloc: Global,
+    faces: &Faces,
+    style: &Style,
+    wrap: bool,
+    site: &mut Site,
+    run: RunText,
+) -> Result<(), NoMem>
+    requires range { IsInRange style.now }
+    requires good { IsGoodRun run }
+    requires sizes { All IsGoodSpan run.spans }
+    requires room { site.old.bytes + length run.text ≤ most_text_bytes }
+    requires few { length site.old.tree.events < 7999990 }
+    requires place { IsTrue (if wrap then takes_box site.old.tree.events else takes_leaf site.old.tree.events) }
+    requires owners { HaveOwners site.old.tree.events site.old.pending.items }
+    requires leads { All (λ lead. IsGoodSpan lead.span) site.old.pending.items }
+    requires count { IsCounted site.old }
+    ensures built { OnOk result (built_in site.new ≡ with_any wrap (leaf_style_of style.now (face_of faces.now style.now)) (props.anonymous_props style.now) (built_in site.old) run.text run.spans run.starts) }
+    ensures count { OnOk result (IsCounted site.new) }
+{
+    let bytes = bytes_of(&run);
+    let look = leaf_style(faces, style);
+    put_any(alloc, site, wrap, &look, anonymous_props(style), run)?;
+    site.bytes += bytes;
+    Ok(())
+}
+
+/// Puts a run into a block of a style: a leaf, where its text isn't empty, and the places where its elements begin.
+///
+/// # Errors
+///
+/// `Text` where the leaves with that of the run have more than 33,554,432 bytes.
+pub(crate) fn put_run(
+    alloc: Global,
+    faces: &Faces,
+    style: &Style,
+    wrap: bool,
+    site: &mut Site,
+    items: Vec<InlineItem>,
+) -> Result<(), BuildErr>
+    requires range { IsInRange style.now }
+    requires texts { AreGoodTexts items.items }
+    requires few { length site.old.tree.events < 7999990 }
+    requires place { IsTrue (if wrap then takes_box site.old.tree.events else takes_leaf site.old.tree.events) }
+    requires owners { HaveOwners site.old.tree.events site.old.pending.items }
+    requires leads { All (λ lead. IsGoodSpan lead.span) site.old.pending.items }
+    requires count { IsCounted site.old }
+    ensures built { OnOk result (built_in site.new ≡ put (leaf_style_of style.now (face_of faces.now style.now)) (props.anonymous_props style.now) wrap (built_in site.old) items.items) }
+    ensures count { OnOk result (IsCounted site.new) }
+    ensures cause { IfErr result (λ e. e ≡ BuildErr.Text → most_text_bytes < leaf_bytes (put (leaf_style_of style.now (face_of faces.now style.now)) (props.anonymous_props style.now) wrap (built_in site.old) items.items).tree.leaves) }
+{
+    match run_text(alloc, items, MOST_TEXT_BYTES as u32 - site.bytes) {
+        Err(e) => Err(e),
+        Ok(run) => match put_text(alloc, faces, style, wrap, site, run) {
+            Ok(()) => Ok(()),
+            Err(_) => Err(BuildErr::NoMemory),
+        },
+    }
+}
