@@ -12,5 +12,7 @@ mod pieces;
 pub mod props;
 mod put;
 pub mod represented;
+#[cfg(test)]
+mod tests;
 pub mod text_style;
 pub mod texts;
