@@ -6,3 +6,5 @@ pub mod TurnLemmas
 pub mod AppliesLemmas
 pub mod OneListLemmas
 pub mod PlaceLemmas
+pub mod TableLemmas
+pub mod ShareLemmas

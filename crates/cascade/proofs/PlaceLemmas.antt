@@ -13,7 +13,7 @@ use Rattle.selectors.specs.Match.{Tree, Matches}
 use Rattle.match_table.specs.All.{MatchesAt, IsMatchList}
 use Rattle.cascade.specs.declared.decl.ReadDecl.{ReadDecl}
 use Rattle.cascade.specs.declared.sheet.ReadSheet.{ReadSheet}
-use Rattle.cascade.specs.declared.winners.NodeWinners.{NodeWinners}
+use Rattle.cascade.specs.declared.table.NodeWinners.{NodeWinners}
 use Rattle.cascade.specs.Document.{rules_of, style_decls, AreNodeWinners}
 use Rattle.cascade.specs.declared.selected.Selected.{Selected}
 use Rattle.cascade.specs.Selected.{SelectedOf, selected_in, selected_from, selectors_of, pushed_if, ArePlaces, AreChosen}
@@ -80,7 +80,7 @@ from_get g xs k R (Some x) m e = let low = m.0 in ap (λ y. Some y) e ∙ sym (s
 pub same_or : {A : Type 0} (xs : List A) (i : ℕ) (d e : A) → i < length xs → get_or xs i d ≡ get_or xs i e
 same_or xs i d e low = some_is (sym (slice_get-get_or xs i d low) ∙ slice_get-get_or xs i e low)
 
--- ---- one node after another
+-- ---- what is chosen for a node wins
 
 pub of_chosen : (dom : Tree) (sheets : List ReadSheet) (ss : List SelectedOf) (n : ℕ) (places : List ℕ) (styled : List ReadDecl) (w : NodeWinners) → ss ≡ selected_from 0 (rules_of sheets) → ArePlaces dom ss n places → styled ≡ style_decls dom n
     → AreChosen ss places styled w → AreNodeWinners dom sheets n w
@@ -91,11 +91,3 @@ of_chosen dom sheets ss n places styled w all found same c = record {
   call = at_node dom sheets ss n places styled pseudo.Call w.call all found same c.call;
   marker = at_node dom sheets ss n places styled pseudo.Marker w.marker all found same c.marker;
 }
-
-pub node_turn : (dom : Tree) (sheets : List ReadSheet) (all : List NodeWinners) (w : NodeWinners) (i : ℕ) → length all ≡ i → ((k : ℕ) (v : NodeWinners) → slice_get all k ≡ Some v → AreNodeWinners dom sheets k v) → AreNodeWinners dom sheets i w
-    → (k : ℕ) (v : NodeWinners) → slice_get (all ++ w ∷ []) k ≡ Some v → AreNodeWinners dom sheets k v
-node_turn dom sheets all w i len old new k v h = by (get-push all w v k h)
-  where
-    by : ((k ≡ length all) × (v ≡ w)) ⊎ (slice_get all k ≡ Some v) → AreNodeWinners dom sheets k v
-    by (inl (at, same)) = subst (λ j. AreNodeWinners dom sheets j v) (sym (at ∙ len)) (subst (AreNodeWinners dom sheets i) (sym same) new)
-    by (inr there) = old k v there

@@ -16,7 +16,7 @@ use Rattle.cascade.specs.declared.sheet.Origin.TheVariants as origin
 use Rattle.cascade.specs.declared.sheet.ReadRule.{ReadRule}
 use Rattle.cascade.specs.declared.sheet.ReadSheet.{ReadSheet}
 use Rattle.cascade.specs.declared.weight.Weight.{Weight}
-use Rattle.cascade.specs.declared.winners.NodeWinners.{NodeWinners}
+use Rattle.cascade.specs.declared.table.NodeWinners.{NodeWinners}
 use Rattle.cascade.specs.Weights.{of_style}
 use Rattle.cascade.specs.Candidates.{Declared, AppliedOf, IsDeclared}
 use Rattle.cascade.specs.Winners.{AreWinners}

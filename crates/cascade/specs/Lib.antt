@@ -5,4 +5,7 @@ pub mod Winners
 pub mod Sheets
 pub mod Document
 pub mod Selected
+pub mod Table
+pub mod TableFields
+pub mod Sharing
 pub mod Laws

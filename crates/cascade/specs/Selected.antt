@@ -10,7 +10,7 @@ use Rattle.cascade.specs.declared.decl.ReadDecl.{ReadDecl}
 use Rattle.cascade.specs.declared.sheet.Origin.{Origin}
 use Rattle.cascade.specs.declared.selected.Ruled.{Ruled}
 use Rattle.cascade.specs.declared.selected.Selected.{Selected}
-use Rattle.cascade.specs.declared.winners.NodeWinners.{NodeWinners}
+use Rattle.cascade.specs.declared.table.NodeWinners.{NodeWinners}
 use Rattle.cascade.specs.Weights.{of_style}
 use Rattle.cascade.specs.Candidates.{AppliedOf, applied_in, DeclaredBy}
 use Rattle.cascade.specs.Winners.{AreWinners}

@@ -3,7 +3,8 @@
 ghost use Rattle.std.specs.Prelude.{◌≡◌, ◌<◌, length, IfOk};
 
 use crate::sheet::{Origin, ReadSheet, read_rules};
-use crate::winners::{NodeWinners, all_winners, winners};
+use crate::table::NodeWinners;
+use crate::winners::{all_winners, winners};
 use bk_num::ids::NodeId;
 use bk_num::values::{Color, Pseudo};
 use css_rules::sheet::read_sheet;
@@ -125,7 +126,7 @@ fn sheets_and_attributes_decide_the_colour(rt: HostRuntime) -> Result<(), Fail> 
         assert!(rt; node.0 < dom.len());
         let all = all_winners(alloc, &dom, &sheets)?;
         assert_eq!(rt; all.len(), 3);
-        let colors = colors_of(alloc, &all[node.0 as usize])?;
+        let colors = colors_of(alloc, all.of(node))?;
         assert_eq!(rt; colors.as_str(), want, "{row}");
         let colors = colors_at(alloc, &dom, &sheets, node)?;
         assert_eq!(rt; colors.as_str().trim(), want, "{row}");

@@ -5,9 +5,11 @@ ghost use Rattle.cascade.specs.Document.{style_decls, IsDeclaredAt, AreAllWinner
 ghost use Rattle.cascade.specs.Winners.{AreWinners};
 ghost use Rattle.cascade.specs.Selected as spec;
 
+use crate::alike::Alike;
 use crate::decl::ReadDecl;
 use crate::selected::{Selected, rules_of, selected_of, winners_by};
 use crate::sheet::{ReadSheet, read_all};
+use crate::table::{NodeWinners, WinnerTable};
 use bk_num::ids::NodeId;
 use bk_num::items::Items;
 use bk_num::name::NoMem;
@@ -25,16 +27,6 @@ use style::long::Long;
 #[derive(Drop)]
 pub struct WinnerMap {
     pub longs: Items<Long>,
-}
-
-/// The winning declarations of an element and of each of its pseudo-elements: at most one for each longhand. A text has none.
-#[derive(Drop)]
-pub struct NodeWinners {
-    pub own: Items<Long>,
-    pub before: Items<Long>,
-    pub after: Items<Long>,
-    pub call: Items<Long>,
-    pub marker: Items<Long>,
 }
 
 /// The declarations of a node's style attribute.
@@ -138,24 +130,29 @@ fn selectors_of<'s>(alloc: Global, selected: &[Selected<'s>]) -> Result<Vec<&'s 
 }
 
 /// What wins for each node of a document and for each of its pseudo-elements: at each the same as `winners` gives. All
-/// selectors are matched in one call, each style attribute is read once, and no value is read again.
-pub fn all_winners(
-    alloc: Global,
-    dom: &Dom,
-    sheets: &[ReadSheet],
-) -> Result<Vec<NodeWinners>, NoMem>
-    ensures { IfOk result (λ v. AreAllWinners dom.now sheets.now v.items) }
+/// selectors are matched in one call. What wins is chosen once, and a style attribute read once, for all nodes with the
+/// same style attribute that the same selectors match. No value is read again.
+pub fn all_winners(alloc: Global, dom: &Dom, sheets: &[ReadSheet]) -> Result<WinnerTable, NoMem>
+    ensures { IfOk result (λ t. AreAllWinners dom.now sheets.now t) }
 {
     let rules = rules_of(alloc, sheets)?;
     let selected = selected_of(alloc, &rules)?;
     let selectors = selectors_of(alloc, &selected)?;
     let table = match_all(alloc, dom, &selectors)?;
-    let mut all = Vec::new(alloc);
+    let matched = &table;
+    let mut alike = Alike::new(alloc);
+    let mut all = WinnerTable::new(alloc);
     for index in 0..dom.len() {
         let node = NodeId(index);
-        let styled = style_decls(alloc, dom, node)?;
-        let winners = node_winners(alloc, &selected, table.of(node), styled.as_slice())?;
-        all.push(winners)?;
+        match alike.earlier(dom, matched, node) {
+            Some(earlier) => all.push_like(earlier)?,
+            None => {
+                let styled = style_decls(alloc, dom, node)?;
+                let winners = node_winners(alloc, &selected, matched.of(node), styled.as_slice())?;
+                alike.note(dom, matched, node)?;
+                all.push(winners)?;
+            }
+        }
     }
     Ok(all)
 }

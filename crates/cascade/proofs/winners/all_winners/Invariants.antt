@@ -1,11 +1,10 @@
-use Rattle.std.proofs.Common.{◌≡◌, ℕ, Some, length}
-use Rattle.std.specs.Prelude.{slice_get}
-use Rattle.cascade.specs.declared.winners.NodeWinners.{NodeWinners}
-use Rattle.cascade.specs.Document.{AreNodeWinners}
+use Rattle.std.proofs.Common.{◌≡◌, length, map}
+use Rattle.cascade.specs.Selected.{selected_in}
+use Rattle.cascade.proofs.ShareLemmas.{AreChosenAt}
 use Rattle.cascade.proofs.winners.all_winners.Given as goal
 
 abbrev pub invariant-loop-index : goal.invariant-loop-index
 invariant-loop-index l = record {
-  count : length l.all.items ≡ l.index;
-  each : (k : ℕ) (w : NodeWinners) → slice_get l.all.items k ≡ Some w → AreNodeWinners l.dom l.sheets k w;
+  count : length l.all ≡ l.index;
+  chosen : AreChosenAt l.dom (map selected_in l.selected.items) l.matched l.all;
 }

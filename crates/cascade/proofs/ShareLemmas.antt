@@ -1,0 +1,63 @@
+-- What wins for nodes to which the same rules apply.
+use Rattle.std.proofs.Common.{◌≡◌, ℕ, ◌+◌, ◌<◌, List, [], ◌∷◌, ◌++◌, Some, length, length-append, slice_get, refl, sym, ◌∙◌, ap, subst, arith, ◌⊎◌, inl, inr}
+use Rattle.std.proofs.lemmas.Option.{slice_get_within}
+use Rattle.bk_num.proofs.ListLemmas.{get-push, slice_get_at}
+use Rattle.selectors.specs.Match.{Tree}
+use Rattle.match_table.specs.All.{AreMatchLists}
+use Rattle.cascade.specs.declared.decl.ReadDecl.{ReadDecl}
+use Rattle.cascade.specs.declared.sheet.ReadSheet.{ReadSheet}
+use Rattle.cascade.specs.declared.table.NodeWinners.{NodeWinners}
+use Rattle.cascade.specs.Document.{rules_of, decls_in, style_decls, AreNodeWinners, AreAllWinners}
+use Rattle.cascade.specs.Selected.{SelectedOf, selected_from, selectors_of, AreChosen}
+use Rattle.cascade.specs.Sharing.{IsLike}
+use Rattle.cascade.specs.Table.{AddsLike}
+use Rattle.cascade.proofs.AppliesLemmas.{some_is}
+use Rattle.cascade.proofs.PlaceLemmas.{listed_places, of_chosen}
+
+-- what wins at a node by the selectors that match it and by its style attribute
+abbrev pub IsChosenAt : Tree → List SelectedOf → List (List ℕ) → ℕ → NodeWinners → Type 0
+IsChosenAt dom ss matched n w = (places : List ℕ) → slice_get matched n ≡ Some places → AreChosen ss places (style_decls dom n) w
+
+abbrev pub AreChosenAt : Tree → List SelectedOf → List (List ℕ) → List NodeWinners → Type 0
+AreChosenAt dom ss matched all = (k : ℕ) (w : NodeWinners) → slice_get all k ≡ Some w → IsChosenAt dom ss matched k w
+
+-- a node is added with what wins at it, where that holds for those before it
+pub record AddsChosen (dom : Tree) (ss : List SelectedOf) (matched : List (List ℕ)) (n : ℕ) (all more : List NodeWinners) : Type 0 where
+  pub winners : NodeWinners
+  pub added : more ≡ all ++ winners ∷ []
+  pub chosen : AreChosenAt dom ss matched all → IsChosenAt dom ss matched n winners
+
+like-chosen : (dom : Tree) (ss : List SelectedOf) (matched : List (List ℕ)) (e n : ℕ) (w : NodeWinners) → IsLike dom matched e n → IsChosenAt dom ss matched e w → IsChosenAt dom ss matched n w
+like-chosen dom ss matched e n w like c places at = subst (λ d. AreChosen ss places d w) (ap decls_in like.style) (c places (like.places ∙ at))
+
+-- what is chosen for the selectors that match a node and for its style attribute
+pub chosen-here : (dom : Tree) (ss : List SelectedOf) (matched : List (List ℕ)) (n : ℕ) (row : List ℕ) (styled : List ReadDecl) (w : NodeWinners) → slice_get matched n ≡ Some row → styled ≡ style_decls dom n → AreChosen ss row styled w → IsChosenAt dom ss matched n w
+chosen-here dom ss matched n row styled w there same c places at = subst (λ l. AreChosen ss l (style_decls dom n) w) (some_is (sym there ∙ at)) (subst (λ d. AreChosen ss row d w) same c)
+
+pub adds-like : (dom : Tree) (ss : List SelectedOf) (matched : List (List ℕ)) (e n : ℕ) (all more : List NodeWinners) → IsLike dom matched e n → AddsLike all e more → AddsChosen dom ss matched n all more
+adds-like dom ss matched e n all more like adds = record { winners = adds.winners; added = adds.added; chosen = λ h. like-chosen dom ss matched e n adds.winners like (h e adds.winners adds.there) }
+
+pub adds-new : (dom : Tree) (ss : List SelectedOf) (matched : List (List ℕ)) (n : ℕ) (all more : List NodeWinners) (w : NodeWinners) → IsChosenAt dom ss matched n w → more ≡ all ++ w ∷ [] → AddsChosen dom ss matched n all more
+adds-new dom ss matched n all more w c e = record { winners = w; added = e; chosen = λ h. c }
+
+pub chosen-turn : (dom : Tree) (ss : List SelectedOf) (matched : List (List ℕ)) (n : ℕ) (all more : List NodeWinners) → length all ≡ n → AreChosenAt dom ss matched all → AddsChosen dom ss matched n all more → AreChosenAt dom ss matched more
+chosen-turn dom ss matched n all more len old adds k w at = by (get-push all adds.winners w k (subst (λ l. slice_get l k ≡ Some w) adds.added at))
+  where
+    by : ((k ≡ length all) × (w ≡ adds.winners)) ⊎ (slice_get all k ≡ Some w) → IsChosenAt dom ss matched k w
+    by (inl (here, same)) = subst (λ j. IsChosenAt dom ss matched j w) (sym (here ∙ len)) (subst (λ v. IsChosenAt dom ss matched n v) (sym same) (adds.chosen old))
+    by (inr there) = old k w there
+
+pub count-turn : (dom : Tree) (ss : List SelectedOf) (matched : List (List ℕ)) (n : ℕ) (all more : List NodeWinners) → length all ≡ n → AddsChosen dom ss matched n all more → length more ≡ n + 1
+count-turn dom ss matched n all more len adds = ap length adds.added ∙ length-append all (adds.winners ∷ []) ∙ ap (λ k. k + 1) len
+
+pub none-chosen : (dom : Tree) (ss : List SelectedOf) (matched : List (List ℕ)) (all : List NodeWinners) → all ≡ [] → AreChosenAt dom ss matched all × (length all ≡ 0)
+none-chosen dom ss matched all e = ((λ k w at. let h : slice_get [] k ≡ Some w = subst (λ l. slice_get l k ≡ Some w) e at in cc), rw e refl)
+
+pub all-chosen : (dom : Tree) (sheets : List ReadSheet) (ss : List SelectedOf) (matched : List (List ℕ)) (all : List NodeWinners) → ss ≡ selected_from 0 (rules_of sheets) → length matched ≡ length dom → AreMatchLists dom (selectors_of ss) matched → length all ≡ length dom → AreChosenAt dom ss matched all → AreAllWinners dom sheets all
+all-chosen dom sheets ss matched all same rows lists count chosen = record { count = count; each = each }
+  where
+    each : (n : ℕ) (w : NodeWinners) → slice_get all n ≡ Some w → AreNodeWinners dom sheets n w
+    each n w at =
+        let low = slice_get_within all n w at in
+        let places = slice_get_at matched n (omega arith) in
+        of_chosen dom sheets ss n places.0 (style_decls dom n) w same (listed_places dom ss n places.0 (lists n places.0 places.1)) refl (chosen n w at places.0 places.1)
