@@ -1,3 +1,4 @@
 mod OneLemmas
 mod RangeLemmas
 mod WalkLemmas
+mod AlikeLemmas

@@ -11,7 +11,7 @@ use Rattle.style.specs.declared.long.Long.{Long}
 use Rattle.cascade.specs.Document.{AreNodeWinners, AreAllWinners}
 use Rattle.cascade.specs.Laws.{WinnersAreOne}
 use Rattle.cascade.specs.declared.sheet.ReadSheet.{ReadSheet}
-use Rattle.cascade.specs.declared.winners.NodeWinners.{NodeWinners}
+use Rattle.cascade.specs.declared.table.NodeWinners.{NodeWinners}
 use Rattle.computed.specs.Applied.{computed_style, inline_display}
 use Rattle.computed.specs.Walk.{IsStyle, HasPseudo, IsElement, IsNode, AreStyles, style_above, root_above, font_of, is_shown_below, is_note_below, is_in_note_below, is_displayed, is_generated}
 use Rattle.computed.specs.Laws.{unnamed, unnamed_node, StylesAreOne}

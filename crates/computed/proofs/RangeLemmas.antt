@@ -21,7 +21,7 @@ use Rattle.style.specs.declared.long.Given.{Given}
 use Rattle.style.specs.declared.long.Given.TheVariants as given
 use Rattle.style.specs.declared.long.Long.{Long}
 use Rattle.style.specs.declared.long.Long.TheVariants as long
-use Rattle.cascade.specs.declared.winners.NodeWinners.{NodeWinners}
+use Rattle.cascade.specs.declared.table.NodeWinners.{NodeWinners}
 use Rattle.computed.specs.Values.{given_by, held, held_len, len_of, without_auto, width_of, size_of, height_of, units_of}
 use Rattle.computed.specs.Context.{bare, noted, settled, context_of, rem_of}
 use Rattle.computed.specs.Applied.{medium, begun, applied, computed_style}

@@ -8,7 +8,7 @@ use Rattle.style.specs.Nodes.{NodeStyles, change_last, own_style, no_styles}
 use Rattle.style.specs.declared.style.Style.{Style}
 use Rattle.style.specs.declared.long.Long.{Long}
 use Rattle.computed.specs.declared.walk.Generated.{Generated}
-use Rattle.cascade.specs.declared.winners.NodeWinners.{NodeWinners}
+use Rattle.cascade.specs.declared.table.NodeWinners.{NodeWinners}
 use Rattle.computed.specs.Walk.{IsPage, IsStyle, HasPseudo, IsElement, IsNode, AreNodes, Adds, AddsElement, Extends, style_above, root_above, is_shown_below, is_note_below, is_in_note_below, page_in}
 use Rattle.computed.specs.Rows.{all_put, AreGenerated}
 

@@ -3,7 +3,7 @@ use Rattle.std.specs.Prelude.{ℕ, List}
 use Rattle.dom.specs.Nodes.{Node}
 use Rattle.style.specs.Nodes.{NodeStyles}
 use Rattle.cascade.specs.declared.sheet.ReadSheet.{ReadSheet}
-use Rattle.cascade.specs.declared.winners.NodeWinners.{NodeWinners}
+use Rattle.cascade.specs.declared.table.NodeWinners.{NodeWinners}
 use Rattle.cascade.specs.Document.{AreAllWinners}
 use Rattle.computed.specs.Walk.{AreStyles}
 

@@ -6,3 +6,4 @@ pub mod Rows
 pub mod Document
 pub mod Ranges
 pub mod Laws
+pub mod Alike

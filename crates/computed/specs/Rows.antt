@@ -5,7 +5,7 @@ use Rattle.bk_num.specs.declared.values.Pseudo.TheVariants as pseudo
 use Rattle.style.specs.Nodes.{NodeStyles, with_style, change_last}
 use Rattle.style.specs.declared.style.Style.{Style}
 use Rattle.computed.specs.declared.walk.Generated.{Generated}
-use Rattle.cascade.specs.declared.winners.NodeWinners.{NodeWinners}
+use Rattle.cascade.specs.declared.table.NodeWinners.{NodeWinners}
 use Rattle.computed.specs.Walk.{HasPseudo}
 
 -- a node with the style of a pseudo-element, where there is one

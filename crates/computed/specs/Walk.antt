@@ -12,7 +12,7 @@ use Rattle.style.specs.declared.values.Display.TheVariants as display
 use Rattle.style.specs.declared.long.Long.{Long}
 use Rattle.style.specs.declared.long.Long.TheVariants as long
 use Rattle.style.specs.declared.long.Given.TheVariants as given
-use Rattle.cascade.specs.declared.winners.NodeWinners.{NodeWinners}
+use Rattle.cascade.specs.declared.table.NodeWinners.{NodeWinners}
 use Rattle.computed.specs.Applied.{computed_style, inline_display}
 
 -- the page name that winners give; `inherit` and `initial` act as `auto`, which gives none (css-page-3, 5.3)

@@ -1,6 +1,7 @@
 //! Computed styles of a document's nodes.
 #![tactic(auto)]
 
+mod alike;
 pub mod apply;
 pub mod context;
 pub mod document;

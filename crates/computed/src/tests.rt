@@ -7,7 +7,7 @@ use bk_num::items::Items;
 use bk_num::length::Len;
 use bk_num::name::{Name, NoMem};
 use bk_num::values::Pseudo;
-use cascade::winners::NodeWinners;
+use cascade::table::{NodeWinners, WinnerTable};
 use dom::Dom;
 use std::alloc::Global;
 use style::content::Content;
@@ -96,7 +96,7 @@ fn child(alloc: Global) -> Result<NodeWinners, NoMem> {
 
 fn styled(alloc: Global) -> Result<(Styles, Names), NoMem> {
     let dom = document(alloc)?;
-    let mut winners = Vec::new(alloc);
+    let mut winners = WinnerTable::new(alloc);
     winners.push(root(alloc)?)?;
     winners.push(child(alloc)?)?;
     if winners.len() != dom.len() as usize {

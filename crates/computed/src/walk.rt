@@ -5,25 +5,28 @@ ghost use Rattle.bk_num.specs.Tables.{value_of};
 ghost use Rattle.style.specs.Nodes.{change_last};
 ghost use Rattle.style.specs.Styles.{initial_style};
 ghost use Rattle.computed.specs.Walk.{style_above, root_above, is_shown_below, is_note_below, is_in_note_below, font_of, AreStyles, Extends, Adds, AddsElement};
+ghost use Rattle.computed.specs.Alike.{AddsNext};
 ghost use Rattle.computed.specs.Rows.{with_option, all_put, AreGenerated};
 
+use crate::alike::Alike;
 use crate::styled::{is_displayed, pseudo_style, style_of};
 use bk_num::ids::NodeId;
 use bk_num::name::NoMem;
 use bk_num::px::Px;
 use bk_num::values::Pseudo;
-use cascade::winners::NodeWinners;
+use cascade::table::{NodeWinners, WinnerTable};
 use dom::Dom;
 use std::alloc::Global;
 use style::names::Names;
 use style::style::Style;
 use style::styles::Styles;
 
-/// The styles of a document's nodes and the names of its pages, by the winners of each node.
+/// The styles of a document's nodes and the names of its pages, by the winners of each node. Elements with the same winners
+/// whose parents share their styles share them too.
 pub fn styles_of(
     alloc: Global,
     dom: &Dom,
-    winners: &[NodeWinners],
+    winners: &WinnerTable,
 ) -> Result<(Styles, Names), NoMem>
     requires { length winners.now ≡ length dom.now }
     ensures { IfOk result (λ r. AreStyles r.1 dom.now winners.now r.0) }
@@ -31,20 +34,47 @@ pub fn styles_of(
     let above_root = Style::initial(alloc)?;
     let mut styles = Styles::new(alloc);
     let mut names = Names::new(alloc);
+    let mut alike = Alike::new(alloc);
     for index in 0..dom.len() {
         let node = NodeId(index);
-        let node_winners = &winners[index as usize];
-        add_node(
+        add_next(
             alloc,
             dom,
+            winners,
             &above_root,
             &mut styles,
             &mut names,
+            &mut alike,
             node,
-            node_winners,
         )?;
     }
     Ok((styles, names))
+}
+
+/// Adds the styles of a node, which are shared with an earlier one that must have the same.
+fn add_next(
+    alloc: Global,
+    dom: &Dom,
+    winners: &WinnerTable,
+    initial: &Style,
+    styles: &mut Styles,
+    names: &mut Names,
+    alike: &mut Alike,
+    node: NodeId,
+) -> Result<(), NoMem>
+    requires node { node.0 < length dom.now }
+    requires count { length winners.now ≡ length dom.now }
+    requires rows { length styles.old ≡ node.0 }
+    requires initial { initial.now ≡ initial_style }
+    ensures adds { OnOk result (AddsNext names.old names.new dom.now winners.now node.0 alike.old alike.new styles.old styles.new) }
+    ensures names { Extends names.old names.new }
+{
+    if let Some(earlier) = alike.earlier(dom, winners, node) {
+        styles.add_like(earlier)?;
+        return alike.note_like(earlier);
+    }
+    add_node(alloc, dom, initial, styles, names, node, winners.of(node))?;
+    alike.note(dom, winners, node)
 }
 
 /// Adds the styles of a node.

@@ -94,6 +94,17 @@ text||1|display|-
 <div><b><p>|b{page:y}p{page:z}|3|page|z
 <div><b><p>|b{page:y}|1|page|
 <p>|p{page:x}p::before{content:'x'}|1 before|page|x
+<p><p><p>|p{font-size:2em}|3|font-size|2048
+<p style=widows:3><p style=widows:4><p style=widows:3>||2|widows|4
+<p style=widows:3><p style=widows:4><p style=widows:3>||3|widows|3
+<div style=font-size:2em><p></div><div><p></div>|p{font-size:50%}|2|font-size|1024
+<div style=font-size:2em><p></div><div><p></div>|p{font-size:50%}|4|font-size|512
+<div><p></div><div><p></div><p>|p{font-size:50%}|4|font-size|512
+<div><p></div><p>|div,p{float:footnote}|2 call|display|-
+<div><p></div><p>|div,p{float:footnote}|3 call|display|inline
+<p><p>|p{float:footnote}|2 call|display|inline
+<p class=a><p><p class=a>|.a::before{content:'x';font-size:50%}|3 before|font-size|512
+<p class=a><p><p class=a>|.a::before{content:'x'}|2 before|font-size|-
 <h1>||1|font-size|2048
 <h1>||1|font-weight|700
 <h1>||1|break-after|avoid

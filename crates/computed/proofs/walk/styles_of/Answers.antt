@@ -1,12 +1,14 @@
 use Rattle.std.proofs.Common.{◌<◌, length, refl, arith}
-use Rattle.std.proofs.lemmas.Option.{slice_get_read}
+use Rattle.bk_num.proofs.ListLemmas.{slice_get_at}
 use Rattle.computed.proofs.WalkLemmas.{none-yet, nodes-turn, count-turn}
+use Rattle.computed.proofs.AlikeLemmas.{none-noted, to-adds, firsts-turn, noted-turn}
 use Rattle.computed.proofs.walk.styles_of.Goals as goal
 
 pub loop-index-init : goal.loop-index-init
 loop-index-init c =
     let none = none-yet c.new-names.result c.args.dom.now c.args.winners.now c.new-styles.result c.new-styles.ensures in
-    (none.0, none.1, c.in_ok-above_root.ensures)
+    let noted = none-noted c.new-styles.result c.new-alike.result c.new-alike.ensures in
+    record { nodes = none.0; count = none.1; initial = c.in_ok-above_root.ensures; firsts = noted.0; noted = noted.1 }
 
 pub loop-index-preserved : goal.loop-index-preserved
 loop-index-preserved c =
@@ -14,15 +16,22 @@ loop-index-preserved c =
     let test = c.loop-index-test.true in
     let same = c.requires in
     let below : c.loop-index.index < length c.args.winners.now = omega arith in
-    let at = slice_get_read c.args.winners.now _ c.loop-index.index _ refl below c.index-winners-index.is in
-    let turn = nodes-turn c.loop-index.names c.add_node.new.names c.args.dom.now c.args.winners.now c.loop-index.index c.index-winners-index.result c.loop-index.styles c.add_node.new.styles c.len-index-end.ensures.tree at c.loop-index.invariant.1 c.loop-index.invariant.0 c.add_node.ensures.names c.in_ok-add_node.ensures.adds in
-    let count = count-turn c.add_node.new.names c.args.dom.now c.loop-index.index c.index-winners-index.result c.loop-index.styles c.add_node.new.styles c.loop-index.invariant.1 c.in_ok-add_node.ensures.adds in
-    (turn, count, c.in_ok-above_root.ensures)
+    let w = slice_get_at c.args.winners.now c.loop-index.index below in
+    let i = c.loop-index.invariant in
+    let next = c.in_ok-add_next.ensures.adds in
+    let adds = to-adds _ _ _ c.args.winners.now c.loop-index.index w.0 _ _ _ _ next w.1 i.nodes i.firsts in
+    record {
+      nodes = nodes-turn c.loop-index.names c.add_next.new.names c.args.dom.now c.args.winners.now c.loop-index.index w.0 c.loop-index.styles c.add_next.new.styles c.len-index-end.ensures.tree w.1 i.count i.nodes c.add_next.ensures.names adds;
+      count = count-turn c.add_next.new.names c.args.dom.now c.loop-index.index w.0 c.loop-index.styles c.add_next.new.styles i.count adds;
+      initial = c.in_ok-above_root.ensures;
+      firsts = firsts-turn _ _ _ _ c.loop-index.index _ _ c.loop-index.styles c.add_next.new.styles i.count i.noted i.firsts next;
+      noted = noted-turn _ _ _ _ c.loop-index.index _ _ _ _ i.noted next;
+    }
 
 pub returns : goal.returns
 returns c =
     let len = c.len-index-end.ensures.len in
     let test = c.loop-index-test.false in
     let most = c.loop-index.auto.index-end in
-    let rows = c.loop-index.invariant.1 in
-    record { count = omega arith; each = c.loop-index.invariant.0 }
+    let rows = c.loop-index.invariant.count in
+    record { count = omega arith; each = c.loop-index.invariant.nodes }

@@ -1,7 +1,14 @@
 use Rattle.std.proofs.Common.{◌≡◌, length}
 use Rattle.style.specs.Styles.{initial_style}
 use Rattle.computed.specs.Walk.{AreNodes}
+use Rattle.computed.specs.Alike.{AreFirsts}
 use Rattle.computed.proofs.walk.styles_of.Given as goal
 
 abbrev pub invariant-loop-index : goal.invariant-loop-index
-invariant-loop-index l = (AreNodes l.names l.dom l.winners l.styles) × (length l.styles ≡ l.index) × (l.above_root ≡ initial_style)
+invariant-loop-index l = record {
+  nodes : AreNodes l.names l.dom l.winners l.styles;
+  count : length l.styles ≡ l.index;
+  initial : l.above_root ≡ initial_style;
+  firsts : AreFirsts l.styles l.alike;
+  noted : length l.alike ≡ l.index;
+}
