@@ -58,7 +58,8 @@ impl<'a> Alike<'a> {
         requires node { node.0 < length dom.now }
         requires count { length matched.now ≡ length dom.now }
     {
-        self.nodes.insert((matched.of(node), dom.attr(node, "style")), node)?;
+        self.nodes
+            .insert((matched.of(node), dom.attr(node, "style")), node)?;
         Ok(())
     }
 }

@@ -86,7 +86,12 @@ impl Alike {
     }
 
     /// Notes a node, which is like none before it.
-    pub(crate) fn note(&mut self, dom: &Dom, winners: &WinnerTable, node: NodeId) -> Result<(), NoMem>
+    pub(crate) fn note(
+        &mut self,
+        dom: &Dom,
+        winners: &WinnerTable,
+        node: NodeId,
+    ) -> Result<(), NoMem>
         requires node { node.0 < length dom.now }
         requires count { length winners.now ≡ length dom.now }
         ensures { OnOk result (self.new ≡ self.old ++ node.0 ∷ []) }

@@ -23,11 +23,7 @@ use style::styles::Styles;
 
 /// The styles of a document's nodes and the names of its pages, by the winners of each node. Elements with the same winners
 /// whose parents share their styles share them too.
-pub fn styles_of(
-    alloc: Global,
-    dom: &Dom,
-    winners: &WinnerTable,
-) -> Result<(Styles, Names), NoMem>
+pub fn styles_of(alloc: Global, dom: &Dom, winners: &WinnerTable) -> Result<(Styles, Names), NoMem>
     requires { length winners.now ≡ length dom.now }
     ensures { IfOk result (λ r. AreStyles r.1 dom.now winners.now r.0) }
 {
