@@ -1,6 +1,6 @@
 -- What the builder of a tree answers, and what it keeps of the state.
 use Rattle.std.specs.Prelude.{◌≡◌, ℕ, ◌<◌, ◌-◌, true, List, [], ◌∷◌, ◌++◌, Some, Result, Ok, Err, length, slice_get}
-use Rattle.std.specs.String.{string_bytes}
+use Rattle.std.specs.Cow.{cow_str_bytes}
 use Rattle.bk_num.specs.declared.ids.NodeId.{NodeId}
 use Rattle.bk_num.specs.Limits.{most_nodes}
 use Rattle.dom.specs.Nodes.{Node, Text, child_of, is_element_at}
@@ -23,7 +23,7 @@ waiting nodes parent [] = []
 waiting nodes parent (b ∷ bs) = child_of nodes parent (Text (b ∷ bs)) ∷ []
 
 abbrev pub state_of : Builder → State
-state_of b = record { nodes = b.dom ++ waiting b.dom b.parent.0 (string_bytes b.text); opened = b.opened.items }
+state_of b = record { nodes = b.dom ++ waiting b.dom b.parent.0 (cow_str_bytes b.text); opened = b.opened.items }
 
 abbrev pub AreElements : List Node → List NodeId → Type 0
 AreElements nodes opened = (k : ℕ) (o : NodeId) → slice_get opened k ≡ Some o → is_element_at nodes o.0 ≡ true
@@ -33,5 +33,5 @@ pub record IsBuilt (b : Builder) : Type 0 where
   pub opened : AreElements b.dom b.opened.items
   pub scopes : HaveScopes b.dom b.opened.items b.scopes.items
   pub parent : is_element_at b.dom b.parent.0 ≡ true
-  pub few : 0 < length (string_bytes b.text) → length b.dom < most_nodes
-  pub last : length (string_bytes b.text) ≡ 0 → is_element_at b.dom (length b.dom - 1) ≡ true
+  pub few : 0 < length (cow_str_bytes b.text) → length b.dom < most_nodes
+  pub last : length (cow_str_bytes b.text) ≡ 0 → is_element_at b.dom (length b.dom - 1) ≡ true

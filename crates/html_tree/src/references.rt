@@ -1,50 +1,64 @@
 //! Character references.
 ghost use Rattle.std.specs.Prelude.{◌≡◌, ◌+◌, ◌<◌, ◌≤◌, length, map, min, nat_eq, IsTrue, not, drop, slice_index, ◌&&◌, ◌==◌};
 ghost use Rattle.std.specs.List.{starts_with, position};
-ghost use Rattle.std.specs.Char.{is_digit, digit_value, is_ascii_alphabetic};
-ghost use Rattle.html_tree.specs.Words.{letters_len};
+ghost use Rattle.std.specs.Char.{is_digit, digit_value};
+ghost use Rattle.html_tree.specs.Words.{starting};
 ghost use Rattle.html_tree.specs.Texts.{character_of, digits_len, number_of, numeric, closing_len, named, named_references, reference_at};
 
-/// The named references that are read, each with its `;` (HTML, 13.5).
-const REFERENCES: [(&str, char); 37] = [
-    ("amp", '&'),
-    ("lt", '<'),
-    ("gt", '>'),
-    ("quot", '"'),
-    ("apos", '\''),
-    ("nbsp", '\u{A0}'),
-    ("copy", '\u{A9}'),
-    ("laquo", '\u{AB}'),
-    ("shy", '\u{AD}'),
-    ("reg", '\u{AE}'),
-    ("deg", '\u{B0}'),
-    ("para", '\u{B6}'),
-    ("middot", '\u{B7}'),
-    ("raquo", '\u{BB}'),
-    ("sect", '\u{A7}'),
-    ("times", '\u{D7}'),
+// The named references that are read, each with its `;`, by the first letter of the name (HTML, 13.5).
+const A: [(&str, char); 2] = [("amp", '&'), ("apos", '\'')];
+
+const B: [(&str, char); 2] = [("bdquo", '\u{201E}'), ("bull", '\u{2022}')];
+
+const C: [(&str, char); 1] = [("copy", '\u{A9}')];
+
+const D: [(&str, char); 2] = [("deg", '\u{B0}'), ("dagger", '\u{2020}')];
+
+const UPPER_D: [(&str, char); 1] = [("Dagger", '\u{2021}')];
+
+const E: [(&str, char); 3] = [
     ("ensp", '\u{2002}'),
     ("emsp", '\u{2003}'),
-    ("thinsp", '\u{2009}'),
-    ("zwnj", '\u{200C}'),
-    ("zwj", '\u{200D}'),
-    ("ndash", '\u{2013}'),
-    ("mdash", '\u{2014}'),
-    ("lsquo", '\u{2018}'),
-    ("rsquo", '\u{2019}'),
-    ("sbquo", '\u{201A}'),
-    ("ldquo", '\u{201C}'),
-    ("rdquo", '\u{201D}'),
-    ("bdquo", '\u{201E}'),
-    ("dagger", '\u{2020}'),
-    ("Dagger", '\u{2021}'),
-    ("bull", '\u{2022}'),
-    ("hellip", '\u{2026}'),
-    ("prime", '\u{2032}'),
-    ("Prime", '\u{2033}'),
     ("euro", '\u{20AC}'),
+];
+
+const G: [(&str, char); 1] = [("gt", '>')];
+
+const H: [(&str, char); 1] = [("hellip", '\u{2026}')];
+
+const L: [(&str, char); 4] = [
+    ("lt", '<'),
+    ("laquo", '\u{AB}'),
+    ("lsquo", '\u{2018}'),
+    ("ldquo", '\u{201C}'),
+];
+
+const M: [(&str, char); 2] = [("middot", '\u{B7}'), ("mdash", '\u{2014}')];
+
+const N: [(&str, char); 2] = [("nbsp", '\u{A0}'), ("ndash", '\u{2013}')];
+
+const P: [(&str, char); 2] = [("para", '\u{B6}'), ("prime", '\u{2032}')];
+
+const UPPER_P: [(&str, char); 1] = [("Prime", '\u{2033}')];
+
+const Q: [(&str, char); 1] = [("quot", '"')];
+
+const R: [(&str, char); 4] = [
+    ("reg", '\u{AE}'),
+    ("raquo", '\u{BB}'),
+    ("rsquo", '\u{2019}'),
+    ("rdquo", '\u{201D}'),
+];
+
+const S: [(&str, char); 3] = [("shy", '\u{AD}'), ("sect", '\u{A7}'), ("sbquo", '\u{201A}')];
+
+const T: [(&str, char); 3] = [
+    ("times", '\u{D7}'),
+    ("thinsp", '\u{2009}'),
     ("trade", '\u{2122}'),
 ];
+
+const Z: [(&str, char); 2] = [("zwnj", '\u{200C}'), ("zwj", '\u{200D}')];
 
 /// The least number that no character has.
 const PAST: u32 = 0x110000;
@@ -180,37 +194,56 @@ fn closing_len(rest: &[u8]) -> usize
 }
 
 /// The named reference that stands here with its `;`, or the `&` before it.
-#[tactic(auto, unfolding(crate::specs::Texts::named_references))]
 fn named(bytes: &[u8]) -> Read
     ensures character { result.character ≡ (named named_references bytes.now).code }
     ensures len { result.len ≡ (named named_references bytes.now).len }
 {
-    if !is_closed_word(bytes) {
-        return PLAIN;
+    find_name(bytes, rows_of(byte_at(bytes, 0)))
+}
+
+/// The rows whose names begin with a byte.
+fn rows_of(first: u8) -> &'static [(&'static str, char)]
+    ensures { map (λ r. (r.0.now, r.1)) result.now ≡ starting first named_references }
+{
+    if first == b'a' {
+        &A
+    } else if first == b'b' {
+        &B
+    } else if first == b'c' {
+        &C
+    } else if first == b'd' {
+        &D
+    } else if first == b'D' {
+        &UPPER_D
+    } else if first == b'e' {
+        &E
+    } else if first == b'g' {
+        &G
+    } else if first == b'h' {
+        &H
+    } else if first == b'l' {
+        &L
+    } else if first == b'm' {
+        &M
+    } else if first == b'n' {
+        &N
+    } else if first == b'p' {
+        &P
+    } else if first == b'P' {
+        &UPPER_P
+    } else if first == b'q' {
+        &Q
+    } else if first == b'r' {
+        &R
+    } else if first == b's' {
+        &S
+    } else if first == b't' {
+        &T
+    } else if first == b'z' {
+        &Z
+    } else {
+        &[]
     }
-    find_name(bytes, &REFERENCES)
-}
-
-/// Whether letters with a `;` stand here, as each name needs. Most `&` without a name end here.
-fn is_closed_word(bytes: &[u8]) -> bool
-    ensures { result ≡ (closing_len (drop (letters_len bytes.now) bytes.now) == 1) }
-{
-    let count = count_of_letters(bytes);
-    closing_len(&bytes[count..]) == 1
-}
-
-fn count_of_letters(bytes: &[u8]) -> usize
-    ensures count { result ≡ letters_len bytes.now }
-    ensures within { result ≤ length bytes.now }
-{
-    past_letters(bytes).unwrap_or(bytes.len())
-}
-
-/// The place of the first byte that is no letter.
-fn past_letters(bytes: &[u8]) -> Option<usize>
-    ensures { result ≡ position (λ b. not (is_ascii_alphabetic b)) bytes.now }
-{
-    bytes.iter().position(|b| !b.is_ascii_alphabetic())
 }
 
 /// The row whose name stands here with its `;`.

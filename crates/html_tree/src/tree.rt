@@ -1,5 +1,6 @@
 //! The builder of a tree.
-ghost use Rattle.std.specs.Prelude.{List, Some, codes, ◌≡◌, ◌<◌, ◌++◌, [], length, IfOk, IfErr, OnOk, IsTrue, true, false, string_bytes, Ok};
+ghost use Rattle.std.specs.Prelude.{List, Some, codes, ◌≡◌, ◌<◌, ◌++◌, length, IfOk, IfErr, OnOk, IsTrue, true, false, Ok};
+ghost use Rattle.std.specs.Cow.{cow_str_bytes};
 ghost use Rattle.bk_num.specs.Limits.{most_nodes};
 ghost use Rattle.dom.specs.Nodes.{Node, is_element_at};
 ghost use Rattle.html_tok.specs.Tags.{attributes_of};
@@ -22,15 +23,16 @@ use bk_num::name::NoMem;
 use dom::{Dom, DomErr};
 use html_tok::{Attrs, Token, TokenKind, Tokens};
 use std::alloc::Global;
+use std::borrow::CowStr;
 
 /// A tree that is being built: its nodes, the open elements other than node 0, each with the rows that have an element in scope up
-/// to it, and the text that waits for more, with the element that it belongs to.
+/// to it, and the text that waits for more, with the element that it belongs to. A text of one piece waits where it stands.
 #[derive(Drop)]
-pub(crate) struct Builder {
+pub(crate) struct Builder<'t> {
     pub(crate) dom: Dom,
     pub(crate) opened: Vec<NodeId>,
     pub(crate) scopes: Vec<[bool; ROWS]>,
-    pub(crate) text: String,
+    pub(crate) text: CowStr<'t>,
     pub(crate) parent: NodeId,
 }
 
@@ -49,25 +51,38 @@ fn put_attributes(dom: &mut Dom, alloc: Global, node: NodeId, attrs: &str) -> Re
 }
 
 /// Makes a node of the text that waits.
-fn put_text(dom: &mut Dom, alloc: Global, parent: NodeId, text: &mut String) -> Result<(), NoMem>
+fn put_text(dom: &mut Dom, alloc: Global, parent: NodeId, text: &str) -> Result<(), NoMem>
     requires parent { IsTrue (is_element_at dom.old parent.0) }
-    requires few { 0 < length (string_bytes text.old) → length dom.old < most_nodes }
-    ensures dom { OnOk result (dom.new ≡ dom.old ++ waiting dom.old parent.0 (string_bytes text.old)) }
-    ensures text { OnOk result (string_bytes text.new ≡ []) }
+    requires few { 0 < length text.now → length dom.old < most_nodes }
+    ensures { OnOk result (dom.new ≡ dom.old ++ waiting dom.old parent.0 text.now) }
 {
     if text.is_empty() {
         return Ok(());
     }
-    if dom.add_text(alloc, parent, text.as_str()).is_err() {
+    if dom.add_text(alloc, parent, text).is_err() {
         return Err(NoMem);
     }
-    text.clear();
     Ok(())
 }
 
-impl Builder {
+/// Appends to a text, which is copied where it only waits.
+fn append_to(text: &mut CowStr<'_>, alloc: Global, more: &str) -> Result<(), NoMem>
+    ensures { OnOk result (cow_str_bytes text.new ≡ cow_str_bytes text.old ++ more.now) }
+{
+    match text {
+        CowStr::Owned(owned) => owned.push_str(more)?,
+        CowStr::Borrowed(start) => {
+            let mut owned = String::from_str(alloc, start)?;
+            owned.push_str(more)?;
+            *text = CowStr::Owned(owned);
+        }
+    }
+    Ok(())
+}
+
+impl<'t> Builder<'t> {
     /// The tree of no tokens.
-    pub(crate) fn new(alloc: Global) -> Result<Builder, DomErr>
+    pub(crate) fn new(alloc: Global) -> Result<Builder<'t>, DomErr>
         ensures built { IfOk result (λ b. IsBuilt b) }
         ensures state { IfOk result (λ b. state_of b ≡ begun) }
         ensures err { IfErr result (λ e. e ≡ DomErr.NoMemory) }
@@ -80,17 +95,17 @@ impl Builder {
             dom,
             opened: Vec::new(alloc),
             scopes: Vec::new(alloc),
-            text: String::new(alloc),
+            text: CowStr::Borrowed(""),
             parent: NodeId(0),
         })
     }
 
     /// Reads a token.
     #[tactic(auto, unfolding(crate::specs::Tree::after_kind))]
-    pub(crate) fn read(&mut self, alloc: Global, token: &Token<'_>) -> Result<(), DomErr>
+    pub(crate) fn read(&mut self, alloc: Global, token: Token<'t>) -> Result<(), DomErr>
         requires { IsBuilt self.old }
         ensures built { OnOk result (IsBuilt self.new) }
-        ensures state { Answers (after_kind (view_of token.now).kind (view_of token.now).slice (state_of self.old)) result
+        ensures state { Answers (after_kind (view_of token.entry).kind (view_of token.entry).slice (state_of self.old)) result
             (λ _. state_of self.new) }
     {
         match token.kind {
@@ -105,42 +120,42 @@ impl Builder {
     /// The nodes that were built.
     pub(crate) fn finish(self, alloc: Global) -> Result<Dom, DomErr>
         requires { IsBuilt self }
-        ensures ok { IfOk result (λ dom. dom ≡ (state_of self).nodes) }
+        ensures ok { IfOk result (λ dom. dom ≡ (state_of self.entry).nodes) }
         ensures err { IfErr result (λ e. e ≡ DomErr.NoMemory) }
     {
         let mut dom = self.dom;
-        let mut text = self.text;
-        if put_text(&mut dom, alloc, self.parent, &mut text).is_err() {
+        let text = self.text;
+        if put_text(&mut dom, alloc, self.parent, text.as_str()).is_err() {
             return Err(DomErr::NoMemory);
         }
         Ok(dom)
     }
 
-    fn read_text(&mut self, alloc: Global, slice: &str) -> Result<(), DomErr>
+    fn read_text(&mut self, alloc: Global, slice: &'t str) -> Result<(), DomErr>
         requires { IsBuilt self.old }
         ensures built { OnOk result (IsBuilt self.new) }
-        ensures state { Answers (after_text (text_of true slice.now) (state_of self.old)) result (λ _. state_of self.new) }
+        ensures state { Answers (after_text (text_of true slice.entry.now) (state_of self.old)) result (λ _. state_of self.new) }
     {
         let Ok(text) = text_of(alloc, slice, true) else {
             return Err(DomErr::NoMemory);
         };
-        if !is_blank(text.as_bytes()) {
+        if !is_blank(text.as_str().as_bytes()) {
             self.close_head();
         }
-        self.add_text(alloc, text.as_str())
+        self.add_text(alloc, text)
     }
 
-    fn read_raw(&mut self, alloc: Global, slice: &str) -> Result<(), DomErr>
+    fn read_raw(&mut self, alloc: Global, slice: &'t str) -> Result<(), DomErr>
         requires { IsBuilt self.old }
         ensures built { OnOk result (IsBuilt self.new) }
-        ensures state { Answers (add_text (text_of (is_escapable (current_name (state_of self.old))) slice.now) (state_of self.old))
+        ensures state { Answers (add_text (text_of (is_escapable (current_name (state_of self.old))) slice.entry.now) (state_of self.old))
             result (λ _. state_of self.new) }
     {
         let escapable = self.is_in_escapable();
         let Ok(text) = text_of(alloc, slice, escapable) else {
             return Err(DomErr::NoMemory);
         };
-        self.add_text(alloc, text.as_str())
+        self.add_text(alloc, text)
     }
 
     fn read_start(&mut self, alloc: Global, name: &str, attrs: &str) -> Result<(), DomErr>
@@ -246,17 +261,17 @@ impl Builder {
     }
 
     /// Adds a text to the text that waits, where that belongs to the current element, and makes it the one that waits else.
-    fn add_text(&mut self, alloc: Global, text: &str) -> Result<(), DomErr>
+    fn add_text(&mut self, alloc: Global, text: CowStr<'t>) -> Result<(), DomErr>
         requires { IsBuilt self.old }
         ensures built { OnOk result (IsBuilt self.new) }
-        ensures state { Answers (add_text text.now (state_of self.old)) result (λ _. state_of self.new) }
+        ensures state { Answers (add_text (cow_str_bytes text.entry) (state_of self.old)) result (λ _. state_of self.new) }
     {
-        if text.is_empty() {
+        if text.as_str().is_empty() {
             return Ok(());
         }
         let parent = current(&self.opened);
         if self.is_joined(parent) {
-            return self.append(text);
+            return self.append(alloc, text.as_str());
         }
         self.begin_text(alloc, parent, text)
     }
@@ -265,18 +280,18 @@ impl Builder {
     fn is_joined(&self, parent: NodeId) -> bool
         requires { IsBuilt self.now }
         ensures under { result ≡ is_text_under parent.0 (last_of (state_of self.now).nodes) }
-        ensures waits { IsTrue result → 0 < length (string_bytes self.now.text) }
+        ensures waits { IsTrue result → 0 < length (cow_str_bytes self.now.text) }
     {
-        if self.text.is_empty() {
+        if self.text.as_str().is_empty() {
             return false;
         }
         self.parent.0 == parent.0
     }
 
     /// Appends to the text that waits.
-    fn append(&mut self, more: &str) -> Result<(), DomErr>
+    fn append(&mut self, alloc: Global, more: &str) -> Result<(), DomErr>
         requires built { IsBuilt self.old }
-        requires waits { 0 < length (string_bytes self.old.text) }
+        requires waits { 0 < length (cow_str_bytes self.old.text) }
         ensures built { OnOk result (IsBuilt self.new) }
         ensures state { OnOk result (state_of self.new ≡ record (state_of self.old) {
           nodes =
@@ -284,30 +299,29 @@ impl Builder {
         }) }
         ensures err { IfErr result (λ e. e ≡ DomErr.NoMemory) }
     {
-        if self.text.push_str(more).is_err() {
+        if append_to(&mut self.text, alloc, more).is_err() {
             return Err(DomErr::NoMemory);
         }
         Ok(())
     }
 
     /// Makes a text the one that waits.
-    fn begin_text(&mut self, alloc: Global, parent: NodeId, text: &str) -> Result<(), DomErr>
+    fn begin_text(&mut self, alloc: Global, parent: NodeId, text: CowStr<'t>) -> Result<(), DomErr>
         requires built { IsBuilt self.old }
         requires parent { IsTrue (is_element_at self.old.dom parent.0) }
-        requires some { 0 < length text.now }
+        requires some { 0 < length (cow_str_bytes text) }
         ensures built { OnOk result (IsBuilt self.new) }
-        ensures state { Answers (new_text parent.0 text.now (state_of self.old)) result (λ _. state_of self.new) }
+        ensures state { Answers (new_text parent.0 (cow_str_bytes text.entry) (state_of self.old)) result (λ _. state_of self.new) }
     {
-        if put_text(&mut self.dom, alloc, self.parent, &mut self.text).is_err() {
+        if put_text(&mut self.dom, alloc, self.parent, self.text.as_str()).is_err() {
             return Err(DomErr::NoMemory);
         }
+        self.text = CowStr::Borrowed("");
         if self.dom.len() >= MOST_NODES {
             return Err(DomErr::Nodes);
         }
         self.parent = parent;
-        if self.text.push_str(text).is_err() {
-            return Err(DomErr::NoMemory);
-        }
+        self.text = text;
         Ok(())
     }
 
@@ -317,9 +331,10 @@ impl Builder {
         ensures built { OnOk result (IsBuilt self.new) }
         ensures state { Answers (add_element name.now attrs.now (state_of self.old)) result (λ _. state_of self.new) }
     {
-        if put_text(&mut self.dom, alloc, self.parent, &mut self.text).is_err() {
+        if put_text(&mut self.dom, alloc, self.parent, self.text.as_str()).is_err() {
             return Err(DomErr::NoMemory);
         }
+        self.text = CowStr::Borrowed("");
         let parent = current(&self.opened);
         let node = match self.dom.add_element(alloc, parent, name) {
             Ok(node) => node,
@@ -384,7 +399,7 @@ pub fn read_html(alloc: Global, text: &str) -> Result<Dom, DomErr>
     };
     let mut tokens = Tokens::new(text);
     while let Some(token) = tokens.next() {
-        if let Err(e) = builder.read(alloc, &token) {
+        if let Err(e) = builder.read(alloc, token) {
             return Err(e);
         }
     }

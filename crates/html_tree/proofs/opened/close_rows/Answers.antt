@@ -1,5 +1,5 @@
 use Rattle.std.proofs.Common.{◌∙◌, fold, sym, ap, arith}
-use Rattle.html_tree.specs.Rules.{rules, rule_of}
+use Rattle.html_tree.specs.Rules.{rule_of}
 use Rattle.html_tree.specs.Tree.{after_rule}
 use Rattle.html_tree.proofs.KeptLemmas.{rules-more, rules-all}
 use Rattle.html_tree.proofs.opened.close_rows.Goals as goal

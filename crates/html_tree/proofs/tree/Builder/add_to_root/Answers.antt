@@ -1,5 +1,5 @@
 use Rattle.std.proofs.Common.{arith, ◌≡◌, ◌∙◌, ap, sym, List, ◌++◌, ◌-◌, length, ℕ, Ok}
-use Rattle.std.specs.String.{string_bytes}
+use Rattle.std.specs.Cow.{cow_str_bytes}
 use Rattle.dom.specs.Nodes.{Node, is_element_at}
 use Rattle.html_tok.specs.Tags.{attributes_of}
 use Rattle.html_tree.specs.Tree.{put_all}
@@ -26,5 +26,5 @@ returns-clause-built c =
 pub returns-clause-state : goal.returns-clause-state
 returns-clause-state c =
     let dom : c.put_attributes.new.dom ≡ put_all 0 (attributes_of c.args.attrs.now) c.args.self.now.dom = grind (arith, common_steps) in
-    let grown = put_all-grow 0 (attributes_of c.args.attrs.now) c.args.self.now.dom (waiting c.args.self.now.dom c.args.self.now.parent.0 (string_bytes c.args.self.now.text)) c.requires.root in
-    rw dom (ap (λ (nodes : List Node). Ok (record { nodes = nodes; opened = c.args.self.now.opened.items })) (grown ∙ ap (λ (more : List Node). put_all 0 (attributes_of c.args.attrs.now) c.args.self.now.dom ++ more) (sym (waiting-put 0 (attributes_of c.args.attrs.now) c.args.self.now.dom c.args.self.now.parent.0 (string_bytes c.args.self.now.text)))))
+    let grown = put_all-grow 0 (attributes_of c.args.attrs.now) c.args.self.now.dom (waiting c.args.self.now.dom c.args.self.now.parent.0 (cow_str_bytes c.args.self.now.text)) c.requires.root in
+    rw dom (ap (λ (nodes : List Node). Ok (record { nodes = nodes; opened = c.args.self.now.opened.items })) (grown ∙ ap (λ (more : List Node). put_all 0 (attributes_of c.args.attrs.now) c.args.self.now.dom ++ more) (sym (waiting-put 0 (attributes_of c.args.attrs.now) c.args.self.now.dom c.args.self.now.parent.0 (cow_str_bytes c.args.self.now.text)))))

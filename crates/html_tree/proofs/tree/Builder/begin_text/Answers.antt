@@ -1,5 +1,5 @@
-use Rattle.std.proofs.Common.{◌≡◌, ◌∙◌, ap, ◌++◌, [], ◌<◌, length, length-append, arith}
-use Rattle.std.specs.String.{string_bytes}
+use Rattle.std.proofs.Common.{◌≡◌, ◌++◌, ◌<◌, length, arith}
+use Rattle.std.specs.Cow.{cow_str_bytes}
 use Rattle.html_tree.specs.Built.{waiting}
 use Rattle.std.proofs.lemmas.Grind.{common_steps}
 use Rattle.html_tree.proofs.BuildLemmas.{grow-element, elements-grow}
@@ -8,17 +8,13 @@ use Rattle.html_tree.proofs.tree.Builder.begin_text.Goals as goal
 
 pub returns-clause-built : goal.returns-clause-built
 returns-clause-built c =
-    let dom : c.put_text.new.dom ≡ c.args.self.now.dom ++ waiting c.args.self.now.dom c.args.self.now.parent.0 (string_bytes c.args.self.now.text) = grind (arith, common_steps) in
+    let dom : c.put_text.new.dom ≡ c.args.self.now.dom ++ waiting c.args.self.now.dom c.args.self.now.parent.0 (cow_str_bytes c.args.self.now.text) = grind (arith, common_steps) in
     let few : length c.put_text.new.dom < 400000 = omega arith in
-    let before : string_bytes c.put_text.new.text ≡ [] = grind (arith, common_steps) in
-    let bytes : string_bytes c.push_str.new.self ≡ string_bytes c.put_text.new.text ++ c.args.text.now = grind (arith, common_steps) in
-    let some : 0 < length (string_bytes c.push_str.new.self) = (let l = ap length bytes ∙ length-append (string_bytes c.put_text.new.text) c.args.text.now in let n = c.requires.some in omega arith) in
-    let more = waiting c.args.self.now.dom c.args.self.now.parent.0 (string_bytes c.args.self.now.text) in
     record {
-      root = rw dom (grow-element c.args.self.now.dom (waiting c.args.self.now.dom c.args.self.now.parent.0 (string_bytes c.args.self.now.text)) 0 c.requires.built.root);
-      opened = rw dom (elements-grow c.args.self.now.dom (waiting c.args.self.now.dom c.args.self.now.parent.0 (string_bytes c.args.self.now.text)) c.args.self.now.opened.items c.requires.built.opened);
-      scopes = rw dom (scopes-grow c.args.self.now.dom (waiting c.args.self.now.dom c.args.self.now.parent.0 (string_bytes c.args.self.now.text)) c.args.self.now.opened.items c.args.self.now.scopes.items c.requires.built.opened c.requires.built.scopes);
-      parent = rw dom (grow-element c.args.self.now.dom (waiting c.args.self.now.dom c.args.self.now.parent.0 (string_bytes c.args.self.now.text)) c.args.parent.0 c.requires.parent);
+      root = rw dom (grow-element c.args.self.now.dom (waiting c.args.self.now.dom c.args.self.now.parent.0 (cow_str_bytes c.args.self.now.text)) 0 c.requires.built.root);
+      opened = rw dom (elements-grow c.args.self.now.dom (waiting c.args.self.now.dom c.args.self.now.parent.0 (cow_str_bytes c.args.self.now.text)) c.args.self.now.opened.items c.requires.built.opened);
+      scopes = rw dom (scopes-grow c.args.self.now.dom (waiting c.args.self.now.dom c.args.self.now.parent.0 (cow_str_bytes c.args.self.now.text)) c.args.self.now.opened.items c.args.self.now.scopes.items c.requires.built.opened c.requires.built.scopes);
+      parent = rw dom (grow-element c.args.self.now.dom (waiting c.args.self.now.dom c.args.self.now.parent.0 (cow_str_bytes c.args.self.now.text)) c.args.parent.0 c.requires.parent);
       few = λ l. few;
-      last = λ e. absurd (omega arith);
+      last = λ e. let some = c.requires.some in absurd (omega (arith, e, some));
     }

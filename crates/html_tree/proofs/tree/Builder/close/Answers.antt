@@ -1,5 +1,5 @@
 use Rattle.std.proofs.Common.{rules as steps, ◌≡◌, length, vec_len, ◌∙◌, ap, sym, List, ◌++◌, [], ◌∷◌}
-use Rattle.std.specs.String.{string_bytes}
+use Rattle.std.specs.Cow.{cow_str_bytes}
 use Rattle.bk_num.specs.declared.ids.NodeId.{NodeId}
 use Rattle.html_tree.specs.Rules.{has_name}
 use Rattle.html_tree.specs.Built.{waiting}
@@ -9,8 +9,8 @@ use Rattle.html_tree.proofs.tree.Builder.close.Goals as goal
 
 pub returns-clause-state : goal.returns-clause-state
 returns-clause-state c =
-    ap (λ (opened : List NodeId). record { nodes = c.args.self.now.dom ++ waiting c.args.self.now.dom c.args.self.now.parent.0 (string_bytes c.args.self.now.text); opened = opened })
-    (c.close_named.ensures.closed ∙ sym (closed-grow (has_name (c.args.name.now ∷ [])) (has_name []) c.args.self.now.dom (waiting c.args.self.now.dom c.args.self.now.parent.0 (string_bytes c.args.self.now.text)) c.args.self.now.opened.items c.requires.opened))
+    ap (λ (opened : List NodeId). record { nodes = c.args.self.now.dom ++ waiting c.args.self.now.dom c.args.self.now.parent.0 (cow_str_bytes c.args.self.now.text); opened = opened })
+    (c.close_named.ensures.closed ∙ sym (closed-grow (has_name (c.args.name.now ∷ [])) (has_name []) c.args.self.now.dom (waiting c.args.self.now.dom c.args.self.now.parent.0 (cow_str_bytes c.args.self.now.text)) c.args.self.now.opened.items c.requires.opened))
 
 pub returns-clause-built : goal.returns-clause-built
 returns-clause-built c =
