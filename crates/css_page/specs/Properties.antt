@@ -1,0 +1,78 @@
+-- The properties that pages and margin boxes take (css-page-3, 4 and 5), and the values of those that elements don't have so.
+use Rattle.std.specs.Prelude.{ℕ, if◌then◌else◌, List, [], ◌∷◌, codes}
+use Rattle.bk_num.specs.declared.values.Align.{Align}
+use Rattle.bk_num.specs.declared.values.Align.TheVariants as align
+use Rattle.css_words.specs.Parser.{Parser, ◌>>=◌, ◌>>◌, pure, refuse, on_some, peek, second, advance}
+use Rattle.css_words.specs.Words.{is_none}
+use Rattle.style.specs.declared.long.Given.{Given}
+use Rattle.style.specs.declared.long.Given.TheVariants as given
+use Rattle.css_content.specs.Basics.{word_in}
+use Rattle.css_values.specs.Decls.{wide_of}
+use Rattle.css_values.specs.Values.{given_by}
+use Rattle.css_values.specs.declared.values.Wide.{Wide}
+use Rattle.css_page.specs.Contents.{content}
+use Rattle.css_page.specs.Sizes.{size}
+use Rattle.css_page.specs.declared.values.PageLong.{PageLong}
+use Rattle.css_page.specs.declared.values.PageLong.TheVariants as long
+use Rattle.css_page.specs.declared.values.Upright.{Upright}
+use Rattle.css_page.specs.declared.values.Upright.TheVariants as upright
+use Rattle.css_page.specs.declared.properties.Context.{Context}
+use Rattle.css_page.specs.declared.properties.Context.TheVariants as context
+use Rattle.css_page.specs.declared.properties.PageProperty.{PageProperty}
+use Rattle.css_page.specs.declared.properties.PageProperty.TheVariants as property
+use Rattle.css_page.specs.declared.properties.OwnProperty.{OwnProperty}
+use Rattle.css_page.specs.declared.properties.OwnProperty.TheVariants as own
+
+-- what a page takes
+unfoldable pub page_properties : List (List ℕ × PageProperty)
+page_properties =
+    (codes "size", property.Own own.Size) ∷ (codes "margin", property.Shared) ∷ (codes "margin-top", property.Shared) ∷ (codes "margin-right", property.Shared)
+    ∷ (codes "margin-bottom", property.Shared) ∷ (codes "margin-left", property.Shared) ∷ (codes "color", property.Shared) ∷ (codes "font-family", property.Shared)
+    ∷ (codes "font-size", property.Shared) ∷ (codes "font-style", property.Shared) ∷ (codes "font-weight", property.Shared) ∷ (codes "line-height", property.Shared) ∷ []
+
+-- what a margin box takes
+unfoldable pub box_properties : List (List ℕ × PageProperty)
+box_properties =
+    (codes "content", property.Own own.Content) ∷ (codes "text-align", property.Own own.TextAlign) ∷ (codes "vertical-align", property.Own own.VerticalAlign)
+    ∷ (codes "color", property.Shared) ∷ (codes "font-family", property.Shared) ∷ (codes "font-size", property.Shared) ∷ (codes "font-style", property.Shared)
+    ∷ (codes "font-weight", property.Shared) ∷ (codes "line-height", property.Shared) ∷ []
+
+abbrev pub properties : Context → List (List ℕ × PageProperty)
+properties context.Page = page_properties
+properties context.MarginBox = box_properties
+
+unfoldable pub aligns : List (List ℕ × Align)
+aligns = (codes "left", align.Left) ∷ (codes "center", align.Center) ∷ (codes "right", align.Right) ∷ []
+
+unfoldable pub uprights : List (List ℕ × Upright)
+uprights = (codes "top", upright.Top) ∷ (codes "middle", upright.Middle) ∷ (codes "bottom", upright.Bottom) ∷ []
+
+-- a value as one of a property
+abbrev pub as_long : {A : Type 0} → (Given A → PageLong) → Parser A → Parser PageLong
+as_long make p = p >>= (λ x. pure (make (given.Value x)))
+
+abbrev pub read_value : OwnProperty → Parser PageLong
+read_value own.Size = as_long long.Size size
+read_value own.Content = as_long long.Content content
+read_value own.TextAlign = as_long long.TextAlign (word_in aligns)
+read_value own.VerticalAlign = as_long long.VerticalAlign (word_in uprights)
+
+-- a property with one of the two words that every property takes
+abbrev pub wide_long : OwnProperty → Wide → PageLong
+wide_long own.Size w = long.Size (given_by w)
+wide_long own.Content w = long.Content (given_by w)
+wide_long own.TextAlign w = long.TextAlign (given_by w)
+wide_long own.VerticalAlign w = long.VerticalAlign (given_by w)
+
+unfoldable pub read_given : OwnProperty → Parser PageLong
+read_given p = do
+  t ← peek
+  s ← second
+  on_some (wide_of t s) (read_value p) (λ w. advance >> pure (wide_long p w))
+
+-- a reading that leaves nothing
+unfoldable pub read_own : OwnProperty → Parser PageLong
+read_own p = do
+  l ← read_given p
+  t ← peek
+  if is_none t then pure l else refuse

@@ -1,0 +1,86 @@
+-- Page selectors: a name, pseudo-classes, or both (css-page-3, 3).
+use Rattle.std.specs.Prelude.{ℕ, ◌-◌, ◌^◌, min, Bool, true, false, ◌||◌, if◌then◌else◌, List, [], ◌∷◌, count_by, codes, Option, Some, None}
+use Rattle.css_tok.specs.declared.kind.CssKind.TheVariants as kind
+use Rattle.css_tok.specs.Tokens.{tokens_of}
+use Rattle.css_words.specs.Input.{kept}
+use Rattle.css_words.specs.Parser.{Parser, Outcome, ◌>>=◌, ◌>>◌, pure, refuse, peek, advance, spaces}
+use Rattle.css_words.specs.Repeat.{first_and, many}
+use Rattle.css_words.specs.Words.{of_kind, is_none, is_mark, ident}
+use Rattle.css_words.specs.declared.reader.Skipped.TheVariants as skipped
+use Rattle.css_content.specs.Basics.{word_in}
+use Rattle.css_page.specs.declared.selectors.PageSelector.{PageSelector}
+use Rattle.css_page.specs.declared.selectors.PseudoPage.{PseudoPage}
+use Rattle.css_page.specs.declared.selectors.PseudoPage.TheVariants as pseudo
+
+unfoldable pub pseudo_pages : List (List ℕ × PseudoPage)
+pseudo_pages = (codes "first", pseudo.First) ∷ (codes "left", pseudo.Left) ∷ (codes "right", pseudo.Right) ∷ (codes "blank", pseudo.Blank) ∷ []
+
+-- a colon, which is 58, and the name of a pseudo-class
+unfoldable pub next_pseudo : Parser (Option PseudoPage)
+next_pseudo = do
+  t ← peek
+  if is_mark 58 t then (advance >> word_in pseudo_pages >>= (λ p. pure (Some p))) else pure None
+
+abbrev pub is_same : PseudoPage → PseudoPage → Bool
+is_same pseudo.First pseudo.First = true
+is_same pseudo.Left pseudo.Left = true
+is_same pseudo.Right pseudo.Right = true
+is_same pseudo.Blank pseudo.Blank = true
+is_same _ _ = false
+
+-- how often a pseudo-class stands in a list; the number stays at the greatest of its type
+unfoldable pub count_of : PseudoPage → List PseudoPage → ℕ
+count_of p ps = min (count_by (λ other. is_same p other) ps) (2 ^ 32 - 1)
+
+abbrev pub selector_of : Option (List ℕ) → List PseudoPage → PageSelector
+selector_of name ps = record { name = name; firsts = count_of pseudo.First ps; blanks = count_of pseudo.Blank ps; lefts = count_of pseudo.Left ps; rights = count_of pseudo.Right ps }
+
+unfoldable pub page_name : Parser (Option (List ℕ))
+page_name = do
+  t ← peek
+  if of_kind kind.Ident t then (ident >>= (λ name. pure (Some name))) else pure None
+
+-- a name, if there is one, and any number of pseudo-classes, with nothing between them
+unfoldable pub name_and_pseudos : Parser PageSelector
+name_and_pseudos = do
+  name ← page_name
+  ps ← many next_pseudo
+  _ ← spaces
+  pure (selector_of name ps)
+
+-- a selector isn't empty
+unfoldable pub selector : Parser PageSelector
+selector = do
+  _ ← spaces
+  t ← peek
+  if of_kind kind.Ident t || is_mark 58 t then name_and_pseudos else refuse
+
+-- a comma, which is 44, and a selector
+unfoldable pub next_selector : Parser (Option PageSelector)
+next_selector = do
+  t ← peek
+  if is_mark 44 t then (advance >> selector >>= (λ s. pure (Some s))) else pure None
+
+-- an empty list is one selector that asks nothing
+abbrev pub every_page : List PageSelector
+every_page = selector_of None [] ∷ []
+
+unfoldable pub selectors : Parser (List PageSelector)
+selectors = do
+  _ ← spaces
+  t ← peek
+  if is_none t then pure every_page else first_and selector (many next_selector)
+
+unfoldable pub whole_list : Parser (List PageSelector)
+whole_list = do
+  ss ← selectors
+  t ← peek
+  if is_none t then pure ss else refuse
+
+abbrev pub read_by : Outcome (List PageSelector) → Option (List PageSelector)
+read_by None = None
+read_by (Some r) = Some r.0
+
+-- the selectors of a list; comments are nothing in it
+unfoldable pub read_selectors : List ℕ → Option (List PageSelector)
+read_selectors text = read_by (whole_list (kept skipped.Comments (tokens_of text)))

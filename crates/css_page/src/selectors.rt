@@ -1,0 +1,245 @@
+//! Page selectors (css-page-3, 3).
+
+ghost use Rattle.std.specs.Prelude.{◌≡◌, ◌≤◌, ◌<◌, ◌∷◌, [], length, count_by, IfOk, IfSome};
+ghost use Rattle.css_words.specs.Parser.{Reads, Owns};
+ghost use Rattle.css_words.specs.Repeat.{many, with_prefix};
+ghost use Rattle.css_content.specs.Basics.{word_in};
+ghost use Rattle.css_page.specs.Selectors as spec;
+
+use bk_num::items::Items;
+use bk_num::name::{Name, NoMem};
+use css_content::words::word_in;
+use css_tok::kind::CssKind;
+use css_words::reader::{Reader, Skipped};
+use css_words::unread::Unread;
+use css_words::words::{ident, is_mark, of_kind};
+use std::alloc::Global;
+
+/// A pseudo-class of pages.
+#[derive(Clone, Copy)]
+pub enum PseudoPage {
+    First,
+    Left,
+    Right,
+    Blank,
+}
+
+/// A page selector: the name that it asks for, if any, and how often each pseudo-class stands in it. A number stays at
+/// 4,294,967,295.
+#[derive(Drop)]
+pub struct PageSelector {
+    pub name: Option<Name>,
+    pub firsts: u32,
+    pub blanks: u32,
+    pub lefts: u32,
+    pub rights: u32,
+}
+
+/// Reads the name of a pseudo-class.
+#[tactic(auto, unfolding(crate::specs::Selectors::pseudo_pages))]
+fn pseudo_page(reader: &mut Reader<'_>) -> Result<PseudoPage, Unread>
+    ensures reads { Reads (λ x. x) (word_in spec.pseudo_pages reader.old) result reader.new }
+    ensures within { length reader.new ≤ length reader.old }
+{
+    word_in(
+        reader,
+        &[
+            ("first", PseudoPage::First),
+            ("left", PseudoPage::Left),
+            ("right", PseudoPage::Right),
+            ("blank", PseudoPage::Blank),
+        ],
+    )
+}
+
+/// The pseudo-class after a colon; None where no colon comes.
+#[tactic(auto, unfolding(crate::specs::Selectors::next_pseudo, css_words::specs::Words::is_mark))]
+fn next_pseudo(reader: &mut Reader<'_>) -> Result<Option<PseudoPage>, Unread>
+    ensures reads { Reads (λ x. x) (spec.next_pseudo reader.old) result reader.new }
+    ensures within { length reader.new ≤ length reader.old }
+    ensures taken { IfOk result (λ o. IfSome o (λ _. length reader.new < length reader.old)) }
+{
+    let token = reader.peek();
+    if token.is_none() || !is_mark(b':', token) {
+        return Ok(None);
+    }
+    reader.advance();
+    Ok(Some(pseudo_page(reader)?))
+}
+
+/// Reads the pseudo-classes that follow one another.
+#[tactic(auto, using(css_words::proofs::RepeatLemmas::many_turns))]
+fn pseudos(alloc: Global, reader: &mut Reader<'_>) -> Result<Vec<PseudoPage>, Unread>
+    ensures reads { Reads (λ v. v.items) (with_prefix [] (many spec.next_pseudo reader.old)) result reader.new }
+    ensures within { length reader.new ≤ length reader.old }
+{
+    let mut found = Vec::new(alloc);
+    'pseudos: loop {
+        match next_pseudo(reader)? {
+            Some(next) => found.push(next)?,
+            None => return Ok(found),
+        }
+    }
+}
+
+fn is_same(one: PseudoPage, other: PseudoPage) -> bool
+    ensures { result ≡ spec.is_same one other }
+{
+    matches!(
+        (one, other),
+        (PseudoPage::First, PseudoPage::First)
+            | (PseudoPage::Left, PseudoPage::Left)
+            | (PseudoPage::Right, PseudoPage::Right)
+            | (PseudoPage::Blank, PseudoPage::Blank)
+    )
+}
+
+/// How often a pseudo-class stands in a list.
+fn count(pseudo: PseudoPage, pseudos: &[PseudoPage]) -> usize
+    ensures { result ≡ count_by (λ other. spec.is_same pseudo other) pseudos.now }
+{
+    pseudos
+        .iter()
+        .filter(|other| is_same(pseudo, **other))
+        .count()
+}
+
+/// The same, at most 4,294,967,295.
+#[tactic(auto, unfolding(crate::specs::Selectors::count_of))]
+fn count_of(pseudo: PseudoPage, pseudos: &[PseudoPage]) -> u32
+    ensures { result ≡ spec.count_of pseudo pseudos.now }
+{
+    count(pseudo, pseudos).min(u32::MAX as usize) as u32
+}
+
+fn selector_of(name: Option<Name>, pseudos: &[PseudoPage]) -> PageSelector
+    ensures { result ≡ spec.selector_of name pseudos.now }
+{
+    PageSelector {
+        name,
+        firsts: count_of(PseudoPage::First, pseudos),
+        blanks: count_of(PseudoPage::Blank, pseudos),
+        lefts: count_of(PseudoPage::Left, pseudos),
+        rights: count_of(PseudoPage::Right, pseudos),
+    }
+}
+
+#[tactic(auto, unfolding(crate::specs::Selectors::page_name))]
+fn page_name(alloc: Global, reader: &mut Reader<'_>) -> Result<Option<Name>, Unread>
+    ensures reads { Reads (λ x. x) (spec.page_name reader.old) result reader.new }
+    ensures within { length reader.new ≤ length reader.old }
+{
+    if !of_kind(CssKind::Ident, reader.peek()) {
+        return Ok(None);
+    }
+    Ok(Some(ident(alloc, reader)?))
+}
+
+/// Reads a name, if there is one, and pseudo-classes.
+#[tactic(auto, unfolding(crate::specs::Selectors::name_and_pseudos), using(css_words::proofs::RepeatLemmas::no_prefix))]
+fn name_and_pseudos(alloc: Global, reader: &mut Reader<'_>) -> Result<PageSelector, Unread>
+    ensures reads { Reads (λ x. x) (spec.name_and_pseudos reader.old) result reader.new }
+    ensures within { length reader.new ≤ length reader.old }
+{
+    let name = page_name(alloc, reader)?;
+    let found = pseudos(alloc, reader)?;
+    reader.pass_spaces();
+    Ok(selector_of(name, found.as_slice()))
+}
+
+/// Reads a selector, which isn't empty.
+#[tactic(auto, unfolding(crate::specs::Selectors::selector))]
+fn selector(alloc: Global, reader: &mut Reader<'_>) -> Result<PageSelector, Unread>
+    ensures reads { Reads (λ x. x) (spec.selector reader.old) result reader.new }
+    ensures within { length reader.new ≤ length reader.old }
+{
+    reader.pass_spaces();
+    let token = reader.peek();
+    if of_kind(CssKind::Ident, token) || is_mark(b':', token) {
+        name_and_pseudos(alloc, reader)
+    } else {
+        Err(Unread::NoReading)
+    }
+}
+
+/// The selector after a comma; None where no comma comes.
+#[tactic(auto, unfolding(crate::specs::Selectors::next_selector, css_words::specs::Words::is_mark))]
+fn next_selector(alloc: Global, reader: &mut Reader<'_>) -> Result<Option<PageSelector>, Unread>
+    ensures reads { Reads (λ x. x) (spec.next_selector reader.old) result reader.new }
+    ensures within { length reader.new ≤ length reader.old }
+    ensures taken { IfOk result (λ o. IfSome o (λ _. length reader.new < length reader.old)) }
+{
+    let token = reader.peek();
+    if token.is_none() || !is_mark(b',', token) {
+        return Ok(None);
+    }
+    reader.advance();
+    Ok(Some(selector(alloc, reader)?))
+}
+
+/// Reads the selectors that follow a first one.
+#[tactic(auto, using(css_words::proofs::RepeatLemmas::many_turns))]
+fn more_selectors(
+    alloc: Global,
+    reader: &mut Reader<'_>,
+    first: PageSelector,
+) -> Result<Items<PageSelector>, Unread>
+    ensures { Reads (λ x. x) (with_prefix (first ∷ []) (many spec.next_selector reader.old)) result reader.new }
+{
+    let mut found = Items::new(alloc);
+    found.push(first)?;
+    'selectors: loop {
+        match next_selector(alloc, reader)? {
+            Some(next) => found.push(next)?,
+            None => return Ok(found),
+        }
+    }
+}
+
+/// The selectors of an empty list: one that asks nothing.
+fn every_page(alloc: Global) -> Result<Items<PageSelector>, Unread>
+    ensures { Owns spec.every_page result }
+{
+    let mut found = Items::new(alloc);
+    found.push(selector_of(None, &[]))?;
+    Ok(found)
+}
+
+#[tactic(auto, unfolding(crate::specs::Selectors::selectors))]
+fn selectors(alloc: Global, reader: &mut Reader<'_>) -> Result<Items<PageSelector>, Unread>
+    ensures { Reads (λ x. x) (spec.selectors reader.old) result reader.new }
+{
+    reader.pass_spaces();
+    if reader.peek().is_none() {
+        return every_page(alloc);
+    }
+    let first = selector(alloc, reader)?;
+    more_selectors(alloc, reader, first)
+}
+
+/// A reading that leaves nothing.
+#[tactic(auto, unfolding(crate::specs::Selectors::whole_list))]
+fn whole_list(alloc: Global, reader: &mut Reader<'_>) -> Result<Items<PageSelector>, Unread>
+    ensures { Reads (λ x. x) (spec.whole_list reader.old) result reader.new }
+{
+    let found = selectors(alloc, reader)?;
+    if reader.peek().is_some() {
+        return Err(Unread::NoReading);
+    }
+    Ok(found)
+}
+
+/// Reads a list of page selectors. None exactly where it has no reading: each of its parts, separated by commas, is a
+/// name, or pseudo-classes, or a name and pseudo-classes without white space between them. An empty list is one
+/// selector that takes each page.
+#[tactic(auto, unfolding(crate::specs::Selectors::read_selectors))]
+pub fn read_selectors(alloc: Global, text: &str) -> Result<Option<Items<PageSelector>>, NoMem>
+    ensures { IfOk result (λ found. found ≡ spec.read_selectors text.now) }
+{
+    let mut reader = Reader::new(text, Skipped::Comments);
+    match whole_list(alloc, &mut reader) {
+        Ok(found) => Ok(Some(found)),
+        Err(Unread::NoReading) => Ok(None),
+        Err(Unread::NoMemory) => Err(NoMem),
+    }
+}
