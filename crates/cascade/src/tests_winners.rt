@@ -1,7 +1,5 @@
 //! Winners of a small document by its sheets.
 
-ghost use Rattle.std.specs.Prelude.{◌≡◌, ◌<◌, length, IfOk};
-
 use crate::sheet::{Origin, ReadSheet, read_rules};
 use crate::table::NodeWinners;
 use crate::winners::{all_winners, winners};
@@ -47,17 +45,31 @@ const ROWS: &str = "\
 0 |  | p{color:red} | color:lime | - - - - -
 2 |  | *{color:red} | color:lime | - - - - -";
 
+/// A row of a document: the number of an element, what it gets (`e` an element, `t` a text, else an attribute of that name), and the
+/// name, text or value.
+fn grow(alloc: Global, dom: &mut Dom, row: &str) -> Option<()> {
+    let (number, rest) = row.split_once(' ')?;
+    let (kind, text) = rest.split_once(' ')?;
+    let node = NodeId(number.parse::<u32>().ok()?);
+    if node.0 >= dom.len() || dom.name(node).is_none() {
+        return None;
+    }
+    match kind {
+        "e" => dom.add_element(alloc, node, text).ok().map(|_| ()),
+        "t" => dom.add_text(alloc, node, text).ok().map(|_| ()),
+        name => dom.add_attr(alloc, node, name, text).ok().map(|_| ()),
+    }
+}
+
 /// `html` (0) with a `p` (1) of class `a` and id `x`, which has a text (2) and a style attribute.
-fn document(alloc: Global, style: &str) -> Result<Dom, Fail>
-    ensures { IfOk result (λ dom. length dom ≡ 3) }
-{
-    let mut dom = Dom::new(alloc)?;
-    dom.add_element(alloc, NodeId(0), "p")?;
-    dom.add_text(alloc, NodeId(1), "text")?;
-    dom.add_attr(alloc, NodeId(1), "class", "a")?;
-    dom.add_attr(alloc, NodeId(1), "id", "x")?;
-    dom.add_attr(alloc, NodeId(1), "style", style)?;
-    Ok(dom)
+fn document(alloc: Global, style: &str) -> Option<Dom> {
+    let mut dom = Dom::new(alloc).ok()?;
+    for row in ["0 e p", "1 t text", "1 class a", "1 id x"] {
+        grow(alloc, &mut dom, row)?;
+    }
+    let row = format!(in alloc; "1 style {style}").ok()?;
+    grow(alloc, &mut dom, row.as_str())?;
+    Some(dom)
 }
 
 fn sheet(alloc: Global, text: &str, origin: Origin) -> Result<ReadSheet, Fail> {
@@ -89,10 +101,25 @@ fn colors_of(alloc: Global, node: &NodeWinners) -> Result<String, Fail> {
     Ok(format!(in alloc; "{own} {before} {after} {call} {marker}")?)
 }
 
+/// The same, of the list of all nodes.
+fn colors_in_all(
+    alloc: Global,
+    dom: &Dom,
+    sheets: &[ReadSheet],
+    node: NodeId,
+) -> Result<String, Fail> {
+    let all = all_winners(alloc, dom, sheets)?;
+    if node.0 as usize >= all.len() {
+        return Err(Fail::new("no such node"));
+    }
+    colors_of(alloc, all.of(node))
+}
+
 /// The same, each asked for by itself.
-fn colors_at(alloc: Global, dom: &Dom, sheets: &[ReadSheet], node: NodeId) -> Result<String, Fail>
-    requires { node.0 < length dom.now }
-{
+fn colors_at(alloc: Global, dom: &Dom, sheets: &[ReadSheet], node: NodeId) -> Result<String, Fail> {
+    if node.0 >= dom.len() {
+        return Err(Fail::new("no such node"));
+    }
     let mut colors = String::new(alloc);
     for pseudo in [
         Pseudo::Element,
@@ -122,11 +149,10 @@ fn sheets_and_attributes_decide_the_colour(rt: HostRuntime) -> Result<(), Fail> 
         let mut sheets = Vec::new(alloc);
         sheets.push(sheet(alloc, defaults, Origin::Default)?)?;
         sheets.push(sheet(alloc, author, Origin::Author)?)?;
-        let dom = document(alloc, style)?;
-        assert!(rt; node.0 < dom.len());
-        let all = all_winners(alloc, &dom, &sheets)?;
-        assert_eq!(rt; all.len(), 3);
-        let colors = colors_of(alloc, all.of(node))?;
+        let Some(dom) = document(alloc, style) else {
+            return Err(Fail::new("no document"));
+        };
+        let colors = colors_in_all(alloc, &dom, &sheets, node)?;
         assert_eq!(rt; colors.as_str(), want, "{row}");
         let colors = colors_at(alloc, &dom, &sheets, node)?;
         assert_eq!(rt; colors.as_str().trim(), want, "{row}");
