@@ -60,6 +60,10 @@ def classes(count):
     return "".join(f"<p class='a{n % 2000} b{n % 500}'></p>" for n in range(count))
 
 
+def many_classes(count):
+    return "".join("<p class='x " + " ".join(f"c{(7 * n + k) % 100}" for k in range(19)) + "'></p>" for n in range(count))
+
+
 def types(count):
     return "<div>" + "".join(f"<x{n}></x{n}>" for n in range(count)) + "</div>"
 
@@ -76,6 +80,7 @@ def forms(form, count):
 MATCHES = {
     "1,000 classes": (classes, 100_000, [f".a{n}" for n in range(1000)]),
     "1,000 classes below others": (classes, 100_000, [f"body > .a{n}.b{n % 500}" for n in range(1000)]),
+    "a class of all and one of some": (many_classes, 100_000, [f".x.c{n}" for n in range(100)]),
     "first and last of 30,000 types": (types, 30_000, [":first-of-type", ":last-of-type"]),
     "later than 30,000 siblings": (siblings, 30_000, ["b ~ b", "p ~ b"]),
     "inside": (items, 100_000, forms("div div div li.c{n}", 100)),

@@ -1,6 +1,6 @@
 -- The index loses no node.
-use Rattle.std.proofs.Common.{◌≡◌, ℕ, zero, suc, ◌+◌, ◌<◌, ◌≤◌, Bool, true, false, not, ◌==◌, inl, inr, List, [], ◌∷◌, ◌++◌, Option, None, Some, get_or, length, take, map, cond, position, refl, sym, ◌∙◌, ap, subst, arith, rules}
-use Rattle.std.specs.Prelude.{slice_get, slice_set, codes}
+use Rattle.std.proofs.Common.{◌≡◌, ◌⊎◌, ℕ, zero, suc, ◌+◌, ◌<◌, ◌≤◌, Bool, true, false, not, ◌==◌, inl, inr, List, [], ◌∷◌, ◌++◌, Option, None, Some, get_or, length, take, map, cond, position, refl, sym, ◌∙◌, ap, subst, arith, rules}
+use Rattle.std.specs.Prelude.{slice_get, slice_set, codes, IfSome}
 use Rattle.std.specs.List.{prefix_len}
 use Rattle.std.specs.List.{Contains, list_all, slice_split}
 use Rattle.std.specs.Str.{bytes_eq}
@@ -10,6 +10,7 @@ use Rattle.std.proofs.lemmas.List.Elements.{Contains-push_cases, Contains-append
 use Rattle.std.proofs.lemmas.List.Folds.{list_all_at}
 use Rattle.std.proofs.lemmas.Slice.Eq.{bytes_eq-Decides}
 use Rattle.dom.specs.Nodes.{name_at, attribute_at}
+use Rattle.selectors.specs.declared.types.Test.{Test}
 use Rattle.selectors.specs.declared.types.Test.TheVariants as test
 use Rattle.selectors.specs.declared.types.AttrTest.TheVariants as by
 use Rattle.selectors.specs.declared.types.Compound.{Compound}
@@ -17,7 +18,7 @@ use Rattle.selectors.specs.Selectors.{SelectorView}
 use Rattle.selectors.specs.Fits.{fits_compound, fits_plain, passes_test, value_passes, has_type}
 use Rattle.selectors.specs.Match.{Tree, Matches, Reaches, fits, fits_part}
 use Rattle.match_table.proofs.WordLemmas.{word-among-parts, word-some, contains-filter, words-same}
-use Rattle.match_table.specs.Index.{words_at, words_in, words_of, separates, IsWordNoted, listed, IsKeyBy, by_id, by_class, by_type, IsKey, IsKeyNumber, IsNoted, AreNoted, Keeps}
+use Rattle.match_table.specs.Index.{words_at, words_in, words_of, separates, IsWordNoted, listed, IsKeyBy, by_id, by_class, by_type, IsKey, IsWordOf, IsNumberIn, IsNumberFor, IsKeyNumber, IsNoted, AreNoted, Keeps}
 
 -- ---- noting the words of a node
 
@@ -116,6 +117,31 @@ fits-word dom s k n w f key = part-word dom n (slice_get s.parts k) w f key
 pub candidates : (dom : Tree) (words lists : List (List ℕ)) (count i n : ℕ) (s : SelectorView) → AreNoted dom words lists count → IsKeyNumber s words i → n < count → Matches dom s n → Contains (get_or lists i []) n
 candidates dom words lists count i n s noted key within m =
     noted n within key.0 (fits-word dom s (length s.joins) n key.0 (reaches-fits dom s (length s.joins) n m) key.1) i key.2
+
+-- ---- the word that a selector is looked up by
+
+pub test-key : (c : Compound) (t : Test) (w : List ℕ) → Contains c.plain.tests t → IsWordOf t w → IsKeyBy c w
+test-key c t w has (inl e) = by_id (subst (λ z. Contains c.plain.tests z) e has)
+test-key c t w has (inr e) = by_class (subst (λ z. Contains c.plain.tests z) e has)
+
+pub number-for : (c : Compound) (tests : List Test) (words : List (List ℕ)) (i : ℕ) → tests ≡ c.plain.tests → IsNumberIn tests words i → IsNumberFor c words i
+number-for c tests words i is n = record {
+  word = n.numbered.word;
+  key = test-key c n.one n.numbered.word (subst (λ z. Contains z n.one) is n.among) n.numbered.asked;
+  number = n.numbered.number;
+}
+
+pub key-number : (s : SelectorView) (c : Compound) (words : List (List ℕ)) (i : ℕ) → Some c ≡ slice_get s.parts (length s.joins) → IsNumberFor c words i → IsKeyNumber s words i
+key-number s c words i is n = (n.word, subst (λ o. IsKey o n.word) is n.key, n.number)
+
+pub some-by : (P Q : ℕ → Type 0) (o : Option ℕ) → ((i : ℕ) → P i → Q i) → IfSome o P → IfSome o Q
+some-by P Q None f h = h
+some-by P Q (Some i) f h = f i h
+
+-- what holds of two numbers holds of the one that is taken
+pub one-of : (P : ℕ → Type 0) (r a b : Option ℕ) → (r ≡ a) ⊎ (r ≡ b) → IfSome a P → IfSome b P → IfSome r P
+one-of P r a b (inl e) f g = subst (λ o. IfSome o P) (sym e) f
+one-of P r a b (inr e) f g = subst (λ o. IfSome o P) (sym e) g
 
 -- ---- the number of a word
 

@@ -1,11 +1,12 @@
 -- The index of nodes by their words, in which selectors find the nodes that they may match.
-use Rattle.std.specs.Prelude.{◌≡◌, ◌<◌, ℕ, List, [], ◌∷◌, ◌++◌, Option, Some, None, get_or, position, slice_get, length, codes, filter, not, ◌==◌, Bool}
+use Rattle.std.specs.Prelude.{◌≡◌, ◌⊎◌, ◌<◌, ℕ, List, [], ◌∷◌, ◌++◌, Option, Some, None, get_or, position, slice_get, length, codes, filter, not, ◌==◌, Bool}
 use Rattle.std.specs.List.{Contains, slice_split}
 use Rattle.std.specs.Str.{bytes_eq}
 use Rattle.dom.specs.Nodes.{name_at, attribute_at}
 use Rattle.selectors.specs.Match.{Tree}
 use Rattle.selectors.specs.Selectors.{SelectorView}
 use Rattle.css_tok.specs.Lengths.{is_blank}
+use Rattle.selectors.specs.declared.types.Test.{Test}
 use Rattle.selectors.specs.declared.types.Test.TheVariants as test
 use Rattle.selectors.specs.declared.types.Compound.{Compound}
 
@@ -35,6 +36,10 @@ pub data IsKeyBy (c : Compound) (w : List ℕ) : Type 0 where
   by_class : Contains c.plain.tests (test.Class w) → IsKeyBy c w
   by_type : c.plain.name ≡ Some w → IsKeyBy c w
 
+-- a word that each node has which passes a test: the id or the class that it asks for
+abbrev pub IsWordOf : Test → List ℕ → Type 0
+IsWordOf t w = (t ≡ test.Id w) ⊎ (t ≡ test.Class w)
+
 abbrev pub IsKey : Option Compound → List ℕ → Type 0
 IsKey None w = ⊥
 IsKey (Some c) w = IsKeyBy c w
@@ -53,6 +58,24 @@ AreNoted dom words lists count = (n : ℕ) → n < count → IsNoted words lists
 -- what stood in the lists stands there
 abbrev pub Keeps : List (List ℕ) → List (List ℕ) → Type 0
 Keeps old new = (i n : ℕ) → Contains (get_or old i []) n → Contains (get_or new i []) n
+
+-- the number of a word that each node has which passes a test
+pub record IsTestNumber (t : Test) (words : List (List ℕ)) (i : ℕ) : Type 0 where
+  pub word : List ℕ
+  pub asked : IsWordOf t word
+  pub number : position (bytes_eq word) words ≡ Some i
+
+-- one of these tests has this number
+pub record IsNumberIn (tests : List Test) (words : List (List ℕ)) (i : ℕ) : Type 0 where
+  pub one : Test
+  pub among : Contains tests one
+  pub numbered : IsTestNumber one words i
+
+-- the number of a word that each node has which fits a compound
+pub record IsNumberFor (c : Compound) (words : List (List ℕ)) (i : ℕ) : Type 0 where
+  pub word : List ℕ
+  pub key : IsKeyBy c word
+  pub number : position (bytes_eq word) words ≡ Some i
 
 -- the number of a word that each node has which a selector matches
 abbrev pub IsKeyNumber : SelectorView → List (List ℕ) → ℕ → Type 0

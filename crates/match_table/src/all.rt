@@ -1,13 +1,13 @@
 //! Matches many selectors against all nodes of a document in one pass.
 
-ghost use Rattle.std.specs.Prelude.{◌≡◌, ◌<◌, ◌-◌, ◌↔◌, ℕ, length, map, slice_get, Some, IfOk, IfSome, OnOk, IsTrue};
+ghost use Rattle.std.specs.Prelude.{◌≡◌, ◌<◌, ◌-◌, ◌↔◌, ℕ, length, map, slice_get, Some, IfOk, OnOk, IsTrue};
 ghost use Rattle.match_table.specs.All.{AreMatchLists};
-ghost use Rattle.match_table.specs.Index.{AreNoted, IsKeyNumber};
+ghost use Rattle.match_table.specs.Index.{AreNoted};
 ghost use Rattle.selectors.specs.Match.{Matches};
 ghost use Rattle.match_table.specs.Rows as spec;
 
 use crate::columns::{all_cells, cell_of};
-use crate::index::{Words, empty_lists, key_of, nodes_by_word, words_of_keys};
+use crate::index::{Words, empty_lists, nodes_by_word, number_of_key, words_of_keys};
 use crate::types::wanted_places;
 use bk_num::ids::NodeId;
 use bk_num::items::Items;
@@ -148,20 +148,9 @@ fn has_later(selector: &Selector) -> bool {
         .any(|join| matches!(join, Join::Later))
 }
 
-/// The number of a word that each node has which a selector matches, if it has a key.
-fn number_of_key(selector: &Selector, words: &Words<'_>) -> Option<usize>
-    ensures key { IfSome result (λ i. IsKeyNumber selector.now words.now i) }
-    ensures within { IfSome result (λ i. i < length words.now) }
-{
-    match key_of(selector) {
-        Some(word) => words.number(word),
-        None => None,
-    }
-}
-
 /// Puts a selector's place into the lists of the nodes that it matches. A selector whose last compound asks
-/// for an id, a class or a type tries the nodes that have it, and any other goes over all nodes, as does one with a
-/// `~`, which would else go back over all siblings of each candidate.
+/// for ids, classes or a type tries the nodes that have the rarest of them, and any other goes over all nodes, as does one
+/// with a `~`, which would else go back over all siblings of each candidate.
 fn mark(
     alloc: Global,
     rows: &mut Vec<Items<u32>>,
@@ -179,7 +168,7 @@ fn mark(
     ensures count { length rows.new.items ≡ length rows.old.items }
 {
     if !has_later(selector) {
-        if let Some(number) = number_of_key(selector, words) {
+        if let Some(number) = number_of_key(selector, words, lists) {
             return mark_listed(rows, document, selector, place, lists[number].as_slice());
         }
     }

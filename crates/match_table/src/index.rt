@@ -1,11 +1,9 @@
 //! An index of nodes by their ids, classes and types.
 
-ghost use Rattle.std.specs.Prelude.{◌≡◌, ◌<◌, [], get_or, length, map, option_map, position, ℕ, IfOk, IfSome, OnOk};
+ghost use Rattle.std.specs.Prelude.{◌≡◌, ◌⊎◌, ◌<◌, [], get_or, length, map, option_map, position, slice_get, ℕ, IfOk, IfSome, OnOk};
 ghost use Rattle.std.specs.List.{Contains};
 ghost use Rattle.std.specs.Str.{bytes_eq};
-ghost use Rattle.std.specs.Prelude.{slice_get};
 ghost use Rattle.match_table.specs.Index as spec;
-ghost use Rattle.selectors.specs.declared.types.Test.TheVariants as test;
 
 use bk_num::ids::NodeId;
 use bk_num::items::Items;
@@ -50,7 +48,7 @@ impl<'s> Words<'s> {
     }
 
     /// The number of a word, if some selector looks for it.
-    pub(crate) fn number(&self, word: &[u8]) -> Option<usize>
+    fn number(&self, word: &[u8]) -> Option<usize>
         ensures value { result ≡ position (bytes_eq word.now) self.now }
         ensures within { IfSome result (λ i. i < length self.now) }
     {
@@ -58,55 +56,28 @@ impl<'s> Words<'s> {
     }
 }
 
-/// The first id that is asked for.
-fn id_in(tests: &[Test]) -> Option<&[u8]>
-    ensures { IfSome result (λ w. Contains tests.now (test.Id w.now)) }
+/// A word that each node has which passes a test, if the test asks for an id or a class.
+fn word_of(test: &Test) -> Option<&[u8]>
+    ensures { IfSome result (λ w. spec.IsWordOf test.now w.now) }
 {
-    for test in tests {
-        if let Test::Id(id) = test {
-            return Some(id.as_str().as_bytes());
+    match test {
+        Test::Id(id) => Some(id.as_str().as_bytes()),
+        Test::Class(class) => Some(class.as_str().as_bytes()),
+        _ => None,
+    }
+}
+
+/// Adds the words that each node has which fits a compound: the ids, classes and type that it asks for.
+fn add_words<'s>(words: &mut Words<'s>, compound: &'s Compound) -> Result<(), NoMem> {
+    for test in compound.plain.tests.as_slice() {
+        if let Some(word) = word_of(test) {
+            words.add(word)?;
         }
     }
-    None
-}
-
-/// The first class that is asked for.
-fn class_in(tests: &[Test]) -> Option<&[u8]>
-    ensures { IfSome result (λ w. Contains tests.now (test.Class w.now)) }
-{
-    for test in tests {
-        if let Test::Class(class) = test {
-            return Some(class.as_str().as_bytes());
-        }
+    if let Some(name) = &compound.plain.name {
+        words.add(name.as_str().as_bytes())?;
     }
-    None
-}
-
-/// A word that each node has which fits a compound, if it asks for an id, a class or a type.
-fn key_in(compound: &Compound) -> Option<&[u8]>
-    ensures { IfSome result (λ w. spec.IsKeyBy compound.now w.now) }
-{
-    let tests = compound.plain.tests.as_slice();
-    if let Some(id) = id_in(tests) {
-        return Some(id);
-    }
-    if let Some(class) = class_in(tests) {
-        return Some(class);
-    }
-    match &compound.plain.name {
-        Some(name) => Some(name.as_str().as_bytes()),
-        None => None,
-    }
-}
-
-/// A word that each node has which a selector matches, if its last compound asks for an id, a class or a type.
-pub(crate) fn key_of(selector: &Selector) -> Option<&[u8]>
-    ensures { IfSome result (λ w. spec.IsKey (slice_get selector.now.parts (length selector.now.joins)) w.now) }
-{
-    match selector.parts().last() {
-        Some(compound) => key_in(compound),
-        None => None,
-    }
+    Ok(())
 }
 
 /// The words that selectors look for.
@@ -116,11 +87,99 @@ pub(crate) fn words_of_keys<'s>(
 ) -> Result<Words<'s>, NoMem> {
     let mut words = Words::new(alloc);
     for selector in selectors {
-        if let Some(word) = key_of(selector) {
-            words.add(word)?;
+        if let Some(compound) = last_compound(selector) {
+            add_words(&mut words, compound)?;
         }
     }
     Ok(words)
+}
+
+/// The number of the id or class that a test asks for.
+fn number_of_test(test: &Test, words: &Words<'_>) -> Option<usize>
+    ensures key { IfSome result (λ i. spec.IsTestNumber test.now words.now i) }
+    ensures within { IfSome result (λ i. i < length words.now) }
+{
+    match word_of(test) {
+        Some(word) => words.number(word),
+        None => None,
+    }
+}
+
+/// The number of the type that a compound asks for.
+fn number_of_type(compound: &Compound, words: &Words<'_>) -> Option<usize>
+    ensures key { IfSome result (λ i. spec.IsNumberFor compound.now words.now i) }
+    ensures within { IfSome result (λ i. i < length words.now) }
+{
+    match &compound.plain.name {
+        Some(name) => words.number(name.as_str().as_bytes()),
+        None => None,
+    }
+}
+
+/// The one of two words that fewer nodes have.
+fn rarer(lists: &[Items<u32>], a: Option<usize>, b: Option<usize>) -> Option<usize>
+    requires a { IfSome a (λ i. i < length lists.now) }
+    requires b { IfSome b (λ i. i < length lists.now) }
+    ensures { (result ≡ a) ⊎ (result ≡ b) }
+{
+    match (a, b) {
+        (Some(i), Some(k)) => {
+            if lists[k].as_slice().len() < lists[i].as_slice().len() {
+                b
+            } else {
+                a
+            }
+        }
+        (Some(_), None) => a,
+        (None, _) => b,
+    }
+}
+
+/// The number of the rarest id or class that some tests ask for.
+fn rarest(tests: &[Test], words: &Words<'_>, lists: &[Items<u32>]) -> Option<usize>
+    requires { length lists.now ≡ length words.now }
+    ensures key { IfSome result (λ i. spec.IsNumberIn tests.now words.now i) }
+    ensures within { IfSome result (λ i. i < length words.now) }
+{
+    let mut best = None;
+    for test in tests {
+        best = rarer(lists, best, number_of_test(test, words));
+    }
+    best
+}
+
+/// The number of the rarest word that each node has which fits a compound, if it asks for an id, a class or a type.
+fn number_for(compound: &Compound, words: &Words<'_>, lists: &[Items<u32>]) -> Option<usize>
+    requires { length lists.now ≡ length words.now }
+    ensures key { IfSome result (λ i. spec.IsNumberFor compound.now words.now i) }
+    ensures within { IfSome result (λ i. i < length words.now) }
+{
+    let tests = compound.plain.tests.as_slice();
+    let of_tests = rarest(tests, words, lists);
+    rarer(lists, of_tests, number_of_type(compound, words))
+}
+
+/// The last compound of a selector.
+fn last_compound(selector: &Selector) -> Option<&Compound>
+    ensures { option_map (λ c. c.now) result ≡ slice_get selector.now.parts (length selector.now.joins) }
+{
+    selector.parts().last()
+}
+
+/// The number of the rarest word that each node has which a selector matches, if its last compound asks for an id, a class or a type.
+pub(crate) fn number_of_key(
+    selector: &Selector,
+    words: &Words<'_>,
+    lists: &[Items<u32>],
+) -> Option<usize>
+    requires { length lists.now ≡ length words.now }
+    ensures key { IfSome result (λ i. spec.IsKeyNumber selector.now words.now i) }
+    ensures within { IfSome result (λ i. i < length words.now) }
+{
+    match last_compound(selector) {
+        Some(compound) => number_for(compound, words, lists),
+        None => None,
+    }
 }
 
 /// The words of an attribute, and none where there is no such attribute.
