@@ -1,0 +1,13 @@
+use Rattle.std.proofs.Common.{◌≡◌, ◌∙◌, arith, to_z, of_z}
+use Rattle.std.proofs.lemmas.Int.{ints}
+use mir.Syntax.{w64}
+use Rattle.boxes.specs.Tree.{open_before}
+use Rattle.paint.proofs.SolidLemmas.{line_joined}
+use Rattle.paint.proofs.lines.push_line.Goals as goal
+
+pub returns-clause-items : goal.returns-clause-items
+returns-clause-items g c =
+    let t = c.args.canvas.now.tree.now in
+    let exact : to_z w64 (of_z w64 c.in-Some-baseline_of.baseline) ≡ c.in-Some-baseline_of.baseline = omega (arith, ints) in
+    line_joined c.args.canvas.now.faces.now t c.args.canvas.now.origin c.args.s.now c.args.leaf.now c.in-Some.line c.innermost-content.result _ _ _ _
+    c.in_ok-push_area.ensures c.in_ok-push_words.ensures c.in-Some.ensures.line (c.innermost-content.ensures t (open_before t.events c.args.s.now.at.event) c.requires.opens) (exact ∙ c.in-Some-baseline_of.ensures)

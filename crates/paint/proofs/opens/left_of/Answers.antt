@@ -1,0 +1,37 @@
+use Rattle.std.proofs.Common.{◌≡◌, ◌∙◌, ◌<◌, ◌-◌, ℕ, suc, sym, subst, ap, length, arith}
+use Rattle.std.proofs.Math.Seq.{take-length}
+use Rattle.std.proofs.lemmas.Int.{ints}
+use Rattle.paint.specs.declared.opens.Content.{Content}
+use Rattle.paint.proofs.OpenLemmas.{AreUpTo, found_at, not_found, up_to_all, up_to_less}
+use Rattle.paint.proofs.opens.left_of.Goals as goal
+
+pub loop-at-init : goal.loop-at-init
+loop-at-init c = record {
+  within = omega arith;
+  up_to = λ t m boxes same. up_to_all t m c.args.opens.now c.args.number boxes same (take-length c.args.opens.now);
+}
+
+pub loop-at-preserved : goal.loop-at-preserved
+loop-at-preserved c =
+    let n : ℕ = c.loop-at.at - 1 in
+    let next : c.loop-at.at ≡ suc n = omega arith in
+    let less : n < length c.args.opens.now = (let w = c.loop-at.invariant.within in omega arith) in
+    record {
+      within = omega arith;
+      up_to = λ t m boxes same. up_to_less t m c.args.opens.now c.args.number n _ boxes less (sym c.has_number.ensures ∙ c.if-has_number.false) (subst (λ (k : ℕ). AreUpTo t m c.args.opens.now c.args.number k boxes) next (c.loop-at.invariant.up_to t m boxes same));
+    }
+
+pub returns-then-has_number : goal.returns-then-has_number
+returns-then-has_number c = λ t m boxes same.
+    let n : ℕ = c.loop-at.at - 1 in
+    let next : c.loop-at.at ≡ suc n = omega arith in
+    let less : n < length c.args.opens.now = (let w = c.loop-at.invariant.within in omega arith) in
+    let found = found_at t m c.args.opens.now c.args.number n _ boxes less (sym c.has_number.ensures ∙ c.if-has_number.true) (subst (λ (k : ℕ). AreUpTo t m c.args.opens.now c.args.number k boxes) next (c.loop-at.invariant.up_to t m boxes same)) in
+    let left = ap (λ (x : Content). x.left) found in
+    omega (arith, ints, left)
+
+pub returns : goal.returns
+returns c = λ t m boxes same.
+    let none : c.loop-at.at ≡ 0 = omega arith in
+    let zero_left = not_found t m c.args.opens.now c.args.number boxes (subst (λ (k : ℕ). AreUpTo t m c.args.opens.now c.args.number k boxes) none (c.loop-at.invariant.up_to t m boxes same)) in
+    omega (arith, ints, zero_left)

@@ -1,0 +1,12 @@
+use Rattle.std.proofs.Common.{◌≡◌, ◌≤◌, length, drop}
+use Rattle.paint.specs.Opens.{opens_of}
+use Rattle.paint.proofs.walk.open_all.Given as goal
+
+abbrev pub invariant-loop-at : goal.invariant-loop-at
+invariant-loop-at l = record {
+  within : l.at ≤ length l.chain;
+  opens : l.opens.items ≡ opens_of l.tree l.origin.width (drop l.at l.chain);
+}
+
+abbrev pub decreases-loop-at : goal.decreases-loop-at
+decreases-loop-at l = l.at

@@ -1,0 +1,25 @@
+-- What is asked of a flow that is painted.
+use Rattle.std.specs.Prelude.{◌≡◌, ℕ, ◌<◌, ◌≤◌, List, Some, length, slice_get}
+use Rattle.std.specs.List.{All}
+use Rattle.bk_num.specs.Limits.{most_open}
+use Rattle.metrics.specs.Face.{FontFace}
+use Rattle.boxes.specs.Tree.{Tree, depth_of}
+use Rattle.boxes.specs.declared.flow.Flow.{Flow}
+use Rattle.boxes.specs.declared.flow.Note.{Note}
+use Rattle.boxes.specs.declared.leaf.Leaf.{Leaf as LeafData}
+use Rattle.line_place.specs.Conditions.{HasFaces}
+
+-- the faces of a leaf and of its markers are there
+pub record IsFaced (faces : List FontFace) (leaf : LeafData) : Type 0 where
+  pub leaf_faces : HasFaces faces leaf
+  pub lead_faces : All (λ lead. lead.span.face.0 < length faces) leaf.leads
+
+-- no more boxes are open at once than a tree may have, and all faces are there
+pub record CanBePainted (faces : List FontFace) (t : Tree) : Type 0 where
+  pub depth : depth_of t.events ≤ most_open
+  pub faced : (l : ℕ) (leaf : LeafData) → slice_get t.leaves l ≡ Some leaf → IsFaced faces leaf
+
+-- so can its main tree and the bodies of its notes
+pub record CanFlowBePainted (faces : List FontFace) (flow : Flow) : Type 0 where
+  pub main : CanBePainted faces flow.main
+  pub notes : (n : ℕ) (note : Note) → slice_get flow.notes n ≡ Some note → CanBePainted faces note.body

@@ -1,0 +1,62 @@
+-- The items of a page, in the order of the listing.
+use Rattle.std.specs.Prelude.{ℕ, ℤ, pos, ◌+ℤ◌, ◌-ℤ◌, List, [], ◌∷◌, ◌++◌, slice_get}
+use Rattle.std.specs.Int.{int_max}
+use Rattle.std.specs.List.{flat_map}
+use Rattle.bk_num.specs.Units.{floor_div}
+use Rattle.bk_num.specs.declared.values.Color.{Color}
+use Rattle.metrics.specs.Face.{FontFace}
+use Rattle.boxes.specs.Tree.{Tree}
+use Rattle.boxes.specs.declared.flow.Flow.{Flow}
+use Rattle.boxes.specs.declared.flow.Note.{Note}
+use Rattle.boxes.specs.declared.frames.Frame.{Frame}
+use Rattle.boxes.specs.declared.item.Item.{Item}
+use Rattle.boxes.specs.declared.page.Page.{Page}
+use Rattle.boxes.specs.declared.page.Placed.{Placed}
+use Rattle.paint.specs.Items.{for_some, solid_items}
+use Rattle.paint.specs.declared.item.Origin.{Origin}
+use Rattle.paint.specs.Views.{rect_item}
+
+-- the backgrounds and borders of the boxes that have one of some solids, in the order of Open: none is painted yet
+abbrev pub rects_of : Tree → Origin → List Placed → List Item
+rects_of t o solids = []
+
+-- what is painted of a tree: the rectangles of its boxes, then its solids in order
+abbrev pub tree_items : List FontFace → Tree → Origin → List Placed → List Item
+tree_items faces t o solids = rects_of t o solids ++ flat_map (solid_items faces t o) solids
+
+-- the main tree's solids count from the frame's left and top
+abbrev pub flow_origin : Frame → Origin
+flow_origin f = record { left = f.left; top = f.top; width = f.width }
+
+-- the height of the note area: it begins with a separator of 512 units, and reaches to the greatest bottom of its solids
+abbrev pub area_height : List (ℕ × Placed) → ℤ
+area_height [] = pos 512
+area_height ((n, s) ∷ notes) = int_max (s.top +ℤ s.height) (area_height notes)
+
+-- the note area stands at the frame's foot, and the notes' solids count from its top
+abbrev pub area_origin : Frame → List (ℕ × Placed) → Origin
+area_origin f notes = record { left = f.left; top = (f.top +ℤ f.height) -ℤ area_height notes; width = f.width }
+
+abbrev pub black : Color
+black = record { red = 0; green = 0; blue = 0 }
+
+-- the separator: a third of the frame's width, in the middle of its room
+abbrev pub separator_at : Origin → Item
+separator_at o = rect_item (record { x = o.left; y = o.top +ℤ pos 256; w = floor_div o.width 3; h = pos 64 }) black
+
+-- the backgrounds and borders of a note, before the first of its solids on the page: none is painted yet
+abbrev pub note_rects : Tree → Origin → ℕ → Placed → List (ℕ × Placed) → List Item
+note_rects body o n s notes = []
+
+-- a note's solid among those of the page
+abbrev pub note_items : List FontFace → List Note → Origin → List (ℕ × Placed) → ℕ × Placed → List Item
+note_items faces all o notes (n, s) = for_some (λ (note : Note). note_rects note.body o n s notes ++ solid_items faces note.body o s) (slice_get all n)
+
+-- the note area of a page: its separator, then note after note its rectangles and its solids
+abbrev pub area_items : List FontFace → List Note → Frame → List (ℕ × Placed) → List Item
+area_items faces all f [] = []
+area_items faces all f (n ∷ notes) = separator_at (area_origin f (n ∷ notes)) ∷ flat_map (note_items faces all (area_origin f (n ∷ notes)) (n ∷ notes)) (n ∷ notes)
+
+-- the items of a page: the main tree's, then those of the note area
+abbrev pub items_of : List FontFace → Flow → Page → List Item
+items_of faces flow page = tree_items faces flow.main (flow_origin page.frame) page.solids ++ area_items faces flow.notes page.frame page.notes

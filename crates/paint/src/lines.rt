@@ -1,0 +1,181 @@
+//! Items of lines.
+
+ghost use Rattle.std.specs.Prelude.{◌≡◌, ◌+◌, ◌≤◌, ◌++◌, ◌∷◌, [], ◌^◌, pos, ◌≤ℤ◌, ◌+ℤ◌, ◌==◌, if◌then◌else◌, map, length, OnOk, IfSome, IsSome};
+ghost use Rattle.boxes.specs.Contents.{IsGoodLeaf};
+ghost use Rattle.boxes.specs.Tree.{open_before};
+ghost use Rattle.line_place.specs.Conditions.{IsInLeaf};
+ghost use Rattle.line_place.specs.Extents.{extent_of};
+ghost use Rattle.paint.specs.Areas.{area_of};
+ghost use Rattle.paint.specs.Conditions.{IsFaced};
+ghost use Rattle.paint.specs.Items.{lead_item, line_items, line_of, words_items};
+ghost use Rattle.paint.specs.Opens.{opens_of};
+ghost use Rattle.paint.specs.Views.{area_item, items_in};
+
+use crate::item::{Canvas, ItemRef, area_at, sum};
+use crate::leads::push_leads;
+use crate::opens::{Content, Open, innermost, is_wide};
+use crate::runs::push_runs;
+use bk_num::name::NoMem;
+use bk_num::steps::Steps;
+use boxes::leaf::Leaf;
+use boxes::line::Line;
+use boxes::page::Placed;
+use line_fill::next_line;
+use line_place::extent::line_height;
+use line_place::runs::runs;
+use metrics::Faces;
+use std::alloc::Global;
+use std::sync::ledger::Ledger;
+
+/// Adds the area of a line, in the content of its block.
+fn push_area<'a>(
+    out: &mut Vec<ItemRef<'a>>,
+    canvas: &Canvas<'a>,
+    s: &Placed,
+    content: &Content,
+) -> Result<(), NoMem>
+    ensures { OnOk result (items_in canvas.now.faces.now out.new.items ≡ items_in canvas.now.faces.now out.old.items ++ area_item (area_of canvas.now.origin content.now s.now) ∷ []) }
+{
+    let Some(area) = area_at(&canvas.origin, content, s) else {
+        return Err(NoMem);
+    };
+    if out.push(ItemRef::Line { area }).is_err() {
+        return Err(NoMem);
+    }
+    Ok(())
+}
+
+/// Adds the markers of a leaf, if a line is its first.
+fn push_first<'a>(
+    out: &mut Vec<ItemRef<'a>>,
+    canvas: &Canvas<'a>,
+    opens: &[Open],
+    at: u32,
+    baseline: i64,
+    leaf: &'a Leaf,
+    line: Line,
+) -> Result<(), NoMem>
+    requires good { IsGoodLeaf leaf.now }
+    requires faced { IsFaced canvas.now.faces.now leaf.now }
+    requires opens { opens.now ≡ opens_of canvas.now.tree.now canvas.now.origin.width (open_before canvas.now.tree.now.events at) }
+    ensures { OnOk result (items_in canvas.now.faces.now out.new.items ≡ items_in canvas.now.faces.now out.old.items ++ (if line.from == 0 then map (lead_item canvas.now.faces.now canvas.now.tree.now canvas.now.origin (open_before canvas.now.tree.now.events at) baseline) leaf.now.leads else [])) }
+{
+    if line.from() == 0 {
+        push_leads(out, canvas, opens, at, baseline, leaf.leads.as_slice())
+    } else {
+        Ok(())
+    }
+}
+
+/// Adds the markers and the runs of a line, in the content of its block, on a baseline.
+fn push_words<'a>(
+    alloc: Global,
+    out: &mut Vec<ItemRef<'a>>,
+    canvas: &Canvas<'a>,
+    opens: &[Open],
+    at: u32,
+    baseline: i64,
+    leaf: &'a Leaf,
+    line: Line,
+    content: &Content,
+) -> Result<(), NoMem>
+    requires good { IsGoodLeaf leaf.now }
+    requires faced { IsFaced canvas.now.faces.now leaf.now }
+    requires opens { opens.now ≡ opens_of canvas.now.tree.now canvas.now.origin.width (open_before canvas.now.tree.now.events at) }
+    requires line { IsInLeaf leaf.now line }
+    requires low { pos 0 ≤ℤ content.now.width }
+    requires high { content.now.width ≤ℤ pos (2 ^ 40) }
+    ensures { OnOk result (items_in canvas.now.faces.now out.new.items ≡ items_in canvas.now.faces.now out.old.items ++ words_items canvas.now.faces.now canvas.now.tree.now canvas.now.origin (open_before canvas.now.tree.now.events at) leaf.now line content.now baseline) }
+{
+    let Some(left) = sum(canvas.origin.left, content.left) else {
+        return Err(NoMem);
+    };
+    push_first(out, canvas, opens, at, baseline, leaf, line)?;
+    let runs = runs(alloc, canvas.faces, leaf, line, content.width)?;
+    push_runs(out, canvas, leaf, left, baseline, runs.as_slice())?;
+    Ok(())
+}
+
+/// The baseline of a line of a leaf, in units from the page's top.
+fn baseline_of(canvas: &Canvas<'_>, s: &Placed, leaf: &Leaf, line: Line) -> Option<i64>
+    requires good { IsGoodLeaf leaf.now }
+    requires faced { IsFaced canvas.now.faces.now leaf.now }
+    requires line { IsInLeaf leaf.now line }
+    ensures { IfSome result (λ y. y ≡ (canvas.now.origin.top +ℤ s.now.top) +ℤ (extent_of canvas.now.faces.now leaf.now line.from line.to).baseline) }
+{
+    let top = sum(canvas.origin.top, s.top)?;
+    sum(top, line_height(canvas.faces, leaf, line).baseline)
+}
+
+/// Where a placed line ends: inside its leaf, or with it.
+fn end_in(leaf: &Leaf, s: &Placed) -> usize
+    ensures { result ≡ (if s.now.end.event == s.now.at.event then s.now.end.offset else length leaf.now.text) }
+{
+    if s.end.event == s.at.event {
+        s.end.offset as usize
+    } else {
+        leaf.text.as_str().len()
+    }
+}
+
+/// The line of a leaf that a solid is, filled in the content of its block. None where the leaf has no such line there. It
+/// takes at most a step.
+fn line_at<L: Ledger>(
+    faces: &Faces,
+    leaf: &Leaf,
+    s: &Placed,
+    content: &Content,
+    steps: &mut Steps<L>,
+) -> Option<Line>
+    requires good { IsGoodLeaf leaf.now }
+    requires faced { IsFaced faces.now leaf.now }
+    ensures line { IfSome result (λ line. line ≡ line_of leaf.now s.now) }
+    ensures inside { IfSome result (λ line. IsInLeaf leaf.now line) }
+    ensures low { IsSome result → pos 0 ≤ℤ content.now.width }
+    ensures high { IsSome result → content.now.width ≤ℤ pos (2 ^ 40) }
+    ensures steps { steps.new ≤ steps.old + 1 }
+{
+    let text = leaf.text.as_str();
+    let from = s.at.offset;
+    if !is_wide(content) || from as usize >= text.len() || !text.is_char_boundary(from as usize) {
+        return None;
+    }
+    let line = next_line(faces, leaf, from, content.width, steps);
+    if line.to() as usize == end_in(leaf, s) {
+        Some(line)
+    } else {
+        None
+    }
+}
+
+/// Adds a line of a leaf: its area, then the leaf's markers if it is the first, then its runs with the hyphen. It takes
+/// at most a step.
+#[tactic(auto, unfolding(crate::specs::Items::line_items))]
+pub(crate) fn push_line<'a, L: Ledger>(
+    alloc: Global,
+    out: &mut Vec<ItemRef<'a>>,
+    canvas: &Canvas<'a>,
+    opens: &[Open],
+    s: &Placed,
+    leaf: &'a Leaf,
+    steps: &mut Steps<L>,
+) -> Result<(), NoMem>
+    requires good { IsGoodLeaf leaf.now }
+    requires faced { IsFaced canvas.now.faces.now leaf.now }
+    requires opens { opens.now ≡ opens_of canvas.now.tree.now canvas.now.origin.width (open_before canvas.now.tree.now.events s.now.at.event) }
+    ensures items { OnOk result (items_in canvas.now.faces.now out.new.items ≡ items_in canvas.now.faces.now out.old.items ++ line_items canvas.now.faces.now canvas.now.tree.now canvas.now.origin s.now leaf.now) }
+    ensures steps { steps.new ≤ steps.old + 1 }
+{
+    let content = innermost(opens, &canvas.origin);
+    let Some(line) = line_at(canvas.faces, leaf, s, &content, steps) else {
+        return Err(NoMem);
+    };
+    let Some(baseline) = baseline_of(canvas, s, leaf, line) else {
+        return Err(NoMem);
+    };
+    push_area(out, canvas, s, &content)?;
+    push_words(
+        alloc, out, canvas, opens, s.at.event, baseline, leaf, line, &content,
+    )?;
+    Ok(())
+}

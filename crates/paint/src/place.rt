@@ -1,0 +1,58 @@
+//! The items of a page.
+
+ghost use Rattle.std.specs.Prelude.{◌≡◌, ◌+◌, ◌≤◌, length, IfOk};
+ghost use Rattle.paint.specs.Conditions.{CanFlowBePainted};
+ghost use Rattle.paint.specs.Pages.{items_of};
+ghost use Rattle.paint.specs.Views.{items_in};
+
+use crate::item::{Canvas, ItemRef, Origin};
+use crate::notes::push_area;
+use crate::solids::push_solids;
+use bk_num::name::NoMem;
+use bk_num::steps::Steps;
+use boxes::flow::Flow;
+use boxes::page::Page;
+use metrics::Faces;
+use std::alloc::Global;
+use std::sync::ledger::Ledger;
+
+/// The items of a page of a flow, in the order of the listing: the main tree's edges and lines, each line with its
+/// markers, runs and hyphen, and then the note area with its separator. Places are sums of units from the page's top left.
+/// Want of memory is answered too for a page that isn't one of the flow's, whose lines its leaves don't have, and where a
+/// sum is past 64 bits. It takes at most a step for each solid; its time goes with the page's solids, the events between
+/// them and their text.
+pub fn place<'a, L: Ledger>(
+    alloc: Global,
+    flow: &'a Flow,
+    faces: &'a Faces,
+    page: &Page,
+    steps: &mut Steps<L>,
+) -> Result<Vec<ItemRef<'a>>, NoMem>
+    requires { CanFlowBePainted faces.now flow.now }
+    ensures items { IfOk result (λ v. items_in faces.now v.items ≡ items_of faces.now flow.now page.now) }
+    ensures steps { steps.new ≤ steps.old + (length page.now.solids + length page.now.notes) }
+{
+    let frame = &page.frame;
+    let canvas = Canvas {
+        faces,
+        tree: &flow.main,
+        origin: Origin {
+            left: frame.left,
+            top: frame.top,
+            width: frame.width,
+        },
+    };
+    let mut out = Vec::new(alloc);
+    push_solids(alloc, &mut out, &canvas, page.solids.as_slice(), steps)?;
+    let notes = flow.notes.as_slice();
+    push_area(
+        alloc,
+        &mut out,
+        faces,
+        notes,
+        frame,
+        page.notes.as_slice(),
+        steps,
+    )?;
+    Ok(out)
+}

@@ -1,0 +1,96 @@
+//! Items of the runs of a line.
+
+ghost use Rattle.std.specs.Prelude.{◌≡◌, ◌++◌, ◌∷◌, [], map, OnOk, IfSome, slice_range, ◌+ℤ◌};
+ghost use Rattle.paint.specs.Areas.{style_of};
+ghost use Rattle.paint.specs.Items.{run_item, span_of};
+ghost use Rattle.paint.specs.Views.{hyphen_item, items_in};
+
+use crate::item::{Canvas, ItemRef, Style, style_at, sum};
+use bk_num::name::NoMem;
+use boxes::leaf::Leaf;
+use line_place::place::Run;
+
+/// A part of a text. None where it doesn't begin and end at characters, as each run does.
+fn part_of(text: &str, from: u32, to: u32) -> Option<&str>
+    ensures { IfSome result (λ part. part.now ≡ slice_range text.now from to) }
+{
+    let (from, to) = (from as usize, to as usize);
+    if from <= to && text.is_char_boundary(from) && text.is_char_boundary(to) {
+        Some(&text[from..to])
+    } else {
+        None
+    }
+}
+
+/// Adds a shown hyphen.
+fn push_hyphen<'a>(
+    out: &mut Vec<ItemRef<'a>>,
+    canvas: &Canvas<'a>,
+    style: Style,
+) -> Result<(), NoMem>
+    ensures { OnOk result (items_in canvas.now.faces.now out.new.items ≡ items_in canvas.now.faces.now out.old.items ++ hyphen_item canvas.now.faces.now style ∷ []) }
+{
+    let _canvas = canvas;
+    if out.push(ItemRef::Hyphen { style }).is_err() {
+        return Err(NoMem);
+    }
+    Ok(())
+}
+
+/// The style of a run of a line whose content begins at a left, on a baseline. None where its left is past 64 bits.
+fn style_of_run(leaf: &Leaf, left: i64, baseline: i64, run: &Run) -> Option<Style>
+    ensures { IfSome result (λ style. style ≡ style_of (left +ℤ run.now.x) baseline (span_of leaf.now run.now.span)) }
+{
+    let spans = leaf.spans.as_slice();
+    let number = run.span as usize;
+    if number >= spans.len() {
+        return None;
+    }
+    let x = sum(left, run.x)?;
+    Some(style_at(&spans[number], x, baseline))
+}
+
+/// Adds a run of a line whose content begins at a left, on a baseline.
+#[tactic(auto, unfolding(crate::specs::Items::run_item))]
+fn push_run<'a>(
+    out: &mut Vec<ItemRef<'a>>,
+    canvas: &Canvas<'a>,
+    leaf: &'a Leaf,
+    left: i64,
+    baseline: i64,
+    run: &Run,
+) -> Result<(), NoMem>
+    ensures { OnOk result (items_in canvas.now.faces.now out.new.items ≡ items_in canvas.now.faces.now out.old.items ++ run_item canvas.now.faces.now leaf.now left baseline run.now ∷ []) }
+{
+    let Some(style) = style_of_run(leaf, left, baseline, run) else {
+        return Err(NoMem);
+    };
+    if run.hyphen {
+        push_hyphen(out, canvas, style)?;
+        return Ok(());
+    }
+    let Some(text) = part_of(leaf.text.as_str(), run.from, run.to) else {
+        return Err(NoMem);
+    };
+    if out.push(ItemRef::Text { style, text }).is_err() {
+        return Err(NoMem);
+    }
+    Ok(())
+}
+
+/// Adds the runs of a line.
+pub(crate) fn push_runs<'a>(
+    out: &mut Vec<ItemRef<'a>>,
+    canvas: &Canvas<'a>,
+    leaf: &'a Leaf,
+    left: i64,
+    baseline: i64,
+    runs: &[Run],
+) -> Result<(), NoMem>
+    ensures { OnOk result (items_in canvas.now.faces.now out.new.items ≡ items_in canvas.now.faces.now out.old.items ++ map (run_item canvas.now.faces.now leaf.now left baseline) runs.now) }
+{
+    for run in runs {
+        push_run(out, canvas, leaf, left, baseline, run)?;
+    }
+    Ok(())
+}

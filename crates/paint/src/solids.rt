@@ -1,0 +1,106 @@
+//! Items of the solids of a tree.
+
+ghost use Rattle.std.specs.Prelude.{◌≡◌, ◌+◌, ◌≤◌, ◌<◌, ◌++◌, length, OnOk};
+ghost use Rattle.std.specs.Option.{ForSome};
+ghost use Rattle.std.specs.List.{flat_map};
+ghost use Rattle.boxes.specs.Tree.{open_before};
+ghost use Rattle.paint.specs.Conditions.{CanBePainted};
+ghost use Rattle.paint.specs.Items.{solid_items};
+ghost use Rattle.paint.specs.Opens.{opens_of};
+ghost use Rattle.paint.specs.Views.{items_in};
+
+use crate::edges::push_edge;
+use crate::item::{Canvas, ItemRef};
+use crate::lines::push_line;
+use crate::opens::{Open, innermost, outer};
+use crate::walk::go_to;
+use bk_num::name::NoMem;
+use bk_num::steps::Steps;
+use boxes::page::Placed;
+use boxes::place::Event;
+use std::alloc::Global;
+use std::sync::ledger::Ledger;
+
+/// Adds the items of a solid, where the boxes that are open before its event are known. It takes at most a step.
+#[tactic(auto, unfolding(crate::specs::Items::solid_items))]
+fn push_solid<'a, L: Ledger>(
+    alloc: Global,
+    out: &mut Vec<ItemRef<'a>>,
+    canvas: &Canvas<'a>,
+    opens: &[Open],
+    s: &Placed,
+    steps: &mut Steps<L>,
+) -> Result<(), NoMem>
+    requires tree { CanBePainted canvas.now.faces.now canvas.now.tree.now }
+    requires within { s.now.at.event < length canvas.now.tree.now.events }
+    requires opens { opens.now ≡ opens_of canvas.now.tree.now canvas.now.origin.width (open_before canvas.now.tree.now.events s.now.at.event) }
+    ensures items { OnOk result (items_in canvas.now.faces.now out.new.items ≡ items_in canvas.now.faces.now out.old.items ++ solid_items canvas.now.faces.now canvas.now.tree.now canvas.now.origin s.now) }
+    ensures steps { steps.new ≤ steps.old + 1 }
+{
+    let tree = canvas.tree;
+    let _count = tree.count();
+    let origin = &canvas.origin;
+    match tree.event(s.at.event) {
+        Event::Opens(number) => {
+            let around = innermost(opens, origin);
+            push_edge(out, canvas, s, true, &around, tree.props(number))?;
+            Ok(())
+        }
+        Event::Closes(number) => {
+            let around = outer(opens, origin);
+            push_edge(out, canvas, s, false, &around, tree.props(number))?;
+            Ok(())
+        }
+        Event::Leaf(number) => {
+            push_line(alloc, out, canvas, opens, s, tree.leaf(number), steps)?;
+            Ok(())
+        }
+    }
+}
+
+/// Goes to a solid from the event that was reached in its tree, if there is one, and adds its items. It takes at most a
+/// step.
+pub(crate) fn push_next<'a, L: Ledger>(
+    alloc: Global,
+    out: &mut Vec<ItemRef<'a>>,
+    canvas: &Canvas<'a>,
+    opens: &mut Vec<Open>,
+    reached: Option<u32>,
+    s: &Placed,
+    steps: &mut Steps<L>,
+) -> Result<(), NoMem>
+    requires tree { CanBePainted canvas.now.faces.now canvas.now.tree.now }
+    requires opens { ForSome reached (λ at. opens.old.items ≡ opens_of canvas.now.tree.now canvas.now.origin.width (open_before canvas.now.tree.now.events at)) }
+    ensures items { OnOk result (items_in canvas.now.faces.now out.new.items ≡ items_in canvas.now.faces.now out.old.items ++ solid_items canvas.now.faces.now canvas.now.tree.now canvas.now.origin s.now) }
+    ensures opens { OnOk result (opens.new.items ≡ opens_of canvas.now.tree.now canvas.now.origin.width (open_before canvas.now.tree.now.events s.now.at.event)) }
+    ensures steps { steps.new ≤ steps.old + 1 }
+{
+    if s.at.event >= canvas.tree.count() {
+        return Err(NoMem);
+    }
+    go_to(opens, canvas.tree, reached, s.at.event, &canvas.origin)?;
+    push_solid(alloc, out, canvas, opens, s, steps)?;
+    Ok(())
+}
+
+/// Adds the items of solids of a tree, in order. It takes at most a step for each. The boxes that are open go along from
+/// solid to solid.
+pub(crate) fn push_solids<'a, L: Ledger>(
+    alloc: Global,
+    out: &mut Vec<ItemRef<'a>>,
+    canvas: &Canvas<'a>,
+    solids: &[Placed],
+    steps: &mut Steps<L>,
+) -> Result<(), NoMem>
+    requires { CanBePainted canvas.now.faces.now canvas.now.tree.now }
+    ensures items { OnOk result (items_in canvas.now.faces.now out.new.items ≡ items_in canvas.now.faces.now out.old.items ++ flat_map (solid_items canvas.now.faces.now canvas.now.tree.now canvas.now.origin) solids.now) }
+    ensures steps { steps.new ≤ steps.old + length solids.now }
+{
+    let mut opens = Vec::new(alloc);
+    let mut reached = None;
+    for s in solids {
+        push_next(alloc, out, canvas, &mut opens, reached, s, steps)?;
+        reached = Some(s.at.event);
+    }
+    Ok(())
+}
