@@ -314,8 +314,8 @@ fn push_item(alloc: Global, out: &mut String, item: &ItemRef<'_>) -> Result<(), 
     Ok(())
 }
 
-/// The items of a page in short, or `refused`.
-fn shown<L: Ledger>(
+/// The items of a page in short, or `refused`, with a counter of steps.
+fn counted<L: Ledger>(
     alloc: Global,
     flow: &Flow,
     faces: &Faces,
@@ -338,6 +338,13 @@ fn shown<L: Ledger>(
         Err(NoMem) => out.push_str("refused")?,
     }
     Ok(out)
+}
+
+/// The items of a page in short, or `refused`.
+fn shown(alloc: Global, flow: &Flow, faces: &Faces, page: &Page) -> Result<String, Fail>
+    requires { CanFlowBePainted faces.now flow.now }
+{
+    counted::<Brand>(alloc, flow, faces, page, Blank::new(1))
 }
 
 fn align_of(word: &str) -> Align {
@@ -387,7 +394,7 @@ fn pages_have_their_items_in_order_and_in_place(rt: HostRuntime) -> Result<(), F
         let want = fields.next().unwrap_or("");
         let page = page_of(alloc, frame, solids, notes)?;
         let flow = flow_of(alloc, &faces, sides, text, place, align, lead)?;
-        let items = shown::<Brand>(alloc, &flow, &faces, &page, Blank::new(1))?;
+        let items = shown(alloc, &flow, &faces, &page)?;
         assert_eq!(rt; items.as_str(), want, "{row:?}");
     }
     Ok(())
