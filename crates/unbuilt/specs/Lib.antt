@@ -1,0 +1,5 @@
+pub mod Table
+pub mod Readings
+pub mod Sources
+pub mod Nodes
+pub mod Laws

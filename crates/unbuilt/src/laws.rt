@@ -1,0 +1,17 @@
+//! What is first, and that texts have readings.
+
+ghost use Rattle.unbuilt.specs.Laws.{LeastIsFirst, TextsAreRead};
+
+use css_rules::sheet::one_reading;
+
+/// Law: the least number that passes a test is the first one that does.
+pub fn least_is_first()
+    ensures { LeastIsFirst }
+{}
+
+/// Law: a function gives what each text is read as.
+pub fn texts_are_read()
+    ensures { TextsAreRead }
+{
+    one_reading();
+}
