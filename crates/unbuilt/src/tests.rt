@@ -3,9 +3,8 @@
 use crate::nodes::first_unbuilt;
 use crate::run_sheets::{SheetsErr, read_sheets};
 use bk_num::ids::NodeId;
-use dom::{Dom, DomErr};
+use dom::Dom;
 use std::alloc::Global;
-use std::test::Fail;
 
 /// Rows separated by newlines: the sheet of a `style` element (node 2), the `style` attribute of a `p` (node 4), the name of an
 /// element (node 5), the sheet of a file, and what isn't built: nothing, a node, or a place of the file's sheet.
@@ -31,45 +30,31 @@ p{float:none}||br|q{float:none}|html 2
 |counter-increment:page|br||-
 |list-style:none;margin:0;padding:1px|br||-";
 
-/// Adds an element, where its parent is one.
-fn add(alloc: Global, dom: &mut Dom, parent: u32, name: &str) -> Result<(), DomErr> {
-    if parent >= dom.len() || dom.name(NodeId(parent)).is_none() {
-        return Err(DomErr::NoMemory);
+/// A row of a document: the number of an element, what it gets (`e` an element, `t` a text, else an attribute of that name), and the
+/// name, text or value.
+fn grow(alloc: Global, dom: &mut Dom, row: &str) -> Option<()> {
+    let (number, rest) = row.split_once(' ')?;
+    let (kind, text) = rest.split_once(' ')?;
+    let node = NodeId(number.parse::<u32>().ok()?);
+    if node.0 >= dom.len() || dom.name(node).is_none() {
+        return None;
     }
-    dom.add_element(alloc, NodeId(parent), name)?;
-    Ok(())
-}
-
-/// Adds a text, where its parent is an element.
-fn add_text(alloc: Global, dom: &mut Dom, parent: u32, text: &str) -> Result<(), DomErr> {
-    if parent >= dom.len() || dom.name(NodeId(parent)).is_none() {
-        return Err(DomErr::NoMemory);
-    }
-    dom.add_text(alloc, NodeId(parent), text)?;
-    Ok(())
-}
-
-/// Gives an element a `style`.
-fn set_style(alloc: Global, dom: &mut Dom, node: u32, style: &str) -> Result<(), DomErr> {
-    if node >= dom.len() || dom.name(NodeId(node)).is_none() {
-        return Err(DomErr::NoMemory);
-    }
-    match dom.add_attr(alloc, NodeId(node), "style", style) {
-        Ok(_) => Ok(()),
-        Err(_) => Err(DomErr::NoMemory),
+    match kind {
+        "e" => dom.add_element(alloc, node, text).ok().map(|_| ()),
+        "t" => dom.add_text(alloc, node, text).ok().map(|_| ()),
+        name => dom.add_attr(alloc, node, name, text).ok().map(|_| ()),
     }
 }
 
 /// `html` with `head` (1), in it a `style` (2) with a text (3), and then `p` (4) with a `style` attribute and an element (5).
-fn document(alloc: Global, sheet: &str, style: &str, last: &str) -> Result<Dom, DomErr> {
-    let mut dom = Dom::new(alloc)?;
-    add(alloc, &mut dom, 0, "head")?;
-    add(alloc, &mut dom, 1, "style")?;
-    add_text(alloc, &mut dom, 2, sheet)?;
-    add(alloc, &mut dom, 0, "p")?;
-    set_style(alloc, &mut dom, 4, style)?;
-    add(alloc, &mut dom, 0, last)?;
-    Ok(dom)
+fn document(alloc: Global, sheet: &str, style: &str, last: &str) -> Option<Dom> {
+    let rows = format!(in alloc; "0 e head|1 e style|2 t {sheet}|0 e p|4 style {style}|0 e {last}");
+    let rows = rows.ok()?;
+    let mut dom = Dom::new(alloc).ok()?;
+    for row in rows.as_str().split('|') {
+        grow(alloc, &mut dom, row)?;
+    }
+    Some(dom)
 }
 
 /// What isn't built of a document and of a file's sheet.
@@ -96,7 +81,7 @@ fn holds(alloc: Global, row: &str) -> Option<bool> {
     let mut fields = row.split('|');
     let (sheet, style) = (fields.next()?, fields.next()?);
     let (last, file) = (fields.next()?, fields.next()?);
-    let dom = document(alloc, sheet, style, last).ok()?;
+    let dom = document(alloc, sheet, style, last)?;
     let (node, place) = unbuilt(alloc, &dom, file).ok()?;
     is_told(node, place, fields.next()?)
 }
@@ -108,21 +93,33 @@ fn the_first_that_is_not_built_is_told(rt: HostRuntime) {
     }
 }
 
+/// A document with some `style` elements.
+fn styled(alloc: Global, count: u32) -> Option<Dom> {
+    let mut dom = Dom::new(alloc).ok()?;
+    for _ in 0..count {
+        grow(alloc, &mut dom, "0 e style")?;
+    }
+    Some(dom)
+}
+
+/// What the sheets of a run are refused for, where a document has some `style` elements and the file some rules.
+fn refused_for(alloc: Global, elements: u32, rules: u32) -> Option<&'static str> {
+    let dom = styled(alloc, elements)?;
+    let mut text = String::new(alloc);
+    for _ in 0..rules {
+        text.push_str("p{}").ok()?;
+    }
+    match read_sheets(alloc, &dom, text.as_str()) {
+        Ok(_) => Some("nothing"),
+        Err(SheetsErr::Sheets) => Some("sheets"),
+        Err(SheetsErr::Rules) => Some("rules"),
+        Err(SheetsErr::NoMemory) => None,
+    }
+}
+
 #[test]
-fn sheets_have_limits(rt: HostRuntime) -> Result<(), Fail> {
-    let mut dom = Dom::new(rt.alloc())?;
-    for _ in 0..15 {
-        add(rt.alloc(), &mut dom, 0, "style")?;
-    }
-    let mut rules = String::new(rt.alloc());
-    for _ in 0..20_001 {
-        rules.push_str("p{}")?;
-    }
-    let many = read_sheets(rt.alloc(), &dom, rules.as_str());
-    assert!(rt; matches!(many, Err(SheetsErr::Rules)));
-    assert!(rt; read_sheets(rt.alloc(), &dom, "p{}").is_ok());
-    add(rt.alloc(), &mut dom, 0, "style")?;
-    let more = read_sheets(rt.alloc(), &dom, rules.as_str());
-    assert!(rt; matches!(more, Err(SheetsErr::Sheets)));
-    Ok(())
+fn sheets_have_limits(rt: HostRuntime) {
+    assert_eq!(rt; refused_for(rt.alloc(), 15, 20_001), Some("rules"));
+    assert_eq!(rt; refused_for(rt.alloc(), 15, 20_000), Some("nothing"));
+    assert_eq!(rt; refused_for(rt.alloc(), 16, 20_001), Some("sheets"));
 }
