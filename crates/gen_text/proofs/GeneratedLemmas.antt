@@ -110,16 +110,16 @@ texts_blank s n t e h =
 pub below_none : (s : Source) → AreBelow s 0 []
 below_none s = record { ascend = IsNonDecreasingBy-short (λ (t : NodeTexts). t.node.0) [] (omega arith); low = λ k d l. absurd (omega arith); each = λ n l. absurd (omega arith) }
 
-entry_past : (i : ℕ) (g : List NodeTexts) → ((k : ℕ) (d : NodeTexts) → k < length g → (get_or g k d).node.0 < i) → entry_of g i ≡ None
-entry_past i [] h = refl
-entry_past i (x ∷ g) h = let l = h 0 x (omega arith) in rw (ne_eqb x.node.0 i (λ e. omega (arith, l, e))) (entry_past i g (λ k d b. h (suc k) d (omega arith)))
+entry_past : (i : ℕ) (g : List NodeTexts) → ((k : ℕ) (d : NodeTexts) → k < length g → (get_or g k d).node.0 < i) → (n : ℕ) → i ≤ n → entry_of g n ≡ None
+entry_past i [] h n over = refl
+entry_past i (x ∷ g) h n over = let l = h 0 x (omega arith) in rw (ne_eqb x.node.0 n (λ e. omega (arith, l, e, over))) (entry_past i g (λ k d b. h (suc k) d (omega arith)) n over)
 
 below_skip : (s : Source) (i : ℕ) (g : List NodeTexts) (t : NodeTexts) → AreBelow s i g → is_blank t ≡ true → AreTextsAt s i (Some t) → AreBelow s (i + 1) g
 below_skip s i g t h e are = record { ascend = h.ascend; low = λ k d l. (let b = h.low k d l in omega arith); each = λ n l. by n l (cases_lt n i) }
   where
     by : (n : ℕ) → n < i + 1 → (n < i) ⊎ (i ≤ n) → AreTextsAt s n (entry_of g n)
     by n l (inl less) = h.each n less
-    by n l (inr over) = let same : i ≡ n = omega (arith, l, over) in subst (λ (k : ℕ). AreTextsAt s k (entry_of g k)) same (subst (AreTextsAt s i) (sym (entry_past i g h.low)) (texts_blank s i t e are))
+    by n l (inr over) = let same : i ≡ n = omega (arith, l, over) in subst (λ (k : ℕ). AreTextsAt s k (entry_of g k)) same (subst (AreTextsAt s i) (sym (entry_past i g h.low i (omega arith))) (texts_blank s i t e are))
 
 entry_other : (g : List NodeTexts) (t : NodeTexts) (n : ℕ) → (t.node.0 ≡ n → ⊥) → entry_of (g ++ t ∷ []) n ≡ entry_of g n
 entry_other [] t n h = rw (ne_eqb t.node.0 n h) refl
@@ -151,6 +151,9 @@ below_turn s i g t h is are = by (is_blank t) refl
     by true e = below_skip s i g t h e are
     by false e = below_push s i g t h is are
 
+pub below_all : (s : Source) (g : List NodeTexts) → AreBelow s (length s.nodes) g → AreGenerated s g
+below_all s g h = record { each = h.each; rest = entry_past (length s.nodes) g h.low }
+
 -- ---- named strings
 
 pub assigned_push : (p : Place) (sets : List (List ℕ × List Part)) (strings : List (List ℕ × List ℕ)) (s : List ℕ × List Part) (a : List ℕ × List ℕ) → AreAssigned p sets strings → a.0 ≡ s.0 → IsTextOf p s.1 a.1 → AreAssigned p (sets ++ s ∷ []) (strings ++ a ∷ [])
@@ -176,7 +179,11 @@ assigned_one p (s ∷ sets) (x ∷ a) (y ∷ b) tree h g =
 -- ---- law
 
 pub generated-one : GeneratedIsOne
-generated-one s a b n tree h g l = record {
-  texts = λ p. text-one (place_at s n p) (content_at s.styles n p) (text_in (entry_of a n) p) (text_in (entry_of b n) p) tree ((h n l).texts p) ((g n l).texts p);
-  strings = assigned_one (place_at s n pseudo.Element) (sets_at s.styles n) (strings_in (entry_of a n)) (strings_in (entry_of b n)) tree (h n l).strings (g n l).strings;
-}
+generated-one s a b n tree h g = by (cases_lt n (length s.nodes))
+  where
+    by : (n < length s.nodes) ⊎ (length s.nodes ≤ n) → AreOne s a b n
+    by (inl l) = record {
+      texts = λ p. text-one (place_at s n p) (content_at s.styles n p) (text_in (entry_of a n) p) (text_in (entry_of b n) p) tree ((h.each n l).texts p) ((g.each n l).texts p);
+      strings = assigned_one (place_at s n pseudo.Element) (sets_at s.styles n) (strings_in (entry_of a n)) (strings_in (entry_of b n)) tree (h.each n l).strings (g.each n l).strings;
+    }
+    by (inr over) = let same = h.rest n over ∙ sym (g.rest n over) in record { texts = λ p. ap (λ o. text_in o p) same; strings = ap strings_in same }

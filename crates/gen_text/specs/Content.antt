@@ -1,7 +1,6 @@
 -- The text of a list of content (CSS 2.1, 12.2; css-gcpm-3).
-use Rattle.std.specs.Prelude.{◌≡◌, ℕ, List, [], ◌∷◌, ◌++◌}
+use Rattle.std.specs.Prelude.{◌≡◌, ℕ, List, [], ◌∷◌, ◌++◌, ℤ}
 use Rattle.bk_num.specs.declared.values.Pseudo.{Pseudo}
-use Rattle.counters.specs.At.{Kept, counter_values}
 use Rattle.dom.specs.Nodes.{Node, IsTree, attribute_at}
 use Rattle.style.specs.declared.content.Part.{Part}
 use Rattle.style.specs.declared.content.Part.TheVariants as part
@@ -10,28 +9,27 @@ use Rattle.gen_text.specs.declared.table.Entry.{Entry}
 use Rattle.gen_text.specs.Own.{own_text}
 use Rattle.gen_text.specs.Parts.{PrintsReference, attribute_text, innermost_text, joined_text}
 
--- where a list of content is printed: the document, its styles, an element or a pseudo-element of it, the counters, and the numbers of
--- pages
+-- where a list of content is printed: the document, its styles, an element or a pseudo-element of it, the values of a counter at an
+-- element or a pseudo-element, the outermost scope first, and the numbers of pages
 pub record Place : Type 0 where
   pub nodes : List Node
   pub styles : List NodeStyles
   pub node : ℕ
   pub pseudo : Pseudo
-  pub counters : Kept
+  pub values : ℕ → Pseudo → List ℕ → List ℤ
   pub table : List Entry
 
-abbrev pub place_of : List Node → List NodeStyles → ℕ → Pseudo → Kept → List Entry → Place
-place_of nodes styles node pseudo counters table =
-    record { nodes = nodes; styles = styles; node = node; pseudo = pseudo; counters = counters; table = table }
+abbrev pub place_of : List Node → List NodeStyles → ℕ → Pseudo → (ℕ → Pseudo → List ℕ → List ℤ) → List Entry → Place
+place_of nodes styles node pseudo values table =
+    record { nodes = nodes; styles = styles; node = node; pseudo = pseudo; values = values; table = table }
 
 -- a text with what a part prints at its end. The parts of margin boxes alone print nothing in the flow
 abbrev pub PrintsPart : Place → Part → List ℕ → List ℕ → Type 0
 PrintsPart p (part.Text text) old new = new ≡ old ++ text
 PrintsPart p (part.Attr name) old new = new ≡ old ++ attribute_text (attribute_at p.nodes p.node name)
-PrintsPart p (part.Counter name style) old new = new ≡ old ++ innermost_text style (counter_values p.counters p.node p.pseudo name)
-PrintsPart p (part.Counters name between style) old new =
-    new ≡ old ++ joined_text between style (counter_values p.counters p.node p.pseudo name)
-PrintsPart p (part.Target link name style) old new = PrintsReference p.nodes p.styles p.counters p.table p.node link name style old new
+PrintsPart p (part.Counter name style) old new = new ≡ old ++ innermost_text style (p.values p.node p.pseudo name)
+PrintsPart p (part.Counters name between style) old new = new ≡ old ++ joined_text between style (p.values p.node p.pseudo name)
+PrintsPart p (part.Target link name style) old new = PrintsReference p.nodes p.styles p.values p.table p.node link name style old new
 PrintsPart p part.Own old new = new ≡ old ++ own_text p.nodes p.styles p.node
 PrintsPart p (part.Running name keyword) old new = new ≡ old
 PrintsPart p (part.Page style) old new = new ≡ old

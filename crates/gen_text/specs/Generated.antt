@@ -1,9 +1,8 @@
 -- What the pseudo-elements of a document print, and what its elements assign to named strings (CSS 2.1, 12.1 and 12.2; css-gcpm-3).
-use Rattle.std.specs.Prelude.{◌≡◌, ℕ, ◌<◌, ◌==◌, Bool, ◌&&◌, not, if◌then◌else◌, List, [], ◌∷◌, ◌++◌, Option, None, Some, length, slice_get, slice_index_or}
+use Rattle.std.specs.Prelude.{◌≡◌, ℕ, ◌<◌, ◌≤◌, ◌==◌, Bool, ◌&&◌, not, if◌then◌else◌, List, [], ◌∷◌, ◌++◌, Option, None, Some, length, slice_get, slice_index_or, ℤ}
 use Rattle.std.specs.List.Sorted.{IsNonDecreasingBy}
 use Rattle.bk_num.specs.declared.values.Pseudo.{Pseudo}
 use Rattle.bk_num.specs.declared.values.Pseudo.TheVariants as pseudo
-use Rattle.counters.specs.At.{Kept}
 use Rattle.dom.specs.Nodes.{Node, IsTree}
 use Rattle.style.specs.declared.content.Part.{Part}
 use Rattle.style.specs.declared.style.Style.{Style}
@@ -83,27 +82,29 @@ AreAssigned p [] strings = strings ≡ []
 AreAssigned p (s ∷ sets) [] = ⊥
 AreAssigned p (s ∷ sets) (a ∷ strings) = (a.0 ≡ s.0) × IsTextOf p s.1 a.1 × AreAssigned p sets strings
 
--- where things are generated: the document, its styles, the counters, and the numbers of pages
+-- where things are generated: the document, its styles, the values of a counter at an element or a pseudo-element, the outermost scope
+-- first, and the numbers of pages
 pub record Source : Type 0 where
   pub nodes : List Node
   pub styles : List NodeStyles
-  pub counters : Kept
+  pub values : ℕ → Pseudo → List ℕ → List ℤ
   pub table : List Entry
 
-abbrev pub source_of : List Node → List NodeStyles → Kept → List Entry → Source
-source_of nodes styles counters table = record { nodes = nodes; styles = styles; counters = counters; table = table }
+abbrev pub source_of : List Node → List NodeStyles → (ℕ → Pseudo → List ℕ → List ℤ) → List Entry → Source
+source_of nodes styles values table = record { nodes = nodes; styles = styles; values = values; table = table }
 
 abbrev pub place_at : Source → ℕ → Pseudo → Place
-place_at s n p = place_of s.nodes s.styles n p s.counters s.table
+place_at s n p = place_of s.nodes s.styles n p s.values s.table
 
 -- the texts and strings of a node
 pub record AreTextsAt (s : Source) (n : ℕ) (t : Option NodeTexts) : Type 0 where
   pub texts : (p : Pseudo) → IsTextOf (place_at s n p) (content_at s.styles n p) (text_in t p)
   pub strings : AreAssigned (place_at s n pseudo.Element) (sets_at s.styles n) (strings_in t)
 
--- those of each node of the document
-abbrev pub AreGenerated : Source → List NodeTexts → Type 0
-AreGenerated s g = (n : ℕ) → n < length s.nodes → AreTextsAt s n (entry_of g n)
+-- those of each node of the document, and nothing beyond it
+pub record AreGenerated (s : Source) (g : List NodeTexts) : Type 0 where
+  pub each : (n : ℕ) → n < length s.nodes → AreTextsAt s n (entry_of g n)
+  pub rest : (n : ℕ) → length s.nodes ≤ n → entry_of g n ≡ None
 
 -- ---- while they are generated
 
@@ -129,4 +130,4 @@ pub record AreOne (s : Source) (a b : List NodeTexts) (n : ℕ) : Type 0 where
   pub strings : assigned_strings a n ≡ assigned_strings b n
 
 abbrev pub GeneratedIsOne : Type 0
-GeneratedIsOne = (s : Source) (a b : List NodeTexts) (n : ℕ) → IsTree s.nodes → AreGenerated s a → AreGenerated s b → n < length s.nodes → AreOne s a b n
+GeneratedIsOne = (s : Source) (a b : List NodeTexts) (n : ℕ) → IsTree s.nodes → AreGenerated s a → AreGenerated s b → AreOne s a b n

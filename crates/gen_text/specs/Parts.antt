@@ -2,8 +2,8 @@
 use Rattle.std.specs.Prelude.{◌≡◌, ℕ, ◌-◌, if◌then◌else◌, List, [], ◌∷◌, ◌++◌, Option, None, Some, length, slice_get, ℤ}
 use Rattle.std.specs.List.{flat_map}
 use Rattle.bk_num.specs.declared.values.NumStyle.{NumStyle}
+use Rattle.bk_num.specs.declared.values.Pseudo.{Pseudo}
 use Rattle.bk_num.specs.declared.values.Pseudo.TheVariants as pseudo
-use Rattle.counters.specs.At.{Kept, counter_values}
 use Rattle.counters.specs.Numerals.{numeral_of}
 use Rattle.dom.specs.Nodes.{Node}
 use Rattle.style.specs.declared.content.Link.{Link}
@@ -31,15 +31,16 @@ joined_text between style [] = []
 joined_text between style (v ∷ more) = numeral_of style v ++ flat_map (after_text between style) more
 
 -- the innermost value of a counter at an element, or nothing where there is none
-abbrev pub value_text : Kept → List ℕ → NumStyle → Option ℕ → List ℕ
-value_text counters name style None = []
-value_text counters name style (Some t) = innermost_text style (counter_values counters t pseudo.Element name)
+abbrev pub value_text : (ℕ → Pseudo → List ℕ → List ℤ) → List ℕ → NumStyle → Option ℕ → List ℕ
+value_text values name style None = []
+value_text values name style (Some t) = innermost_text style (values t pseudo.Element name)
 
 -- `target-counter()`: for `page` the number of the target's page in the table, for another counter its innermost value at the target
-abbrev pub reference_text : Kept → List Entry → List ℕ → NumStyle → Option ℕ → List ℕ
-reference_text counters table name style t = if is_page name then page_text table t style else value_text counters name style t
+abbrev pub reference_text : (ℕ → Pseudo → List ℕ → List ℤ) → List Entry → List ℕ → NumStyle → Option ℕ → List ℕ
+reference_text values table name style t = if is_page name then page_text table t style else value_text values name style t
 
 -- a text with what a reference prints at its end
-abbrev pub PrintsReference : List Node → List NodeStyles → Kept → List Entry → ℕ → Link → List ℕ → NumStyle → List ℕ → List ℕ → Type 0
-PrintsReference nodes styles counters table n link name style old new =
-    (t : Option ℕ) × IsTarget nodes styles n link t × (new ≡ old ++ reference_text counters table name style t)
+abbrev pub PrintsReference :
+    List Node → List NodeStyles → (ℕ → Pseudo → List ℕ → List ℤ) → List Entry → ℕ → Link → List ℕ → NumStyle → List ℕ → List ℕ → Type 0
+PrintsReference nodes styles values table n link name style old new =
+    (t : Option ℕ) × IsTarget nodes styles n link t × (new ≡ old ++ reference_text values table name style t)

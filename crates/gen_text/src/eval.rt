@@ -1,6 +1,7 @@
 //! The text of a list of content (CSS 2.1, 12.2; css-gcpm-3).
 
 ghost use Rattle.std.specs.Prelude.{◌≡◌, ◌<◌, IfOk, OnOk, OnErr, length, string_bytes};
+ghost use Rattle.counters.specs.At.{counter_values};
 ghost use Rattle.gen_text.specs.Content.{IsTextOf, PrintsPart, PrintsParts, place_of};
 
 use crate::own::print_own;
@@ -33,7 +34,8 @@ pub fn eval(
     table: &Table,
 ) -> Result<Name, NoMem>
     requires { node.0 < length dom.now }
-    ensures { IfOk result (λ name. IsTextOf (place_of dom.now styles.now node.0 pseudo counters.now table.now) content.now name) }
+    ensures { IfOk result (λ name.
+        IsTextOf (place_of dom.now styles.now node.0 pseudo (counter_values counters.now) table.now) content.now name) }
 {
     let mut text = String::new(alloc);
     let parts = content.as_slice();
@@ -57,7 +59,8 @@ fn push_parts(
 ) -> Result<(), NoMem>
     requires { node.0 < length dom.now }
     ensures { OnOk result
-        (PrintsParts (place_of dom.now styles.now node.0 pseudo counters.now table.now) parts.now (string_bytes into.old) (string_bytes into.new)) }
+        (PrintsParts (place_of dom.now styles.now node.0 pseudo (counter_values counters.now) table.now) parts.now
+        (string_bytes into.old) (string_bytes into.new)) }
 {
     for part in parts {
         push_part(
@@ -81,7 +84,8 @@ fn push_part(
 ) -> Result<(), NoMem>
     requires { node.0 < length dom.now }
     ensures ok { OnOk result
-        (PrintsPart (place_of dom.now styles.now node.0 pseudo counters.now table.now) part.now (string_bytes into.old) (string_bytes into.new)) }
+        (PrintsPart (place_of dom.now styles.now node.0 pseudo (counter_values counters.now) table.now) part.now
+        (string_bytes into.old) (string_bytes into.new)) }
     ensures err { OnErr result (string_bytes into.new ≡ string_bytes into.old) }
 {
     match part {

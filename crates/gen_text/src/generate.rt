@@ -2,6 +2,7 @@
 
 ghost use Rattle.std.specs.Prelude.{◌≡◌, ◌<◌, [], IfOk, OnOk, Some, length, slice_get};
 ghost use Rattle.bk_num.specs.declared.values.Pseudo.TheVariants as pseudo;
+ghost use Rattle.counters.specs.At.{counter_values};
 ghost use Rattle.style.specs.Nodes.{style_at};
 ghost use Rattle.gen_text.specs.Generated.{AreAssigned, AreGenerated, AreTextsAt, assigns, content_of, content_of_some, is_blank, place_at, sets_at, source_of, with_texts};
 ghost use Rattle.gen_text.specs.Content.{IsTextOf};
@@ -31,7 +32,7 @@ pub fn generate(
     counters: &CounterAt,
     table: &Table,
 ) -> Result<Generated, NoMem>
-    ensures { IfOk result (λ g. AreGenerated (source_of dom.now styles.now counters.now table.now) g) }
+    ensures { IfOk result (λ g. AreGenerated (source_of dom.now styles.now (counter_values counters.now) table.now) g) }
 {
     let mut nodes = Items::new(alloc);
     for index in 0..dom.len() {
@@ -74,7 +75,7 @@ fn node_texts(
 ) -> Result<NodeTexts, NoMem>
     requires { node.0 < length dom.now }
     ensures node { IfOk result (λ t. t.node.0 ≡ node.0) }
-    ensures texts { IfOk result (λ t. AreTextsAt (source_of dom.now styles.now counters.now table.now) node.0 (Some t)) }
+    ensures texts { IfOk result (λ t. AreTextsAt (source_of dom.now styles.now (counter_values counters.now) table.now) node.0 (Some t)) }
 {
     let before = text_of(alloc, dom, styles, node, Pseudo::Before, counters, table)?;
     let after = text_of(alloc, dom, styles, node, Pseudo::After, counters, table)?;
@@ -102,7 +103,9 @@ fn text_of(
     table: &Table,
 ) -> Result<Name, NoMem>
     requires { node.0 < length dom.now }
-    ensures { IfOk result (λ text. IsTextOf (place_at (source_of dom.now styles.now counters.now table.now) node.0 pseudo) (content_of (style_at styles.now node.0 pseudo)) text) }
+    ensures { IfOk result (λ text.
+        IsTextOf (place_at (source_of dom.now styles.now (counter_values counters.now) table.now) node.0 pseudo)
+        (content_of (style_at styles.now node.0 pseudo)) text) }
 {
     match styles.of(node, pseudo) {
         Some(style) => some_text(
@@ -130,7 +133,9 @@ fn some_text(
     table: &Table,
 ) -> Result<Name, NoMem>
     requires { node.0 < length dom.now }
-    ensures { IfOk result (λ text. IsTextOf (place_at (source_of dom.now styles.now counters.now table.now) node.0 pseudo) (content_of_some content.now) text) }
+    ensures { IfOk result (λ text.
+        IsTextOf (place_at (source_of dom.now styles.now (counter_values counters.now) table.now) node.0 pseudo)
+        (content_of_some content.now) text) }
 {
     match content {
         Some(content) => eval(alloc, dom, styles, node, pseudo, content, counters, table),
@@ -155,7 +160,9 @@ fn strings_of(
     table: &Table,
 ) -> Result<Items<(Name, Name)>, NoMem>
     requires { node.0 < length dom.now }
-    ensures { IfOk result (λ strings. AreAssigned (place_at (source_of dom.now styles.now counters.now table.now) node.0 pseudo.Element) (sets_at styles.now node.0) strings) }
+    ensures { IfOk result (λ strings.
+        AreAssigned (place_at (source_of dom.now styles.now (counter_values counters.now) table.now) node.0 pseudo.Element)
+        (sets_at styles.now node.0) strings) }
 {
     if !assigns(styles, node) {
         return Ok(Items::new(alloc));
@@ -185,7 +192,9 @@ fn assigned(
     table: &Table,
 ) -> Result<Items<(Name, Name)>, NoMem>
     requires { node.0 < length dom.now }
-    ensures { IfOk result (λ strings. AreAssigned (place_at (source_of dom.now styles.now counters.now table.now) node.0 pseudo.Element) sets.now strings) }
+    ensures { IfOk result (λ strings.
+        AreAssigned (place_at (source_of dom.now styles.now (counter_values counters.now) table.now) node.0 pseudo.Element)
+        sets.now strings) }
 {
     let mut strings = Items::new(alloc);
     for set in sets {

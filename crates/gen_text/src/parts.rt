@@ -143,7 +143,8 @@ pub fn print_reference(
 ) -> Result<(), NoMem>
     requires { node.0 < length dom.now }
     ensures ok { OnOk result
-        (PrintsReference dom.now styles.now counters.now table.now node.0 link.now name.now style (string_bytes into.old) (string_bytes into.new)) }
+        (PrintsReference dom.now styles.now (counter_values counters.now) table.now node.0 link.now name.now style
+        (string_bytes into.old) (string_bytes into.new)) }
     ensures err { OnErr result (string_bytes into.new ≡ string_bytes into.old) }
 {
     let target = target(dom, styles, node, link);
@@ -160,7 +161,7 @@ fn print_at(
     into: &mut String,
 ) -> Result<(), NoMem>
     ensures ok { OnOk result (string_bytes into.new ≡ string_bytes into.old ++
-        reference_text counters.now table.now name.now style (option_map (λ n. n.0) target)) }
+        reference_text (counter_values counters.now) table.now name.now style (option_map (λ n. n.0) target)) }
     ensures err { OnErr result (string_bytes into.new ≡ string_bytes into.old) }
 {
     if name == "page" {
@@ -177,7 +178,8 @@ fn print_value(
     counters: &CounterAt,
     into: &mut String,
 ) -> Result<(), NoMem>
-    ensures ok { OnOk result (string_bytes into.new ≡ string_bytes into.old ++ value_text counters.now name.now style (option_map (λ n. n.0) target)) }
+    ensures ok { OnOk result (string_bytes into.new ≡ string_bytes into.old ++
+        value_text (counter_values counters.now) name.now style (option_map (λ n. n.0) target)) }
     ensures err { OnErr result (string_bytes into.new ≡ string_bytes into.old) }
 {
     match target {
