@@ -1,11 +1,13 @@
 -- Nodes that share their styles.
-use Rattle.std.proofs.Common.{◌≡◌, ℕ, ◌+◌, ◌<◌, List, [], ◌∷◌, ◌++◌, Some, Result, Ok, Err, OnOk, is_some, length, length-append, slice_get, refl, sym, ◌∙◌, ap, subst, ◌⊎◌, inl, inr}
+use Rattle.std.proofs.Common.{◌≡◌, ℕ, ◌+◌, List, [], ◌∷◌, ◌++◌, Some, Result, Ok, Err, OnOk, is_some, length, length-append, slice_get, refl, sym, ◌∙◌, ap, subst, ◌⊎◌, inl, inr}
 use Rattle.bk_num.proofs.ListLemmas.{get-push, get-keep, get-end}
 use Rattle.dom.specs.Nodes.{Node, parents_of, parent_at, name_at}
 use Rattle.style.specs.Nodes.{NodeStyles, AddsLike}
 use Rattle.cascade.specs.declared.table.NodeWinners.{NodeWinners}
+use Rattle.computed.specs.Names.{node_names, with_names}
 use Rattle.computed.specs.Walk.{IsElement, IsNode, AreNodes, Adds}
 use Rattle.computed.specs.Alike.{IsLike, HaveRow, AreFirsts, AddsNext}
+use Rattle.computed.proofs.NameLemmas.{element-known}
 use Rattle.computed.proofs.WalkLemmas.{some-is}
 
 -- what holds below one parent holds below another with the same row
@@ -19,11 +21,17 @@ same-rows rows firsts same p q f hp hq =
     let e : a.row ≡ b.row = some-is (sym a.first ∙ b.first) in
     a.there ∙ ap (λ r. Some r) e ∙ sym b.there
 
+-- an earlier element with the same winners and the same styles above it
+like-row : (names : List (List ℕ)) (nodes : List Node) (winners : List NodeWinners) (rows : List NodeStyles) (firsts : List ℕ) (e n : ℕ) (row : NodeStyles) (like : IsLike nodes winners firsts e n) → slice_get rows e ≡ Some row
+    → (w : NodeWinners) → slice_get winners n ≡ Some w → AreNodes names nodes winners rows → IsElement names rows (Some like.earlier.parent) w row
+like-row names nodes winners rows firsts e n row like at w wins all =
+    let won : slice_get winners e ≡ Some w = sym like.earlier.wins ∙ like.later.wins ∙ wins in
+    rw (like.earlier.element, like.earlier.below) at (all e w row won at)
+
 like-fits : (names : List (List ℕ)) (nodes : List Node) (winners : List NodeWinners) (rows : List NodeStyles) (firsts : List ℕ) (e n : ℕ) (row : NodeStyles) → IsLike nodes winners firsts e n → slice_get rows e ≡ Some row
     → (w : NodeWinners) → slice_get winners n ≡ Some w → AreNodes names nodes winners rows → AreFirsts rows firsts → IsNode names rows (parent_at (parents_of nodes) n) (is_some (name_at nodes n)) w row
 like-fits names nodes winners rows firsts e n row like at w wins all same =
-    let won : slice_get winners e ≡ Some w = sym like.earlier.wins ∙ like.later.wins ∙ wins in
-    let old : IsElement names rows (Some like.earlier.parent) w row = rw (like.earlier.element, like.earlier.below) at (all e w row won at) in
+    let old = like-row names nodes winners rows firsts e n row like at w wins all in
     let equal = same-rows rows firsts same like.earlier.parent like.later.parent like.decides.parent like.earlier.first like.later.first in
     rw (like.later.element, like.later.below) (element-move names rows like.earlier.parent like.later.parent equal w row old)
 
@@ -35,10 +43,11 @@ adds-like (Ok a) names nodes winners k e firsts noted rows next like adds ok = r
   is_noted = ok;
   shared = subst (λ l. slice_get l e ≡ Some adds.row) (sym adds.added) (get-keep rows (adds.row ∷ []) e adds.row adds.there);
   fits = λ w wins all same. like-fits names nodes winners rows firsts e k adds.row like adds.there w wins all same;
+  numbered = λ w wins all same. sym (element-known names rows (Some like.earlier.parent) w adds.row (like-row names nodes winners rows firsts e k adds.row like adds.there w wins all));
 }
 adds-like (Err a) names nodes winners k e firsts noted rows next like adds ok = tt
 
-pub adds-new : {A E : Type 0} (res : Result A E) (names more : List (List ℕ)) (nodes : List Node) (winners : List NodeWinners) (k : ℕ) (w : NodeWinners) (firsts noted : List ℕ) (rows next : List NodeStyles) → length rows ≡ k → slice_get winners k ≡ Some w → Adds more nodes k w rows next → OnOk res (noted ≡ firsts ++ k ∷ []) → OnOk res (AddsNext names more nodes winners k firsts noted rows next)
+pub adds-new : {A E : Type 0} (res : Result A E) (names more : List (List ℕ)) (nodes : List Node) (winners : List NodeWinners) (k : ℕ) (w : NodeWinners) (firsts noted : List ℕ) (rows next : List NodeStyles) → length rows ≡ k → slice_get winners k ≡ Some w → Adds names more nodes k w rows next → OnOk res (noted ≡ firsts ++ k ∷ []) → OnOk res (AddsNext names more nodes winners k firsts noted rows next)
 adds-new (Ok a) names more nodes winners k w firsts noted rows next len at adds ok = record {
   row = adds.row;
   added = adds.added;
@@ -46,11 +55,12 @@ adds-new (Ok a) names more nodes winners k w firsts noted rows next len at adds 
   is_noted = ok;
   shared = subst (λ l. slice_get l k ≡ Some adds.row) (sym adds.added) (subst (λ j. slice_get (rows ++ adds.row ∷ []) j ≡ Some adds.row) len (get-end rows adds.row));
   fits = λ v wins all same. subst (λ x. IsNode more rows (parent_at (parents_of nodes) k) (is_some (name_at nodes k)) x adds.row) (some-is (sym at ∙ wins)) adds.fits;
+  numbered = λ v wins all same. subst (λ x. more ≡ with_names names (node_names x adds.row)) (some-is (sym at ∙ wins)) adds.numbered;
 }
 adds-new (Err a) names more nodes winners k w firsts noted rows next len at adds ok = tt
 
-pub to-adds : (names more : List (List ℕ)) (nodes : List Node) (winners : List NodeWinners) (k : ℕ) (w : NodeWinners) (firsts noted : List ℕ) (rows next : List NodeStyles) → AddsNext names more nodes winners k firsts noted rows next → slice_get winners k ≡ Some w → AreNodes names nodes winners rows → AreFirsts rows firsts → Adds more nodes k w rows next
-to-adds names more nodes winners k w firsts noted rows next n at all same = record { row = n.row; added = n.added; fits = n.fits w at all same }
+pub to-adds : (names more : List (List ℕ)) (nodes : List Node) (winners : List NodeWinners) (k : ℕ) (w : NodeWinners) (firsts noted : List ℕ) (rows next : List NodeStyles) → AddsNext names more nodes winners k firsts noted rows next → slice_get winners k ≡ Some w → AreNodes names nodes winners rows → AreFirsts rows firsts → Adds names more nodes k w rows next
+to-adds names more nodes winners k w firsts noted rows next n at all same = record { row = n.row; added = n.added; fits = n.fits w at all same; numbered = n.numbered w at all same }
 
 pub firsts-turn : (names more : List (List ℕ)) (nodes : List Node) (winners : List NodeWinners) (k : ℕ) (firsts noted : List ℕ) (rows next : List NodeStyles) → length rows ≡ k → length firsts ≡ k → AreFirsts rows firsts → AddsNext names more nodes winners k firsts noted rows next → AreFirsts next noted
 firsts-turn names more nodes winners k firsts noted rows next len count same n j f at = by (get-push firsts n.first f j (subst (λ l. slice_get l j ≡ Some f) n.is_noted at))

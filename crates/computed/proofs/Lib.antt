@@ -1,4 +1,7 @@
-mod OneLemmas
-mod RangeLemmas
+mod NameLemmas
 mod WalkLemmas
 mod AlikeLemmas
+mod OneLemmas
+mod SameLemmas
+mod RangeLemmas
+mod RootLemmas

@@ -1,5 +1,5 @@
--- A document has one list of styles, but for the numbers of page names.
-use Rattle.std.proofs.Common.{◌≡◌, ◌∙◌, ℕ, zero, suc, ℤ, ◌<◌, ◌≤◌, Bool, true, false, not, ◌&&◌, ◌||◌, List, [], ◌∷◌, Option, None, Some, is_some, length, map, option_map, unwrap_or, slice_get, refl, sym, ap, subst, arith}
+-- A document has one list of styles but for the numbers of page names.
+use Rattle.std.proofs.Common.{◌≡◌, ◌∙◌, ℕ, zero, suc, ℤ, ◌<◌, ◌≤◌, Bool, true, false, not, ◌&&◌, ◌||◌, List, [], ◌∷◌, Option, None, Some, is_some, length, map, option_map, unwrap_or, slice_get, refl, sym, ap, arith}
 use Rattle.std.proofs.lemmas.Option.{slice_get-map, slice_get_within}
 use Rattle.bk_num.specs.Tables.{value_of}
 use Rattle.bk_num.specs.declared.values.Pseudo.TheVariants as pseudo
@@ -14,7 +14,6 @@ use Rattle.cascade.specs.declared.sheet.ReadSheet.{ReadSheet}
 use Rattle.cascade.specs.declared.table.NodeWinners.{NodeWinners}
 use Rattle.computed.specs.Applied.{computed_style, inline_display}
 use Rattle.computed.specs.Walk.{IsStyle, HasPseudo, IsElement, IsNode, AreStyles, style_above, root_above, font_of, is_shown_below, is_note_below, is_in_note_below, is_displayed, is_generated}
-use Rattle.computed.specs.Laws.{unnamed, unnamed_node, StylesAreOne}
 use Rattle.computed.proofs.WalkLemmas.{falls, some-is}
 
 -- ---- lists by their places
@@ -51,7 +50,7 @@ one_node one dom sheets n v w a b =
     let marker : v.marker ≡ w.marker = one dom sheets n pseudo.Marker v.marker w.marker a.marker b.marker in
     λ i. record { own = own i; before = before i; after = after i; call = call i; marker = marker i }
 
-one_winners : WinnersAreOne → (dom : List Node) (sheets : List ReadSheet) (vs ws : List NodeWinners) → AreAllWinners dom sheets vs → AreAllWinners dom sheets ws → vs ≡ ws
+pub one_winners : WinnersAreOne → (dom : List Node) (sheets : List ReadSheet) (vs ws : List NodeWinners) → AreAllWinners dom sheets vs → AreAllWinners dom sheets ws → vs ≡ ws
 one_winners one dom sheets vs ws a b = same_places vs ws (λ k. by k (slice_get vs k) (slice_get ws k) refl refl)
   where
     by : (k : ℕ) (o p : Option NodeWinners) → slice_get vs k ≡ o → slice_get ws k ≡ p → slice_get vs k ≡ slice_get ws k
@@ -61,6 +60,23 @@ one_winners one dom sheets vs ws a b = same_places vs ws (λ k. by k (slice_get 
     by k (Some v) (Some w) h g = h ∙ ap (λ x. Some x) (one_node one dom sheets k v w (a.each k v h) (b.each k w g)) ∙ sym g
 
 -- ---- a style is one
+
+-- a style without the number of its page name
+abbrev pub unnamed : Style → Style
+unnamed s = record s { page = record { 0 = 0 } }
+
+-- what a node has, without the numbers of page names
+abbrev pub unnamed_node : NodeStyles → NodeStyles
+unnamed_node r = record {
+  own = option_map unnamed r.own;
+  before = option_map unnamed r.before;
+  after = option_map unnamed r.after;
+  call = option_map unnamed r.call;
+  marker = option_map unnamed r.marker;
+  shown = r.shown;
+  note = r.note;
+  in_note = r.in_note;
+}
 
 -- the number of the parent's page name changes no value
 by_unnamed : (p : Style) (root : Option ℤ) (w : List Long) → computed_style p root w ≡ computed_style (unnamed p) root w
@@ -212,14 +228,9 @@ module _ (names more : List (List ℕ)) (rows others : List NodeStyles) where
             let same : unnamed_node a ≡ unnamed_node b = one_row (parent_at (parents_of dom) k) (is_some (name_at dom k)) w a b low (x.each k w a i h) (y.each k w b i g) in
             ap (option_map unnamed_node) h ∙ ap (λ z. Some z) same ∙ sym (ap (option_map unnamed_node) g)
 
-    same_below : (n k : ℕ) → k < n → Same k
+    pub same_below : (n k : ℕ) → k < n → Same k
     same_below zero k l = absurd (omega arith)
     same_below (suc n) k l = step k (λ j m. same_below n j (omega arith))
 
     pub one_list : map unnamed_node rows ≡ map unnamed_node others
     one_list = same_places (map unnamed_node rows) (map unnamed_node others) (λ k. slice_get-map unnamed_node rows k ∙ same_below (suc k) k (omega arith) ∙ sym (slice_get-map unnamed_node others k))
-
-pub styles_one : WinnersAreOne → StylesAreOne
-styles_one one dom sheets names more rows others tree x y =
-    let same : x.winners ≡ y.winners = one_winners one dom sheets x.winners y.winners x.are_winners y.are_winners in
-    one_list names more rows others dom y.winners tree y.are_winners.count (subst (λ ws. AreStyles names dom ws rows) same x.styles) y.styles

@@ -146,23 +146,23 @@ context_size p root ls h = settled_size root (fold (noted p (rem_of root)) (bare
 -- ---- a style
 
 begun_in : (p : Style) (c : Context) → IsInRange p → pos 0 ≤ℤ c.font_size → IsInRange (begun p c)
-begun_in p c h k = (record { size = k; height = h.0.height }, record { top = width_least c.border_top_style medium medium_least; right = width_least c.border_right_style medium medium_least; bottom = width_least c.border_bottom_style medium medium_least; left = width_least c.border_left_style medium medium_least }, record { top = no_padding; right = no_padding; bottom = no_padding; left = no_padding }, record { top = tt; bottom = tt }, tt)
+begun_in p c h k = (record { size = k; height = h.0.height }, record { top = width_least c.border_top_style medium medium_least; right = width_least c.border_right_style medium medium_least; bottom = width_least c.border_bottom_style medium medium_least; left = width_least c.border_left_style medium medium_least }, record { top = no_padding; right = no_padding; bottom = no_padding; left = no_padding }, record { top = tt; bottom = tt }, tt, h.5)
 
 applied_in : (p : Style) (c : Context) (s : Style) (l : Long) → IsInRange p → IsInRange s → IsInRange (applied p c s l)
 applied_in p c s (long.Display g) h k = k
 applied_in p c s (long.Float g) h k = k
-applied_in p c s (long.MarginTop g) h k = (k.0, k.1, k.2, record { top = given_in IsNotAuto (λ m. without_auto (len_of c.font_size c.root_size m)) g p.margin_top zero_len (λ m. upright (len_of c.font_size c.root_size m)) h.3.top tt; bottom = k.3.bottom }, k.4)
+applied_in p c s (long.MarginTop g) h k = (k.0, k.1, k.2, record { top = given_in IsNotAuto (λ m. without_auto (len_of c.font_size c.root_size m)) g p.margin_top zero_len (λ m. upright (len_of c.font_size c.root_size m)) h.3.top tt; bottom = k.3.bottom }, k.4, k.5)
 applied_in p c s (long.MarginRight g) h k = k
-applied_in p c s (long.MarginBottom g) h k = (k.0, k.1, k.2, record { bottom = given_in IsNotAuto (λ m. without_auto (len_of c.font_size c.root_size m)) g p.margin_bottom zero_len (λ m. upright (len_of c.font_size c.root_size m)) h.3.bottom tt; top = k.3.top }, k.4)
+applied_in p c s (long.MarginBottom g) h k = (k.0, k.1, k.2, record { bottom = given_in IsNotAuto (λ m. without_auto (len_of c.font_size c.root_size m)) g p.margin_bottom zero_len (λ m. upright (len_of c.font_size c.root_size m)) h.3.bottom tt; top = k.3.top }, k.4, k.5)
 applied_in p c s (long.MarginLeft g) h k = k
-applied_in p c s (long.PaddingTop g) h k = (k.0, k.1, record { top = given_in IsPadding (λ m. held_len (without_auto (len_of c.font_size c.root_size m))) g p.padding_top zero_len (λ m. padding (len_of c.font_size c.root_size m)) h.2.top no_padding; right = k.2.right; bottom = k.2.bottom; left = k.2.left }, k.3, k.4)
-applied_in p c s (long.PaddingRight g) h k = (k.0, k.1, record { top = k.2.top; right = given_in IsPadding (λ m. held_len (without_auto (len_of c.font_size c.root_size m))) g p.padding_right zero_len (λ m. padding (len_of c.font_size c.root_size m)) h.2.right no_padding; bottom = k.2.bottom; left = k.2.left }, k.3, k.4)
-applied_in p c s (long.PaddingBottom g) h k = (k.0, k.1, record { top = k.2.top; right = k.2.right; bottom = given_in IsPadding (λ m. held_len (without_auto (len_of c.font_size c.root_size m))) g p.padding_bottom zero_len (λ m. padding (len_of c.font_size c.root_size m)) h.2.bottom no_padding; left = k.2.left }, k.3, k.4)
-applied_in p c s (long.PaddingLeft g) h k = (k.0, k.1, record { top = k.2.top; right = k.2.right; bottom = k.2.bottom; left = given_in IsPadding (λ m. held_len (without_auto (len_of c.font_size c.root_size m))) g p.padding_left zero_len (λ m. padding (len_of c.font_size c.root_size m)) h.2.left no_padding }, k.3, k.4)
-applied_in p c s (long.BorderTopWidth g) h k = (k.0, record { top = width_least c.border_top_style (given_by (λ m. held (units_of c.font_size c.root_size (pos 0) m)) g p.border_top_width medium) (given_in (λ z. pos 0 ≤ℤ z) (λ m. held (units_of c.font_size c.root_size (pos 0) m)) g p.border_top_width medium (λ m. held_least (units_of c.font_size c.root_size (pos 0) m)) h.1.top medium_least); right = k.1.right; bottom = k.1.bottom; left = k.1.left }, k.2, k.3, k.4)
-applied_in p c s (long.BorderRightWidth g) h k = (k.0, record { top = k.1.top; right = width_least c.border_right_style (given_by (λ m. held (units_of c.font_size c.root_size (pos 0) m)) g p.border_right_width medium) (given_in (λ z. pos 0 ≤ℤ z) (λ m. held (units_of c.font_size c.root_size (pos 0) m)) g p.border_right_width medium (λ m. held_least (units_of c.font_size c.root_size (pos 0) m)) h.1.right medium_least); bottom = k.1.bottom; left = k.1.left }, k.2, k.3, k.4)
-applied_in p c s (long.BorderBottomWidth g) h k = (k.0, record { top = k.1.top; right = k.1.right; bottom = width_least c.border_bottom_style (given_by (λ m. held (units_of c.font_size c.root_size (pos 0) m)) g p.border_bottom_width medium) (given_in (λ z. pos 0 ≤ℤ z) (λ m. held (units_of c.font_size c.root_size (pos 0) m)) g p.border_bottom_width medium (λ m. held_least (units_of c.font_size c.root_size (pos 0) m)) h.1.bottom medium_least); left = k.1.left }, k.2, k.3, k.4)
-applied_in p c s (long.BorderLeftWidth g) h k = (k.0, record { top = k.1.top; right = k.1.right; bottom = k.1.bottom; left = width_least c.border_left_style (given_by (λ m. held (units_of c.font_size c.root_size (pos 0) m)) g p.border_left_width medium) (given_in (λ z. pos 0 ≤ℤ z) (λ m. held (units_of c.font_size c.root_size (pos 0) m)) g p.border_left_width medium (λ m. held_least (units_of c.font_size c.root_size (pos 0) m)) h.1.left medium_least) }, k.2, k.3, k.4)
+applied_in p c s (long.PaddingTop g) h k = (k.0, k.1, record { top = given_in IsPadding (λ m. held_len (without_auto (len_of c.font_size c.root_size m))) g p.padding_top zero_len (λ m. padding (len_of c.font_size c.root_size m)) h.2.top no_padding; right = k.2.right; bottom = k.2.bottom; left = k.2.left }, k.3, k.4, k.5)
+applied_in p c s (long.PaddingRight g) h k = (k.0, k.1, record { top = k.2.top; right = given_in IsPadding (λ m. held_len (without_auto (len_of c.font_size c.root_size m))) g p.padding_right zero_len (λ m. padding (len_of c.font_size c.root_size m)) h.2.right no_padding; bottom = k.2.bottom; left = k.2.left }, k.3, k.4, k.5)
+applied_in p c s (long.PaddingBottom g) h k = (k.0, k.1, record { top = k.2.top; right = k.2.right; bottom = given_in IsPadding (λ m. held_len (without_auto (len_of c.font_size c.root_size m))) g p.padding_bottom zero_len (λ m. padding (len_of c.font_size c.root_size m)) h.2.bottom no_padding; left = k.2.left }, k.3, k.4, k.5)
+applied_in p c s (long.PaddingLeft g) h k = (k.0, k.1, record { top = k.2.top; right = k.2.right; bottom = k.2.bottom; left = given_in IsPadding (λ m. held_len (without_auto (len_of c.font_size c.root_size m))) g p.padding_left zero_len (λ m. padding (len_of c.font_size c.root_size m)) h.2.left no_padding }, k.3, k.4, k.5)
+applied_in p c s (long.BorderTopWidth g) h k = (k.0, record { top = width_least c.border_top_style (given_by (λ m. held (units_of c.font_size c.root_size (pos 0) m)) g p.border_top_width medium) (given_in (λ z. pos 0 ≤ℤ z) (λ m. held (units_of c.font_size c.root_size (pos 0) m)) g p.border_top_width medium (λ m. held_least (units_of c.font_size c.root_size (pos 0) m)) h.1.top medium_least); right = k.1.right; bottom = k.1.bottom; left = k.1.left }, k.2, k.3, k.4, k.5)
+applied_in p c s (long.BorderRightWidth g) h k = (k.0, record { top = k.1.top; right = width_least c.border_right_style (given_by (λ m. held (units_of c.font_size c.root_size (pos 0) m)) g p.border_right_width medium) (given_in (λ z. pos 0 ≤ℤ z) (λ m. held (units_of c.font_size c.root_size (pos 0) m)) g p.border_right_width medium (λ m. held_least (units_of c.font_size c.root_size (pos 0) m)) h.1.right medium_least); bottom = k.1.bottom; left = k.1.left }, k.2, k.3, k.4, k.5)
+applied_in p c s (long.BorderBottomWidth g) h k = (k.0, record { top = k.1.top; right = k.1.right; bottom = width_least c.border_bottom_style (given_by (λ m. held (units_of c.font_size c.root_size (pos 0) m)) g p.border_bottom_width medium) (given_in (λ z. pos 0 ≤ℤ z) (λ m. held (units_of c.font_size c.root_size (pos 0) m)) g p.border_bottom_width medium (λ m. held_least (units_of c.font_size c.root_size (pos 0) m)) h.1.bottom medium_least); left = k.1.left }, k.2, k.3, k.4, k.5)
+applied_in p c s (long.BorderLeftWidth g) h k = (k.0, record { top = k.1.top; right = k.1.right; bottom = k.1.bottom; left = width_least c.border_left_style (given_by (λ m. held (units_of c.font_size c.root_size (pos 0) m)) g p.border_left_width medium) (given_in (λ z. pos 0 ≤ℤ z) (λ m. held (units_of c.font_size c.root_size (pos 0) m)) g p.border_left_width medium (λ m. held_least (units_of c.font_size c.root_size (pos 0) m)) h.1.left medium_least) }, k.2, k.3, k.4, k.5)
 applied_in p c s (long.BorderTopStyle g) h k = k
 applied_in p c s (long.BorderRightStyle g) h k = k
 applied_in p c s (long.BorderBottomStyle g) h k = k
@@ -171,16 +171,16 @@ applied_in p c s (long.BorderTopColor g) h k = k
 applied_in p c s (long.BorderRightColor g) h k = k
 applied_in p c s (long.BorderBottomColor g) h k = k
 applied_in p c s (long.BorderLeftColor g) h k = k
-applied_in p c s (long.Width g) h k = (k.0, k.1, k.2, k.3, given_in IsNotNegative (λ m. held_len (len_of c.font_size c.root_size m)) g p.width len.Auto (λ m. held_len_least (len_of c.font_size c.root_size m)) h.4 tt)
+applied_in p c s (long.Width g) h k = (k.0, k.1, k.2, k.3, given_in IsNotNegative (λ m. held_len (len_of c.font_size c.root_size m)) g p.width len.Auto (λ m. held_len_least (len_of c.font_size c.root_size m)) h.4 tt, k.5)
 applied_in p c s (long.Color g) h k = k
 applied_in p c s (long.BackgroundColor g) h k = k
 applied_in p c s (long.FontFamily g) h k = k
 applied_in p c s (long.FontSize g) h k = k
 applied_in p c s (long.FontStyle g) h k = k
 applied_in p c s (long.FontWeight g) h k = k
-applied_in p c s (long.LineHeight g) h k = (record { size = k.0.size; height = given_in IsHeight (height_of c.font_size c.root_size) g p.line_height initial_style.line_height (height_least c.font_size c.root_size) h.0.height (omega arith) }, k.1, k.2, k.3, k.4)
+applied_in p c s (long.LineHeight g) h k = (record { size = k.0.size; height = given_in IsHeight (height_of c.font_size c.root_size) g p.line_height initial_style.line_height (height_least c.font_size c.root_size) h.0.height (omega arith) }, k.1, k.2, k.3, k.4, k.5)
 applied_in p c s (long.TextAlign g) h k = k
-applied_in p c s (long.TextIndent g) h k = k
+applied_in p c s (long.TextIndent g) h k = (k.0, k.1, k.2, k.3, k.4, given_in IsNotAuto (λ m. without_auto (len_of c.font_size c.root_size m)) g p.text_indent zero_len (λ m. upright (len_of c.font_size c.root_size m)) h.5 tt)
 applied_in p c s (long.WhiteSpace g) h k = k
 applied_in p c s (long.OverflowWrap g) h k = k
 applied_in p c s (long.ListStyleType g) h k = k
@@ -212,7 +212,7 @@ pseudo_in_range names own root allowed w (Some t) h x s e = subst IsInRange (som
 -- ---- a document
 
 initial_in : IsInRange initial_style
-initial_in = (record { size = omega arith; height = omega arith }, record { top = omega arith; right = omega arith; bottom = omega arith; left = omega arith }, record { top = no_padding; right = no_padding; bottom = no_padding; left = no_padding }, record { top = tt; bottom = tt }, tt)
+initial_in = (record { size = omega arith; height = omega arith }, record { top = omega arith; right = omega arith; bottom = omega arith; left = omega arith }, record { top = no_padding; right = no_padding; bottom = no_padding; left = no_padding }, record { top = tt; bottom = tt }, tt, tt)
 
 module _ (names : List (List ℕ)) (rows : List NodeStyles) where
   abbrev IsRowInRange : NodeStyles → Type 0

@@ -1,16 +1,19 @@
 -- Rows of nodes, and names that grow.
 use Rattle.std.proofs.Common.{◌≡◌, ℕ, ℤ, ◌+◌, ◌<◌, ◌≤◌, Bool, true, false, List, [], ◌∷◌, ◌++◌, Option, None, Some, Result, Ok, Err, OnOk, is_some, length, length-append, option_map, unwrap_or, slice_get, refl, sym, ◌∙◌, ap, subst, arith, ◌⊎◌, inl, inr}
 use Rattle.std.proofs.lemmas.Option.{slice_get-map, slice_get_within}
+use Rattle.std.specs.Option.{option_to_list}
 use Rattle.bk_num.specs.Tables.{value_of}
 use Rattle.bk_num.proofs.ListLemmas.{get-push, get-before}
 use Rattle.dom.specs.Nodes.{Node, IsTree, HasPlace, parents_of, parent_at, name_at, flat}
-use Rattle.style.specs.Nodes.{NodeStyles, change_last, own_style, no_styles}
+use Rattle.style.specs.Nodes.{NodeStyles, change_last, own_style}
 use Rattle.style.specs.declared.style.Style.{Style}
 use Rattle.style.specs.declared.long.Long.{Long}
 use Rattle.computed.specs.declared.walk.Generated.{Generated}
 use Rattle.cascade.specs.declared.table.NodeWinners.{NodeWinners}
-use Rattle.computed.specs.Walk.{IsPage, IsStyle, HasPseudo, IsElement, IsNode, AreNodes, Adds, AddsElement, Extends, style_above, root_above, is_shown_below, is_note_below, is_in_note_below, page_in}
-use Rattle.computed.specs.Rows.{all_put, AreGenerated}
+use Rattle.computed.specs.Names.{page_in, with_names}
+use Rattle.computed.specs.Walk.{IsPage, IsStyle, HasPseudo, IsElement, IsNode, AreNodes, Adds, AddsElement, Extends, style_above, root_above, is_shown_below, is_note_below, is_in_note_below}
+use Rattle.computed.specs.Rows.{all_put, AreGenerated, generated_names}
+use Rattle.computed.proofs.NameLemmas.{then-names}
 
 pub then-extends : (a b c : List (List ℕ)) → Extends a b → Extends b c → Extends a c
 then-extends a b c h g = λ k t e. g k t (h k t e)
@@ -66,21 +69,14 @@ put-end rows s shown note in_note (Some b) (Some a) (Some c) None = ends rows (o
 put-end rows s shown note in_note (Some b) (Some a) (Some c) (Some m) = ends rows (own_style s shown note in_note) _ _ _ _
 
 -- an element's row is there
-pub element-added : {A E : Type 0} (res : Result A E) (names more : List (List ℕ)) → Extends names more → (parent : Option ℕ) (w : NodeWinners) (rows mid new : List NodeStyles) (s : Style) (shown note in_note : Bool) (g : Generated) → IsStyle names (style_above (value_of rows parent)) (root_above rows parent) w.own s → shown ≡ is_shown_below parent rows s → note ≡ is_note_below parent rows s → in_note ≡ is_in_note_below parent rows note → AreGenerated more s (unwrap_or (root_above rows parent) s.font_size) shown note w g → mid ≡ rows ++ own_style s shown note in_note ∷ [] → OnOk res (new ≡ all_put g mid) → OnOk res (AddsElement more parent w rows new)
-element-added (Ok a) names more e parent w rows mid new s shown note in_note g v h1 h2 h3 gs m ok = record {
+pub element-added : {A E : Type 0} (res : Result A E) (old names more : List (List ℕ)) → Extends names more → (parent : Option ℕ) (w : NodeWinners) (rows mid new : List NodeStyles) (s : Style) (shown note in_note : Bool) (g : Generated) → IsStyle names (style_above (value_of rows parent)) (root_above rows parent) w.own s → shown ≡ is_shown_below parent rows s → note ≡ is_note_below parent rows s → in_note ≡ is_in_note_below parent rows note → AreGenerated more s (unwrap_or (root_above rows parent) s.font_size) shown note w g → names ≡ with_names old (option_to_list (page_in w.own)) → more ≡ with_names names (generated_names w g) → mid ≡ rows ++ own_style s shown note in_note ∷ [] → OnOk res (new ≡ all_put g mid) → OnOk res (AddsElement old more parent w rows new)
+element-added (Ok a) old names more e parent w rows mid new s shown note in_note g v h1 h2 h3 gs n1 n2 m ok = record {
   row = whole s shown note in_note g;
   added = ok ∙ ap (all_put g) m ∙ put-end rows s shown note in_note g.before g.after g.call g.marker;
   fits = record { style = s; own = refl; values = style-keep names more e (style_above (value_of rows parent)) (root_above rows parent) w.own s v; shown = h1; note = h2; in_note = h3; before = gs.before; after = gs.after; call = gs.call; marker = gs.marker };
+  numbered = then-names old names more (option_to_list (page_in w.own)) (generated_names w g) n1 n2;
 }
-element-added (Err a) names more e parent w rows mid new s shown note in_note g v h1 h2 h3 gs m ok = tt
-
-pub text-added : {A E : Type 0} (res : Result A E) (names : List (List ℕ)) (nodes : List Node) (k : ℕ) (w : NodeWinners) (rows new : List NodeStyles) → is_some (name_at nodes k) ≡ false → OnOk res (new ≡ rows ++ no_styles ∷ []) → OnOk res (Adds names nodes k w rows new)
-text-added (Ok a) names nodes k w rows new h ok = record { row = no_styles; added = ok; fits = rw h refl }
-text-added (Err a) names nodes k w rows new h ok = tt
-
-pub node-added : {A E : Type 0} (res : Result A E) (names : List (List ℕ)) (nodes : List Node) (k : ℕ) (w : NodeWinners) (rows new : List NodeStyles) (parent : Option ℕ) → is_some (name_at nodes k) ≡ true → parent ≡ parent_at (parents_of nodes) k → OnOk res (AddsElement names parent w rows new) → OnOk res (Adds names nodes k w rows new)
-node-added (Ok a) names nodes k w rows new parent h p ok = record { row = ok.row; added = ok.added; fits = rw (h, ← p) ok.fits }
-node-added (Err a) names nodes k w rows new parent h p ok = tt
+element-added (Err a) old names more e parent w rows mid new s shown note in_note g v h1 h2 h3 gs n1 n2 m ok = tt
 
 pub some-is : {A : Type 0} {a b : A} → Some a ≡ Some b → a ≡ b
 some-is e = cc
@@ -110,7 +106,7 @@ falls nodes tree k p h = by (slice_get nodes k) refl (ap flat (sym (slice_get-ma
     by None e g = cc
     by (Some n) e g = place n n.parent (tree.placed k n e) g
 
-pub nodes-turn : (names more : List (List ℕ)) (nodes : List Node) (winners : List NodeWinners) (i : ℕ) (w : NodeWinners) (rows next : List NodeStyles) → IsTree nodes → slice_get winners i ≡ Some w → length rows ≡ i → AreNodes names nodes winners rows → Extends names more → Adds more nodes i w rows next → AreNodes more nodes winners next
+pub nodes-turn : (names more : List (List ℕ)) (nodes : List Node) (winners : List NodeWinners) (i : ℕ) (w : NodeWinners) (rows next : List NodeStyles) → IsTree nodes → slice_get winners i ≡ Some w → length rows ≡ i → AreNodes names nodes winners rows → Extends names more → Adds names more nodes i w rows next → AreNodes more nodes winners next
 nodes-turn names more nodes winners i w rows next tree at len all e adds k v r hw hr = by (get-push rows adds.row r k (subst (λ l. slice_get l k ≡ Some r) adds.added hr))
   where
     low : k ≤ i → (p : ℕ) → parent_at (parents_of nodes) k ≡ Some p → p < length rows
@@ -125,8 +121,8 @@ nodes-turn names more nodes winners i w rows next tree at len all e adds k v r h
         let within = slice_get_within rows k r old in
         subst (λ l. IsNode more l (parent_at (parents_of nodes) k) (is_some (name_at nodes k)) v r) (sym adds.added) (node-keep names more e rows adds.row _ (low (omega arith)) _ v r (all k v r hw old))
 
-pub count-turn : (more : List (List ℕ)) (nodes : List Node) (i : ℕ) (w : NodeWinners) (rows next : List NodeStyles) → length rows ≡ i → Adds more nodes i w rows next → length next ≡ i + 1
-count-turn more nodes i w rows next len adds = ap length adds.added ∙ length-append rows (adds.row ∷ []) ∙ ap (λ n. n + 1) len
+pub count-turn : (names more : List (List ℕ)) (nodes : List Node) (i : ℕ) (w : NodeWinners) (rows next : List NodeStyles) → length rows ≡ i → Adds names more nodes i w rows next → length next ≡ i + 1
+count-turn names more nodes i w rows next len adds = ap length adds.added ∙ length-append rows (adds.row ∷ []) ∙ ap (λ n. n + 1) len
 
 pub put-length : {A E B : Type 0} (res : Result A E) (f : B → B) (old new : List B) → OnOk res (new ≡ change_last f old) → 0 < length old → OnOk res (0 < length new)
 put-length (Ok a) f old new ok h = rw ok (change-some f old h)

@@ -91,7 +91,8 @@ applied p c s (long.FontWeight g) = record s { font_weight = given_by (weight_of
 applied p c s (long.LineHeight g) =
     record s { line_height = given_by (height_of c.font_size c.root_size) g p.line_height initial_style.line_height }
 applied p c s (long.TextAlign g) = record s { text_align = given_by same g p.text_align initial_style.text_align }
-applied p c s (long.TextIndent g) = record s { text_indent = given_by (len_of c.font_size c.root_size) g p.text_indent zero_len }
+applied p c s (long.TextIndent g) =
+    record s { text_indent = given_by (λ m. without_auto (len_of c.font_size c.root_size m)) g p.text_indent zero_len }
 applied p c s (long.WhiteSpace g) = record s { white_space = given_by same g p.white_space initial_style.white_space }
 applied p c s (long.OverflowWrap g) = record s { overflow_wrap = given_by same g p.overflow_wrap initial_style.overflow_wrap }
 applied p c s (long.ListStyleType g) = record s { list_style_type = given_by same g p.list_style_type initial_style.list_style_type }

@@ -1,7 +1,6 @@
 -- What an element's values are computed in: its font size, its color and its borders' styles, each from its own winner.
 use Rattle.std.specs.Prelude.{ℤ, List, Option, None, Some, fold}
 use Rattle.bk_num.specs.Limits.{root_size}
-use Rattle.bk_num.specs.declared.values.Color.{Color}
 use Rattle.style.specs.Styles.{initial_style}
 use Rattle.style.specs.declared.style.Style.{Style}
 use Rattle.style.specs.declared.values.BorderStyle.TheVariants as border

@@ -1,6 +1,7 @@
 pub mod Values
 pub mod Context
 pub mod Applied
+pub mod Names
 pub mod Walk
 pub mod Rows
 pub mod Document

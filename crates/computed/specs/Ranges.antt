@@ -46,9 +46,10 @@ pub record AreMargins (t b : Len) : Type 0 where
   pub top : IsNotAuto t
   pub bottom : IsNotAuto b
 
--- no font size, line height, padding, border width or width is below 0 (CSS 2.1, 8.4, 8.5.1, 10.2, 10.8.1, 15.7)
+-- no font size, line height, padding, border width or width is below 0 (CSS 2.1, 8.4, 8.5.1, 10.2, 10.8.1, 15.7), and no indent is
+-- `auto` (16.1)
 abbrev pub IsInRange : Style → Type 0
 IsInRange s =
     AreFont s.font_size s.line_height × AreBorders s.border_top_width s.border_right_width s.border_bottom_width s.border_left_width ×
     ArePaddings s.padding_top s.padding_right s.padding_bottom s.padding_left × AreMargins s.margin_top s.margin_bottom ×
-    IsNotNegative s.width
+    IsNotNegative s.width × IsNotAuto s.text_indent

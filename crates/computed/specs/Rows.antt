@@ -1,11 +1,12 @@
 -- How a node's row is made.
-use Rattle.std.specs.Prelude.{ℕ, ℤ, Bool, List, Option, None, Some}
+use Rattle.std.specs.Prelude.{ℕ, ℤ, Bool, List, ◌++◌, Option, None, Some}
 use Rattle.bk_num.specs.declared.values.Pseudo.{Pseudo}
 use Rattle.bk_num.specs.declared.values.Pseudo.TheVariants as pseudo
 use Rattle.style.specs.Nodes.{NodeStyles, with_style, change_last}
 use Rattle.style.specs.declared.style.Style.{Style}
 use Rattle.computed.specs.declared.walk.Generated.{Generated}
 use Rattle.cascade.specs.declared.table.NodeWinners.{NodeWinners}
+use Rattle.computed.specs.Names.{given_names}
 use Rattle.computed.specs.Walk.{HasPseudo}
 
 -- a node with the style of a pseudo-element, where there is one
@@ -26,3 +27,8 @@ pub record AreGenerated (names : List (List ℕ)) (own : Style) (root : ℤ) (sh
     pub after : HasPseudo names own root shown w.after g.after
     pub call : HasPseudo names own root note w.call g.call
     pub marker : HasPseudo names own root note w.marker g.marker
+
+-- the page names that are given for those that are there
+abbrev pub generated_names : NodeWinners → Generated → List (List ℕ)
+generated_names w g =
+    given_names w.before g.before ++ (given_names w.after g.after ++ (given_names w.call g.call ++ given_names w.marker g.marker))

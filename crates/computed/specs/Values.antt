@@ -55,7 +55,7 @@ len_of font root (measure.Percent d) = len.Percent d
 len_of font root measure.Auto = len.Auto
 len_of font root m = len.Px (units_of font root (pos 0) m)
 
--- `auto` as 0 (CSS 2.1, 10.6.3)
+-- `auto` as 0: of a margin above or below (CSS 2.1, 10.6.3), and of an indent, for which no sheet can give it (16.1)
 abbrev pub without_auto : Len → Len
 without_auto len.Auto = zero_len
 without_auto (len.Px p) = len.Px p

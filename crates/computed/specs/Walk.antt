@@ -1,5 +1,5 @@
 -- The styles of a document's nodes, each by its winners and by its parent's style.
-use Rattle.std.specs.Prelude.{◌≡◌, ℕ, ℤ, Bool, true, false, not, ◌&&◌, ◌||◌, List, [], ◌∷◌, ◌++◌, Option, None, Some, is_some, unwrap_or, length, slice_get, fold}
+use Rattle.std.specs.Prelude.{◌≡◌, ℕ, ℤ, Bool, true, false, not, ◌&&◌, ◌||◌, List, [], ◌∷◌, ◌++◌, Option, None, Some, is_some, unwrap_or, length, slice_get}
 use Rattle.bk_num.specs.Tables.{value_of}
 use Rattle.bk_num.specs.Limits.{root_size}
 use Rattle.bk_num.specs.declared.values.Pseudo.TheVariants as pseudo
@@ -10,20 +10,9 @@ use Rattle.style.specs.declared.style.Style.{Style}
 use Rattle.style.specs.declared.values.Display.{Display}
 use Rattle.style.specs.declared.values.Display.TheVariants as display
 use Rattle.style.specs.declared.long.Long.{Long}
-use Rattle.style.specs.declared.long.Long.TheVariants as long
-use Rattle.style.specs.declared.long.Given.TheVariants as given
 use Rattle.cascade.specs.declared.table.NodeWinners.{NodeWinners}
 use Rattle.computed.specs.Applied.{computed_style, inline_display}
-
--- the page name that winners give; `inherit` and `initial` act as `auto`, which gives none (css-page-3, 5.3)
-abbrev pub named : Option (List ℕ) → Long → Option (List ℕ)
-named found (long.Page (given.Value name)) = name
-named found (long.Page given.Inherit) = None
-named found (long.Page given.Initial) = None
-named found l = found
-
-abbrev pub page_in : List Long → Option (List ℕ)
-page_in winners = fold named None winners
+use Rattle.computed.specs.Names.{page_in, node_names, with_names, names_of}
 
 -- the number of a used page name: of the name that is given, else the parent's
 abbrev pub IsPage : List (List ℕ) → ℕ → Option (List ℕ) → ℕ → Type 0
@@ -111,23 +100,26 @@ abbrev pub AreNodes : List (List ℕ) → List Node → List NodeWinners → Lis
 AreNodes names nodes winners rows = (k : ℕ) (w : NodeWinners) (r : NodeStyles) → slice_get winners k ≡ Some w →
     slice_get rows k ≡ Some r → IsNode names rows (parent_at (parents_of nodes) k) (is_some (name_at nodes k)) w r
 
--- the styles of a document, and the page names
+-- the styles of a document, and its page names as they are numbered
 pub record AreStyles (names : List (List ℕ)) (nodes : List Node) (winners : List NodeWinners) (rows : List NodeStyles) : Type 0 where
   pub count : length rows ≡ length nodes
   pub each : AreNodes names nodes winners rows
+  pub numbered : names ≡ names_of winners rows
 
 -- names keep their numbers
 abbrev pub Extends : List (List ℕ) → List (List ℕ) → Type 0
 Extends names more = (k : ℕ) (t : List ℕ) → slice_get names k ≡ Some t → slice_get more k ≡ Some t
 
--- a node's row is added
-pub record Adds (names : List (List ℕ)) (nodes : List Node) (k : ℕ) (w : NodeWinners) (rows more : List NodeStyles) : Type 0 where
+-- a node's row is added, and the names that it gives
+pub record Adds (names more : List (List ℕ)) (nodes : List Node) (k : ℕ) (w : NodeWinners) (rows next : List NodeStyles) : Type 0 where
   pub row : NodeStyles
-  pub added : more ≡ rows ++ row ∷ []
-  pub fits : IsNode names rows (parent_at (parents_of nodes) k) (is_some (name_at nodes k)) w row
+  pub added : next ≡ rows ++ row ∷ []
+  pub fits : IsNode more rows (parent_at (parents_of nodes) k) (is_some (name_at nodes k)) w row
+  pub numbered : more ≡ with_names names (node_names w row)
 
--- an element's row is added
-pub record AddsElement (names : List (List ℕ)) (parent : Option ℕ) (w : NodeWinners) (rows more : List NodeStyles) : Type 0 where
+-- an element's row is added, and the names that it gives
+pub record AddsElement (names more : List (List ℕ)) (parent : Option ℕ) (w : NodeWinners) (rows next : List NodeStyles) : Type 0 where
   pub row : NodeStyles
-  pub added : more ≡ rows ++ row ∷ []
-  pub fits : IsElement names rows parent w row
+  pub added : next ≡ rows ++ row ∷ []
+  pub fits : IsElement more rows parent w row
+  pub numbered : more ≡ with_names names (node_names w row)

@@ -7,8 +7,8 @@ ghost use Rattle.computed.specs.Applied.{begun, applied, style_in, computed_styl
 
 use crate::context::{Context, context_of};
 use crate::values::{
-    chosen, chosen_border, chosen_color, chosen_height, chosen_len, chosen_padding, chosen_upright,
-    chosen_weight, chosen_width, medium_of,
+    chosen, chosen_border, chosen_color, chosen_height, chosen_len, chosen_padding, chosen_weight,
+    chosen_width, chosen_without_auto, medium_of,
 };
 use bk_num::ids::NameId;
 use bk_num::name::NoMem;
@@ -86,9 +86,13 @@ fn apply(
     match long {
         Long::Display(g) => style.display = chosen(g, parent.display, Display::Inline),
         Long::Float(g) => style.float = chosen(g, parent.float, false),
-        Long::MarginTop(g) => style.margin_top = chosen_upright(g, &parent.margin_top, context),
+        Long::MarginTop(g) => style.margin_top = chosen_without_auto(
+            g,
+            &parent.margin_top,
+            context,
+        ),
         Long::MarginRight(g) => style.margin_right = chosen_len(g, &parent.margin_right, context),
-        Long::MarginBottom(g) => style.margin_bottom = chosen_upright(
+        Long::MarginBottom(g) => style.margin_bottom = chosen_without_auto(
             g,
             &parent.margin_bottom,
             context,
@@ -165,7 +169,11 @@ fn apply(
         Long::FontWeight(g) => style.font_weight = chosen_weight(g, parent.font_weight),
         Long::LineHeight(g) => style.line_height = chosen_height(g, &parent.line_height, context),
         Long::TextAlign(g) => style.text_align = chosen(g, parent.text_align, Align::Left),
-        Long::TextIndent(g) => style.text_indent = chosen_len(g, &parent.text_indent, context),
+        Long::TextIndent(g) => style.text_indent = chosen_without_auto(
+            g,
+            &parent.text_indent,
+            context,
+        ),
         Long::WhiteSpace(g) => style.white_space = chosen(
             g,
             parent.white_space,

@@ -9,5 +9,7 @@ pub mod laws;
 pub mod styled;
 #[cfg(test)]
 mod tests;
+#[cfg(test)]
+mod tests_names;
 pub mod values;
 pub mod walk;

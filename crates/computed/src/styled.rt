@@ -1,7 +1,9 @@
 //! The style of an element, and of a pseudo-element, with its page name.
 
-ghost use Rattle.std.specs.Prelude.{◌≡◌, None, Some, false, IfOk, option_map};
-ghost use Rattle.computed.specs.Walk.{named, page_in, IsPage, IsStyle, HasPseudo, Extends, is_displayed, is_generated};
+ghost use Rattle.std.specs.Prelude.{◌≡◌, None, Some, false, IfOk, OnOk, option_map};
+ghost use Rattle.std.specs.Option.{option_to_list};
+ghost use Rattle.computed.specs.Names.{named, page_in, given_names, with_names};
+ghost use Rattle.computed.specs.Walk.{IsPage, IsStyle, HasPseudo, Extends, is_displayed, is_generated};
 ghost use Rattle.computed.specs.Applied.{inline_display};
 
 use crate::apply::computed_style;
@@ -23,6 +25,7 @@ pub(crate) fn style_of(
     winners: &[Long],
 ) -> Result<Style, NoMem>
     ensures style { IfOk result (λ s. IsStyle names.new parent.now root winners.now s) }
+    ensures numbered { OnOk result (names.new ≡ with_names names.old (option_to_list (page_in winners.now))) }
     ensures names { Extends names.old names.new }
 {
     let mut style = computed_style(alloc, parent, root, winners)?;
@@ -40,6 +43,7 @@ pub(crate) fn pseudo_style(
     winners: &[Long],
 ) -> Result<Option<Style>, NoMem>
     ensures style { IfOk result (λ s. HasPseudo names.new own.now root.now allowed winners.now s) }
+    ensures numbered { IfOk result (λ s. names.new ≡ with_names names.old (given_names winners.now s)) }
     ensures names { Extends names.old names.new }
 {
     if !allowed || winners.is_empty() {
@@ -86,6 +90,7 @@ fn page_number(
     winners: &[Long],
 ) -> Result<NameId, NoMem>
     ensures page { IfOk result (λ n. IsPage names.new parent.0 (page_in winners.now) n.0) }
+    ensures numbered { OnOk result (names.new ≡ with_names names.old (option_to_list (page_in winners.now))) }
     ensures names { Extends names.old names.new }
 {
     match page_in(winners) {

@@ -98,7 +98,7 @@ fn copy_len(len: &Len) -> Len
     }
 }
 
-/// A margin on the left or right, or an indent.
+/// A margin on the left or right.
 pub(crate) fn chosen_len(given: &Given<Measure>, inherited: &Len, context: &Context) -> Len
     ensures { result ≡ given_by (len_of context.now.font_size context.now.root_size) given.now inherited.now zero_len }
 {
@@ -109,8 +109,8 @@ pub(crate) fn chosen_len(given: &Given<Measure>, inherited: &Len, context: &Cont
     }
 }
 
-/// A margin above or below.
-pub(crate) fn chosen_upright(given: &Given<Measure>, inherited: &Len, context: &Context) -> Len
+/// A margin above or below, or an indent.
+pub(crate) fn chosen_without_auto(given: &Given<Measure>, inherited: &Len, context: &Context) -> Len
     ensures { result ≡ given_by (λ m. without_auto (len_of context.now.font_size context.now.root_size m)) given.now inherited.now
         zero_len }
 {

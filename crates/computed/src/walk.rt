@@ -4,9 +4,10 @@ ghost use Rattle.std.specs.Prelude.{◌≡◌, ◌<◌, None, Some, true, IfOk, 
 ghost use Rattle.bk_num.specs.Tables.{value_of};
 ghost use Rattle.style.specs.Nodes.{change_last};
 ghost use Rattle.style.specs.Styles.{initial_style};
+ghost use Rattle.computed.specs.Names.{with_names};
 ghost use Rattle.computed.specs.Walk.{style_above, root_above, is_shown_below, is_note_below, is_in_note_below, font_of, AreStyles, Extends, Adds, AddsElement};
 ghost use Rattle.computed.specs.Alike.{AddsNext};
-ghost use Rattle.computed.specs.Rows.{with_option, all_put, AreGenerated};
+ghost use Rattle.computed.specs.Rows.{with_option, all_put, AreGenerated, generated_names};
 
 use crate::alike::Alike;
 use crate::styled::{is_displayed, pseudo_style, style_of};
@@ -21,8 +22,8 @@ use style::names::Names;
 use style::style::Style;
 use style::styles::Styles;
 
-/// The styles of a document's nodes and the names of its pages, by the winners of each node. Elements with the same winners
-/// whose parents share their styles share them too.
+/// The styles of a document's nodes and the names of its pages, by the winners of each node. Names are numbered in the order in
+/// which they are first seen. Elements with the same winners whose parents share their styles share them too.
 pub fn styles_of(alloc: Global, dom: &Dom, winners: &WinnerTable) -> Result<(Styles, Names), NoMem>
     requires { length winners.now ≡ length dom.now }
     ensures { IfOk result (λ r. AreStyles r.1 dom.now winners.now r.0) }
@@ -85,7 +86,7 @@ fn add_node(
 ) -> Result<(), NoMem>
     requires node { node.0 < length dom.now }
     requires initial { initial.now ≡ initial_style }
-    ensures adds { OnOk result (Adds names.new dom.now node.0 winners.now styles.old styles.new) }
+    ensures adds { OnOk result (Adds names.old names.new dom.now node.0 winners.now styles.old styles.new) }
     ensures names { Extends names.old names.new }
 {
     if dom.name(node).is_none() {
@@ -104,7 +105,7 @@ fn add_element(
     winners: &NodeWinners,
 ) -> Result<(), NoMem>
     requires { initial.now ≡ initial_style }
-    ensures adds { OnOk result (AddsElement names.new (option_map (λ n. n.0) parent) winners.now styles.old styles.new) }
+    ensures adds { OnOk result (AddsElement names.old names.new (option_map (λ n. n.0) parent) winners.now styles.old styles.new) }
     ensures names { Extends names.old names.new }
 {
     let root = root_above(styles, &parent);
@@ -138,6 +139,7 @@ fn generate(
     winners: &NodeWinners,
 ) -> Result<Generated, NoMem>
     ensures styles { IfOk result (λ g. AreGenerated names.new own.now root.now shown note winners.now g) }
+    ensures numbered { IfOk result (λ g. names.new ≡ with_names names.old (generated_names winners.now g)) }
     ensures names { Extends names.old names.new }
 {
     let before = pseudo_style(alloc, names, own, root, shown, winners.before.as_slice())?;

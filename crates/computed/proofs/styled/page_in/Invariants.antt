@@ -1,5 +1,5 @@
 use Rattle.std.proofs.Common.{◌≡◌, None, fold, take, option_map}
-use Rattle.computed.specs.Walk.{named}
+use Rattle.computed.specs.Names.{named}
 use Rattle.computed.proofs.styled.page_in.Given as goal
 
 abbrev pub invariant-loop-long : goal.invariant-loop-long

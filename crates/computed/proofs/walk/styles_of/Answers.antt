@@ -1,5 +1,6 @@
-use Rattle.std.proofs.Common.{◌<◌, length, refl, arith}
+use Rattle.std.proofs.Common.{◌<◌, length, arith}
 use Rattle.bk_num.proofs.ListLemmas.{slice_get_at}
+use Rattle.computed.proofs.NameLemmas.{no-names, names-turn}
 use Rattle.computed.proofs.WalkLemmas.{none-yet, nodes-turn, count-turn}
 use Rattle.computed.proofs.AlikeLemmas.{none-noted, to-adds, firsts-turn, noted-turn}
 use Rattle.computed.proofs.walk.styles_of.Goals as goal
@@ -8,7 +9,8 @@ pub loop-index-init : goal.loop-index-init
 loop-index-init c =
     let none = none-yet c.new-names.result c.args.dom.now c.args.winners.now c.new-styles.result c.new-styles.ensures in
     let noted = none-noted c.new-styles.result c.new-alike.result c.new-alike.ensures in
-    record { nodes = none.0; count = none.1; initial = c.in_ok-above_root.ensures; firsts = noted.0; noted = noted.1 }
+    let numbered = no-names c.new-names.result c.args.winners.now c.new-styles.result c.new-names.ensures c.new-styles.ensures in
+    record { numbered = numbered; nodes = none.0; count = none.1; initial = c.in_ok-above_root.ensures; firsts = noted.0; noted = noted.1 }
 
 pub loop-index-preserved : goal.loop-index-preserved
 loop-index-preserved c =
@@ -21,8 +23,9 @@ loop-index-preserved c =
     let next = c.in_ok-add_next.ensures.adds in
     let adds = to-adds _ _ _ c.args.winners.now c.loop-index.index w.0 _ _ _ _ next w.1 i.nodes i.firsts in
     record {
+      numbered = names-turn c.loop-index.names c.add_next.new.names c.args.winners.now c.loop-index.index w.0 c.loop-index.styles c.add_next.new.styles adds.row i.count w.1 adds.added i.numbered adds.numbered;
       nodes = nodes-turn c.loop-index.names c.add_next.new.names c.args.dom.now c.args.winners.now c.loop-index.index w.0 c.loop-index.styles c.add_next.new.styles c.len-index-end.ensures.tree w.1 i.count i.nodes c.add_next.ensures.names adds;
-      count = count-turn c.add_next.new.names c.args.dom.now c.loop-index.index w.0 c.loop-index.styles c.add_next.new.styles i.count adds;
+      count = count-turn c.loop-index.names c.add_next.new.names c.args.dom.now c.loop-index.index w.0 c.loop-index.styles c.add_next.new.styles i.count adds;
       initial = c.in_ok-above_root.ensures;
       firsts = firsts-turn _ _ _ _ c.loop-index.index _ _ c.loop-index.styles c.add_next.new.styles i.count i.noted i.firsts next;
       noted = noted-turn _ _ _ _ c.loop-index.index _ _ _ _ i.noted next;
@@ -34,4 +37,4 @@ returns c =
     let test = c.loop-index-test.false in
     let most = c.loop-index.auto.index-end in
     let rows = c.loop-index.invariant.count in
-    record { count = omega arith; each = c.loop-index.invariant.nodes }
+    record { count = omega arith; each = c.loop-index.invariant.nodes; numbered = c.loop-index.invariant.numbered }
