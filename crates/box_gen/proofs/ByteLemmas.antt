@@ -24,7 +24,7 @@ bytes-push : (ls : List LeafData) (l : LeafData) → leaf_bytes (ls ++ l ∷ [])
 bytes-push [] l = omega arith
 bytes-push (x ∷ ls) l = let r = bytes-push ls l in omega (arith, r)
 
-leaves-shut : (t : Tree) → (shut t).leaves ≡ t.leaves
+pub leaves-shut : (t : Tree) → (shut t).leaves ≡ t.leaves
 leaves-shut t = by (innermost_of t.events)
   where
     by : (o : Option ℕ) → (close_by t o).leaves ≡ t.leaves

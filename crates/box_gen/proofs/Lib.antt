@@ -10,3 +10,6 @@ pub mod OwnerLemmas
 pub mod SoundLemmas
 pub mod ByteLemmas
 pub mod RangeLemmas
+pub mod FacedLemmas
+pub mod DepthLemmas
+pub mod WholeLemmas

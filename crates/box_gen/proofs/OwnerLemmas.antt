@@ -32,13 +32,13 @@ owned-shut b os (l ∷ ls) h = by (l.owner == b) refl (All-head (IsOwned (b ∷ 
     by true e i r = r
     by false e i r = All-cons (IsOwned os) l (without (Some b) ls) (contains-rest b l.owner os e i) r
 
-pub good-shut : (b : ℕ) (ls : List Lead) → All IsGoodLead ls → All IsGoodLead (without (Some b) ls)
-good-shut b [] h = All-nil IsGoodLead
-good-shut b (l ∷ ls) h = by (l.owner == b) (All-head IsGoodLead l ls h) (good-shut b ls (All-tail IsGoodLead l ls h))
+pub all-shut : (P : Lead → Type 0) (b : ℕ) (ls : List Lead) → All P ls → All P (without (Some b) ls)
+all-shut P b [] h = All-nil P
+all-shut P b (l ∷ ls) h = by (l.owner == b) (All-head P l ls h) (all-shut P b ls (All-tail P l ls h))
   where
-    by : (c : Bool) → IsGoodLead l → All IsGoodLead (without (Some b) ls) → All IsGoodLead (cond (not c) (l ∷ without (Some b) ls) (without (Some b) ls))
+    by : (c : Bool) → P l → All P (without (Some b) ls) → All P (cond (not c) (l ∷ without (Some b) ls) (without (Some b) ls))
     by true g r = r
-    by false g r = All-cons IsGoodLead l (without (Some b) ls) g r
+    by false g r = All-cons P l (without (Some b) ls) g r
 
 pub owned-more : (b : ℕ) (os : List ℕ) (ls : List Lead) → OwnedBy os ls → OwnedBy (b ∷ os) ls
 owned-more b os ls h = All-weaker (IsOwned os) (IsOwned (b ∷ os)) (λ l c. contains-more b l.owner os c) ls h

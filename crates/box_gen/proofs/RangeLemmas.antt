@@ -1,12 +1,12 @@
 -- The styles of nodes stay in range where a node is added.
-use Rattle.std.proofs.Common.{◌≡◌, ◌∙◌, List, [], ◌∷◌, ◌++◌, Option, None, Some, length, refl, ap, subst, sym, arith, Bool, ◌⊎◌, inl, inr}
+use Rattle.std.proofs.Common.{◌≡◌, ◌∙◌, ℕ, zero, suc, List, [], ◌∷◌, ◌++◌, Option, None, Some, length, refl, ap, subst, sym, arith, Bool, ◌⊎◌, inl, inr}
 use Rattle.std.specs.Prelude.{slice_get}
 use Rattle.std.proofs.lemmas.Int.{ints}
 use Rattle.bk_num.specs.declared.values.Pseudo.{Pseudo}
 use Rattle.bk_num.specs.declared.values.Pseudo.TheVariants as pseudo
 use Rattle.bk_num.proofs.ListLemmas.{get-push}
 use Rattle.style.specs.declared.style.Style.{Style}
-use Rattle.style.specs.Nodes.{NodeStyles, no_styles, own_style, style_in, style_of}
+use Rattle.style.specs.Nodes.{NodeStyles, change_last, no_styles, own_style, style_in, style_of, with_style}
 use Rattle.style.specs.Styles.{initial_style}
 use Rattle.box_gen.specs.Sources.{AreInRange, IsInRange}
 
@@ -46,6 +46,20 @@ range-own xs t shown note in_note all r = range-push xs (own_style t shown note 
     own pseudo.After s e = cc
     own pseudo.Call s e = cc
     own pseudo.Marker s e = cc
+
+pub range-before : (xs : List NodeStyles) (t : Style) → AreInRange xs → IsInRange t → AreInRange (change_last (with_style pseudo.Before t) xs)
+range-before [] t all r n p s e = all n p s e
+range-before (x ∷ []) t all r zero p s e = by p e
+  where
+    by : (p : Pseudo) → style_in (with_style pseudo.Before t x) p ≡ Some s → IsInRange s
+    by pseudo.Element h = all 0 pseudo.Element s h
+    by pseudo.Before h = let same : t ≡ s = cc in subst IsInRange same r
+    by pseudo.After h = all 0 pseudo.After s h
+    by pseudo.Call h = all 0 pseudo.Call s h
+    by pseudo.Marker h = all 0 pseudo.Marker s h
+range-before (x ∷ []) t all r (suc n) p s e = all (suc n) p s e
+range-before (x ∷ (y ∷ ys)) t all r zero p s e = all 0 p s e
+range-before (x ∷ (y ∷ ys)) t all r (suc n) p s e = range-before (y ∷ ys) t (λ k q u h. all (suc k) q u h) r n p s e
 
 pub initial-range : IsInRange initial_style
 initial-range = record {

@@ -33,7 +33,7 @@ use Rattle.box_gen.specs.declared.text_style.TextStyle.{TextStyle}
 use Rattle.box_gen.specs.Flow.{Built, built_of, nothing, without, with_run, put_by, leads_of, first_items, last_items, generated_by, generated_items, leads_by, represented_items, styled, text_item}
 use Rattle.box_gen.specs.Gather.{Gathered, make, adds, begun, ended, gather_node, gathered}
 use Rattle.box_gen.specs.Leaves.{leaf_by, leaf_style_of}
-use Rattle.box_gen.specs.Markers.{has_marker, lead_by, list_values, marker_text}
+use Rattle.box_gen.specs.Markers.{has_marker, lead_by, marker_text}
 use Rattle.box_gen.specs.Props.{anonymous_props}
 use Rattle.box_gen.specs.Represented.{represented_text}
 use Rattle.box_gen.specs.Runs.{AreGoodTexts, marks_in, spans_of, styles_in, text_of}
@@ -47,7 +47,7 @@ use Rattle.box_gen.specs.Walk.{Walk, after_step, after_steps, enter_node, leave_
 use Rattle.box_gen.proofs.TreeLemmas.{opens, opens-opened, opens-run, opens-shut, last-push, shut-ends}
 use Rattle.box_gen.proofs.FlowLemmas.{run-none}
 use Rattle.box_gen.proofs.PutLemmas.{filled}
-use Rattle.box_gen.proofs.OwnerLemmas.{IsGoodLead, IsOwned, OwnedBy, all-append, good-shut, owned-more, owned-shut}
+use Rattle.box_gen.proofs.OwnerLemmas.{IsGoodLead, IsOwned, OwnedBy, all-append, all-shut, owned-more, owned-shut}
 use Rattle.box_gen.proofs.WalkLemmas.{Greater, Placed, PlacedIn, all-steps, own-of, placed-in, steps_in, text-only, walk-builds}
 
 -- ---- sizes of texts
@@ -112,7 +112,7 @@ record Fine (os : List ℕ) (g : Gathered) : Type 0 where
 fine-adds : (os : List ℕ) (g : Gathered) (items : List InlineItem) → AreGoodTexts items → Fine os g → Fine os (adds items g)
 fine-adds os g items good f = record { opened = f.opened; last = f.last; owners = f.owners; leads = f.leads; texts = good-append g.run items f.texts good }
 
-pending-run : (P : Lead → Type 0) (src : Source) (s : Style) (wrap : Bool) (b : Built) (items : List InlineItem) → All P b.pending → All P (with_run src s wrap b items).pending
+pub pending-run : (P : Lead → Type 0) (src : Source) (s : Style) (wrap : Bool) (b : Built) (items : List InlineItem) → All P b.pending → All P (with_run src s wrap b items).pending
 pending-run P src s wrap b items h = by (length (text_of items) == 0) wrap
   where
     by : (e w : Bool) → All P (put_by e w (leaf_style_of s (src.face s)) (anonymous_props s) b items).pending
@@ -131,8 +131,8 @@ run-last src s b items last = by (length (text_of items) == 0)
     by true = last
     by false = let x = shut-ends (with_leaf (with_box b.tree (anonymous_props s)) leaf) (length b.tree.boxes) (opens b.tree) (filled b.tree (anonymous_props s) leaf) in ap is_leaf x.1
 
-leads-all : (P : Lead → Type 0) (src : Source) (n : ℕ) (s : Style) (owner : ℕ) → ((t : List ℕ) → P (lead_by t (text_style_of s s.white_space (src.face s)) owner)) → All P (leads_of src n s owner)
-leads-all P src n s owner h = by (has_marker (n == 0) s) (marker_text s.list_style_type (list_values src.counters n))
+pub leads-all : (P : Lead → Type 0) (src : Source) (n : ℕ) (s : Style) (owner : ℕ) → ((t : List ℕ) → P (lead_by t (text_style_of s s.white_space (src.face s)) owner)) → All P (leads_of src n s owner)
+leads-all P src n s owner h = by (has_marker (n == 0) s) (marker_text s.list_style_type (src.items n))
   where
     by : (b : Bool) (o : Option (List ℕ)) → All P (cond b (leads_by src s owner o) [])
     by true None = All-nil P
@@ -159,7 +159,7 @@ fine-ended src u x os g f = record {
   opened = opens-shut put.tree x os e;
   last = (let q = shut-ends put.tree x os e in ap is_leaf q.1);
   owners = subst (λ o. OwnedBy os (without o put.pending)) (sym inner) (owned-shut x os put.pending (pending-run (IsOwned (x ∷ os)) src u w g.built g.run f.owners));
-  leads = subst (λ o. All IsGoodLead (without o put.pending)) (sym inner) (good-shut x put.pending (pending-run IsGoodLead src u w g.built g.run f.leads));
+  leads = subst (λ o. All IsGoodLead (without o put.pending)) (sym inner) (all-shut IsGoodLead x put.pending (pending-run IsGoodLead src u w g.built g.run f.leads));
   texts = All-nil IsGoodTextStyle;
 }
   where
@@ -300,7 +300,7 @@ can-walk src s (node n kids more) g bs x os rest all r p h c =
 
 -- ---- a whole document
 
-root-element : (nodes : List Node) → IsTree nodes → is_element_at nodes 0 ≡ true
+pub root-element : (nodes : List Node) → IsTree nodes → is_element_at nodes 0 ≡ true
 root-element nodes t = by (slice_get nodes 0) refl (root-parent nodes t)
   where
     by : (o : Option Node) → slice_get nodes 0 ≡ o → parent_at (parents_of nodes) 0 ≡ None → is_element_node o ≡ true

@@ -146,7 +146,7 @@ own-of src n u h = by (text_at src.nodes n) (slice_get src.styles n) h
     by None None (inr e) = cc
     by None (Some r) q = shows r.shown r.own q
 
-parent-child : (ps : List (Option ℕ)) (n p : ℕ) → parent_at ps n ≡ Some p → slice_get ps n ≡ Some (Some p)
+pub parent-child : (ps : List (Option ℕ)) (n p : ℕ) → parent_at ps n ≡ Some p → slice_get ps n ≡ Some (Some p)
 parent-child ps n p h = by (slice_get ps n) h
   where
     by : (o : Option (Option ℕ)) → flat o ≡ Some p → o ≡ Some (Some p)
@@ -154,7 +154,7 @@ parent-child ps n p h = by (slice_get ps n) h
     by (Some q) g = ap (λ (o : Option ℕ). Some o) g
 
 -- the children of a node, which have it as their parent and come after it
-Under : List (Option ℕ) → ℕ → List ℕ → Type 0
+unfoldable pub Under : List (Option ℕ) → ℕ → List ℕ → Type 0
 Under ps n [] = Unit {0}
 Under ps n (c ∷ cs) = (parent_at ps c ≡ Some n) × (n < c) × Under ps n cs
 
@@ -171,7 +171,7 @@ under-from ps n (q ∷ qs) k falls h = by (is_at n q) refl (under-from ps n qs (
     by true e r = let z : k + 0 ≡ k = omega arith in let p : parent_at ps k ≡ Some n = sym (h 0 ∙ ap (parent_at ps) z) ∙ is-q q e in (p, falls k n (parent-child ps k n p), r)
     by false e r = r
 
-under : (ps : List (Option ℕ)) (n : ℕ) → AreFalling ps → Under ps n (children_of ps n)
+pub under : (ps : List (Option ℕ)) (n : ℕ) → AreFalling ps → Under ps n (children_of ps n)
 under ps n falls = under-from ps n ps 0 falls (λ j. let e : j ≡ 0 + j = omega arith in ap (parent_at ps) e)
 
 greater : (ps : List (Option ℕ)) (h d n : ℕ) → AreFalling ps → h < n → Greater h (below ps d n)

@@ -30,7 +30,7 @@ abbrev pub plain : List Node → List NodeStyles → Source
 plain nodes styles = record {
   nodes = nodes;
   styles = styles;
-  counters = record { names = []; marks = []; spots = [] };
+  items = λ n. [];
   face = λ s. record { 0 = 0 };
   generated = λ n p. [];
   assigned = λ n. [];

@@ -1,8 +1,10 @@
 -- The face that sets the texts of a style (CSS 2.1, 15.2).
-use Rattle.std.specs.Prelude.{◌≡◌, ℕ, Bool, not, ◌&&◌, ◌||◌, ◌==◌, List, nat_lt, nat_le, if◌then◌else◌, unwrap_or}
+use Rattle.std.specs.Prelude.{◌≡◌, ◌<◌, ℕ, Bool, not, ◌&&◌, ◌||◌, ◌==◌, List, Some, length, nat_lt, nat_le, slice_get, if◌then◌else◌, unwrap_or}
 use Rattle.std.specs.Bool.{beq}
-use Rattle.std.specs.List.{list_any, position}
+use Rattle.std.specs.List.{All, list_any, position}
 use Rattle.bk_num.specs.declared.ids.FaceId.{FaceId}
+use Rattle.boxes.specs.declared.leaf.Leaf.{Leaf}
+use Rattle.line_place.specs.Conditions.{HasFaces}
 use Rattle.metrics.specs.Face.{FontFace}
 use Rattle.metrics.specs.Choice.{Chooses, apart, is_named, name_of}
 use Rattle.metrics.specs.Text.{AreFaces}
@@ -23,6 +25,11 @@ is_first faces name italic weight f = is_named name f && not (list_any (λ g. is
 -- the face of the texts of a style: that of the first family that there is, and there the one that goes before the others
 unfoldable pub face_of : List FontFace → Style → FaceId
 face_of faces s = record { 0 = unwrap_or (position (is_first faces (name_of faces s.font_family) s.font_style s.font_weight) faces) 0 }
+
+-- the faces of leaves and of their markers are there
+abbrev pub AreFaced : List FontFace → List Leaf → Type 0
+AreFaced faces leaves = (l : ℕ) (leaf : Leaf) → slice_get leaves l ≡ Some leaf →
+    HasFaces faces leaf × All (λ lead. lead.span.face.0 < length faces) leaf.leads
 
 -- ---- law
 

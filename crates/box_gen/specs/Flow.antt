@@ -21,7 +21,7 @@ use Rattle.box_gen.specs.declared.inline.InlineItem.TheVariants as item
 use Rattle.box_gen.specs.declared.inline.InlineStart.{InlineStart}
 use Rattle.box_gen.specs.declared.leaf.LeafStyle.{LeafStyle}
 use Rattle.box_gen.specs.Leaves.{leaf_by, leaf_style_of}
-use Rattle.box_gen.specs.Markers.{has_marker, lead_by, list_values, marker_text}
+use Rattle.box_gen.specs.Markers.{has_marker, lead_by, marker_text}
 use Rattle.box_gen.specs.Represented.{represented_text}
 use Rattle.box_gen.specs.Props.{anonymous_props, props_of}
 use Rattle.box_gen.specs.Runs.{spans_of, starts_of, text_of}
@@ -133,7 +133,7 @@ leads_by src s owner (Some t) = lead_by t (text_style_of s s.white_space (src.fa
 -- the marker of an element, whose box has this number (CSS 2.1, 12.5)
 abbrev pub leads_of : Source → ℕ → Style → ℕ → List Lead
 leads_of src n s owner =
-    if has_marker (n == 0) s then leads_by src s owner (marker_text s.list_style_type (list_values src.counters n)) else []
+    if has_marker (n == 0) s then leads_by src s owner (marker_text s.list_style_type (src.items n)) else []
 
 -- the box of a block opens: the element begins there, and its marker waits for a line
 abbrev pub opened : Source → ℕ → Style → Built → Built

@@ -1,49 +1,22 @@
 -- What a flow is made from, as the arguments have it.
-use Rattle.std.specs.Prelude.{◌≡◌, ◌≤ℤ◌, ℕ, pos, List, [], Option, None, Some, slice_get}
+use Rattle.std.specs.Prelude.{◌≡◌, ◌≤ℤ◌, ℕ, pos, IsTrue, List, Some, slice_get}
 use Rattle.bk_num.specs.declared.values.Pseudo.{Pseudo}
 use Rattle.bk_num.specs.declared.values.Pseudo.TheVariants as pseudo
 use Rattle.boxes.specs.Contents.{IsNotAuto, IsNotNegative}
 use Rattle.counters.specs.At.{Kept}
 use Rattle.dom.specs.Nodes.{Node}
+use Rattle.gen_text.specs.declared.generated.NodeTexts.{NodeTexts}
+use Rattle.gen_text.specs.Generated.{assigned_strings, generated_text}
 use Rattle.metrics.specs.Face.{FontFace}
 use Rattle.style.specs.declared.style.Style.{Style}
 use Rattle.style.specs.declared.values.LineHeight.{LineHeight}
 use Rattle.style.specs.declared.values.LineHeight.TheVariants as height
-use Rattle.style.specs.Nodes.{NodeStyles, style_at}
+use Rattle.style.specs.Nodes.{NodeStyles, is_shown_in, style_at}
 use Rattle.style.specs.Styles.{initial_style}
-use Rattle.box_gen.specs.declared.texts.NodeTexts.{NodeTexts}
 use Rattle.box_gen.specs.declared.input.Input.{Input}
 use Rattle.box_gen.specs.Faces.{face_of}
+use Rattle.box_gen.specs.Markers.{list_values}
 use Rattle.box_gen.specs.Trees.{Source}
-
--- ---- generated texts
-
-abbrev pub text_or_empty : Option (List ℕ) → List ℕ
-text_or_empty None = []
-text_or_empty (Some t) = t
-
-abbrev pub text_for : NodeTexts → Pseudo → List ℕ
-text_for t pseudo.Element = []
-text_for t pseudo.Before = text_or_empty t.before
-text_for t pseudo.After = text_or_empty t.after
-text_for t pseudo.Call = []
-text_for t pseudo.Marker = []
-
-abbrev pub text_by : Option NodeTexts → Pseudo → List ℕ
-text_by None p = []
-text_by (Some t) p = text_for t p
-
--- what the content of a pseudo-element prints
-abbrev pub generated_in : List NodeTexts → ℕ → Pseudo → List ℕ
-generated_in texts n p = text_by (slice_get texts n) p
-
-abbrev pub assigned_by : Option NodeTexts → List (List ℕ × List ℕ)
-assigned_by None = []
-assigned_by (Some t) = t.assigned
-
--- the running strings that an element assigns, with their values
-abbrev pub assigned_in : List NodeTexts → ℕ → List (List ℕ × List ℕ)
-assigned_in texts n = assigned_by (slice_get texts n)
 
 -- ---- the source
 
@@ -52,14 +25,22 @@ abbrev pub source_of : List Node → List NodeStyles → Kept → List FontFace 
 source_of nodes styles counters faces texts = record {
   nodes = nodes;
   styles = styles;
-  counters = counters;
+  items = λ n. list_values counters n;
   face = λ s. face_of faces s;
-  generated = λ n p. generated_in texts n p;
-  assigned = λ n. assigned_in texts n;
+  generated = λ n p. generated_text texts n p;
+  assigned = λ n. assigned_strings texts n;
 }
 
 abbrev pub source_in : Input → Source
 source_in i = source_of i.dom.now i.styles.now i.counters.now i.faces.now i.texts.now
+
+-- ---- the root
+
+-- the root is shown, and has a style
+pub record IsRootShown (styles : List NodeStyles) : Type 0 where
+  pub style : Style
+  pub own : style_at styles 0 pseudo.Element ≡ Some style
+  pub shown : IsTrue (is_shown_in (slice_get styles 0))
 
 -- ---- ranges
 

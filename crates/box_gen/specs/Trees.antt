@@ -1,8 +1,7 @@
 -- The nodes of a document as a tree, and what boxes they make (DOM, 4.2; CSS 2.1, 9.2).
-use Rattle.std.specs.Prelude.{ℕ, zero, suc, ◌-◌, ◌==◌, Bool, true, false, not, ◌&&◌, ◌||◌, List, [], ◌∷◌, Option, None, Some, length, slice_get, if◌then◌else◌}
+use Rattle.std.specs.Prelude.{ℕ, ℤ, zero, suc, ◌-◌, ◌==◌, Bool, true, false, not, ◌&&◌, ◌||◌, List, [], ◌∷◌, Option, None, Some, length, slice_get, if◌then◌else◌}
 use Rattle.bk_num.specs.declared.ids.FaceId.{FaceId}
 use Rattle.bk_num.specs.declared.values.Pseudo.{Pseudo}
-use Rattle.counters.specs.At.{Kept}
 use Rattle.dom.specs.Nodes.{Node, parents_of, text_at}
 use Rattle.dom.specs.Walk.{children_of}
 use Rattle.style.specs.declared.style.Style.{Style}
@@ -28,12 +27,12 @@ below ps (suc d) n = side_by_side (below ps d) (children_of ps n)
 abbrev pub forest_of : List Node → Forest
 forest_of nodes = node 0 (below (parents_of nodes) (length nodes - 1) 0) none
 
--- what a flow is made from: nodes with their styles and counters, the face of each style, what each pseudo-element's content prints, and
--- the running strings that each element assigns
+-- what a flow is made from: nodes with their styles, the values of the counter of list items at each element (the outermost scope
+-- first), the face of each style, what each pseudo-element's content prints, and the running strings that each element assigns
 pub record Source : Type 0 where
   pub nodes : List Node
   pub styles : List NodeStyles
-  pub counters : Kept
+  pub items : ℕ → List ℤ
   pub face : Style → FaceId
   pub generated : ℕ → Pseudo → List ℕ
   pub assigned : ℕ → List (List ℕ × List ℕ)

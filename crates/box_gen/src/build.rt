@@ -1,19 +1,20 @@
 //! The flow of a document.
 
 ghost use Rattle.std.specs.Prelude.{◌≡◌, ◌<◌, ◌≤◌, ◌++◌, [], ◌∷◌, IfErr, IfOk, OnOk};
-ghost use Rattle.bk_num.specs.Limits.{most_text_bytes};
+ghost use Rattle.bk_num.specs.Limits.{most_open, most_text_bytes};
+ghost use Rattle.boxes.specs.Tree.{IsWhole, depth_of};
 ghost use Rattle.box_gen.specs.Flow as spec;
 ghost use Rattle.bk_num.specs.declared.values.Pseudo.TheVariants as pseudo;
 ghost use Rattle.box_gen.specs.Flow.{assigns_at, built_of, flow_of, page_resets, page_values, resets_at};
 ghost use Rattle.style.specs.Nodes.{style_at};
+ghost use Rattle.box_gen.specs.Faces.{AreFaced};
 ghost use Rattle.box_gen.specs.Sites.{built_in, leaf_bytes};
-ghost use Rattle.box_gen.specs.Sources.{AreInRange, source_in, source_of};
+ghost use Rattle.box_gen.specs.Sources.{AreInRange, IsRootShown, source_in, source_of};
 
 use crate::builder::{Builder, new_builder, walk_through};
 use crate::inline::BuildErr;
 use crate::input::Input;
 use crate::put::Site;
-use crate::texts::{NodeTexts, assigned_in};
 use bk_num::items::Items;
 use bk_num::name::{Name, NoMem};
 use bk_num::values::Pseudo;
@@ -21,6 +22,7 @@ use boxes::flow::{Assign, Flow, Reset, Start};
 use boxes::place::Position;
 use counters::at::CounterAt;
 use dom::Dom;
+use gen_text::generated::Generated;
 use metrics::Faces;
 use std::alloc::Global;
 use style::style::Style;
@@ -50,7 +52,7 @@ fn strings_of(alloc: Global, input: &Input, starts: &[Start]) -> Result<Vec<Assi
 {
     let mut strings = Vec::new(alloc);
     for start in starts {
-        push_assigned(assigned_in(input.texts, start.node), start.at, &mut strings)?;
+        push_assigned(input.texts.strings(start.node), start.at, &mut strings)?;
     }
     Ok(strings)
 }
@@ -121,8 +123,8 @@ fn finish(alloc: Global, input: &Input, site: Site) -> Result<Flow, NoMem>
     })
 }
 
-/// The flow of a document by its styles, its counters and its generated texts, set in some faces. `texts` has what
-/// each node generates, by its number; a node beyond its end generates nothing.
+/// The flow of a document by its styles, its counters and its generated texts, set in some faces. Its main tree is whole
+/// where the root is shown, has at most 2,048 boxes open at once, and its faces are there.
 ///
 /// A document of `n` nodes is walked once; each character of it is passed once, and what is left of it is copied once.
 ///
@@ -135,13 +137,18 @@ pub fn build(
     styles: &Styles,
     counters: &CounterAt,
     faces: &Faces,
-    texts: &[NodeTexts],
+    texts: &Generated,
 ) -> Result<Flow, BuildErr>
     requires { AreInRange styles.now }
     ensures flow { IfOk result (λ flow. flow ≡ flow_of (source_of dom.now styles.now counters.now faces.now texts.now)) }
+    ensures whole { IsRootShown styles.now → IfOk result (λ flow. IsWhole flow.main.events) }
+    ensures depth { IfOk result (λ flow. depth_of flow.main.events ≤ most_open) }
+    ensures faced { IfOk result (λ flow. AreFaced faces.now flow.main.leaves) }
     ensures few { IfOk result (λ flow. leaf_bytes flow.main.leaves ≤ most_text_bytes) }
     ensures cause { IfErr result (λ e. e ≡ BuildErr.Text → most_text_bytes < leaf_bytes (flow_of (source_of dom.now styles.now counters.now faces.now texts.now)).main.leaves) }
 {
+    prove!(dom.len() > 0);
+    prove!(faces.len() > 0);
     let Ok(initial) = Style::initial(alloc) else {
         return Err(BuildErr::NoMemory);
     };

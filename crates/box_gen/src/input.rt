@@ -8,11 +8,11 @@ ghost use Rattle.box_gen.specs.Sources.{AreInRange, IsInput, IsInRange, source_i
 ghost use Rattle.box_gen.specs.Trees as spec;
 ghost use Rattle.box_gen.specs.Walk.{element_style, style_around};
 
-use crate::texts::NodeTexts;
 use bk_num::ids::NodeId;
 use bk_num::values::Pseudo;
 use counters::at::CounterAt;
 use dom::Dom;
+use gen_text::generated::Generated;
 use metrics::Faces;
 use style::style::Style;
 use style::styles::Styles;
@@ -25,7 +25,7 @@ pub(crate) struct Input<'a> {
     pub(crate) styles: &'a Styles,
     pub(crate) counters: &'a CounterAt,
     pub(crate) faces: &'a Faces,
-    pub(crate) texts: &'a [NodeTexts],
+    pub(crate) texts: &'a Generated,
     pub(crate) initial: &'a Style,
 }
 

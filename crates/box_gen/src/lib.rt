@@ -15,4 +15,3 @@ pub mod represented;
 #[cfg(test)]
 mod tests;
 pub mod text_style;
-pub mod texts;

@@ -10,7 +10,6 @@ use crate::inline::{InlineItem, StyledText};
 use crate::input::Input;
 use crate::represented::represented_text;
 use crate::text_style::text_style;
-use crate::texts::generated_in;
 use bk_num::ids::NodeId;
 use bk_num::name::{Name, NoMem};
 use bk_num::values::Pseudo;
@@ -63,13 +62,7 @@ fn push_generated(
     match input.styles.of(node, pseudo) {
         None => Ok(()),
         Some(style) => {
-            push_text(
-                alloc,
-                input,
-                style,
-                generated_in(input.texts, node, pseudo),
-                run,
-            )?;
+            push_text(alloc, input, style, input.texts.text(node, pseudo), run)?;
             Ok(())
         }
     }

@@ -1,21 +1,24 @@
 //! Small documents and their flows.
 
-ghost use Rattle.std.specs.Prelude.{◌≤◌, IfSome, unsigned_abs};
+ghost use Rattle.std.specs.Prelude.{◌<◌, ◌≤◌, IfSome, length, unsigned_abs};
 ghost use Rattle.box_gen.specs.Sources.{AreInRange, IsInRange};
 
 use crate::build::build;
-use crate::texts::NodeTexts;
 use bk_num::ids::NodeId;
+use bk_num::items::Items;
 use bk_num::name::Name;
-use bk_num::values::{NumStyle, WhiteSpace};
+use bk_num::values::{NumStyle, Pseudo, WhiteSpace};
 use boxes::flow::{Flow, Start};
 use boxes::leaf::Leaf;
 use boxes::place::Event;
 use boxes::tree::BoxTree;
 use counters::number::number_all;
 use dom::Dom;
+use gen_text::generate::generate;
+use gen_text::table::Table;
 use metrics::read_metrics;
 use std::alloc::Global;
+use style::content::{Content, Part};
 use style::lists::CounterList;
 use style::style::Style;
 use style::styles::Styles;
@@ -23,12 +26,11 @@ use style::values::Display;
 
 const FACES: &str = "bookmetrics 1\nface test normal 400 16 12 4 8\n";
 
-/// A document with its styles and its generated texts.
+/// A document with its styles.
 #[derive(Drop)]
 struct Book {
     dom: Dom,
     styles: Styles,
-    texts: Vec<NodeTexts>,
 }
 
 /// The counter of list items with a number.
@@ -41,8 +43,16 @@ fn listed(alloc: Global, number: i64) -> Option<CounterList>
     Some(list)
 }
 
+/// The content of one text, which a pseudo-element prints, and an element doesn't.
+fn content_of(alloc: Global) -> Option<Content> {
+    let mut content = Content::new(alloc);
+    let text = Name::new(alloc, "q ").ok()?;
+    content.push(Part::Text(text)).ok()?;
+    Some(content)
+}
+
 /// How an element is laid out, by a letter: `b` block, `p` block of which white space is kept, `l` list, `m` its item,
-/// and any other inline.
+/// `q` inline with a text before it, and any other inline.
 fn display_of(kind: char) -> Display {
     match kind {
         'b' | 'p' | 'l' => Display::Block,
@@ -76,6 +86,7 @@ fn style_of(alloc: Global, kind: char) -> Option<Style>
 {
     let resets = counters_of(alloc, kind, 'l', 0)?;
     let increments = counters_of(alloc, kind, 'm', 1)?;
+    let content = content_of(alloc)?;
     let Ok(mut style) = Style::initial(alloc) else {
         return None;
     };
@@ -84,6 +95,7 @@ fn style_of(alloc: Global, kind: char) -> Option<Style>
     style.list_style_type = NumStyle::Decimal;
     style.counter_reset = resets;
     style.counter_increment = increments;
+    style.content = Some(content);
     Some(style)
 }
 
@@ -113,11 +125,38 @@ fn add_text_style(styles: &mut Styles) -> Option<()>
 fn add_element_style(styles: &mut Styles, style: Style, shown: bool) -> Option<()>
     requires styles { AreInRange styles.old }
     requires style { IsInRange style }
-    ensures { IfSome result (λ u. AreInRange styles.new) }
+    ensures range { IfSome result (λ u. AreInRange styles.new) }
+    ensures some { IfSome result (λ u. 0 < length styles.new) }
 {
     let Ok(()) = styles.add_element(style, shown, false, false) else {
         return None;
     };
+    Some(())
+}
+
+/// Gives the last element a `::before`.
+fn put_before(styles: &mut Styles, style: Style) -> Option<()>
+    requires styles { AreInRange styles.old }
+    requires some { 0 < length styles.old }
+    requires style { IsInRange style }
+    ensures { IfSome result (λ u. AreInRange styles.new) }
+{
+    let Ok(()) = styles.put(Pseudo::Before, style) else {
+        return None;
+    };
+    Some(())
+}
+
+/// The pseudo-elements of an element of a letter.
+fn add_pseudo(alloc: Global, styles: &mut Styles, kind: char) -> Option<()>
+    requires styles { AreInRange styles.old }
+    requires some { 0 < length styles.old }
+    ensures { IfSome result (λ u. AreInRange styles.new) }
+{
+    if kind == 'q' {
+        let style = style_of(alloc, kind)?;
+        put_before(styles, style)?;
+    }
     Some(())
 }
 
@@ -129,7 +168,8 @@ fn add_style(alloc: Global, styles: &mut Styles, kind: char) -> Option<()>
         return add_text_style(styles);
     }
     let style = style_of(alloc, kind)?;
-    add_element_style(styles, style, kind != 'h')
+    add_element_style(styles, style, kind != 'h')?;
+    add_pseudo(alloc, styles, kind)
 }
 
 /// Adds a node by its row: the digit of its parent, the letter of its style, or `t` for a text, `h` for an element
@@ -158,11 +198,7 @@ fn book_of(alloc: Global, rows: &str) -> Option<Book>
     let mut styles = no_styles(alloc);
     add_style(alloc, &mut styles, 'b')?;
     let dom = Dom::new(alloc).ok()?;
-    let mut book = Book {
-        dom,
-        styles,
-        texts: Vec::new(alloc),
-    };
+    let mut book = Book { dom, styles };
     for row in rows.split('|') {
         add(alloc, &mut book, row)?;
     }
@@ -237,21 +273,15 @@ fn flow_of(alloc: Global, book: &Book) -> Option<String>
 {
     let faces = read_metrics(alloc, FACES).ok()?;
     let counters = number_all(alloc, &book.dom, &book.styles).ok()?;
-    let flow = build(
-        alloc,
-        &book.dom,
-        &book.styles,
-        &counters,
-        &faces,
-        &book.texts,
-    )
-    .ok()?;
+    let table = Table::of(Items::new(alloc));
+    let texts = generate(alloc, &book.dom, &book.styles, &counters, &table).ok()?;
+    let flow = build(alloc, &book.dom, &book.styles, &counters, &faces, &texts).ok()?;
     printed(alloc, &flow)
 }
 
 /// The rows of documents, and their flows: blocks part texts, white space collapses, kept tabs are eight spaces, `br`,
 /// `wbr` and `img`, markers of nested items, an item without a line, an element in white space alone, a block in an inline
-/// element, and an element that isn't shown.
+/// element, an element that isn't shown, and a text that is generated.
 const FLOWS: &str = "0bdiv|1ta|1bp|3tb|1tc=(((\"a\")(\"b\")(\"c\"))) 0@0 1@1 3@5#\
     0bp|1t a |1ib|3t b=((\"a b\")) 0@0 1@1 3@2+2#\
     0ppre|1ta\tb\n=((\"a        b\n\")) 0@0 1@1#\
@@ -260,7 +290,8 @@ const FLOWS: &str = "0bdiv|1ta|1bp|3tb|1tc=(((\"a\")(\"b\")(\"c\"))) 0@0 1@1 3@5
     0lol|1mli|1mli|3ta=((()([2. ]\"a\"))) 0@0 1@1 2@2 3@4#\
     0bp|1ta|0t |0ix|0bp|5tb=((\"a\")(\"b\")) 0@0 1@1 4@4 5@4#\
     0bp|1is|2ta|2bdiv|4tb|2tc=(((\"a\")(\"b\")(\"c\"))) 0@0 1@1 2@3 4@5#\
-    0bp|1ta|1hx|3tb|1tc=((\"ac\")) 0@0 1@1";
+    0bp|1ta|1hx|3tb|1tc=((\"ac\")) 0@0 1@1#\
+    0bp|1qi|2ta=((\"q a\")) 0@0 1@1 2@2";
 
 /// Whether a document has a flow.
 fn has_flow(alloc: Global, rows: &str, want: &str) -> Option<bool> {
