@@ -1,5 +1,5 @@
 -- Items that are added at a list's end.
-use Rattle.std.proofs.Common.{◌≡◌, ◌∙◌, ap, Bool, true, cond, List, [], ◌∷◌, ◌++◌, map}
+use Rattle.std.proofs.Common.{◌≡◌, ◌∙◌, ap, Bool, true, cond, List, [], ◌∷◌, ◌++◌}
 use Rattle.std.proofs.lemmas.List.{map-append}
 use Rattle.metrics.specs.Face.{FontFace}
 use Rattle.boxes.specs.declared.item.Item.{Item}

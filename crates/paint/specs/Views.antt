@@ -1,5 +1,5 @@
 -- What items with borrowed texts stand for.
-use Rattle.std.specs.Prelude.{ℕ, Bool, List, map}
+use Rattle.std.specs.Prelude.{ℕ, ◌<◌, Bool, List, length, map}
 use Rattle.bk_num.specs.declared.values.Color.{Color}
 use Rattle.metrics.specs.Face.{FontFace}
 use Rattle.boxes.specs.declared.item.Item.{Item}
@@ -36,3 +36,11 @@ item_of faces (ref.Hyphen style) = hyphen_item faces style
 
 abbrev pub items_in : List FontFace → List ItemRef → List Item
 items_in faces items = map (item_of faces) items
+
+-- the face that an item names is there
+abbrev pub HasItemFace : List FontFace → ItemRef → Type 0
+HasItemFace faces (ref.Rect area color) = Unit {0}
+HasItemFace faces (ref.Edge opens area) = Unit {0}
+HasItemFace faces (ref.Line area) = Unit {0}
+HasItemFace faces (ref.Text style text) = style.face.0 < length faces
+HasItemFace faces (ref.Hyphen style) = style.face.0 < length faces

@@ -1,9 +1,9 @@
 //! Items of edges.
 
-ghost use Rattle.std.specs.Prelude.{◌≡◌, ◌++◌, ◌∷◌, [], OnOk};
+ghost use Rattle.std.specs.Prelude.{◌≡◌, ◌++◌, ◌∷◌, [], All, OnOk};
 ghost use Rattle.boxes.specs.Contents.{IsGoodBox};
 ghost use Rattle.paint.specs.Items.{box_edge};
-ghost use Rattle.paint.specs.Views.{items_in};
+ghost use Rattle.paint.specs.Views.{HasItemFace, items_in};
 
 use crate::item::{Canvas, ItemRef, area_at};
 use crate::opens::{Content, border_in};
@@ -20,8 +20,10 @@ pub(crate) fn push_edge<'a>(
     outer: &Content,
     props: &BoxProps,
 ) -> Result<(), NoMem>
-    requires { IsGoodBox props.now }
-    ensures { OnOk result (items_in canvas.now.faces.now out.new.items ≡ items_in canvas.now.faces.now out.old.items ++ box_edge canvas.now.origin opens s.now outer.now props.now ∷ []) }
+    requires good { IsGoodBox props.now }
+    requires faces { All (HasItemFace canvas.now.faces.now) out.old.items }
+    ensures items { OnOk result (items_in canvas.now.faces.now out.new.items ≡ items_in canvas.now.faces.now out.old.items ++ box_edge canvas.now.origin opens s.now outer.now props.now ∷ []) }
+    ensures faces { OnOk result (All (HasItemFace canvas.now.faces.now) out.new.items) }
 {
     let Some(border) = border_in(props, outer) else {
         return Err(NoMem);

@@ -7,7 +7,7 @@ ghost use Rattle.line_fill.specs.Widths.{width_in};
 ghost use Rattle.paint.specs.Items as spec;
 ghost use Rattle.paint.specs.Items.{lead_item};
 ghost use Rattle.paint.specs.Opens.{boxes_from, content_along, opens_of};
-ghost use Rattle.paint.specs.Views.{items_in};
+ghost use Rattle.paint.specs.Views.{HasItemFace, items_in};
 
 use crate::item::{Canvas, ItemRef, difference, style_at, sum};
 use crate::opens::{Open, left_of};
@@ -83,7 +83,9 @@ fn push_lead<'a>(
     requires opens { opens.now ≡ opens_of canvas.now.tree.now canvas.now.origin.width (open_before canvas.now.tree.now.events at) }
     requires face { lead.now.span.face.0 < length canvas.now.faces.now }
     requires span { IsGoodSpan lead.now.span }
-    ensures { OnOk result (items_in canvas.now.faces.now out.new.items ≡ items_in canvas.now.faces.now out.old.items ++ lead_item canvas.now.faces.now canvas.now.tree.now canvas.now.origin (open_before canvas.now.tree.now.events at) baseline lead.now ∷ []) }
+    requires faces { All (HasItemFace canvas.now.faces.now) out.old.items }
+    ensures items { OnOk result (items_in canvas.now.faces.now out.new.items ≡ items_in canvas.now.faces.now out.old.items ++ lead_item canvas.now.faces.now canvas.now.tree.now canvas.now.origin (open_before canvas.now.tree.now.events at) baseline lead.now ∷ []) }
+    ensures faces { OnOk result (All (HasItemFace canvas.now.faces.now) out.new.items) }
 {
     let Some(x) = lead_left(canvas, opens, at, lead) else {
         return Err(NoMem);
@@ -106,9 +108,11 @@ pub(crate) fn push_leads<'a>(
     leads: &'a [Lead],
 ) -> Result<(), NoMem>
     requires opens { opens.now ≡ opens_of canvas.now.tree.now canvas.now.origin.width (open_before canvas.now.tree.now.events at) }
-    requires faces { All (λ lead. lead.span.face.0 < length canvas.now.faces.now) leads.now }
+    requires lead_faces { All (λ lead. lead.span.face.0 < length canvas.now.faces.now) leads.now }
     requires spans { All (λ lead. IsGoodSpan lead.span) leads.now }
-    ensures { OnOk result (items_in canvas.now.faces.now out.new.items ≡ items_in canvas.now.faces.now out.old.items ++ map (lead_item canvas.now.faces.now canvas.now.tree.now canvas.now.origin (open_before canvas.now.tree.now.events at) baseline) leads.now) }
+    requires faces { All (HasItemFace canvas.now.faces.now) out.old.items }
+    ensures items { OnOk result (items_in canvas.now.faces.now out.new.items ≡ items_in canvas.now.faces.now out.old.items ++ map (lead_item canvas.now.faces.now canvas.now.tree.now canvas.now.origin (open_before canvas.now.tree.now.events at) baseline) leads.now) }
+    ensures faces { OnOk result (All (HasItemFace canvas.now.faces.now) out.new.items) }
 {
     for lead in leads {
         push_lead(out, canvas, opens, at, baseline, lead)?;

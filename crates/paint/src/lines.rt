@@ -1,6 +1,6 @@
 //! Items of lines.
 
-ghost use Rattle.std.specs.Prelude.{◌≡◌, ◌+◌, ◌≤◌, ◌++◌, ◌∷◌, [], ◌^◌, pos, ◌≤ℤ◌, ◌+ℤ◌, ◌==◌, if◌then◌else◌, map, length, OnOk, IfSome, IsSome};
+ghost use Rattle.std.specs.Prelude.{◌≡◌, ◌+◌, ◌≤◌, ◌++◌, ◌∷◌, [], ◌^◌, pos, ◌≤ℤ◌, ◌+ℤ◌, ◌==◌, if◌then◌else◌, map, length, All, OnOk, IfSome, IsSome};
 ghost use Rattle.boxes.specs.Contents.{IsGoodLeaf};
 ghost use Rattle.boxes.specs.Tree.{open_before};
 ghost use Rattle.line_place.specs.Conditions.{IsInLeaf};
@@ -9,7 +9,7 @@ ghost use Rattle.paint.specs.Areas.{area_of};
 ghost use Rattle.paint.specs.Conditions.{IsFaced};
 ghost use Rattle.paint.specs.Items.{lead_item, line_items, line_of, words_items};
 ghost use Rattle.paint.specs.Opens.{opens_of};
-ghost use Rattle.paint.specs.Views.{area_item, items_in};
+ghost use Rattle.paint.specs.Views.{HasItemFace, area_item, items_in};
 
 use crate::item::{Canvas, ItemRef, area_at, sum};
 use crate::leads::push_leads;
@@ -34,7 +34,9 @@ fn push_area<'a>(
     s: &Placed,
     content: &Content,
 ) -> Result<(), NoMem>
-    ensures { OnOk result (items_in canvas.now.faces.now out.new.items ≡ items_in canvas.now.faces.now out.old.items ++ area_item (area_of canvas.now.origin content.now s.now) ∷ []) }
+    requires faces { All (HasItemFace canvas.now.faces.now) out.old.items }
+    ensures items { OnOk result (items_in canvas.now.faces.now out.new.items ≡ items_in canvas.now.faces.now out.old.items ++ area_item (area_of canvas.now.origin content.now s.now) ∷ []) }
+    ensures faces { OnOk result (All (HasItemFace canvas.now.faces.now) out.new.items) }
 {
     let Some(area) = area_at(&canvas.origin, content, s) else {
         return Err(NoMem);
@@ -58,7 +60,9 @@ fn push_first<'a>(
     requires good { IsGoodLeaf leaf.now }
     requires faced { IsFaced canvas.now.faces.now leaf.now }
     requires opens { opens.now ≡ opens_of canvas.now.tree.now canvas.now.origin.width (open_before canvas.now.tree.now.events at) }
-    ensures { OnOk result (items_in canvas.now.faces.now out.new.items ≡ items_in canvas.now.faces.now out.old.items ++ (if line.from == 0 then map (lead_item canvas.now.faces.now canvas.now.tree.now canvas.now.origin (open_before canvas.now.tree.now.events at) baseline) leaf.now.leads else [])) }
+    requires faces { All (HasItemFace canvas.now.faces.now) out.old.items }
+    ensures items { OnOk result (items_in canvas.now.faces.now out.new.items ≡ items_in canvas.now.faces.now out.old.items ++ (if line.from == 0 then map (lead_item canvas.now.faces.now canvas.now.tree.now canvas.now.origin (open_before canvas.now.tree.now.events at) baseline) leaf.now.leads else [])) }
+    ensures faces { OnOk result (All (HasItemFace canvas.now.faces.now) out.new.items) }
 {
     if line.from() == 0 {
         push_leads(out, canvas, opens, at, baseline, leaf.leads.as_slice())
@@ -85,7 +89,9 @@ fn push_words<'a>(
     requires line { IsInLeaf leaf.now line }
     requires low { pos 0 ≤ℤ content.now.width }
     requires high { content.now.width ≤ℤ pos (2 ^ 40) }
-    ensures { OnOk result (items_in canvas.now.faces.now out.new.items ≡ items_in canvas.now.faces.now out.old.items ++ words_items canvas.now.faces.now canvas.now.tree.now canvas.now.origin (open_before canvas.now.tree.now.events at) leaf.now line content.now baseline) }
+    requires faces { All (HasItemFace canvas.now.faces.now) out.old.items }
+    ensures items { OnOk result (items_in canvas.now.faces.now out.new.items ≡ items_in canvas.now.faces.now out.old.items ++ words_items canvas.now.faces.now canvas.now.tree.now canvas.now.origin (open_before canvas.now.tree.now.events at) leaf.now line content.now baseline) }
+    ensures faces { OnOk result (All (HasItemFace canvas.now.faces.now) out.new.items) }
 {
     let Some(left) = sum(canvas.origin.left, content.left) else {
         return Err(NoMem);
@@ -163,7 +169,9 @@ pub(crate) fn push_line<'a, L: Ledger>(
     requires good { IsGoodLeaf leaf.now }
     requires faced { IsFaced canvas.now.faces.now leaf.now }
     requires opens { opens.now ≡ opens_of canvas.now.tree.now canvas.now.origin.width (open_before canvas.now.tree.now.events s.now.at.event) }
+    requires faces { All (HasItemFace canvas.now.faces.now) out.old.items }
     ensures items { OnOk result (items_in canvas.now.faces.now out.new.items ≡ items_in canvas.now.faces.now out.old.items ++ line_items canvas.now.faces.now canvas.now.tree.now canvas.now.origin s.now leaf.now) }
+    ensures faces { OnOk result (All (HasItemFace canvas.now.faces.now) out.new.items) }
     ensures steps { steps.new ≤ steps.old + 1 }
 {
     let content = innermost(opens, &canvas.origin);

@@ -1,12 +1,12 @@
 //! Items of the note area of a page.
 
-ghost use Rattle.std.specs.Prelude.{◌≡◌, ℕ, ◌+◌, ◌≤◌, ◌++◌, ◌∷◌, [], OnOk, IfSome, Some, length, slice_get, option_map};
+ghost use Rattle.std.specs.Prelude.{◌≡◌, ℕ, ◌+◌, ◌≤◌, ◌++◌, ◌∷◌, [], All, OnOk, IfSome, Some, length, slice_get, option_map};
 ghost use Rattle.std.specs.List.{flat_map};
 ghost use Rattle.std.specs.Option.{ForSome};
 ghost use Rattle.boxes.specs.declared.flow.Note.{Note};
 ghost use Rattle.paint.specs.Conditions.{CanBePainted};
 ghost use Rattle.paint.specs.Pages.{area_height, area_items, area_origin, note_items, separator_at};
-ghost use Rattle.paint.specs.Views.{items_in};
+ghost use Rattle.paint.specs.Views.{HasItemFace, items_in};
 
 use crate::item::{Area, Canvas, ItemRef, Origin, sum};
 use crate::solids::push_next;
@@ -62,7 +62,9 @@ fn push_separator<'a>(
     faces: &Faces,
     origin: &Origin,
 ) -> Result<(), NoMem>
-    ensures { OnOk result (items_in faces.now out.new.items ≡ items_in faces.now out.old.items ++ separator_at origin.now ∷ []) }
+    requires faces { All (HasItemFace faces.now) out.old.items }
+    ensures items { OnOk result (items_in faces.now out.new.items ≡ items_in faces.now out.old.items ++ separator_at origin.now ∷ []) }
+    ensures faces { OnOk result (All (HasItemFace faces.now) out.new.items) }
 {
     let _faces = faces;
     let Some(y) = sum(origin.top, SEPARATOR / 2) else {
@@ -112,8 +114,10 @@ fn push_notes<'a, L: Ledger>(
     placed: &[PlacedNote],
     steps: &mut Steps<L>,
 ) -> Result<(), NoMem>
-    requires { (n : ℕ) (note : Note) → slice_get notes.now n ≡ Some note → CanBePainted faces.now note.body }
+    requires bodies { (n : ℕ) (note : Note) → slice_get notes.now n ≡ Some note → CanBePainted faces.now note.body }
+    requires faces { All (HasItemFace faces.now) out.old.items }
     ensures items { OnOk result (items_in faces.now out.new.items ≡ items_in faces.now out.old.items ++ flat_map (note_items faces.now notes.now origin placed.now) placed.now) }
+    ensures faces { OnOk result (All (HasItemFace faces.now) out.new.items) }
     ensures steps { steps.new ≤ steps.old + length placed.now }
 {
     let mut opens = Vec::new(alloc);
@@ -144,8 +148,10 @@ pub(crate) fn push_area<'a, L: Ledger>(
     placed: &[PlacedNote],
     steps: &mut Steps<L>,
 ) -> Result<(), NoMem>
-    requires { (n : ℕ) (note : Note) → slice_get notes.now n ≡ Some note → CanBePainted faces.now note.body }
+    requires bodies { (n : ℕ) (note : Note) → slice_get notes.now n ≡ Some note → CanBePainted faces.now note.body }
+    requires faces { All (HasItemFace faces.now) out.old.items }
     ensures items { OnOk result (items_in faces.now out.new.items ≡ items_in faces.now out.old.items ++ area_items faces.now notes.now frame.now placed.now) }
+    ensures faces { OnOk result (All (HasItemFace faces.now) out.new.items) }
     ensures steps { steps.new ≤ steps.old + length placed.now }
 {
     if placed.is_empty() {

@@ -1,9 +1,9 @@
 //! The items of a page.
 
-ghost use Rattle.std.specs.Prelude.{◌≡◌, ◌+◌, ◌≤◌, length, IfOk};
+ghost use Rattle.std.specs.Prelude.{◌≡◌, ◌+◌, ◌≤◌, length, All, IfOk};
 ghost use Rattle.paint.specs.Conditions.{CanFlowBePainted};
 ghost use Rattle.paint.specs.Pages.{items_of};
-ghost use Rattle.paint.specs.Views.{items_in};
+ghost use Rattle.paint.specs.Views.{HasItemFace, items_in};
 
 use crate::item::{Canvas, ItemRef, Origin};
 use crate::notes::push_area;
@@ -30,6 +30,7 @@ pub fn place<'a, L: Ledger>(
 ) -> Result<Vec<ItemRef<'a>>, NoMem>
     requires { CanFlowBePainted faces.now flow.now }
     ensures items { IfOk result (λ v. items_in faces.now v.items ≡ items_of faces.now flow.now page.now) }
+    ensures faces { IfOk result (λ v. All (HasItemFace faces.now) v.items) }
     ensures steps { steps.new ≤ steps.old + (length page.now.solids + length page.now.notes) }
 {
     let frame = &page.frame;

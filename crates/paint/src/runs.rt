@@ -1,14 +1,16 @@
 //! Items of the runs of a line.
 
-ghost use Rattle.std.specs.Prelude.{◌≡◌, ◌++◌, ◌∷◌, [], map, OnOk, IfSome, slice_range, ◌+ℤ◌};
+ghost use Rattle.std.specs.Prelude.{◌≡◌, ◌<◌, ◌++◌, ◌∷◌, [], map, length, All, OnOk, IfSome, slice_range, ◌+ℤ◌};
+ghost use Rattle.line_place.specs.Conditions.{HasFaces};
 ghost use Rattle.paint.specs.Areas.{style_of};
 ghost use Rattle.paint.specs.Items.{run_item, span_of};
-ghost use Rattle.paint.specs.Views.{hyphen_item, items_in};
+ghost use Rattle.paint.specs.Views.{HasItemFace, hyphen_item, items_in, text_item};
 
 use crate::item::{Canvas, ItemRef, Style, style_at, sum};
 use bk_num::name::NoMem;
 use boxes::leaf::Leaf;
 use line_place::place::Run;
+use metrics::Faces;
 
 /// A part of a text. None where it doesn't begin and end at characters, as each run does.
 fn part_of(text: &str, from: u32, to: u32) -> Option<&str>
@@ -28,7 +30,10 @@ fn push_hyphen<'a>(
     canvas: &Canvas<'a>,
     style: Style,
 ) -> Result<(), NoMem>
-    ensures { OnOk result (items_in canvas.now.faces.now out.new.items ≡ items_in canvas.now.faces.now out.old.items ++ hyphen_item canvas.now.faces.now style ∷ []) }
+    requires face { style.face.0 < length canvas.now.faces.now }
+    requires faces { All (HasItemFace canvas.now.faces.now) out.old.items }
+    ensures items { OnOk result (items_in canvas.now.faces.now out.new.items ≡ items_in canvas.now.faces.now out.old.items ++ hyphen_item canvas.now.faces.now style ∷ []) }
+    ensures faces { OnOk result (All (HasItemFace canvas.now.faces.now) out.new.items) }
 {
     let _canvas = canvas;
     if out.push(ItemRef::Hyphen { style }).is_err() {
@@ -37,10 +42,32 @@ fn push_hyphen<'a>(
     Ok(())
 }
 
-/// The style of a run of a line whose content begins at a left, on a baseline. None where its left is past 64 bits.
-fn style_of_run(leaf: &Leaf, left: i64, baseline: i64, run: &Run) -> Option<Style>
-    ensures { IfSome result (λ style. style ≡ style_of (left +ℤ run.now.x) baseline (span_of leaf.now run.now.span)) }
+/// Adds a text.
+fn push_text<'a>(
+    out: &mut Vec<ItemRef<'a>>,
+    canvas: &Canvas<'a>,
+    style: Style,
+    text: &'a str,
+) -> Result<(), NoMem>
+    requires face { style.face.0 < length canvas.now.faces.now }
+    requires faces { All (HasItemFace canvas.now.faces.now) out.old.items }
+    ensures items { OnOk result (items_in canvas.now.faces.now out.new.items ≡ items_in canvas.now.faces.now out.old.items ++ text_item canvas.now.faces.now style text.now ∷ []) }
+    ensures faces { OnOk result (All (HasItemFace canvas.now.faces.now) out.new.items) }
 {
+    let _canvas = canvas;
+    if out.push(ItemRef::Text { style, text }).is_err() {
+        return Err(NoMem);
+    }
+    Ok(())
+}
+
+/// The style of a run of a line whose content begins at a left, on a baseline. None where its left is past 64 bits.
+fn style_of_run(faces: &Faces, leaf: &Leaf, left: i64, baseline: i64, run: &Run) -> Option<Style>
+    requires { HasFaces faces.now leaf.now }
+    ensures style { IfSome result (λ style. style ≡ style_of (left +ℤ run.now.x) baseline (span_of leaf.now run.now.span)) }
+    ensures face { IfSome result (λ style. style.face.0 < length faces.now) }
+{
+    let _faces = faces;
     let spans = leaf.spans.as_slice();
     let number = run.span as usize;
     if number >= spans.len() {
@@ -60,9 +87,12 @@ fn push_run<'a>(
     baseline: i64,
     run: &Run,
 ) -> Result<(), NoMem>
-    ensures { OnOk result (items_in canvas.now.faces.now out.new.items ≡ items_in canvas.now.faces.now out.old.items ++ run_item canvas.now.faces.now leaf.now left baseline run.now ∷ []) }
+    requires leaf { HasFaces canvas.now.faces.now leaf.now }
+    requires faces { All (HasItemFace canvas.now.faces.now) out.old.items }
+    ensures items { OnOk result (items_in canvas.now.faces.now out.new.items ≡ items_in canvas.now.faces.now out.old.items ++ run_item canvas.now.faces.now leaf.now left baseline run.now ∷ []) }
+    ensures faces { OnOk result (All (HasItemFace canvas.now.faces.now) out.new.items) }
 {
-    let Some(style) = style_of_run(leaf, left, baseline, run) else {
+    let Some(style) = style_of_run(canvas.faces, leaf, left, baseline, run) else {
         return Err(NoMem);
     };
     if run.hyphen {
@@ -72,9 +102,7 @@ fn push_run<'a>(
     let Some(text) = part_of(leaf.text.as_str(), run.from, run.to) else {
         return Err(NoMem);
     };
-    if out.push(ItemRef::Text { style, text }).is_err() {
-        return Err(NoMem);
-    }
+    push_text(out, canvas, style, text)?;
     Ok(())
 }
 
@@ -87,7 +115,10 @@ pub(crate) fn push_runs<'a>(
     baseline: i64,
     runs: &[Run],
 ) -> Result<(), NoMem>
-    ensures { OnOk result (items_in canvas.now.faces.now out.new.items ≡ items_in canvas.now.faces.now out.old.items ++ map (run_item canvas.now.faces.now leaf.now left baseline) runs.now) }
+    requires leaf { HasFaces canvas.now.faces.now leaf.now }
+    requires faces { All (HasItemFace canvas.now.faces.now) out.old.items }
+    ensures items { OnOk result (items_in canvas.now.faces.now out.new.items ≡ items_in canvas.now.faces.now out.old.items ++ map (run_item canvas.now.faces.now leaf.now left baseline) runs.now) }
+    ensures faces { OnOk result (All (HasItemFace canvas.now.faces.now) out.new.items) }
 {
     for run in runs {
         push_run(out, canvas, leaf, left, baseline, run)?;

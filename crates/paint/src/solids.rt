@@ -1,13 +1,13 @@
 //! Items of the solids of a tree.
 
-ghost use Rattle.std.specs.Prelude.{◌≡◌, ◌+◌, ◌≤◌, ◌<◌, ◌++◌, length, OnOk};
+ghost use Rattle.std.specs.Prelude.{◌≡◌, ◌+◌, ◌≤◌, ◌<◌, ◌++◌, length, All, OnOk};
 ghost use Rattle.std.specs.Option.{ForSome};
 ghost use Rattle.std.specs.List.{flat_map};
 ghost use Rattle.boxes.specs.Tree.{open_before};
 ghost use Rattle.paint.specs.Conditions.{CanBePainted};
 ghost use Rattle.paint.specs.Items.{solid_items};
 ghost use Rattle.paint.specs.Opens.{opens_of};
-ghost use Rattle.paint.specs.Views.{items_in};
+ghost use Rattle.paint.specs.Views.{HasItemFace, items_in};
 
 use crate::edges::push_edge;
 use crate::item::{Canvas, ItemRef};
@@ -34,7 +34,9 @@ fn push_solid<'a, L: Ledger>(
     requires tree { CanBePainted canvas.now.faces.now canvas.now.tree.now }
     requires within { s.now.at.event < length canvas.now.tree.now.events }
     requires opens { opens.now ≡ opens_of canvas.now.tree.now canvas.now.origin.width (open_before canvas.now.tree.now.events s.now.at.event) }
+    requires faces { All (HasItemFace canvas.now.faces.now) out.old.items }
     ensures items { OnOk result (items_in canvas.now.faces.now out.new.items ≡ items_in canvas.now.faces.now out.old.items ++ solid_items canvas.now.faces.now canvas.now.tree.now canvas.now.origin s.now) }
+    ensures faces { OnOk result (All (HasItemFace canvas.now.faces.now) out.new.items) }
     ensures steps { steps.new ≤ steps.old + 1 }
 {
     let tree = canvas.tree;
@@ -71,7 +73,9 @@ pub(crate) fn push_next<'a, L: Ledger>(
 ) -> Result<(), NoMem>
     requires tree { CanBePainted canvas.now.faces.now canvas.now.tree.now }
     requires opens { ForSome reached (λ at. opens.old.items ≡ opens_of canvas.now.tree.now canvas.now.origin.width (open_before canvas.now.tree.now.events at)) }
+    requires faces { All (HasItemFace canvas.now.faces.now) out.old.items }
     ensures items { OnOk result (items_in canvas.now.faces.now out.new.items ≡ items_in canvas.now.faces.now out.old.items ++ solid_items canvas.now.faces.now canvas.now.tree.now canvas.now.origin s.now) }
+    ensures faces { OnOk result (All (HasItemFace canvas.now.faces.now) out.new.items) }
     ensures opens { OnOk result (opens.new.items ≡ opens_of canvas.now.tree.now canvas.now.origin.width (open_before canvas.now.tree.now.events s.now.at.event)) }
     ensures steps { steps.new ≤ steps.old + 1 }
 {
@@ -92,8 +96,10 @@ pub(crate) fn push_solids<'a, L: Ledger>(
     solids: &[Placed],
     steps: &mut Steps<L>,
 ) -> Result<(), NoMem>
-    requires { CanBePainted canvas.now.faces.now canvas.now.tree.now }
+    requires tree { CanBePainted canvas.now.faces.now canvas.now.tree.now }
+    requires faces { All (HasItemFace canvas.now.faces.now) out.old.items }
     ensures items { OnOk result (items_in canvas.now.faces.now out.new.items ≡ items_in canvas.now.faces.now out.old.items ++ flat_map (solid_items canvas.now.faces.now canvas.now.tree.now canvas.now.origin) solids.now) }
+    ensures faces { OnOk result (All (HasItemFace canvas.now.faces.now) out.new.items) }
     ensures steps { steps.new ≤ steps.old + length solids.now }
 {
     let mut opens = Vec::new(alloc);

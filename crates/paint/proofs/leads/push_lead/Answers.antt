@@ -10,9 +10,9 @@ use Rattle.paint.specs.declared.item.Style.{Style}
 use Rattle.paint.proofs.Lists.{pushed}
 use Rattle.paint.proofs.leads.push_lead.Goals as goal
 
-pub returns : goal.returns
+pub returns-clause-items : goal.returns-clause-items
 unfolding lead_item
-returns c =
+returns-clause-items c =
     let faces = c.args.canvas.now.faces.now in
     let t = c.args.canvas.now.tree.now in
     let o = c.args.canvas.now.origin in

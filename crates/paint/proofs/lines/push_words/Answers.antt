@@ -8,8 +8,8 @@ use Rattle.paint.specs.Views.{items_in}
 use Rattle.paint.proofs.SolidLemmas.{words_joined}
 use Rattle.paint.proofs.lines.push_words.Goals as goal
 
-pub returns : goal.returns
-returns c =
+pub returns-clause-items : goal.returns-clause-items
+returns-clause-items c =
     let faces = c.args.canvas.now.faces.now in
     let t = c.args.canvas.now.tree.now in
     let o = c.args.canvas.now.origin in
@@ -18,5 +18,5 @@ returns c =
     let exact : to_z w64 (of_z w64 c.args.baseline) ≡ c.args.baseline = omega (arith, ints) in
     let left : to_z w64 (of_z w64 c.in-Some.left) ≡ c.args.canvas.now.origin.left +ℤ c.args.content.now.left = omega (arith, ints) in
     let width : to_z w64 (of_z w64 c.args.content.now.width) ≡ c.args.content.now.width = omega (arith, ints) in
-    words_joined faces t o boxes leaf c.args.line c.args.content.now _ _ _ _ _ _ c.in_ok-push_first.ensures c.in_ok-push_runs.ensures left (c.as_slice.ensures ∙ c.in_ok-runs.ensures ∙ ap (runs_of faces leaf c.args.line) width)
+    words_joined faces t o boxes leaf c.args.line c.args.content.now _ _ _ _ _ _ c.in_ok-push_first.ensures.items c.in_ok-push_runs.ensures.items left (c.as_slice.ensures ∙ c.in_ok-runs.ensures ∙ ap (runs_of faces leaf c.args.line) width)
     ∙ ap (λ (y : ℤ). items_in faces c.args.out.now.items ++ words_items faces t o boxes leaf c.args.line c.args.content.now y) exact

@@ -5,8 +5,8 @@ use Rattle.paint.proofs.solids.push_solid.Goals as goal
 pub props-requires : goal.props-requires
 props-requires g c = box_there c.args.canvas.now.tree.now c.count-count.ensures.tree c.args.s.now.at.event c.in-Opens.number c.in-Opens.ensures
 
-pub push_edge-requires : goal.push_edge-requires
-push_edge-requires g c = box_good c.args.canvas.now.tree.now c.count-count.ensures.tree c.in-Opens.number c.props.result.now c.props.ensures
+pub push_edge-requires-clause-good : goal.push_edge-requires-clause-good
+push_edge-requires-clause-good g c = box_good c.args.canvas.now.tree.now c.count-count.ensures.tree c.in-Opens.number c.props.result.now c.props.ensures
 
 pub leaf-requires : goal.leaf-requires
 leaf-requires g c = leaf_there c.args.canvas.now.tree.now c.count-count.ensures.tree c.args.s.now.at.event c.in-Leaf.number c.in-Leaf.ensures
@@ -22,5 +22,5 @@ props-requires-in-Closes g c =
     let within : at ≤ length t.events = (let w = c.requires.within in omega arith) in
     around_there t tree at c.in-Closes.number within (closes_innermost t tree at c.in-Closes.number c.in-Closes.ensures)
 
-pub push_edge-requires-in-Closes : goal.push_edge-requires-in-Closes
-push_edge-requires-in-Closes g c = box_good c.args.canvas.now.tree.now c.count-count.ensures.tree c.in-Closes.number _ c.props-in-Closes.ensures
+pub push_edge-requires-in-Closes-clause-good : goal.push_edge-requires-in-Closes-clause-good
+push_edge-requires-in-Closes-clause-good g c = box_good c.args.canvas.now.tree.now c.count-count.ensures.tree c.in-Closes.number _ c.props-in-Closes.ensures
