@@ -1,0 +1,76 @@
+-- Six cells a name, and the table that they make.
+use Rattle.std.proofs.Common.{◌≡◌, ℕ, zero, suc, ◌+◌, ◌==◌, Bool, true, false, List, [], ◌∷◌, ◌++◌, append_assoc, Option, None, Some, option_map, map, drop, slice_get, refl, sym, ◌∙◌, ap, subst, arith}
+use Rattle.std.proofs.lemmas.Bool.{eqb-true}
+use Rattle.std.proofs.lemmas.Option.{slice_get-map}
+use Rattle.bk_num.specs.declared.ids.NameId.{NameId}
+use Rattle.boxes.specs.Frames.{side_of, is_left}
+use Rattle.boxes.specs.Table.{cell_of, row_of}
+use Rattle.boxes.specs.declared.frames.PageKind.{PageKind}
+use Rattle.boxes.specs.declared.frames.PageKind.TheVariants.{Flow, Blank, Notes}
+use Rattle.boxes.specs.declared.table.PageRow.{PageRow}
+use Rattle.css_page.specs.declared.rules.PageRule.{PageRule}
+use Rattle.page_ctx.specs.Selectors.{classes_of, takes}
+use Rattle.page_ctx.specs.Tables.{page_cell, texts_of, text_of, text_or_none, cell_in, IsTable, CellsSuffice, six_pages, row_by}
+
+-- the pseudo-classes of a page are those of its cell
+pub six_is : (index : ℕ) (kind : PageKind) → slice_get six_pages (cell_of index kind) ≡ Some (classes_of index kind)
+six_is index kind = by (index == 1) (is_left (side_of index)) refl refl kind
+  where
+    first : (k : PageKind) → slice_get six_pages (cell_of 1 k) ≡ Some (classes_of 1 k)
+    first Flow = refl
+    first Blank = refl
+    first Notes = refl
+
+    by : (a b : Bool) → (index == 1) ≡ a → is_left (side_of index) ≡ b → (k : PageKind) → slice_get six_pages (cell_of index k) ≡ Some (classes_of index k)
+    by true b ea eb k = subst (λ i. slice_get six_pages (cell_of i k) ≡ Some (classes_of i k)) (sym (eqb-true index 1 ea)) (first k)
+    by false true ea eb Flow = rw (ea, eb) refl
+    by false true ea eb Blank = rw (ea, eb) refl
+    by false true ea eb Notes = rw (ea, eb) refl
+    by false false ea eb Flow = rw (ea, eb) refl
+    by false false ea eb Blank = rw (ea, eb) refl
+    by false false ea eb Notes = rw (ea, eb) refl
+
+pub cells_suffice : CellsSuffice
+cells_suffice s name i j k l same =
+    let one = six_is i k in
+    let other = six_is j l in
+    let there : slice_get six_pages (cell_of i k) ≡ slice_get six_pages (cell_of j l) = ap (slice_get six_pages) same in
+    let classes : classes_of i k ≡ classes_of j l = cc in
+    ap (takes s name) classes
+
+row_there : (rows : List PageRow) (name : NameId) (row : PageRow) → slice_get rows name.0 ≡ Some row → row_of rows name ≡ Some row
+row_there rows name row e = rw e refl
+
+row_past : (rows : List PageRow) (name : NameId) → slice_get rows name.0 ≡ None → row_of rows name ≡ slice_get rows 0
+row_past rows name e = rw e refl
+
+cell_there : (rules : List PageRule) (text : List ℕ) (index : ℕ) (kind : PageKind) → cell_in (Some (row_by rules text)) (cell_of index kind) ≡ Some (page_cell rules text (classes_of index kind))
+cell_there rules text index kind = slice_get-map (page_cell rules text) six_pages (cell_of index kind) ∙ ap (option_map (page_cell rules text)) (six_is index kind)
+
+pub is_table : (rules : List PageRule) (names : List (List ℕ)) → IsTable rules names (map (row_by rules) (texts_of names))
+is_table rules names index name kind = by (slice_get (texts_of names) name.0) refl
+  where
+    at : (o : Option (List ℕ)) → slice_get (texts_of names) name.0 ≡ o → slice_get (map (row_by rules) (texts_of names)) name.0 ≡ option_map (row_by rules) o
+    at o e = slice_get-map (row_by rules) (texts_of names) name.0 ∙ ap (option_map (row_by rules)) e
+
+    is : (o : Option (List ℕ)) → slice_get (texts_of names) name.0 ≡ o → row_of (map (row_by rules) (texts_of names)) name ≡ Some (row_by rules (text_or_none o))
+    is None e = row_past (map (row_by rules) (texts_of names)) name (at None e)
+    is (Some text) e = row_there (map (row_by rules) (texts_of names)) name (row_by rules text) (at (Some text) e)
+
+    by : (o : Option (List ℕ)) → slice_get (texts_of names) name.0 ≡ o → cell_in (row_of (map (row_by rules) (texts_of names)) name) (cell_of index kind) ≡ Some (page_cell rules (text_of names name) (classes_of index kind))
+    by o e = ap (λ r. cell_in r (cell_of index kind)) (is o e) ∙ cell_there rules (text_or_none o) index kind ∙ ap (λ x. Some (page_cell rules (text_or_none x) (classes_of index kind))) (sym e)
+
+-- the names from a number on
+names_from : (names : List (List ℕ)) (number : ℕ) (text : List ℕ) → slice_get names number ≡ Some text → drop number names ≡ text ∷ drop (suc number) names
+names_from [] number text e = cc
+names_from (x ∷ names) zero text e = let s : x ≡ text = cc in ap (λ t. t ∷ names) s
+names_from (x ∷ names) (suc number) text e = names_from names number text e
+
+-- the row of one more name
+pub rows_more : (f : List ℕ → PageRow) (rows new all : List PageRow) (names : List (List ℕ)) (number : ℕ) (text : List ℕ) (row : PageRow) → slice_get names number ≡ Some text → row ≡ f text
+    → new ≡ rows ++ row ∷ [] → rows ++ map f (drop number names) ≡ all → new ++ map f (drop (number + 1) names) ≡ all
+rows_more f rows new all names number text row at is pushed before =
+    let n : suc number ≡ number + 1 = omega arith in
+    let one : new ≡ rows ++ f text ∷ [] = pushed ∙ ap (λ r. rows ++ r ∷ []) is in
+    let rest : f text ∷ map f (drop (suc number) names) ≡ map f (drop number names) = sym (ap (map f) (names_from names number text at)) in
+    subst (λ k. new ++ map f (drop k names) ≡ all) n (ap (λ z. z ++ map f (drop (suc number) names)) one ∙ append_assoc rows (f text ∷ []) (map f (drop (suc number) names)) ∙ ap (λ z. rows ++ z) rest ∙ before)

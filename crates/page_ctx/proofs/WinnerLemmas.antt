@@ -1,0 +1,169 @@
+-- Winning declarations are greatest, and there is one.
+use Rattle.std.proofs.Common.{◌≡◌, ◌≤◌, ℕ, zero, suc, Bool, true, false, List, [], ◌∷◌, Option, None, Some, slice_get, cond, refl, sym, ◌∙◌, ap, subst, arith}
+use Rattle.std.specs.List.{fold}
+use Rattle.std.specs.Cmp.Lexicographic.{slice_cmp}
+use Rattle.std.proofs.lemmas.Cmp.{nat_list_cmp_total}
+use Rattle.std.specs.Ordering.{nat_cmp, is_gt, ordering_reverse}
+use Rattle.std.specs.declared.cmp.Ordering.{Ordering}
+use Rattle.std.specs.declared.cmp.Ordering.TheVariants.{Less, Equal, Greater}
+use Rattle.page_ctx.specs.declared.property.Property.{Property}
+use Rattle.page_ctx.specs.declared.weight.Weight.{Weight}
+use Rattle.page_ctx.specs.Weights.{ranks_of, is_above}
+use Rattle.page_ctx.specs.Winners.{Declared, is_of, winning, with_declared, winner, IsWinner}
+use Rattle.page_ctx.specs.Laws.{WinnersAreGreatest}
+
+-- ---- the order
+
+above-not : (a b : Weight) → is_above a b ≡ true → is_above b a ≡ false
+above-not a b h = by (slice_cmp nat_cmp (ranks_of a) (ranks_of b)) (slice_cmp nat_cmp (ranks_of b) (ranks_of a)) (nat_list_cmp_total.antisymm (ranks_of a) (ranks_of b)) h
+  where
+    by : (o p : Ordering) → o ≡ ordering_reverse p → is_gt o ≡ true → is_gt p ≡ false
+    by o Less e g = refl
+    by o Equal e g = refl
+    by o Greater e g = let z : is_gt o ≡ false = ap is_gt e in cc
+
+above-self : (a : Weight) → is_above a a ≡ false
+above-self a = by (is_above a a) refl
+  where
+    by : (b : Bool) → is_above a a ≡ b → b ≡ false
+    by true h = sym h ∙ above-not a a h
+    by false h = refl
+
+above-less : (a b : Weight) → is_above a b ≡ true → slice_cmp nat_cmp (ranks_of b) (ranks_of a) ≡ Less
+above-less a b h = nat_list_cmp_total.antisymm (ranks_of b) (ranks_of a) ∙ ap ordering_reverse (by (slice_cmp nat_cmp (ranks_of a) (ranks_of b)) h)
+  where
+    by : (o : Ordering) → is_gt o ≡ true → o ≡ Greater
+    by Less e = cc
+    by Equal e = cc
+    by Greater e = refl
+
+less-above : (a b : Weight) → slice_cmp nat_cmp (ranks_of b) (ranks_of a) ≡ Less → is_above a b ≡ true
+less-above a b e = ap is_gt (nat_list_cmp_total.antisymm (ranks_of a) (ranks_of b) ∙ ap ordering_reverse e)
+
+-- what a weight is above, and another that is not below it, is above neither
+above-below : (b x d : Weight) → is_above b x ≡ true → is_above b d ≡ false → is_above x d ≡ false
+above-below b x d high low = by (is_above x d) refl
+  where
+    by : (v : Bool) → is_above x d ≡ v → v ≡ false
+    by true h = let z : is_above b d ≡ true = less-above b d (nat_list_cmp_total.trans (ranks_of d) (ranks_of x) (ranks_of b) (above-less x d h) (above-less b x high)) in cc
+    by false h = refl
+
+not-above : (b x d : Weight) → is_above b x ≡ false → is_above x d ≡ false → is_above b d ≡ false
+not-above b x d low high = by (is_above b d) refl
+  where
+    of : (o : Ordering) → slice_cmp nat_cmp (ranks_of x) (ranks_of d) ≡ o → is_above b d ≡ true → is_above b x ≡ true
+    of Less e h = less-above b x (nat_list_cmp_total.trans (ranks_of x) (ranks_of d) (ranks_of b) e (above-less b d h))
+    of Equal e h = less-above b x (nat_list_cmp_total.congr (ranks_of x) (ranks_of d) (ranks_of b) e ∙ above-less b d h)
+    of Greater e h = absurd (let z : is_above x d ≡ true = ap is_gt e in let w : true ≡ false = sym z ∙ high in cc)
+
+    by : (v : Bool) → is_above b d ≡ v → v ≡ false
+    by true h = let z : is_above b x ≡ true = of (slice_cmp nat_cmp (ranks_of x) (ranks_of d)) refl h in cc
+    by false h = refl
+
+-- ---- one more declaration before the others
+
+shift : (p : Property) (x : Declared) (ds : List Declared) (place : ℕ) (d : Declared) → (is_of p x.long ≡ true → is_above x.weight d.weight ≡ false) → IsWinner p ds place d → IsWinner p (x ∷ ds) (suc place) d
+shift p x ds place d first w = record { there = w.there; of_property = w.of_property; greatest = λ k e h t. high k e h t; last = λ k e h t l. low k e h t l }
+  where
+    high : (k : ℕ) (e : Declared) → slice_get (x ∷ ds) k ≡ Some e → is_of p e.long ≡ true → is_above e.weight d.weight ≡ false
+    high zero e h t = let s : x ≡ e = cc in subst (λ (c : Declared). is_above c.weight d.weight ≡ false) s (first (subst (λ (c : Declared). is_of p c.long ≡ true) (sym s) t))
+    high (suc k) e h t = w.greatest k e h t
+
+    low : (k : ℕ) (e : Declared) → slice_get (x ∷ ds) k ≡ Some e → is_of p e.long ≡ true → is_above d.weight e.weight ≡ false → k ≤ suc place
+    low zero e h t l = omega arith
+    low (suc k) e h t l = let a = w.last k e h t l in omega (arith, a)
+
+-- a best so far wins over a declaration
+abbrev Loses : Option Declared → Declared → Type 0
+Loses None e = ⊥
+Loses (Some b) e = is_above b.weight e.weight ≡ true
+
+-- it does not
+abbrev Yields : Option Declared → Declared → Type 0
+Yields None d = Unit {0}
+Yields (Some b) d = is_above b.weight d.weight ≡ false
+
+abbrev AllLose : Property → Option Declared → List Declared → Type 0
+AllLose p o ds = (k : ℕ) (e : Declared) → slice_get ds k ≡ Some e → is_of p e.long ≡ true → Loses o e
+
+head_wins : (p : Property) (x : Declared) (ds : List Declared) → is_of p x.long ≡ true → AllLose p (Some x) ds → IsWinner p (x ∷ ds) 0 x
+head_wins p x ds is all = record { there = refl; of_property = is; greatest = λ k e h t. high k e h t; last = λ k e h t l. low k e h t l }
+  where
+    high : (k : ℕ) (e : Declared) → slice_get (x ∷ ds) k ≡ Some e → is_of p e.long ≡ true → is_above e.weight x.weight ≡ false
+    high zero e h t = let s : x ≡ e = cc in subst (λ (c : Declared). is_above c.weight x.weight ≡ false) s (above-self x.weight)
+    high (suc k) e h t = above-not x.weight e.weight (all k e h t)
+
+    low : (k : ℕ) (e : Declared) → slice_get (x ∷ ds) k ≡ Some e → is_of p e.long ≡ true → is_above x.weight e.weight ≡ false → k ≤ 0
+    low zero e h t l = omega arith
+    low (suc k) e h t l = absurd (let z : is_above x.weight e.weight ≡ true = all k e h t in let w : true ≡ false = sym z ∙ l in cc)
+
+-- what comes of a best so far and more declarations: it stays, or one of these wins
+data Comes (p : Property) (ds : List Declared) (o r : Option Declared) : Type 0 where
+  stays : r ≡ o → AllLose p o ds → Comes p ds o r
+  won : (place : ℕ) (d : Declared) → r ≡ Some d → IsWinner p ds place d → Yields o d → Comes p ds o r
+
+all_more : (p : Property) (x : Declared) (ds : List Declared) (o : Option Declared) → (is_of p x.long ≡ true → Loses o x) → AllLose p o ds → AllLose p o (x ∷ ds)
+all_more p x ds o first all zero e h t = let s : x ≡ e = cc in subst (λ (c : Declared). Loses o c) s (first (subst (λ (c : Declared). is_of p c.long ≡ true) (sym s) t))
+all_more p x ds o first all (suc k) e h t = all k e h t
+
+not_of : {A : Type 0} (b : Bool) → b ≡ false → b ≡ true → A
+not_of b f t = absurd (let w : true ≡ false = sym t ∙ f in cc)
+
+more_other : (p : Property) (x : Declared) (ds : List Declared) (o r : Option Declared) → is_of p x.long ≡ false → Comes p ds o r → Comes p (x ∷ ds) o r
+more_other p x ds o r f (stays e all) = stays e (all_more p x ds o (λ t. not_of (is_of p x.long) f t) all)
+more_other p x ds o r f (won place d e w y) = won (suc place) d e (shift p x ds place d (λ t. not_of (is_of p x.long) f t) w) y
+
+more_first : (p : Property) (x : Declared) (ds : List Declared) (r : Option Declared) → is_of p x.long ≡ true → Comes p ds (Some x) r → Comes p (x ∷ ds) None r
+more_first p x ds r t (stays e all) = won 0 x e (head_wins p x ds t all) tt
+more_first p x ds r t (won place d e w y) = won (suc place) d e (shift p x ds place d (λ s. y) w) tt
+
+more_below : (p : Property) (x b : Declared) (ds : List Declared) (r : Option Declared) → is_above b.weight x.weight ≡ true → Comes p ds (Some b) r → Comes p (x ∷ ds) (Some b) r
+more_below p x b ds r h (stays e all) = stays e (all_more p x ds (Some b) (λ s. h) all)
+more_below p x b ds r h (won place d e w y) = won (suc place) d e (shift p x ds place d (λ s. above-below b.weight x.weight d.weight h y) w) y
+
+more_over : (p : Property) (x b : Declared) (ds : List Declared) (r : Option Declared) → is_of p x.long ≡ true → is_above b.weight x.weight ≡ false → Comes p ds (Some x) r → Comes p (x ∷ ds) (Some b) r
+more_over p x b ds r t h (stays e all) = won 0 x e (head_wins p x ds t all) h
+more_over p x b ds r t h (won place d e w y) = won (suc place) d e (shift p x ds place d (λ s. y) w) (not-above b.weight x.weight d.weight h y)
+
+more : (p : Property) (x : Declared) (ds : List Declared) (o r : Option Declared) (v : Bool) → is_of p x.long ≡ v → Comes p ds (cond v (winning o x) o) r → Comes p (x ∷ ds) o r
+more p x ds o r false f c = more_other p x ds o r f c
+more p x ds None r true t c = more_first p x ds r t c
+more p x ds (Some b) r true t c = by (is_above b.weight x.weight) refl c
+  where
+    by : (v : Bool) → is_above b.weight x.weight ≡ v → Comes p ds (cond v (Some b) (Some x)) r → Comes p (x ∷ ds) (Some b) r
+    by true h c = more_below p x b ds r h c
+    by false h c = more_over p x b ds r t h c
+
+comes : (p : Property) (ds : List Declared) (o : Option Declared) → Comes p ds o (fold (with_declared p) o ds)
+comes p [] o = stays refl (λ k e h t. cc)
+comes p (x ∷ ds) o = more p x ds o (fold (with_declared p) (with_declared p o x) ds) (is_of p x.long) refl (comes p ds (with_declared p o x))
+
+-- ---- the law
+
+found_by : (p : Property) (ds : List Declared) (d : Declared) (r : Option Declared) → r ≡ Some d → Comes p ds None r → (place : ℕ) × IsWinner p ds place d
+found_by p ds d r e (stays n all) = absurd (let w : None ≡ Some d = sym n ∙ e in cc)
+found_by p ds d r e (won place c f w y) = let s : c ≡ d = cc in (place, subst (λ x. IsWinner p ds place x) s w)
+
+none_by : (p : Property) (ds : List Declared) (r : Option Declared) → r ≡ None → Comes p ds None r → (k : ℕ) (d : Declared) → slice_get ds k ≡ Some d → is_of p d.long ≡ false
+none_by p ds r e (won place c f w y) k d h = absurd (let w : None ≡ Some c = sym e ∙ f in cc)
+none_by p ds r e (stays n all) k d h = by (is_of p d.long) refl
+  where
+    by : (v : Bool) → is_of p d.long ≡ v → v ≡ false
+    by true t = absurd (all k d h t)
+    by false t = refl
+
+one_by : (p : Property) (ds : List Declared) (j k : ℕ) (d e : Declared) → IsWinner p ds j d → IsWinner p ds k e → (j ≡ k) × (d ≡ e)
+one_by p ds j k d e v w =
+    let low = v.last k e w.there w.of_property (w.greatest j d v.there v.of_property) in
+    let high = w.last j d v.there v.of_property (v.greatest k e w.there w.of_property) in
+    let same : j ≡ k = omega (arith, low, high) in
+    let s = v.there in
+    let t : slice_get ds j ≡ Some e = subst (λ i. slice_get ds i ≡ Some e) (sym same) w.there in
+    (same, cc)
+
+pub winners_are_greatest : WinnersAreGreatest
+winners_are_greatest = record {
+  found = λ p ds d e. found_by p ds d (winner p ds) e (comes p ds None);
+  none = λ p ds e k d h. none_by p ds (winner p ds) e (comes p ds None) k d h;
+  one = λ p ds j k d e v w. one_by p ds j k d e v w;
+}

@@ -1,0 +1,7 @@
+pub mod Selectors
+pub mod Weights
+pub mod Winners
+pub mod Values
+pub mod Cells
+pub mod Tables
+pub mod Laws

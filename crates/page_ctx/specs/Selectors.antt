@@ -1,0 +1,33 @@
+-- Which pages a page selector takes (css-page-3, 3).
+use Rattle.std.specs.Prelude.{ℕ, ◌==◌, Bool, true, false, not, ◌&&◌, ◌||◌, List, Option, None, Some}
+use Rattle.std.specs.Str.{bytes_eq}
+use Rattle.boxes.specs.Frames.{side_of, is_left}
+use Rattle.boxes.specs.declared.frames.PageKind.{PageKind}
+use Rattle.boxes.specs.declared.frames.PageKind.TheVariants.{Flow, Blank, Notes}
+use Rattle.css_page.specs.declared.selectors.PageSelector.{PageSelector}
+use Rattle.page_ctx.specs.declared.classes.PageClasses.{PageClasses}
+
+abbrev pub is_blank : PageKind → Bool
+is_blank Flow = false
+is_blank Blank = true
+is_blank Notes = false
+
+-- the pseudo-classes of a page: page 1 is the first one, and sides alternate from a right page
+abbrev pub classes_of : ℕ → PageKind → PageClasses
+classes_of index kind = record { first = index == 1; left = is_left (side_of index); blank = is_blank kind }
+
+-- a pseudo-class that stands in a selector must hold
+abbrev pub holds_if : ℕ → Bool → Bool
+holds_if count holds = (count == 0) || holds
+
+-- a selector without a name takes each name; the text of no name is empty
+abbrev pub takes_name : Option (List ℕ) → List ℕ → Bool
+takes_name None name = true
+takes_name (Some asked) name = bytes_eq asked name
+
+abbrev pub takes_classes : PageSelector → PageClasses → Bool
+takes_classes s c = (holds_if s.firsts c.first && holds_if s.blanks c.blank) && (holds_if s.lefts c.left && holds_if s.rights (not c.left))
+
+-- a selector takes the pages that have its name and each of its pseudo-classes
+abbrev pub takes : PageSelector → List ℕ → PageClasses → Bool
+takes s name c = takes_name s.name name && takes_classes s c

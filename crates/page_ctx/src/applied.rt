@@ -1,0 +1,100 @@
+//! The rules that are for a page, and what they declare for it.
+
+ghost use Rattle.std.specs.Prelude.{◌≡◌, ◌++◌, map, option_map, option_to_list, IfOk, OnOk};
+ghost use Rattle.page_ctx.specs.Winners as spec;
+
+use crate::classes::PageClasses;
+use crate::weight::{Weight, greatest};
+use crate::winner::Candidate;
+use bk_num::name::NoMem;
+use css_page::rules::PageRule;
+use css_page::values::{PageDecl, PageLong};
+use std::alloc::Global;
+
+/// A rule that is for a page, with the greatest specificity of its selectors that take the page.
+#[derive(Clone, Copy)]
+pub struct Applied<'s> {
+    pub weight: Weight,
+    pub rule: &'s PageRule,
+}
+
+fn taken<'s>(name: &str, classes: PageClasses, rule: &'s PageRule) -> Option<Applied<'s>>
+    ensures { option_map spec.applied_in result ≡ spec.applied name.now classes rule.entry.now }
+{
+    match greatest(name, classes, rule.selectors.as_slice()) {
+        Some(weight) => Some(Applied { weight, rule }),
+        None => None,
+    }
+}
+
+/// Appends a rule, if there is one.
+fn push_applied<'s>(rules: &mut Vec<Applied<'s>>, rule: Option<Applied<'s>>) -> Result<(), NoMem>
+    ensures { OnOk result (map spec.applied_in rules.new.items ≡ map spec.applied_in rules.old.items ++
+        option_to_list (option_map spec.applied_in rule.entry)) }
+{
+    if let Some(rule) = rule {
+        rules.push(rule)?;
+    }
+    Ok(())
+}
+
+/// The rules that are for the pages of a name with these pseudo-classes, in their order.
+pub fn applied_to<'s>(
+    alloc: Global,
+    name: &str,
+    classes: PageClasses,
+    rules: &'s [PageRule],
+) -> Result<Vec<Applied<'s>>, NoMem>
+    ensures { IfOk result (λ v. map spec.applied_in v.items ≡ spec.applied_to name.now classes rules.entry.now) }
+{
+    let mut found = Vec::new(alloc);
+    for rule in rules {
+        push_applied(&mut found, taken(name, classes, rule))?;
+    }
+    Ok(found)
+}
+
+/// Appends the values of a declaration.
+fn push_longs<'s>(
+    declared: &mut Vec<Candidate<'s>>,
+    weight: Weight,
+    longs: &'s [PageLong],
+) -> Result<(), NoMem>
+    ensures { OnOk result (map spec.candidate_in declared.new.items ≡ map spec.candidate_in declared.old.items ++
+        map (spec.declared_by weight) longs.entry.now) }
+{
+    for long in longs {
+        declared.push(Candidate { weight, long })?;
+    }
+    Ok(())
+}
+
+/// Appends what declarations give.
+pub(crate) fn push_decls<'s>(
+    declared: &mut Vec<Candidate<'s>>,
+    weight: Weight,
+    decls: &'s [PageDecl],
+) -> Result<(), NoMem>
+    ensures { OnOk result (map spec.candidate_in declared.new.items ≡ map spec.candidate_in declared.old.items ++
+        spec.decls_of weight decls.entry.now) }
+{
+    for decl in decls {
+        push_longs(
+            declared,
+            weight.of_decl(decl.important),
+            decl.longs.as_slice(),
+        )?;
+    }
+    Ok(())
+}
+
+/// What the rules that are for a page declare for it, in the order of the sheets.
+pub fn page_declared<'s>(alloc: Global, rules: &[Applied<'s>]) -> Result<Vec<Candidate<'s>>, NoMem>
+    ensures { IfOk result (λ v. map spec.candidate_in v.items ≡ spec.page_declared (map spec.applied_in rules.now)) }
+{
+    let mut declared = Vec::new(alloc);
+    for applied in rules {
+        push_decls(&mut declared, applied.weight, applied.rule.decls.as_slice())?;
+    }
+    Ok(declared)
+}
