@@ -1,7 +1,7 @@
 #!/usr/bin/env python3
 """Prints how the built program reads HTML texts: growth over ten times the input, and milliseconds a megabyte.
 
-Each text is an empty book or is refused as not built, so that reading is what is measured. With a second word, the path of
+Each text begins with an element that isn't built, so that it is refused once it is read, and reading is what is measured. With a second word, the path of
 another program of the same command line, it prints the ratio of the two times as well. HTML files that are named after it are
 read too.
 
@@ -50,7 +50,7 @@ TEXTS = {
 
 def seconds(program, text, work):
     with open(f"{work}/html", "wb") as it:
-        it.write(text)
+        it.write(b"<hr>" + text)
     words = [program, "format", f"{TOP}/examples/plain/metrics.txt", f"{work}/html", f"{work}/sheet"]
     best = None
     for _ in range(3):

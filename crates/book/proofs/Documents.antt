@@ -1,29 +1,57 @@
 -- What each step of a document gives comes to the document, or to its refusal.
-use Rattle.std.proofs.Common.{ℕ, List, refl}
+use Rattle.std.proofs.Common.{◌≡◌, ℕ, List, length, nat_lt, true, false, Option, Result, Ok, Err, refl, sym, subst}
+use Rattle.std.specs.List.{list_any}
+use Rattle.bk_num.specs.Limits.{most_sheets}
 use Rattle.metrics.specs.Text.{faces_of}
 use Rattle.metrics.specs.Face.{FontFace}
 use Rattle.dom.specs.Nodes.{Node}
 use Rattle.html_tree.specs.Tree.{tree_of}
-use Rattle.plain_html.specs.Texts.{ElementText}
-use Rattle.sheets.specs.Sheets.{sheets_of, verdict_of}
-use Rattle.sheets.specs.declared.check.Verdict.{Verdict}
+use Rattle.sheets.specs.Sheets.{sheets_of}
+use Rattle.unbuilt.specs.Nodes.{first_unbuilt, unbuilt_node}
+use Rattle.unbuilt.specs.Readings.{SheetOf, unbuilt_place}
+use Rattle.unbuilt.specs.Sources.{AreRead, has_many_rules, numbers_of}
+use Rattle.unbuilt.specs.declared.run_sheets.Sheets.{Sheets}
+use Rattle.unbuilt.specs.declared.run_sheets.SheetsErr.TheVariants as err
 use Rattle.book.specs.Expect.{IsGiven, IsRefusedUnlessMemory}
-use Rattle.book.specs.Document.{Texts, document_of, faces_expected, nodes_expected, verdict_expected, paragraphs_expected, file_expected, room_expected}
+use Rattle.book.specs.Document.{Texts, document_of, faces_expected, nodes_expected, sheets_expected, form_by, form_expected}
 use Rattle.book.specs.declared.outcome.Outcome.{Outcome}
+use Rattle.book.specs.declared.outcome.Outcome.TheVariants as out
+use Rattle.book.specs.declared.outcome.LimitOf.TheVariants as limit
 use Rattle.book.proofs.Stopping.{after_given, refused_after, memory_bind}
 
-module _ (count : List ℕ → ℕ) (t : Texts) (faces : List FontFace) (nodes : List Node) (v : Verdict) (texts : List ElementText) (given_faces : IsGiven (faces_expected (faces_of t.metrics)) faces) (given_nodes : IsGiven (nodes_expected (tree_of t.html)) nodes) (given_verdict : IsGiven (verdict_expected (verdict_of count (sheets_of nodes t.sheet))) v) (given_texts : IsGiven (paragraphs_expected v nodes) texts) (given_file : IsGiven (file_expected v) tt) where
-  pub document_given : IsGiven (room_expected texts) tt → IsGiven (document_of count t) (record { faces = faces; nodes = nodes; sheet = t.sheet; texts = texts })
-  document_given given_room = after_given (faces_expected (faces_of t.metrics)) faces _ (λ z. IsGiven z (record { faces = faces; nodes = nodes; sheet = t.sheet; texts = texts })) tt given_faces (
-      after_given (nodes_expected (tree_of t.html)) nodes _ (λ z. IsGiven z (record { faces = faces; nodes = nodes; sheet = t.sheet; texts = texts })) tt given_nodes (
-      after_given (verdict_expected (verdict_of count (sheets_of nodes t.sheet))) v _ (λ z. IsGiven z (record { faces = faces; nodes = nodes; sheet = t.sheet; texts = texts })) tt given_verdict (
-      after_given (paragraphs_expected v nodes) texts _ (λ z. IsGiven z (record { faces = faces; nodes = nodes; sheet = t.sheet; texts = texts })) tt given_texts (
-      after_given (file_expected v) tt _ (λ z. IsGiven z (record { faces = faces; nodes = nodes; sheet = t.sheet; texts = texts })) tt given_file (
-      after_given (room_expected texts) tt _ (λ z. IsGiven z (record { faces = faces; nodes = nodes; sheet = t.sheet; texts = texts })) tt given_room refl)))))
+-- what is read of sheets, as the sheets that are expected
+module _ (reading : List ℕ → SheetOf) (nodes : List Node) (sheet : List ℕ) where
+  pub sheets_given : (s : Sheets) → AreRead reading nodes sheet (Ok s) → IsGiven (sheets_expected reading nodes sheet) tt
+  sheets_given s h = rw (h.0, h.1) refl
 
-  pub room_refused : (o : Outcome) → IsRefusedUnlessMemory (room_expected texts) o → IsRefusedUnlessMemory (document_of count t) o
-  room_refused o r = refused_after (faces_expected (faces_of t.metrics)) faces _ o given_faces (
-      refused_after (nodes_expected (tree_of t.html)) nodes _ o given_nodes (
-      refused_after (verdict_expected (verdict_of count (sheets_of nodes t.sheet))) v _ o given_verdict (
-      refused_after (paragraphs_expected v nodes) texts _ o given_texts (
-      refused_after (file_expected v) tt _ o given_file (memory_bind (room_expected texts) _ o r)))))
+  pub sheets_many : AreRead reading nodes sheet (Err err.Sheets) → IsRefusedUnlessMemory (sheets_expected reading nodes sheet) (out.Limit limit.Sheets)
+  sheets_many h = rw h refl
+
+  pub rules_many : AreRead reading nodes sheet (Err err.Rules) → IsRefusedUnlessMemory (sheets_expected reading nodes sheet) (out.Limit limit.Rules)
+  rules_many h = rw (h.0, h.1) refl
+
+  form_is : (s : Sheets) → AreRead reading nodes sheet (Ok s) → form_by (first_unbuilt (numbers_of s.elements) nodes) s.place ≡ form_expected reading nodes sheet
+  form_is s h = rw (h.2, h.3) refl
+
+  pub form_given : (s : Sheets) → AreRead reading nodes sheet (Ok s) → IsGiven (form_by (first_unbuilt (numbers_of s.elements) nodes) s.place) tt → IsGiven (form_expected reading nodes sheet) tt
+  form_given s h g = subst (λ e. IsGiven e tt) (form_is s h) g
+
+  pub form_refused : (s : Sheets) (o : Outcome) → AreRead reading nodes sheet (Ok s) → IsRefusedUnlessMemory (form_by (first_unbuilt (numbers_of s.elements) nodes) s.place) o → IsRefusedUnlessMemory (form_expected reading nodes sheet) o
+  form_refused s o h r = subst (λ e. IsRefusedUnlessMemory e o) (form_is s h) r
+
+module _ (reading : List ℕ → SheetOf) (t : Texts) (faces : List FontFace) (nodes : List Node) (given_faces : IsGiven (faces_expected (faces_of t.metrics)) faces) (given_nodes : IsGiven (nodes_expected (tree_of t.html)) nodes) where
+  pub sheets_refused : (o : Outcome) → IsRefusedUnlessMemory (sheets_expected reading nodes t.sheet) o → IsRefusedUnlessMemory (document_of reading t) o
+  sheets_refused o r = refused_after (faces_expected (faces_of t.metrics)) faces _ o given_faces (
+      refused_after (nodes_expected (tree_of t.html)) nodes _ o given_nodes (memory_bind (sheets_expected reading nodes t.sheet) _ o r))
+
+  module _ (given_sheets : IsGiven (sheets_expected reading nodes t.sheet) tt) where
+    pub unbuilt_refused : (o : Outcome) → IsRefusedUnlessMemory (form_expected reading nodes t.sheet) o → IsRefusedUnlessMemory (document_of reading t) o
+    unbuilt_refused o r = refused_after (faces_expected (faces_of t.metrics)) faces _ o given_faces (
+        refused_after (nodes_expected (tree_of t.html)) nodes _ o given_nodes (
+        refused_after (sheets_expected reading nodes t.sheet) tt _ o given_sheets (memory_bind (form_expected reading nodes t.sheet) _ o r)))
+
+    pub document_given : IsGiven (form_expected reading nodes t.sheet) tt → IsGiven (document_of reading t) (record { faces = faces; nodes = nodes; sheet = t.sheet })
+    document_given given_form = after_given (faces_expected (faces_of t.metrics)) faces _ (λ z. IsGiven z (record { faces = faces; nodes = nodes; sheet = t.sheet })) tt given_faces (
+        after_given (nodes_expected (tree_of t.html)) nodes _ (λ z. IsGiven z (record { faces = faces; nodes = nodes; sheet = t.sheet })) tt given_nodes (
+        after_given (sheets_expected reading nodes t.sheet) tt _ (λ z. IsGiven z (record { faces = faces; nodes = nodes; sheet = t.sheet })) tt given_sheets (
+        after_given (form_expected reading nodes t.sheet) tt _ (λ z. IsGiven z (record { faces = faces; nodes = nodes; sheet = t.sheet })) tt given_form refl)))

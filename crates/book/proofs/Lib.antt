@@ -1,9 +1,9 @@
+pub mod Built
 pub mod Complete
+pub mod Conditions
 pub mod Documents
-pub mod NumberLemmas
 pub mod OneBook
-pub mod PlainTexts
 pub mod PutLemmas
+pub mod Ranges
 pub mod RequestLemmas
-pub mod SetLemmas
 pub mod Stopping

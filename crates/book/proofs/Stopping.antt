@@ -1,7 +1,8 @@
 -- How a run stops at a file, and goes on after one.
-use Rattle.std.proofs.Common.{◌≡◌, ◌≢◌, ap, ◌⊎◌, ℕ, ◌≤◌, List, length, sum_by, nat_lt, true, false, cond, inl, inr, refl, sym, arith, subst, Option, Some, None, Result, Ok, Err, Bool}
+use Rattle.std.proofs.Common.{◌≡◌, ◌≢◌, ap, ◌⊎◌, ℕ, ◌≤◌, List, length, nat_lt, true, false, cond, inl, inr, refl, sym, arith, subst, Option, Some, None, Result, Ok, Err, Bool}
+use Rattle.std.specs.List.{list_any}
 use Rattle.std.specs.Str.{is_utf8}
-use Rattle.bk_num.specs.Limits.{most_file_bytes, most_text_bytes}
+use Rattle.bk_num.specs.Limits.{most_file_bytes, most_sheets}
 use Rattle.bk_io.proofs.Reading.{Rose-since}
 use Rattle.bk_io.specs.Shelf.{Told, untold, absent, holds}
 use Rattle.book.specs.Expect.{Expect, free, refused, given, IsGiven, IsRefused, IsRefusedUnlessMemory, ◌>>=◌}
@@ -12,12 +13,12 @@ use Rattle.dom.specs.Nodes.{Node}
 use Rattle.dom.specs.declared.dom.DomErr.{DomErr}
 use Rattle.dom.specs.declared.dom.DomErr.TheVariants as dom_err
 use Rattle.html_tree.specs.Tree.{tree_of}
-use Rattle.plain_html.specs.Texts.{ElementText, paragraph_texts}
-use Rattle.sheets.specs.Sheets.{sheets_of, verdict_of}
-use Rattle.sheets.specs.declared.check.Verdict.{Verdict}
-use Rattle.sheets.specs.declared.check.Verdict.TheVariants as verdict
+use Rattle.sheets.specs.Sheets.{sheets_of}
+use Rattle.unbuilt.specs.Readings.{SheetOf, unbuilt_place}
+use Rattle.unbuilt.specs.Sources.{has_many_rules}
+use Rattle.unbuilt.specs.Nodes.{unbuilt_node}
 use Rattle.book.specs.Request.{Names, name_of, asked}
-use Rattle.book.specs.Document.{Texts, Document, document_of, faces_expected, nodes_expected, verdict_expected, unbuilt_node, form_expected, file_expected}
+use Rattle.book.specs.Document.{Texts, Document, document_of, faces_expected, nodes_expected, sheets_expected, form_by}
 use Rattle.book.specs.Run.{text_of, StopsAt, Stops, Ends, Halts, HaltsAt, ComesBefore, IsReadBefore, IsUnforeseen, file_stage, texts_expected, HasReadCause, HasCauseAt, HasWordsCause, IsBookFor, IsOfTexts, IsNoPut}
 use Rattle.book.specs.Answer.{Book}
 use Rattle.book.specs.declared.outcome.WordsFault.{WordsFault}
@@ -68,32 +69,21 @@ later_nodes f (Err dom_err.Nodes) = tt
 later_nodes f (Err dom_err.Depth) = tt
 later_nodes f (Err dom_err.NoMemory) = tt
 
-later_form : (f : FileOf) (first : Option ℕ) (texts : List ElementText) → Later f (form_expected first texts)
-later_form f None texts = tt
-later_form f (Some n) texts = tt
+later_sheets : (f : FileOf) (reading : List ℕ → SheetOf) (nodes : List Node) (sheet : List ℕ) → Later f (sheets_expected reading nodes sheet)
+later_sheets f reading nodes sheet = later_cond f (nat_lt most_sheets (length (sheets_of nodes sheet))) _ _ tt
+    (later_cond f (list_any (has_many_rules reading) (sheets_of nodes sheet)) _ _ tt tt)
 
-later_verdict : (f : FileOf) (v : Verdict) → Later f (verdict_expected v)
-later_verdict f verdict.TooManySheets = tt
-later_verdict f verdict.TooManyRules = tt
-later_verdict f (verdict.ElementHasRules node) = tt
-later_verdict f verdict.FileHasRules = tt
-later_verdict f verdict.Built = tt
+later_form : (f : FileOf) (node place : Option ℕ) → Later f (form_by node place)
+later_form f (Some n) place = tt
+later_form f None (Some k) = tt
+later_form f None None = tt
 
-later_file : (f : FileOf) (v : Verdict) → Later f (file_expected v)
-later_file f verdict.TooManySheets = tt
-later_file f verdict.TooManyRules = tt
-later_file f (verdict.ElementHasRules node) = tt
-later_file f verdict.FileHasRules = tt
-later_file f verdict.Built = tt
-
-later_book : (count : List ℕ → ℕ) (f : FileOf) (t : Texts) → Later f (document_of count t)
-later_book count f t =
+later_book : (reading : List ℕ → SheetOf) (f : FileOf) (t : Texts) → Later f (document_of reading t)
+later_book reading f t =
     later_bind f _ _ (later_faces f (faces_of t.metrics)) (λ faces.
     later_bind f _ _ (later_nodes f (tree_of t.html)) (λ nodes.
-    later_bind f _ _ (later_verdict f (verdict_of count (sheets_of nodes t.sheet))) (λ v.
-    later_bind f _ _ (later_form f (unbuilt_node v nodes) (paragraph_texts nodes)) (λ texts.
-    later_bind f _ _ (later_file f v) (λ unruled.
-    later_bind f _ _ (later_cond f (nat_lt most_text_bytes (sum_by (λ t. length t.text) texts)) _ _ tt tt) (λ room. tt))))))
+    later_bind f _ _ (later_sheets f reading nodes t.sheet) (λ few.
+    later_bind f _ _ (later_form f (unbuilt_node reading nodes) (unbuilt_place (reading t.sheet))) (λ built. tt))))
 
 unforeseen_before : (f : FileOf) (p o : Outcome) → IsReadBefore f p → (o ≡ out.ReadFault f) ⊎ (o ≡ out.NoMemory) → ComesBefore o p
 unforeseen_before f p o l u = elim u [ inl e ↦ rw e l | inr e ↦ rw e tt ]
@@ -163,10 +153,10 @@ unforeseen_halts (refused p) (out.Limit what) l u = absurd u
 unforeseen_halts (refused p) out.WriteFault l u = absurd u
 unforeseen_halts (given d) o l u = ends_unforeseen d o u
 
-pub texts_stop : (count : List ℕ → ℕ) (e : Expect Texts) (o : Outcome) → Stops e o → Halts (e >>= document_of count) o
-texts_stop count free o s = tt
-texts_stop count (refused p) o s = s
-texts_stop count (given t) o s = unforeseen_halts (document_of count t) o (λ f. later_book count f t) s
+pub texts_stop : (reading : List ℕ → SheetOf) (e : Expect Texts) (o : Outcome) → Stops e o → Halts (e >>= document_of reading) o
+texts_stop reading free o s = tt
+texts_stop reading (refused p) o s = s
+texts_stop reading (given t) o s = unforeseen_halts (document_of reading t) o (λ f. later_book reading f t) s
 
 -- a refusal of the texts stops the document
 refused_halts : (e : Expect Document) (o : Outcome) → HaltsAt e o → Halts e o
@@ -183,15 +173,15 @@ refused_halts (refused p) (out.Limit what) r = inl r
 refused_halts (refused p) out.WriteFault r = inl r
 refused_halts (given d) o r = r
 
-pub document_stops : (count : List ℕ → ℕ) (e : Expect Texts) (t : Texts) (o : Outcome) → IsGiven e t → HaltsAt (document_of count t) o → Halts (e >>= document_of count) o
-document_stops count free t o g r = tt
-document_stops count (refused p) t o g r = absurd g
-document_stops count (given u) t o g r = subst (λ v. Halts (document_of count v) o) g (refused_halts (document_of count t) o r)
+pub document_stops : (reading : List ℕ → SheetOf) (e : Expect Texts) (t : Texts) (o : Outcome) → IsGiven e t → HaltsAt (document_of reading t) o → Halts (e >>= document_of reading) o
+document_stops reading free t o g r = tt
+document_stops reading (refused p) t o g r = absurd g
+document_stops reading (given u) t o g r = subst (λ v. Halts (document_of reading v) o) g (refused_halts (document_of reading t) o r)
 
-pub book_for : (count : List ℕ → ℕ) (e : Expect Texts) (t : Texts) (b : Book) → IsGiven e t → IsBookFor (document_of count t) b → IsBookFor (e >>= document_of count) b
-book_for count free t b g r = tt
-book_for count (refused p) t b g r = absurd g
-book_for count (given u) t b g r = subst (λ v. IsBookFor (document_of count v) b) g r
+pub book_for : (reading : List ℕ → SheetOf) (e : Expect Texts) (t : Texts) (b : Book) → IsGiven e t → IsBookFor (document_of reading t) b → IsBookFor (e >>= document_of reading) b
+book_for reading free t b g r = tt
+book_for reading (refused p) t b g r = absurd g
+book_for reading (given u) t b g r = subst (λ v. IsBookFor (document_of reading v) b) g r
 
 -- a refusal of a file is none of the words, and no put
 pub cause_words : (f : FileOf) (told : Told) (name : List ℕ) (before now : ℕ) (last : Option (List ℕ)) (e : Expect Names) (o : Outcome) → HasCauseAt f told name before now last o → HasWordsCause e o

@@ -1,8 +1,13 @@
 -- What a document in memory stands for.
-use Rattle.std.specs.Prelude.{map}
-use Rattle.plain_html.specs.Texts.{element_text_in}
+use Rattle.std.specs.List.{AllZip}
+use Rattle.sheets.specs.Sheets.{element_sheets}
+use Rattle.unbuilt.specs.Sources.{sources_of, IsReadFrom}
 use Rattle.book.specs.Document.{Document}
 use Rattle.book.specs.declared.document.Document.{Document as InMemory}
 
 abbrev pub document_in : InMemory → Document
-document_in d = record { faces = d.faces; nodes = d.dom; sheet = d.sheet.now; texts = map element_text_in d.texts.items }
+document_in d = record { faces = d.faces; nodes = d.dom; sheet = d.sheet.now }
+
+-- its sheets are what their texts are read as, in the order of the cascade
+abbrev pub HasSheets : InMemory → Type 0
+HasSheets d = AllZip IsReadFrom (sources_of (element_sheets d.dom) d.sheet.now) d.read

@@ -1,10 +1,9 @@
 -- Laws of books.
 use Rattle.std.specs.Prelude.{◌≡◌}
-use Rattle.metrics.specs.Text.{AreFaces}
 use Rattle.dom.specs.Nodes.{IsTree}
 use Rattle.book.specs.Document.{Document}
 use Rattle.book.specs.Answer.{Book, IsBookOf}
 
--- a document of a metrics text's faces and of a tree has one book
+-- a document has one book
 abbrev pub HasOneBook : Type 0
-HasOneBook = (d : Document) (b c : Book) → AreFaces d.faces → IsTree d.nodes → IsBookOf d b → IsBookOf d c → b ≡ c
+HasOneBook = (d : Document) (b c : Book) → IsTree d.nodes → IsBookOf d b → IsBookOf d c → b ≡ c

@@ -3,9 +3,8 @@ pub mod Document
 pub mod DocumentView
 pub mod Expect
 pub mod FilesView
+pub mod Flow
 pub mod Laws
 pub mod Message
-pub mod Printer
 pub mod Request
 pub mod Run
-pub mod Styled

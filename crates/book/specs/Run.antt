@@ -7,15 +7,16 @@ use Rattle.bk_num.specs.Limits.{most_file_bytes}
 use Rattle.bk_text.specs.Texts.{unmarked}
 use Rattle.bk_io.specs.Shelf.{Told, untold, absent, holds, Faulted}
 use Rattle.bk_io.specs.Causes.{Rose}
-use Rattle.sheets.specs.Sheets.{IsRuleCount}
+use Rattle.unbuilt.specs.Readings.{SheetOf, AreReadings}
 use Rattle.book.specs.Expect.{Expect, free, refused, given, ◌>>=◌, IsRefused, IsRefusedUnlessMemory}
 use Rattle.book.specs.Request.{Names, name_of, asked}
 use Rattle.book.specs.Document.{Texts, Document, document_of}
-use Rattle.book.specs.Answer.{Book, IsBookOf, HasTooManyPages}
+use Rattle.book.specs.Answer.{Book, IsBookOf, HasTooMuchText, HasTooManyPages}
 use Rattle.book.specs.declared.outcome.Outcome.{Outcome}
 use Rattle.book.specs.declared.outcome.Outcome.TheVariants as out
 use Rattle.book.specs.declared.outcome.FileOf.{FileOf}
 use Rattle.book.specs.declared.outcome.FileOf.TheVariants as file
+use Rattle.book.specs.declared.outcome.LimitOf.{LimitOf}
 use Rattle.book.specs.declared.outcome.LimitOf.TheVariants as limit
 
 -- the text of a file within the limit of bytes
@@ -33,16 +34,16 @@ texts_expected ws told = asked ws >>= λ names.
     text_of (file.Sheet 1) (told names.sheet) >>= λ sheet.
     given (record { metrics = metrics; html = html; sheet = sheet })
 
--- what is expected of these words over this shelf: the document, or the first refusal in the order of the steps; `count` gives the number
--- of rules of each sheet's text
-abbrev pub expected : (List ℕ → ℕ) → List (List ℕ) → (List ℕ → Told) → Expect Document
-expected count ws told = texts_expected ws told >>= document_of count
+-- what is expected of these words over this shelf: the document, or the first refusal in the order of the steps; `reading` gives what
+-- each text is read as, as a sheet
+abbrev pub expected : (List ℕ → SheetOf) → List (List ℕ) → (List ℕ → Told) → Expect Document
+expected reading ws told = texts_expected ws told >>= document_of reading
 
--- this is expected of these words over this shelf: by a count of the rules of each text as a sheet, of which there is one
+-- this is expected of these words over this shelf: by the reading of each text as a sheet, of which there is one
 pub record IsExpected (ws : List (List ℕ)) (told : List ℕ → Told) (e : Expect Document) : Type 0 where
-  pub count : List ℕ → ℕ
-  pub counts : IsRuleCount count
-  pub is : e ≡ expected count ws told
+  pub reading : List ℕ → SheetOf
+  pub reads : AreReadings reading
+  pub is : e ≡ expected reading ws told
 
 -- one thing is expected of words over a shelf
 abbrev pub OneIsExpected : Type 0
@@ -80,9 +81,18 @@ Stops free o = Unit {0}
 Stops (refused p) o = (o ≡ p) ⊎ ComesBefore o p
 Stops (given b) o = IsUnforeseen o
 
--- a run over a document that puts nothing: its pages are too many, or no input explains it
+-- the limits that a document's own text and pages pass
+abbrev pub Passes : Document → LimitOf → Type 0
+Passes d limit.Text = HasTooMuchText d
+Passes d limit.Pages = HasTooManyPages d
+Passes d limit.Nodes = ⊥
+Passes d limit.Depth = ⊥
+Passes d limit.Sheets = ⊥
+Passes d limit.Rules = ⊥
+
+-- a run over a document that puts nothing: its text is too much, its pages are too many, or no input explains it
 abbrev pub Ends : Document → Outcome → Type 0
-Ends d (out.Limit what) = (what ≡ limit.Pages) × HasTooManyPages d
+Ends d (out.Limit what) = Passes d what
 Ends d o = IsUnforeseen o
 
 -- the outcome of a run that puts nothing, by what is expected
@@ -90,7 +100,7 @@ abbrev pub Halts : Expect Document → Outcome → Type 0
 Halts (given d) o = Ends d o
 Halts e o = Stops e o
 
--- the texts of the files are laid out no further: a refusal of theirs, or too many pages; want of memory is free
+-- the texts of the files are laid out no further: a refusal of theirs, too much text or too many pages; want of memory is free
 abbrev pub HaltsAt : Expect Document → Outcome → Type 0
 HaltsAt free o = Unit {0}
 HaltsAt (refused p) o = IsRefusedUnlessMemory {A = Document} (refused p) o
@@ -174,14 +184,23 @@ abbrev pub IsOfWords : Outcome → Type 0
 IsOfWords (out.NotRead k) = Unit {0}
 IsOfWords o = ⊥
 
--- a book was put, or its pages are too many, or memory ran out
+-- the limits of a document that is laid out
+abbrev pub IsOfLayout : LimitOf → Type 0
+IsOfLayout limit.Text = Unit {0}
+IsOfLayout limit.Pages = Unit {0}
+IsOfLayout limit.Nodes = ⊥
+IsOfLayout limit.Depth = ⊥
+IsOfLayout limit.Sheets = ⊥
+IsOfLayout limit.Rules = ⊥
+
+-- a book was put, or its text is too much or its pages are too many, or memory ran out
 abbrev pub IsDoneOrTooLong : Outcome → Type 0
 IsDoneOrTooLong (out.Done pages passes) = Unit {0}
-IsDoneOrTooLong (out.Limit what) = what ≡ limit.Pages
+IsDoneOrTooLong (out.Limit what) = IsOfLayout what
 IsDoneOrTooLong out.NoMemory = Unit {0}
 IsDoneOrTooLong o = ⊥
 
--- where a document is expected and neither count of faults rose, the answer is Done or the limit of pages, but for want of memory
+-- where a document is expected and neither count of faults rose, the answer is Done or the limit of text or of pages, but for want of memory
 abbrev pub IsComplete : Expect Document → Type 0 → Type 0 → Outcome → Type 0
 IsComplete (given d) shelf_rose out_rose o = ¬ shelf_rose → ¬ out_rose → IsDoneOrTooLong o
 IsComplete e shelf_rose out_rose o = Unit {0}

@@ -3,12 +3,11 @@
 
 mod document;
 mod files;
+mod flow;
 mod lay_out;
 pub mod message;
 pub mod outcome;
-mod print;
 pub mod run;
-mod styled;
 #[cfg(test)]
 mod tests;
 mod words;

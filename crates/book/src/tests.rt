@@ -17,6 +17,7 @@ use std::alloc::Global;
 use std::marker::Brand;
 use std::sync::ledger::{Blank, Ledger};
 
+mod documents;
 mod style_sheets;
 
 const METRICS: &str = "bookmetrics 1\nface test normal 400 16 12 4 8\nglyph 0300 036F 0\n";
@@ -202,24 +203,17 @@ fn refusals_of_files(rt: HostRuntime) {
     for (metrics, html, sheet, outcome, line) in [
         (
             good,
-            b"<p>a</p><b>".as_slice(),
+            b"<p>a</p><hr>".as_slice(),
             b"".as_slice(),
             not_built(FileOf::Html, 3),
             "bookfmt: not built: html at 3\n",
         ),
         (
             good,
-            b"<head><title>&amp; <b></title><meta></head><body><p style>",
-            b"p{}",
-            not_built(FileOf::Html, 6),
-            "bookfmt: not built: html at 6\n",
-        ),
-        (
-            good,
             b"<p>a</p>",
-            b"p{}",
-            not_built(FileOf::Sheet(1), 1),
-            "bookfmt: not built: sheet 1 at 1\n",
+            b"p{}p{border-left:0}",
+            not_built(FileOf::Sheet(1), 2),
+            "bookfmt: not built: sheet 1 at 2\n",
         ),
         (
             good,
@@ -244,7 +238,7 @@ fn refusals_of_files(rt: HostRuntime) {
         ),
         (
             good,
-            b"<b>",
+            b"<hr>",
             b"a\xE2\x82",
             not_utf8(FileOf::Sheet(1), 1),
             "bookfmt: sheet 1 is not UTF-8 at 1\n",
@@ -258,7 +252,7 @@ fn refusals_of_files(rt: HostRuntime) {
         ),
         (
             weight,
-            b"<b>",
+            b"<hr>",
             b"",
             bad(2, MetricsWhy::Range),
             "bookfmt: metrics line 2: range\n",
@@ -403,29 +397,23 @@ fn nested(alloc: Global, tag: &[u8], count: usize) -> Option<Vec<u8>> {
 
 #[test]
 fn limits_of_trees(rt: HostRuntime) {
-    let not_built = Outcome::NotBuilt {
-        file: FileOf::Html,
-        at: 1,
-    };
     let limit = |what| Outcome::Limit { what };
+    let done = Outcome::Done {
+        pages: 1,
+        passes: 1,
+    };
     for (tag, count, outcome, line) in [
         (
             b"<div>".as_slice(),
             199,
-            not_built,
-            "bookfmt: not built: html at 1\n",
+            done,
+            "bookfmt: 1 pages, 1 passes\n",
         ),
         (
             b"<div>".as_slice(),
             200,
             limit(LimitOf::Depth),
             "bookfmt: limit: depth\n",
-        ),
-        (
-            b"<br>".as_slice(),
-            399999,
-            not_built,
-            "bookfmt: not built: html at 1\n",
         ),
         (
             b"<br>".as_slice(),
@@ -445,6 +433,6 @@ fn limits_of_trees(rt: HostRuntime) {
             return;
         };
         assert_eq!(rt; left.outcome, outcome);
-        assert!(rt; left.written.is_empty() && left.line.as_slice() == line.as_bytes());
+        assert!(rt; left.line.as_slice() == line.as_bytes());
     }
 }

@@ -14,7 +14,7 @@ fn not_built(file: FileOf, at: u64) -> Outcome {
 }
 
 #[test]
-fn a_file_without_rules_is_built(rt: HostRuntime) {
+fn a_file_that_is_built(rt: HostRuntime) {
     let line = "bookfmt: 1 pages, 1 passes\n";
     for sheet in [
         "/* */",
@@ -26,6 +26,12 @@ fn a_file_without_rules_is_built(rt: HostRuntime) {
         "\u{FEFF}",
         "\u{FEFF}\u{FEFF}",
         "p",
+        "p{}",
+        "@media screen{p{float:none}}",
+        // without a reading
+        "p{float:up;border:0 0}",
+        "p::x{float:none}",
+        "a::after{content:target-counter(attr(href),pages)}",
     ] {
         let Some(left) = formatted(rt.alloc(), METRICS.as_bytes(), b"<p>a", sheet.as_bytes()) else {
             assert!(rt; false);
@@ -37,17 +43,19 @@ fn a_file_without_rules_is_built(rt: HostRuntime) {
 }
 
 #[test]
-fn a_file_with_a_rule_is_not_built(rt: HostRuntime) {
+fn a_file_with_a_rule_that_is_not_built(rt: HostRuntime) {
     let line = "bookfmt: not built: sheet 1 at 1\n";
     for sheet in [
-        "p{}",
-        "p{",
-        "\u{FEFF}p{}",
-        "@import \"x\";p{}",
+        "p{float:none}",
+        "p{float:none",
+        "\u{FEFF}p{string-set:a \"b\"}",
+        "@import \"x\";p{background:red}",
         "@page{}",
-        "@page{@top-left{}}",
-        "@media print{p{}}",
+        "p{}@page{@top-left{}}",
+        "@media print{p{border:0}}",
         "@media{@page{}}",
+        "p{counter-reset:page 3}",
+        "a::after{content:target-counter(attr(href),page)}",
     ] {
         let Some(left) = formatted(rt.alloc(), METRICS.as_bytes(), b"<p>a", sheet.as_bytes()) else {
             assert!(rt; false);
@@ -62,45 +70,49 @@ fn a_file_with_a_rule_is_not_built(rt: HostRuntime) {
 fn the_first_node_that_is_not_built_is_told_before_the_file(rt: HostRuntime) {
     let element = |at| not_built(FileOf::Html, at);
     for (html, sheet, outcome) in [
-        // sheets that aren't read, or have no rule
-        ("<head><style media=screen>p{}</style></head><p>a", "", DONE),
-        ("<head><style>/**/</style></head><p>a", "", DONE),
-        ("<head><style>\u{E9}</style></head><p>a", "", DONE),
-        ("<head><style>p{}</style></head><p>a", "", element(2)),
+        // sheets that aren't read, or have nothing that isn't built
+        (
+            "<head><style media=screen>p{float:none}</style></head><p>a",
+            "",
+            DONE,
+        ),
+        ("<head><style>p{color:red}</style></head><p>a", "", DONE),
+        ("<p style=color:red>a", "", DONE),
+        // of an element, a type says nothing
+        (
+            "<head><style>p{float:none}</style></head><p>a",
+            "",
+            element(2),
+        ),
         (
             "<head><title>a</title><style media=\"tv, PRINT\">@page{}</style></head>",
             "",
             element(4),
         ),
-        // a type says nothing, and a `style` attribute isn't built
         (
-            "<head><style type=text/plain>p{}</style></head>",
+            "<body><p>a</p><style type=text/plain>p{float:none}</style>",
             "",
-            element(2),
+            element(4),
         ),
-        ("<head><style style>/**/</style></head>", "", element(2)),
-        // elsewhere a `style` isn't built, whatever it has
-        ("<style>p{}</style><p>a", "", element(1)),
-        ("<style media=screen></style><p>a", "", element(1)),
-        ("<body><style></style>", "", element(2)),
-        // another node before or behind the `style` whose sheet has a rule
+        // a style attribute, and a rule line
+        ("<p>a<p style=border:0>b", "", element(4)),
+        ("<p>a<hr>", "", element(4)),
+        // the first of several
         (
-            "<head><script></script><style>p{}</style></head>",
+            "<head><style>p{}</style><style>p{float:none}</style></head><hr>",
             "",
-            element(2),
+            element(4),
         ),
         (
-            "<head><style></style><style>p{}</style></head><b>",
+            "<p style=float:none>a<style>p{float:none}</style>",
             "",
-            element(3),
+            element(1),
         ),
-        ("<head><style></style></head><b>", "p{}", element(3)),
         // the HTML goes before the file
-        ("<head><style>p{}</style></head>", "p{}", element(2)),
-        ("<p>a<b>", "p{}", element(3)),
+        ("<p>a<hr>", "p{float:none}", element(3)),
         (
-            "<head><style media=screen>p{}</style></head>",
-            "p{}",
+            "<head><style media=screen>p{float:none}</style></head>",
+            "p{float:none}",
             not_built(FileOf::Sheet(1), 1),
         ),
     ] {
@@ -157,15 +169,7 @@ fn limits_come_before_what_is_not_built(rt: HostRuntime) {
             0,
             "bookfmt: 1 pages, 1 passes\n",
         ),
-        (
-            "",
-            "",
-            0,
-            20000,
-            not_built(FileOf::Sheet(1), 1),
-            10,
-            "bookfmt: not built: sheet 1 at 1\n",
-        ),
+        ("", "", 0, 20000, DONE, 0, "bookfmt: 1 pages, 1 passes\n"),
         (
             "",
             "",
@@ -177,7 +181,7 @@ fn limits_come_before_what_is_not_built(rt: HostRuntime) {
         ),
         // sheets, then rules, then what isn't built
         (
-            "<b><head>",
+            "<hr>",
             style,
             16,
             20001,
@@ -186,7 +190,7 @@ fn limits_come_before_what_is_not_built(rt: HostRuntime) {
             "bookfmt: limit: sheets\n",
         ),
         (
-            "<b><head><style>p{}</style>",
+            "<hr><style>p{}</style>",
             style,
             14,
             20001,
@@ -196,7 +200,7 @@ fn limits_come_before_what_is_not_built(rt: HostRuntime) {
         ),
         // the rules of an element
         (
-            "<b><head><style>",
+            "<hr><style>",
             "p{}",
             20001,
             1,

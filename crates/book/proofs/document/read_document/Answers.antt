@@ -1,13 +1,28 @@
-use Rattle.std.proofs.Common.{map}
 use Rattle.std.proofs.lemmas.Result.{err_from_is_err_and}
-use Rattle.plain_html.specs.Texts.{element_text_in}
-use Rattle.book.proofs.Documents.{document_given, room_refused}
+use Rattle.book.specs.Document.{Texts}
+use Rattle.book.specs.declared.document.Texts.{Texts as InMemory}
+use Rattle.book.proofs.Documents.{document_given, form_given, form_refused, sheets_refused, unbuilt_refused}
 use Rattle.book.proofs.document.read_document.Goals as goal
 
-pub returns-in_err-check_room-clause-document : goal.returns-in_err-check_room-clause-document
-returns-in_err-check_room-clause-document c =
-    let p = err_from_is_err_and c.from_residual-in_err-check_room.result c.from_residual-in_err-check_room.ensures.1 in
-    λ count h. rw (p.1, p.2) (room_refused count (record { metrics = c.args.texts.metrics.now; html = c.args.texts.html.now; sheet = c.args.texts.sheet.now }) c.in_ok-faces.faces c.in_ok-dom.dom c.in_ok-verdict.verdict (map element_text_in c.in_ok-paragraphs.paragraphs.items) c.in_ok-faces.ensures.faces c.in_ok-dom.ensures.nodes (c.in_ok-verdict.ensures.verdict count h) c.in_ok-paragraphs.ensures.texts c.in_ok-check_file.ensures.file c.in_err-check_room.field-0.0 (rw c.as_slice.ensures.value at c.in_err-check_room.ensures.room))
+abbrev texts_of : InMemory → Texts
+texts_of t = record { metrics = t.metrics.now; html = t.html.now; sheet = t.sheet.now }
+
+pub returns-in_err-sheets-clause-document : goal.returns-in_err-sheets-clause-document
+returns-in_err-sheets-clause-document c =
+    let p = err_from_is_err_and c.from_residual-in_err-sheets.result c.from_residual-in_err-sheets.ensures.1 in
+    λ reading h. rw (p.1, p.2) (sheets_refused reading (texts_of c.args.texts) c.in_ok-faces.faces c.in_ok-dom.dom
+    c.in_ok-faces.ensures.faces c.in_ok-dom.ensures.nodes c.in_err-sheets.field-0.0 (c.in_err-sheets.ensures.sheets reading h))
+
+pub returns-in_err-check_form-clause-document : goal.returns-in_err-check_form-clause-document
+returns-in_err-check_form-clause-document c =
+    let p = err_from_is_err_and c.from_residual-in_err-check_form.result c.from_residual-in_err-check_form.ensures.1 in
+    λ reading h. rw (p.1, p.2) (unbuilt_refused reading (texts_of c.args.texts) c.in_ok-faces.faces c.in_ok-dom.dom
+    c.in_ok-faces.ensures.faces c.in_ok-dom.ensures.nodes (c.in_ok-sheets.ensures.sheets reading h) c.in_err-check_form.field-0.0
+    (form_refused reading c.in_ok-dom.dom c.args.texts.sheet.now c.in_ok-sheets.sheets c.in_err-check_form.field-0.0
+    (c.in_ok-sheets.ensures.found reading h) c.in_err-check_form.ensures.form))
 
 pub returns-clause-document : goal.returns-clause-document
-returns-clause-document c = λ count h. document_given count (record { metrics = c.args.texts.metrics.now; html = c.args.texts.html.now; sheet = c.args.texts.sheet.now }) c.in_ok-faces.faces c.in_ok-dom.dom c.in_ok-verdict.verdict (map element_text_in c.in_ok-paragraphs.paragraphs.items) c.in_ok-faces.ensures.faces c.in_ok-dom.ensures.nodes (c.in_ok-verdict.ensures.verdict count h) c.in_ok-paragraphs.ensures.texts c.in_ok-check_file.ensures.file (rw c.as_slice.ensures.value at c.in_ok-check_room.ensures.room)
+returns-clause-document c =
+    λ reading h. document_given reading (texts_of c.args.texts) c.in_ok-faces.faces c.in_ok-dom.dom c.in_ok-faces.ensures.faces
+    c.in_ok-dom.ensures.nodes (c.in_ok-sheets.ensures.sheets reading h) (form_given reading c.in_ok-dom.dom c.args.texts.sheet.now
+    c.in_ok-sheets.sheets (c.in_ok-sheets.ensures.found reading h) c.in_ok-check_form.ensures.form)

@@ -3,15 +3,11 @@ use Rattle.bk_num.specs.Limits.{most_pages}
 use Rattle.boxes.specs.Frames.{meets_by_parity}
 use Rattle.boxes.specs.declared.frames.Frame.{Frame}
 use Rattle.fragment.specs.Pages.{PageFrames, IsPaged, LeavesSome}
-use Rattle.fragment.proofs.PlainLemmas.{plain_paged}
 use Rattle.book.proofs.lay_out.pages_of.Goals as goal
 
 -- one frame for all pages
 abbrev same : Frame → PageFrames
 same frame = record { meets = meets_by_parity; frame_of = λ index name kind. frame }
-
-pub paginate-requires : goal.paginate-requires
-paginate-requires g c = record { flow = plain_paged c.args.faces.now c.args.flow.now c.requires.whole c.requires.depth c.requires.bytes c.requires.notes c.requires.leaves }
 
 pub returns-in-Ok-clause-pages : goal.returns-in-Ok-clause-pages
 returns-in-Ok-clause-pages g c = subst (λ (frame : Frame). IsPaged c.args.faces.now c.args.flow.now.main (same frame) c.in-Ok.list.pages) c.page_frame.ensures c.in-Ok.ensures.pages

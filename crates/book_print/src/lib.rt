@@ -1,0 +1,4 @@
+//! Prints a page list.
+#![tactic(auto)]
+
+pub mod print;

@@ -1,5 +1,0 @@
-pub mod EventLemmas
-pub mod LeafLemmas
-pub mod PlaceLemmas
-mod Rows
-pub mod TreeLemmas

@@ -1,4 +1,0 @@
-use Rattle.plain_flow.proofs.tests.pages_of.Given as goal
-
-abbrev pub ghosts-counted : goal.ghosts-counted
-ghosts-counted a = record { name = a.token.name; parts = a.token.parts }
