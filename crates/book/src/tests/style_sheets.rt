@@ -95,8 +95,8 @@ fn the_first_node_that_is_not_built_is_told_before_the_file(rt: HostRuntime) {
             element(4),
         ),
         // a style attribute, and a rule line
-        ("<p>a<p style=border:0>b", "", element(4)),
-        ("<p>a<hr>", "", element(4)),
+        ("<p>a<p style=border:0>b", "", element(3)),
+        ("<p>a<hr>", "", element(3)),
         // the first of several
         (
             "<head><style>p{}</style><style>p{float:none}</style></head><hr>",
