@@ -30,7 +30,7 @@ BOOKS = {
     "letters that break anywhere": (lambda size: "<p>" + "a" * size, "p{overflow-wrap:anywhere}"),
     "line breaks": (lambda size: "<p>" + "<br>" * (size // 12), ""),
     "inline elements one after another": (lambda size: "<p>" + "<b>a</b> " * (size // 24), ""),
-    "inline elements in one another": (lambda size: "<p>" + ("<b>" * 150 + "a " + "</b>" * 150) * (size // 1052), ""),
+    "inline elements in one another": (lambda size: "<p>" + ("<b>" * 150 + "a " + "</b>" * 150) * (size // 1200), ""),
     "blocks in one another": (lambda size: ("<div>" * 150 + "a" + "</div>" * 150) * (size // 1651), ""),
     "soft hyphens": (lambda size: "<p>" + "ab\u00ad" * (size // 4), ""),
     "spaces that are kept": (lambda size: "<pre>" + "a " * (size // 2), "pre{white-space:pre-wrap}"),

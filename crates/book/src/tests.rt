@@ -18,6 +18,7 @@ use std::marker::Brand;
 use std::sync::ledger::{Blank, Ledger};
 
 mod documents;
+mod frames;
 mod style_sheets;
 
 const METRICS: &str = "bookmetrics 1\nface test normal 400 16 12 4 8\nglyph 0300 036F 0\n";

@@ -81,6 +81,35 @@ fn white_space_collapses_over_parts(rt: HostRuntime) -> Result<(), Fail> {
     Ok(())
 }
 
+/// Modes side by side, as pairs of letters, and what a space at the end of a text and one at the start of the next come to
+/// in them: the second goes where both collapse.
+const PAIRS: &str = "nn nw nl wn ww wl ln lw ll=a |b|#\
+    np nr wp wr lp lr pn pw pp pr pl rn rw rp rr rl=a | b|";
+
+/// Whether a space in one mode and a space in the next come to a text.
+fn come_to(alloc: Global, pair: &str, want: &str) -> Option<bool> {
+    let (first, second) = pair.split_at_checked(1)?;
+    let row = format!(in alloc; "{first}a |{second} b").ok()?;
+    Some(collapsed(alloc, row.as_str()).ok()?.as_str() == want)
+}
+
+#[test]
+fn spaces_of_two_modes_meet(rt: HostRuntime) {
+    let alloc = rt.alloc();
+    let mut count = 0;
+    for entry in PAIRS.split('#') {
+        let Some((pairs, want)) = entry.split_once('=') else {
+            assert!(rt; false, "{entry}");
+            return;
+        };
+        for pair in pairs.split(' ') {
+            assert!(rt; come_to(alloc, pair, want) == Some(true), "{pair}");
+            count += 1;
+        }
+    }
+    assert_eq!(rt; count, 25);
+}
+
 /// A span: `wrap` and `anywhere` are named by a letter.
 fn span_of(from: u32, to: u32, letter: char) -> Span
     ensures from { result.from ≡ from }

@@ -155,7 +155,7 @@ const ROWS: [Row; 11] = [
 ];
 
 /// A record with its face, size and color written out.
-fn push_record(listing: &mut String, record: &str) -> Option<()> {
+pub(super) fn push_record(listing: &mut String, record: &str) -> Option<()> {
     match record.split_once(" F ") {
         Some((before, after)) => {
             listing.push_str(before).ok()?;
