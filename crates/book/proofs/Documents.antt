@@ -1,15 +1,12 @@
 -- What each step of a document gives comes to the document, or to its refusal.
-use Rattle.std.proofs.Common.{◌≡◌, ℕ, List, length, nat_lt, true, false, Option, Result, Ok, Err, refl, sym, subst}
-use Rattle.std.specs.List.{list_any}
-use Rattle.bk_num.specs.Limits.{most_sheets}
+use Rattle.std.proofs.Common.{◌≡◌, ℕ, List, Ok, Err, refl, subst}
 use Rattle.metrics.specs.Text.{faces_of}
 use Rattle.metrics.specs.Face.{FontFace}
 use Rattle.dom.specs.Nodes.{Node}
 use Rattle.html_tree.specs.Tree.{tree_of}
-use Rattle.sheets.specs.Sheets.{sheets_of}
-use Rattle.unbuilt.specs.Nodes.{first_unbuilt, unbuilt_node}
-use Rattle.unbuilt.specs.Readings.{SheetOf, unbuilt_place}
-use Rattle.unbuilt.specs.Sources.{AreRead, has_many_rules, numbers_of}
+use Rattle.unbuilt.specs.Nodes.{first_unbuilt}
+use Rattle.unbuilt.specs.Readings.{SheetOf}
+use Rattle.unbuilt.specs.Sources.{AreRead, numbers_of}
 use Rattle.unbuilt.specs.declared.run_sheets.Sheets.{Sheets}
 use Rattle.unbuilt.specs.declared.run_sheets.SheetsErr.TheVariants as err
 use Rattle.book.specs.Expect.{IsGiven, IsRefusedUnlessMemory}

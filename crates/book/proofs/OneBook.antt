@@ -2,11 +2,9 @@
 use Rattle.std.proofs.Common.{◌≡◌, ◌∙◌, ℕ, List, [], ◌∷◌, length, refl, sym, ap, subst}
 use Rattle.std.specs.List.{AllZip}
 use Rattle.bk_num.specs.declared.values.Pseudo.{Pseudo}
-use Rattle.boxes.specs.Tree.{Tree}
 use Rattle.boxes.specs.declared.flow.Flow.{Flow}
 use Rattle.boxes.specs.declared.page.Page.{Page}
 use Rattle.box_gen.specs.Flow.{flow_of}
-use Rattle.box_gen.specs.Trees.{Source}
 use Rattle.cascade.specs.Sheets.{sheet_of}
 use Rattle.cascade.specs.declared.sheet.ReadSheet.{ReadSheet}
 use Rattle.computed.specs.Document.{AreDocumentStyles}
@@ -14,7 +12,7 @@ use Rattle.computed.specs.Laws.{StylesAreOne}
 use Rattle.counters.specs.Document.{values_of}
 use Rattle.css_rules.specs.Sheet.{HaveOneReading}
 use Rattle.css_tok.specs.Tokens.{tokens_of}
-use Rattle.dom.specs.Nodes.{Node, IsTree}
+use Rattle.dom.specs.Nodes.{IsTree}
 use Rattle.fragment.specs.Pages.{IsPaged, HasOnePageList}
 use Rattle.gen_text.specs.Generated.{AreGenerated, AreOne, GeneratedIsOne, generated_text, assigned_strings, source_of as texts_from}
 use Rattle.gen_text.specs.declared.generated.NodeTexts.{NodeTexts}

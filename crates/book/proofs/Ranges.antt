@@ -1,8 +1,7 @@
 -- Computed styles are in the ranges that boxes ask for, and the root has one.
-use Rattle.std.proofs.Common.{◌≡◌, ℕ, true, IsTrue, List, Some, slice_get, refl}
+use Rattle.std.proofs.Common.{ℕ, List}
 use Rattle.bk_num.specs.declared.length.Len.{Len}
 use Rattle.bk_num.specs.declared.length.Len.TheVariants as len
-use Rattle.bk_num.specs.declared.values.Pseudo.{Pseudo}
 use Rattle.boxes.specs.Contents.{IsNotNegative, IsNotAuto}
 use Rattle.box_gen.specs.Sources.{IsHeight, IsInRange, AreInRange, IsRootShown}
 use Rattle.cascade.specs.declared.sheet.ReadSheet.{ReadSheet}
@@ -10,7 +9,7 @@ use Rattle.computed.specs.Document.{AreDocumentStyles}
 use Rattle.computed.specs.Laws.{StylesKeepRanges, RootIsShown}
 use Rattle.computed.specs.Ranges.{IsNotNegative as IsLeast, IsNotAuto as IsGiven, IsHeight as IsLeastHeight, IsInRange as IsComputed}
 use Rattle.dom.specs.Nodes.{Node, IsTree}
-use Rattle.style.specs.Nodes.{NodeStyles, style_at, is_shown_in}
+use Rattle.style.specs.Nodes.{NodeStyles}
 use Rattle.style.specs.declared.style.Style.{Style}
 use Rattle.style.specs.declared.values.LineHeight.{LineHeight}
 use Rattle.style.specs.declared.values.LineHeight.TheVariants as height

@@ -1,6 +1,6 @@
 //! The flow of a document.
 
-ghost use Rattle.std.specs.Prelude.{◌≡◌, ◌<◌, ◌≤◌, ◌⊎◌, [], length, IfOk, IfErr};
+ghost use Rattle.std.specs.Prelude.{◌≡◌, ◌<◌, ◌≤◌, ◌⊎◌, [], IfOk, IfErr};
 ghost use Rattle.bk_num.specs.Limits.{most_text_bytes};
 ghost use Rattle.box_gen.specs.Sites.{leaf_bytes};
 ghost use Rattle.box_gen.specs.Sources.{AreInRange, IsRootShown};

@@ -1,5 +1,5 @@
 -- How many boxes of a flow are open at once.
-use Rattle.std.proofs.Common.{◌≡◌, ◌∙◌, ℕ, zero, suc, ◌+◌, ◌-◌, ◌<◌, ◌≤◌, ◌==◌, Bool, true, false, not, max, List, [], ◌∷◌, ◌++◌, Option, None, Some, length, slice_get, option_map, refl, sym, ap, subst, arith, ◌⊎◌, inl, inr}
+use Rattle.std.proofs.Common.{◌≡◌, ◌∙◌, ℕ, zero, suc, ◌+◌, ◌-◌, ◌<◌, ◌≤◌, ◌==◌, Bool, true, false, not, List, [], ◌∷◌, Option, None, Some, length, slice_get, option_map, refl, sym, ap, subst, arith}
 use Rattle.std.proofs.lemmas.Option.{slice_get-map}
 use Rattle.boxes.specs.declared.leaf.Leaf.{Leaf as LeafData}
 use Rattle.boxes.specs.declared.place.Event.TheVariants.{Opens, Closes, Leaf}
@@ -10,12 +10,11 @@ use Rattle.dom.specs.Nodes.{Node, NodeData, Element, Text, HasPlace, IsTree, dep
 use Rattle.dom.specs.Walk.{children_of}
 use Rattle.dom.proofs.WalkLemmas.{falling}
 use Rattle.style.specs.declared.style.Style.{Style}
-use Rattle.style.specs.Nodes.{NodeStyles}
 use Rattle.style.specs.Styles.{initial_style}
 use Rattle.box_gen.specs.declared.inline.InlineItem.{InlineItem}
 use Rattle.box_gen.specs.declared.inline.InlineItem.TheVariants as item
-use Rattle.box_gen.specs.Flow.{Built, built_of, close_by, end, nothing, opened, put_by, shut, with_run, first_items, last_items}
-use Rattle.box_gen.specs.Gather.{Gathered, adds, begun, ended, gather_node, gathered, make}
+use Rattle.box_gen.specs.Flow.{Built, built_of, close_by, end, nothing, put_by, shut, with_run, first_items, last_items}
+use Rattle.box_gen.specs.Gather.{Gathered, adds, begun, gather_node, gathered, make}
 use Rattle.box_gen.specs.Leaves.{leaf_by, leaf_style_of}
 use Rattle.box_gen.specs.Props.{anonymous_props, props_of}
 use Rattle.box_gen.specs.Runs.{spans_of, text_of}

@@ -1,5 +1,5 @@
 -- The faces of a flow's leaves and of their markers are there.
-use Rattle.std.proofs.Common.{◌≡◌, ℕ, ◌+◌, ◌<◌, ◌==◌, Bool, true, false, cond, ltb, not, List, [], ◌∷◌, ◌++◌, Option, None, Some, length, get_or, position, slice_get, unwrap_or, refl, sym, ap, subst, arith}
+use Rattle.std.proofs.Common.{◌≡◌, ℕ, ◌+◌, ◌<◌, ◌==◌, Bool, true, false, cond, ltb, not, List, [], ◌∷◌, ◌++◌, Option, None, Some, length, position, unwrap_or, refl, sym, ap, subst}
 use Rattle.std.specs.List.{All}
 use Rattle.std.proofs.lemmas.List.Elements.{All-nil, All-cons, All-head, All-tail}
 use Rattle.std.proofs.lemmas.Option.{get_or_from_slice_get, slice_get_within}
@@ -25,7 +25,7 @@ use Rattle.box_gen.specs.declared.inline.InlineItem.{InlineItem}
 use Rattle.box_gen.specs.declared.inline.InlineItem.TheVariants as item
 use Rattle.box_gen.specs.declared.text_style.TextStyle.{TextStyle}
 use Rattle.box_gen.specs.Faces.{AreFaced, face_of, is_first}
-use Rattle.box_gen.specs.Flow.{Built, built_of, nothing, without, with_run, put_by, closed, leads_of, first_items, last_items, generated_by, generated_items, represented_items, styled, text_item}
+use Rattle.box_gen.specs.Flow.{Built, built_of, nothing, without, with_run, put_by, leads_of, first_items, last_items, generated_by, generated_items, represented_items, styled, text_item}
 use Rattle.box_gen.specs.Gather.{Gathered, make, adds, begun, ended}
 use Rattle.box_gen.specs.Leaves.{leaf_by, leaf_style_of}
 use Rattle.box_gen.specs.Props.{anonymous_props}

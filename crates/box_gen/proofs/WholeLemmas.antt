@@ -1,15 +1,15 @@
 -- The tree of a document whose root is shown is whole.
-use Rattle.std.proofs.Common.{◌≡◌, ◌∙◌, ℕ, ◌-◌, ◌<◌, ◌==◌, Bool, true, false, cond, not, IsTrue, List, [], ◌∷◌, Option, None, Some, length, slice_get, refl, sym, ap, subst, arith}
+use Rattle.std.proofs.Common.{◌≡◌, ◌∙◌, ℕ, ◌-◌, Bool, true, cond, not, IsTrue, List, [], ◌∷◌, Option, None, Some, length, slice_get, refl, sym, ap, subst, arith}
 use Rattle.std.proofs.lemmas.Option.{slice_get_within}
 use Rattle.bk_num.specs.declared.values.Pseudo.TheVariants as pseudo
 use Rattle.boxes.specs.declared.place.Event.TheVariants.{Closes}
-use Rattle.boxes.specs.Tree.{Tree, IsWhole, open_after, takes_leaf}
-use Rattle.dom.specs.Nodes.{Node, NodeData, Element, Text, IsTree, is_element, is_element_at, is_element_node, parents_of, part_of, text_at, text_in}
+use Rattle.boxes.specs.Tree.{IsWhole, takes_leaf}
+use Rattle.dom.specs.Nodes.{Node, NodeData, Element, Text, IsTree, is_element, is_element_node, parents_of, part_of, text_in}
 use Rattle.style.specs.declared.style.Style.{Style}
 use Rattle.style.specs.Nodes.{NodeStyles, is_shown_in, style_of}
 use Rattle.style.specs.Styles.{initial_style}
 use Rattle.box_gen.specs.Flow.{Built, built_of, closed, nothing, shut, with_run, last_items}
-use Rattle.box_gen.specs.Gather.{Gathered, adds, begun, ended, gather_node, gathered, make}
+use Rattle.box_gen.specs.Gather.{Gathered, adds, begun, gather_node, gathered, make}
 use Rattle.box_gen.specs.Sources.{IsRootShown}
 use Rattle.box_gen.specs.Trees.{Source, Forest, below, Role, hidden, block, element_role, role_by, role_of, shown_role}
 use Rattle.box_gen.proofs.DepthLemmas.{built-gathered}

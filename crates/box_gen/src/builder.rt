@@ -1,6 +1,6 @@
 //! The walk over the nodes of a document, step by step.
 
-ghost use Rattle.std.specs.Prelude.{◌≡◌, ◌<◌, ◌≤◌, ◌++◌, ◌∷◌, ◌==◌, [], None, filter, length, not, IfErr, OnOk, IsSome, IsTrue, option_map};
+ghost use Rattle.std.specs.Prelude.{◌≡◌, ◌<◌, ◌++◌, ◌∷◌, ◌==◌, [], None, filter, length, not, IfErr, OnOk, IsSome, IsTrue};
 ghost use Rattle.bk_num.specs.Limits.{most_text_bytes};
 ghost use Rattle.boxes.specs.Tree.{innermost_of, takes_box};
 ghost use Rattle.dom.specs.Walk.{node_of};

@@ -1,6 +1,6 @@
 //! The table of pages by the page rules of all sheets.
 
-ghost use Rattle.std.specs.Prelude.{◌≡◌, ◌<◌, ◌≤◌, Some, IfOk, length, map, slice_get};
+ghost use Rattle.std.specs.Prelude.{◌≡◌, ◌<◌, Some, IfOk, length, map, slice_get};
 ghost use Rattle.std.specs.List.{All};
 ghost use Rattle.boxes.specs.Frames.{IsGoodFrame};
 ghost use Rattle.page_seq.specs.Frames.{HasGoodCells, IsGoodTable};

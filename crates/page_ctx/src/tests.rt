@@ -1,10 +1,8 @@
 //! Pages by their rules.
 
 use crate::tables::table_by;
-use bk_num::ids::NameId;
 use bk_num::items::Items;
 use bk_num::name::NoMem;
-use boxes::frames::PageKind;
 use boxes::table::{PageCell, PageTable};
 use css_page::rules::{PageRule, read_page_rule};
 use css_rules::sheet::read_sheet;

@@ -1,6 +1,6 @@
 //! Computed values of declared ones. The parent of a page has the initial values.
 
-ghost use Rattle.std.specs.Prelude.{◌≡◌, ◌≤◌, ◌^◌, unsigned_abs, pos};
+ghost use Rattle.std.specs.Prelude.{◌≡◌, ◌≤◌, ◌^◌, unsigned_abs};
 ghost use Rattle.page_ctx.specs.Values.{held, units_of, size_of};
 
 use bk_num::decimal::Decimal;
