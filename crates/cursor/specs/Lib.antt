@@ -1,4 +1,3 @@
 pub mod Conditions
 pub mod Fields
-pub mod Plain
 pub mod Remainder

@@ -7,7 +7,6 @@ pub mod InsideLemmas
 pub mod NearLemmas
 pub mod PageLemmas
 pub mod PartLemmas
-pub mod PlainLemmas
 pub mod PrefixLemmas
 pub mod SizeLemmas
 pub mod TextLemmas
