@@ -1,6 +1,9 @@
 //! Documents on a frame of ten characters and three lines: what each page shows, and the level of its end.
 
-ghost use Rattle.std.specs.Prelude.{◌≡◌, ◌<◌};
+ghost use Rattle.std.specs.Prelude.{◌≡◌, ◌<◌, ◌≤◌, length, IfSome};
+ghost use Rattle.bk_num.specs.Limits.{most_pages};
+ghost use Rattle.fragment.specs.Conditions.{CanBePaged};
+ghost use Rattle.paint.specs.Conditions.{CanFlowBePainted};
 
 use super::METRICS;
 use super::documents::push_record;
@@ -9,7 +12,7 @@ use crate::flow::{SetFlow, flow_of};
 use bk_num::steps::Steps;
 use book_print::print::{Printer, print};
 use boxes::frames::{Frame, OneFrame};
-use boxes::page::Page;
+use boxes::page::{Page, PageList};
 use fragment::paginate::paginate;
 use std::alloc::Global;
 use std::marker::Brand;
@@ -196,33 +199,69 @@ fn levels_of(alloc: Global, pages: &[Page]) -> Option<String> {
     Some(levels)
 }
 
-/// The listing of a document on the frame, and the levels of its pages.
-fn laid_out<L: Ledger>(
-    alloc: Global,
-    html: &str,
-    sheet: &str,
-    token: Blank,
-) -> Option<(Vec<u8>, String)>
-    requires name { token.name ≡ L.name }
-    requires parts { token.parts ≡ L.parts }
-    requires some { 0 < L.parts }
+/// The pages of a flow on the frame.
+fn pages_on<L: Ledger>(alloc: Global, set: &SetFlow, steps: &mut Steps<L>) -> Option<PageList>
+    requires { CanBePaged set.now.faces set.now.flow }
+    ensures { IfSome result (λ list. length list.pages ≤ most_pages) }
 {
-    let mut steps = Steps::<L>::zero(token);
+    match paginate(alloc, &set.flow, &set.faces, &FRAME, steps) {
+        Ok(list) => Some(list),
+        Err(_) => None,
+    }
+}
+
+/// The listing of pages.
+fn printed<L: Ledger>(
+    alloc: Global,
+    set: &SetFlow,
+    pages: &[Page],
+    steps: &mut Steps<L>,
+) -> Option<Vec<u8>>
+    requires few { length pages.now ≤ most_pages }
+    requires painted { CanFlowBePainted set.now.faces set.now.flow }
+{
+    let printer = Printer {
+        faces: &set.faces,
+        flow: &set.flow,
+        names: &set.names,
+    };
+    match print(alloc, &printer, pages, steps) {
+        Ok(bytes) => Some(bytes),
+        Err(_) => None,
+    }
+}
+
+/// The flow of a document and a sheet.
+fn set_of(alloc: Global, html: &str, sheet: &str) -> Option<SetFlow>
+    ensures paged { IfSome result (λ s. CanBePaged s.faces s.flow) }
+    ensures painted { IfSome result (λ s. CanFlowBePainted s.faces s.flow) }
+{
     let texts = Texts {
         metrics: METRICS,
         html,
         sheet,
     };
-    let document = read_document(alloc, texts).ok()?;
-    let SetFlow { faces, names, flow } = flow_of(alloc, document).ok()?;
-    let list = paginate(alloc, &flow, &faces, &FRAME, &mut steps).ok()?;
-    let pages = list.pages.as_slice();
-    let printer = Printer {
-        faces: &faces,
-        flow: &flow,
-        names: &names,
+    let Ok(document) = read_document(alloc, texts) else {
+        return None;
     };
-    let bytes = print(alloc, &printer, pages, &mut steps).ok()?;
+    match flow_of(alloc, document) {
+        Ok(set) => Some(set),
+        Err(_) => None,
+    }
+}
+
+/// The listing of a flow on the frame, and the levels of its pages.
+fn laid_out<L: Ledger>(alloc: Global, set: &SetFlow, token: Blank) -> Option<(Vec<u8>, String)>
+    requires paged { CanBePaged set.now.faces set.now.flow }
+    requires painted { CanFlowBePainted set.now.faces set.now.flow }
+    requires name { token.name ≡ L.name }
+    requires parts { token.parts ≡ L.parts }
+    requires some { 0 < L.parts }
+{
+    let mut steps = Steps::<L>::zero(token);
+    let list = pages_on(alloc, set, &mut steps)?;
+    let pages = list.pages.as_slice();
+    let bytes = printed(alloc, set, pages, &mut steps)?;
     Some((bytes, levels_of(alloc, pages)?))
 }
 
@@ -254,7 +293,8 @@ fn expected(alloc: Global, row: &Row) -> Option<String> {
 fn shows(alloc: Global, row: &Row) -> Option<bool> {
     let mut sheet = String::from_str(alloc, "p{margin:0}").ok()?;
     sheet.push_str(row.sheet).ok()?;
-    let (listing, levels) = laid_out::<Brand>(alloc, row.html, sheet.as_str(), Blank::new(1))?;
+    let set = set_of(alloc, row.html, sheet.as_str())?;
+    let (listing, levels) = laid_out::<Brand>(alloc, &set, Blank::new(1))?;
     let found = records_of(alloc, &listing)?;
     Some(levels.as_str() == row.levels && found.as_str() == expected(alloc, row)?.as_str())
 }
