@@ -1,7 +1,5 @@
 -- Computed values keep their ranges.
 use Rattle.std.proofs.Common.{◌≡◌, ◌∙◌, ◌≤ℤ◌, ℕ, zero, suc, ◌<◌, ℤ, pos, Bool, true, false, List, [], ◌∷◌, Option, None, Some, is_some, length, fold, unwrap_or, slice_get, refl, sym, subst, arith}
-use Rattle.std.proofs.lemmas.Int.{ints, int_max_is}
-use Rattle.bk_num.specs.Lengths.{part}
 use Rattle.bk_num.specs.Tables.{value_of}
 use Rattle.bk_num.specs.declared.length.Len.{Len}
 use Rattle.bk_num.specs.declared.length.Len.TheVariants as len
@@ -13,16 +11,11 @@ use Rattle.style.specs.Styles.{initial_style, zero_len}
 use Rattle.style.specs.declared.style.Style.{Style}
 use Rattle.style.specs.declared.values.BorderStyle.{BorderStyle}
 use Rattle.style.specs.declared.values.BorderStyle.TheVariants as border
-use Rattle.style.specs.declared.values.FontSize.{FontSize}
-use Rattle.style.specs.declared.values.FontSize.TheVariants as size
-use Rattle.style.specs.declared.values.GivenHeight.{GivenHeight}
-use Rattle.style.specs.declared.values.GivenHeight.TheVariants as given_height
-use Rattle.style.specs.declared.long.Given.{Given}
-use Rattle.style.specs.declared.long.Given.TheVariants as given
 use Rattle.style.specs.declared.long.Long.{Long}
 use Rattle.style.specs.declared.long.Long.TheVariants as long
 use Rattle.cascade.specs.declared.table.NodeWinners.{NodeWinners}
-use Rattle.computed.specs.Values.{given_by, held, held_len, len_of, without_auto, width_of, size_of, height_of, units_of}
+use Rattle.computed_values.specs.Values.{given_by, held, held_len, len_of, without_auto, width_of, size_of, height_of, units_of}
+use Rattle.computed_values.proofs.RangeLemmas.{held_least, given_in, size_least, height_least}
 use Rattle.computed.specs.Context.{bare, noted, settled, context_of, rem_of}
 use Rattle.computed.specs.Applied.{medium, begun, applied, computed_style}
 use Rattle.computed.specs.declared.context.Context.{Context}
@@ -32,15 +25,6 @@ use Rattle.computed.proofs.OneLemmas.{past_within}
 use Rattle.computed.proofs.WalkLemmas.{falls, some-is}
 
 -- ---- one value
-
-held_least : (z : ℤ) → pos 0 ≤ℤ held z
-held_least z = omega (arith, ints, int_max_is z (pos 0))
-
--- what a declaration gives is in a range where each computed value, the parent's and the initial one are
-given_in : {A B : Type 0} (P : B → Type 0) (f : A → B) (g : Given A) (inherited initial : B) → ((v : A) → P (f v)) → P inherited → P initial → P (given_by f g inherited initial)
-given_in P f (given.Value v) inherited initial h p i = h v
-given_in P f given.Inherit inherited initial h p i = p
-given_in P f given.Initial inherited initial h p i = i
 
 held_len_least : (l : Len) → IsNotNegative (held_len l)
 held_len_least len.Auto = tt
@@ -70,15 +54,6 @@ width_least border.Solid w h = h
 
 medium_least : pos 0 ≤ℤ medium
 medium_least = omega arith
-
-size_least : (parent root : ℤ) (s : FontSize) → pos 0 ≤ℤ size_of parent root s
-size_least parent root (size.Size m) = held_least (units_of parent root parent m)
-size_least parent root size.Smaller = held_least (part (record { units = pos 5; places = 0 }) parent 6)
-size_least parent root size.Larger = held_least (part (record { units = pos 6; places = 0 }) parent 5)
-
-height_least : (font root : ℤ) (h : GivenHeight) → IsHeight (height_of font root h)
-height_least font root (given_height.Number d) = held_least d.units
-height_least font root (given_height.Size m) = held_least (units_of font root font m)
 
 -- ---- the context
 

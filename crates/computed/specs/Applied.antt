@@ -8,7 +8,7 @@ use Rattle.style.specs.declared.values.Display.TheVariants as display
 use Rattle.style.specs.declared.long.Long.{Long}
 use Rattle.style.specs.declared.long.Long.TheVariants as long
 use Rattle.computed.specs.declared.context.Context.{Context}
-use Rattle.computed.specs.Values.{given_by, same, held, len_of, without_auto, held_len, width_of, weight_of, height_of, color_of, units_of}
+use Rattle.computed_values.specs.Values.{given_by, same, held, len_of, without_auto, held_len, width_of, weight_of, height_of, color_of, units_of}
 use Rattle.computed.specs.Context.{context_of}
 
 -- `medium`, the initial width of a border: 3 px (CSS 2.1, 8.5.1)

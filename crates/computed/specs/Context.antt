@@ -7,7 +7,7 @@ use Rattle.style.specs.declared.values.BorderStyle.TheVariants as border
 use Rattle.style.specs.declared.long.Long.{Long}
 use Rattle.style.specs.declared.long.Long.TheVariants as long
 use Rattle.computed.specs.declared.context.Context.{Context}
-use Rattle.computed.specs.Values.{given_by, same, size_of}
+use Rattle.computed_values.specs.Values.{given_by, same, size_of}
 
 -- that of an element without winners
 abbrev pub bare : Style → Context

@@ -1,4 +1,3 @@
-pub mod Values
 pub mod Context
 pub mod Applied
 pub mod Names

@@ -4,7 +4,7 @@ use Rattle.bk_num.specs.declared.length.Len.{Len}
 use Rattle.bk_num.specs.declared.length.Len.TheVariants as len
 use Rattle.style.specs.declared.style.Style.{Style}
 use Rattle.style.specs.declared.values.LineHeight.{LineHeight}
-use Rattle.style.specs.declared.values.LineHeight.TheVariants as height
+pub use Rattle.computed_values.specs.Values.{IsHeight}
 
 abbrev pub IsNotNegative : Len → Type 0
 IsNotNegative len.Auto = Unit {0}
@@ -15,10 +15,6 @@ abbrev pub IsNotAuto : Len → Type 0
 IsNotAuto len.Auto = ⊥
 IsNotAuto (len.Px p) = Unit {0}
 IsNotAuto (len.Percent d) = Unit {0}
-
-abbrev pub IsHeight : LineHeight → Type 0
-IsHeight (height.Number d) = pos 0 ≤ℤ d.units
-IsHeight (height.Px p) = pos 0 ≤ℤ p
 
 -- a padding isn't negative, and no `auto` (CSS 2.1, 8.4)
 pub record IsPadding (l : Len) : Type 0 where

@@ -2,18 +2,19 @@
 
 ghost use Rattle.std.specs.Prelude.{◌≡◌, [], None, IfOk, OnOk};
 ghost use Rattle.style.specs.Styles.{initial_style};
-ghost use Rattle.computed.specs.Values.{given_by, same};
+ghost use Rattle.computed_values.specs.Values.{given_by, same};
 ghost use Rattle.computed.specs.Applied.{begun, applied, style_in, computed_style};
 
 use crate::context::{Context, context_of};
 use crate::values::{
-    chosen, chosen_border, chosen_color, chosen_height, chosen_len, chosen_padding, chosen_weight,
-    chosen_width, chosen_without_auto, medium_of,
+    chosen_border, chosen_len, chosen_padding, chosen_width, chosen_without_auto, medium_of,
 };
 use bk_num::ids::NameId;
 use bk_num::name::NoMem;
 use bk_num::px::Px;
 use bk_num::values::{Align, BreakAt, NumStyle, WhiteSpace};
+use computed_values::fonts::{chosen_height, chosen_weight};
+use computed_values::given::{chosen, chosen_color};
 use std::alloc::Global;
 use style::content::Content;
 use style::lists::{CounterList, Families, StringSets};
@@ -167,7 +168,12 @@ fn apply(
         Long::FontFamily(g) => style.font_family = chosen_families(alloc, g, &parent.font_family)?,
         Long::FontStyle(g) => style.font_style = chosen(g, parent.font_style, false),
         Long::FontWeight(g) => style.font_weight = chosen_weight(g, parent.font_weight),
-        Long::LineHeight(g) => style.line_height = chosen_height(g, &parent.line_height, context),
+        Long::LineHeight(g) => style.line_height = chosen_height(
+            g,
+            &parent.line_height,
+            context.font_size,
+            context.root_size,
+        ),
         Long::TextAlign(g) => style.text_align = chosen(g, parent.text_align, Align::Left),
         Long::TextIndent(g) => style.text_indent = chosen_without_auto(
             g,

@@ -3,9 +3,10 @@
 ghost use Rattle.std.specs.Prelude.{◌≡◌, Option, Some};
 ghost use Rattle.computed.specs.Context.{bare, noted, rem_of, settled, context_of};
 
-use crate::values::{chosen, chosen_size};
 use bk_num::px::Px;
 use bk_num::values::Color;
+use computed_values::fonts::chosen_size;
+use computed_values::given::chosen;
 use style::long::Long;
 use style::style::Style;
 use style::values::BorderStyle;
@@ -73,7 +74,7 @@ fn note(context: &mut Context, parent: &Style, rem: &Px, long: &Long)
     ensures { context.new ≡ noted parent.now rem.now context.old long.now }
 {
     match long {
-        Long::FontSize(g) => context.font_size = chosen_size(g, &parent.font_size, rem),
+        Long::FontSize(g) => context.font_size = chosen_size(g, parent.font_size, *rem),
         Long::Color(g) => context.color = chosen(g, parent.color, BLACK),
         Long::BorderTopStyle(g) => {
             context.border_top_style = chosen(g, parent.border_top_style, BorderStyle::Off);

@@ -11,5 +11,5 @@ pub mod styled;
 mod tests;
 #[cfg(test)]
 mod tests_names;
-pub mod values;
+mod values;
 pub mod walk;
