@@ -1,0 +1,28 @@
+//! The face that families, a style and a weight choose, as one value.
+#![tactic(auto)]
+
+ghost use Rattle.std.specs.Prelude.{◌≡◌, ◌<◌, length};
+ghost use Rattle.metrics.specs.Choice.{Chooses};
+ghost use Rattle.face_choice.specs.Choice.{FaceIsChosen, face_by};
+
+use bk_num::ids::FaceId;
+use bk_num::name::Name;
+use metrics::Faces;
+
+#[cfg(test)]
+mod tests;
+
+/// The face that families, a style and a weight choose; true is italic.
+pub fn choose(faces: &Faces, families: &[Name], italic: bool, weight: u16) -> FaceId
+    ensures face { result ≡ face_by faces.now families.now italic weight }
+    ensures there { result.0 < length faces.now }
+    ensures chosen { Chooses faces.now families.now italic weight result }
+{
+    prove!(faces.len() > 0);
+    faces.choose(families, italic, weight)
+}
+
+/// Law: it is the face that `metrics` says is chosen.
+pub fn chosen_is_defined()
+    ensures { FaceIsChosen }
+{}
