@@ -1,5 +1,5 @@
 -- The faces of a flow's leaves and of their markers are there.
-use Rattle.std.proofs.Common.{◌≡◌, ℕ, ◌+◌, ◌<◌, ◌==◌, Bool, true, false, cond, ltb, not, List, [], ◌∷◌, ◌++◌, Option, None, Some, length, position, unwrap_or, refl, sym, ap, subst}
+use Rattle.std.proofs.Common.{◌≡◌, ℕ, ◌+◌, ◌<◌, ◌==◌, Bool, true, false, cond, ltb, not, List, [], ◌∷◌, ◌++◌, Option, None, Some, length, refl, sym, ap, subst}
 use Rattle.std.specs.List.{All}
 use Rattle.std.proofs.lemmas.List.Elements.{All-nil, All-cons, All-head, All-tail}
 use Rattle.std.proofs.lemmas.Option.{get_or_from_slice_get, slice_get_within}
@@ -16,15 +16,13 @@ use Rattle.dom.specs.declared.walk.Step.TheVariants.{Enter, Leave}
 use Rattle.inline_text.specs.declared.space.TextPart.{TextPart}
 use Rattle.line_place.specs.Conditions.{HasFaces}
 use Rattle.metrics.specs.Face.{FontFace}
-use Rattle.metrics.specs.Choice.{name_of}
-use Rattle.metrics.proofs.ChoiceLemmas.{position-some}
 use Rattle.style.specs.declared.style.Style.{Style}
 use Rattle.style.specs.Nodes.{style_at}
 use Rattle.style.specs.Styles.{initial_style}
 use Rattle.box_gen.specs.declared.inline.InlineItem.{InlineItem}
 use Rattle.box_gen.specs.declared.inline.InlineItem.TheVariants as item
 use Rattle.box_gen.specs.declared.text_style.TextStyle.{TextStyle}
-use Rattle.box_gen.specs.Faces.{AreFaced, face_of, is_first}
+use Rattle.box_gen.specs.Faces.{AreFaced}
 use Rattle.box_gen.specs.Flow.{Built, built_of, nothing, without, with_run, put_by, leads_of, first_items, last_items, generated_by, generated_items, represented_items, styled, text_item}
 use Rattle.box_gen.specs.Gather.{Gathered, make, adds, begun, ended}
 use Rattle.box_gen.specs.Leaves.{leaf_by, leaf_style_of}
@@ -38,18 +36,6 @@ use Rattle.box_gen.proofs.ByteLemmas.{leaves-shut}
 use Rattle.box_gen.proofs.OwnerLemmas.{all-append, all-shut}
 use Rattle.box_gen.proofs.SoundLemmas.{leads-all, pending-run}
 use Rattle.box_gen.proofs.WalkLemmas.{walk-builds}
-
--- the face of a style is one of the faces
-pub face-within : (faces : List FontFace) (s : Style) → 0 < length faces → (face_of faces s).0 < length faces
-unfolding face_of
-face-within faces s some = by (position first faces) refl
-  where
-    first : FontFace → Bool
-    first = is_first faces (name_of faces s.font_family) s.font_style s.font_weight
-
-    by : (o : Option ℕ) → position first faces ≡ o → unwrap_or o 0 < length faces
-    by None e = some
-    by (Some k) e = (position-some first faces k e).0
 
 abbrev IsStyleFaced : List FontFace → TextStyle → Type 0
 IsStyleFaced faces t = t.face.0 < length faces

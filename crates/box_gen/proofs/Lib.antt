@@ -4,7 +4,6 @@ pub mod TreeLemmas
 pub mod FlowLemmas
 pub mod WalkLemmas
 pub mod ExampleLemmas
-pub mod FaceLemmas
 pub mod PutLemmas
 pub mod OwnerLemmas
 pub mod SoundLemmas
@@ -13,3 +12,5 @@ pub mod RangeLemmas
 pub mod FacedLemmas
 pub mod DepthLemmas
 pub mod WholeLemmas
+pub mod OrderLemmas
+pub mod ResetLemmas

@@ -14,3 +14,4 @@ pub mod Kinds
 pub mod Sites
 pub mod Steps
 pub mod Examples
+pub mod Order

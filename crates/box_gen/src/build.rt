@@ -1,11 +1,14 @@
 //! The flow of a document.
 
-ghost use Rattle.std.specs.Prelude.{◌≡◌, ◌<◌, ◌≤◌, ◌++◌, [], ◌∷◌, IfErr, IfOk, OnOk};
+ghost use Rattle.std.specs.Prelude.{◌≡◌, ◌<◌, ◌≤◌, ◌++◌, [], ◌∷◌, map, IfErr, IfOk, OnOk};
+ghost use Rattle.std.specs.List.{All};
 ghost use Rattle.bk_num.specs.Limits.{most_open, most_text_bytes};
 ghost use Rattle.boxes.specs.Tree.{IsWhole, depth_of};
 ghost use Rattle.box_gen.specs.Flow as spec;
 ghost use Rattle.bk_num.specs.declared.values.Pseudo.TheVariants as pseudo;
 ghost use Rattle.box_gen.specs.Flow.{assigns_at, built_of, flow_of, page_resets, page_values, resets_at};
+ghost use Rattle.page_seq.specs.Numbers.{IsSmallReset};
+ghost use Rattle.page_seq.specs.Places.{NeverFall};
 ghost use Rattle.style.specs.Nodes.{style_at};
 ghost use Rattle.box_gen.specs.Faces.{AreFaced};
 ghost use Rattle.box_gen.specs.Sites.{built_in, leaf_bytes};
@@ -84,7 +87,8 @@ fn push_resets(counters: &[(Name, i64)], at: Position, resets: &mut Vec<Reset>) 
 
 /// Adds the resets of the page number at an element.
 fn push_resets_of(input: &Input, start: &Start, resets: &mut Vec<Reset>) -> Result<(), NoMem>
-    ensures { OnOk result (resets.new.items ≡ resets.old.items ++ resets_at start.now.at (page_resets (style_at input.now.styles.now start.now.node.0 pseudo.Element))) }
+    ensures list { OnOk result (resets.new.items ≡ resets.old.items ++ resets_at start.now.at (page_resets (style_at input.now.styles.now start.now.node.0 pseudo.Element))) }
+    ensures small { OnOk result (All IsSmallReset resets.old.items → All IsSmallReset resets.new.items) }
 {
     match input.styles.of(start.node, Pseudo::Element) {
         None => Ok(()),
@@ -97,7 +101,8 @@ fn push_resets_of(input: &Input, start: &Start, resets: &mut Vec<Reset>) -> Resu
 
 /// The resets of the page number where elements begin.
 fn resets_of(alloc: Global, input: &Input, starts: &[Start]) -> Result<Vec<Reset>, NoMem>
-    ensures { IfOk result (λ v. v.items ≡ spec.resets_of (source_in input.now) starts.now) }
+    ensures list { IfOk result (λ v. v.items ≡ spec.resets_of (source_in input.now) starts.now) }
+    ensures small { IfOk result (λ v. All IsSmallReset v.items) }
 {
     let mut resets = Vec::new(alloc);
     for start in starts {
@@ -109,7 +114,8 @@ fn resets_of(alloc: Global, input: &Input, starts: &[Start]) -> Result<Vec<Reset
 /// The flow of what is built.
 fn finish(alloc: Global, input: &Input, site: Site) -> Result<Flow, NoMem>
     requires { built_of (source_in input.now) ≡ built_in site }
-    ensures { IfOk result (λ flow. flow ≡ flow_of (source_in input.now)) }
+    ensures flow { IfOk result (λ flow. flow ≡ flow_of (source_in input.now)) }
+    ensures small { IfOk result (λ flow. All IsSmallReset flow.resets) }
 {
     let Site { tree, starts, .. } = site;
     let strings = strings_of(alloc, input, &starts)?;
@@ -145,6 +151,9 @@ pub fn build(
     ensures depth { IfOk result (λ flow. depth_of flow.main.events ≤ most_open) }
     ensures faced { IfOk result (λ flow. AreFaced faces.now flow.main.leaves) }
     ensures few { IfOk result (λ flow. leaf_bytes flow.main.leaves ≤ most_text_bytes) }
+    ensures strings { IfOk result (λ flow. NeverFall (map (λ a. a.at) flow.strings)) }
+    ensures resets { IfOk result (λ flow. NeverFall (map (λ r. r.at) flow.resets)) }
+    ensures small { IfOk result (λ flow. All IsSmallReset flow.resets) }
     ensures cause { IfErr result (λ e. e ≡ BuildErr.Text → most_text_bytes < leaf_bytes (flow_of (source_of dom.now styles.now counters.now faces.now texts.now)).main.leaves) }
 {
     prove!(dom.len() > 0);

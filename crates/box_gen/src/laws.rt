@@ -1,7 +1,7 @@
 //! A law of flows, and the flows of small documents, which show what the definitions say. Each function is empty and carries one.
 
 ghost use Rattle.box_gen.specs.Examples.{Collapses, PartsText};
-ghost use Rattle.box_gen.specs.Faces.{FaceIsChosen};
+ghost use Rattle.box_gen.specs.Order.{StartsNeverFall};
 ghost use Rattle.box_gen.specs.Walk.{WalkBuildsFlow};
 
 /// `<div>a<p>b</p>c</div>` has three leaves, the first and the last of them in anonymous boxes.
@@ -19,7 +19,7 @@ pub fn a_walk_builds_the_flow()
     ensures { WalkBuildsFlow }
 {}
 
-/// Law: the face of a style's texts is the one that its families, its font style and its weight choose.
-pub fn faces_are_chosen()
-    ensures { FaceIsChosen }
+/// Law: the places at which elements begin never fall along their list.
+pub fn starts_never_fall()
+    ensures { StartsNeverFall }
 {}

@@ -11,6 +11,7 @@ use bk_num::length::part_of;
 use bk_num::px::Px;
 use bk_num::values::{Color, WhiteSpace};
 use boxes::leaf::Span;
+use face_choice::choose;
 use metrics::Faces;
 use style::style::Style;
 use style::values::LineHeight;
@@ -52,9 +53,8 @@ fn face_of(faces: &Faces, style: &Style) -> FaceId
     ensures within { result.0 < length faces.now }
     ensures chosen { Chooses faces.now style.now.font_family style.now.font_style style.now.font_weight result }
 {
-    prove!(faces.len() > 0);
     let families = style.font_family.as_slice();
-    faces.choose(families, style.font_style, style.font_weight)
+    choose(faces, families, style.font_style, style.font_weight)
 }
 
 /// How a style sets a text whose white space is treated so: in the face that its families, its font style and its

@@ -1,27 +1,43 @@
-use Rattle.std.proofs.Common.{◌≤◌, rules, sym, subst}
+use Rattle.std.proofs.Common.{◌≤◌, map, rules, sym, subst}
 use Rattle.bk_num.specs.Limits.{most_open}
 use Rattle.boxes.specs.Tree.{IsWhole, depth_of}
+use Rattle.boxes.specs.declared.flow.Assign.{Assign}
 use Rattle.boxes.specs.declared.flow.Flow.{Flow}
+use Rattle.boxes.specs.declared.flow.Reset.{Reset}
+use Rattle.page_seq.specs.Places.{NeverFall}
+use Rattle.style.specs.declared.style.Style.{Style}
+use Rattle.face_choice.proofs.FaceLemmas.{face-within}
 use Rattle.box_gen.specs.Faces.{AreFaced}
 use Rattle.box_gen.specs.Sources.{source_of}
 use Rattle.box_gen.specs.Trees.{Source}
 use Rattle.box_gen.proofs.DepthLemmas.{few-open}
-use Rattle.box_gen.proofs.FacedLemmas.{all-faced, face-within}
+use Rattle.box_gen.proofs.FacedLemmas.{all-faced}
+use Rattle.box_gen.proofs.OrderLemmas.{resets-never-fall, strings-never-fall}
 use Rattle.box_gen.proofs.WholeLemmas.{whole}
 use Rattle.box_gen.proofs.build.build.Goals as goal
 
 pub returns-in-Ok-finish-clause-whole : goal.returns-in-Ok-finish-clause-whole
 returns-in-Ok-finish-clause-whole c =
     let src : Source = source_of c.args.dom.now c.args.styles.now c.args.counters.now c.args.faces.now c.args.texts.now in
-    λ r. subst (λ (f : Flow). IsWhole f.main.events) (sym c.in-Ok-finish.ensures) (whole src c.len.ensures.tree r)
+    λ r. subst (λ (f : Flow). IsWhole f.main.events) (sym c.in-Ok-finish.ensures.flow) (whole src c.len.ensures.tree r)
 
 pub returns-in-Ok-finish-clause-depth : goal.returns-in-Ok-finish-clause-depth
 returns-in-Ok-finish-clause-depth c =
     let src : Source = source_of c.args.dom.now c.args.styles.now c.args.counters.now c.args.faces.now c.args.texts.now in
-    subst (λ (f : Flow). depth_of f.main.events ≤ most_open) (sym c.in-Ok-finish.ensures) (few-open src c.len.ensures.tree)
+    subst (λ (f : Flow). depth_of f.main.events ≤ most_open) (sym c.in-Ok-finish.ensures.flow) (few-open src c.len.ensures.tree)
 
 pub returns-in-Ok-finish-clause-faced : goal.returns-in-Ok-finish-clause-faced
 returns-in-Ok-finish-clause-faced c =
     let src : Source = source_of c.args.dom.now c.args.styles.now c.args.counters.now c.args.faces.now c.args.texts.now in
-    subst (λ (f : Flow). AreFaced c.args.faces.now f.main.leaves) (sym c.in-Ok-finish.ensures)
-    (all-faced c.args.faces.now src (λ s. face-within c.args.faces.now s (search rules)) c.len.ensures.tree)
+    subst (λ (f : Flow). AreFaced c.args.faces.now f.main.leaves) (sym c.in-Ok-finish.ensures.flow)
+    (all-faced c.args.faces.now src (λ (s : Style). face-within c.args.faces.now s.font_family s.font_style s.font_weight (search rules)) c.len.ensures.tree)
+
+pub returns-in-Ok-finish-clause-strings : goal.returns-in-Ok-finish-clause-strings
+returns-in-Ok-finish-clause-strings c =
+    let src : Source = source_of c.args.dom.now c.args.styles.now c.args.counters.now c.args.faces.now c.args.texts.now in
+    subst (λ (f : Flow). NeverFall (map (λ (a : Assign). a.at) f.strings)) (sym c.in-Ok-finish.ensures.flow) (strings-never-fall src)
+
+pub returns-in-Ok-finish-clause-resets : goal.returns-in-Ok-finish-clause-resets
+returns-in-Ok-finish-clause-resets c =
+    let src : Source = source_of c.args.dom.now c.args.styles.now c.args.counters.now c.args.faces.now c.args.texts.now in
+    subst (λ (f : Flow). NeverFall (map (λ (r : Reset). r.at) f.resets)) (sym c.in-Ok-finish.ensures.flow) (resets-never-fall src)
