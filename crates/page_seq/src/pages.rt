@@ -36,7 +36,7 @@ impl Pages {
 }
 
 /// Which of a row's cells a page takes.
-fn cell_number(index: u32, kind: PageKind) -> usize
+pub fn cell_number(index: u32, kind: PageKind) -> usize
     ensures cell { result ≡ cell_of index kind }
     ensures few { result < 6 }
 {
@@ -55,7 +55,7 @@ fn cell_number(index: u32, kind: PageKind) -> usize
 }
 
 /// A cell of a row.
-fn cell_at(row: &PageRow, number: usize) -> &PageCell
+pub fn cell_at(row: &PageRow, number: usize) -> &PageCell
     requires number { number < 6 }
     requires good { HasGoodCells row.now }
     ensures cell { slice_get row.now.cells number ≡ Some result.now }
@@ -65,7 +65,7 @@ fn cell_at(row: &PageRow, number: usize) -> &PageCell
 }
 
 /// The row of a name: that of no name where the table has none for it.
-fn row_at(rows: &[PageRow], name: NameId) -> &PageRow
+pub fn row_at(rows: &[PageRow], name: NameId) -> &PageRow
     requires { IsGoodTable rows.now }
     ensures row { row_of rows.now name ≡ Some result.now }
     ensures good { HasGoodCells result.now }

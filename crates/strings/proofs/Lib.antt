@@ -1,2 +1,2 @@
-pub mod AlongLemmas
-pub mod MarkLemmas
+pub mod AssignedLemmas
+pub mod ShownLemmas

@@ -1,2 +1,3 @@
-pub mod Marks
+pub mod Assigned
 pub mod Shown
+pub mod StringFields

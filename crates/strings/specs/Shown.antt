@@ -2,7 +2,6 @@
 -- in the list of assignments.
 use Rattle.std.specs.Prelude.{ℕ, ◌==◌, ◌&&◌, nat_lt, nat_eq, not, Bool, false, List, [], Option, None, Some, length, map, slice_get, if◌then◌else◌}
 use Rattle.std.specs.Cmp.Lexicographic.{pointwise}
-use Rattle.std.specs.List.{range_with_len}
 use Rattle.boxes.specs.Tree.{Tree}
 use Rattle.boxes.specs.declared.flow.Assign.{Assign}
 use Rattle.boxes.specs.declared.page.Page.{Page}
@@ -75,10 +74,6 @@ shown_in t pages assigns marks page =
 
 abbrev pub shown_on : Tree → List Page → List Assign → List ℕ → ℕ → Shown
 shown_on t pages assigns name page = shown_in t pages assigns (marks_of t pages assigns name) page
-
--- what each page of a list knows of a string, in order
-abbrev pub shown_along : Tree → List Page → List Assign → List ℕ → List Shown
-shown_along t pages assigns name = map (shown_on t pages assigns name) (range_with_len 0 (length pages))
 
 abbrev pub value_of : Option Assign → List ℕ
 value_of None = []

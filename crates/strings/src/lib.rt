@@ -1,8 +1,8 @@
 //! Running strings: which value of a named string a page shows.
 #![tactic(auto)]
 
-pub mod along;
-mod marks;
+pub mod assigned;
+mod named;
 pub mod shown;
 #[cfg(test)]
 mod tests;

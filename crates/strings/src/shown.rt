@@ -2,14 +2,12 @@
 
 ghost use Rattle.std.specs.Prelude.{◌≡◌, ◌<◌, Some, length, map, IfOk};
 ghost use Rattle.page_seq.specs.Places.{NeverFall};
-ghost use Rattle.strings.specs.Shown.{assign_at, or_else, shown_by, starts_page, string_of, unless, value_of};
+ghost use Rattle.strings.specs.Shown.{assign_at, or_else, shown_by, string_of, unless, value_of};
 
-use crate::marks::{entry_of, first_on, last_on, marks_of};
+use crate::assigned::Strings;
 use bk_num::name::{Name, NoMem};
 use boxes::flow::{Assign, Flow};
-use boxes::page::{Page, PageList};
-use boxes::tree::BoxTree;
-use page_seq::places::{anchor_of, is_before};
+use boxes::page::PageList;
 use std::alloc::Global;
 use style::content::Keyword;
 
@@ -25,19 +23,7 @@ pub struct Shown {
     pub starts: bool,
 }
 
-/// Whether an assignment that belongs to a page stands on its first solid: that one holds it or stands after it, or is
-/// the page's only one.
-fn is_first_solid(tree: &BoxTree, page: &Page, assign: &Assign) -> bool
-    ensures { result ≡ starts_page tree.now (Some page.now) (Some assign.now) }
-{
-    let at = anchor_of(tree, assign.at);
-    match page.solids.as_slice() {
-        [] => false,
-        [first, rest @ ..] => rest.is_empty() || is_before(at, first.end),
-    }
-}
-
-pub(crate) fn or_else(first: Option<usize>, other: Option<usize>) -> Option<usize>
+fn or_else(first: Option<usize>, other: Option<usize>) -> Option<usize>
     ensures { result ≡ or_else first other }
 {
     match first {
@@ -75,43 +61,24 @@ impl Shown {
     }
 }
 
-/// Whether the first assignment on a page stands on its first solid.
-pub(crate) fn starts_page(
-    tree: &BoxTree,
-    page: &Page,
-    assigns: &[Assign],
-    first: Option<usize>,
-) -> bool
-    ensures { result ≡ starts_page tree.now (Some page.now) (assign_at assigns.now first) }
-{
-    let Some(at) = first else {
-        return false;
-    };
-    if at < assigns.len() {
-        is_first_solid(tree, page, &assigns[at])
-    } else {
-        false
-    }
-}
-
-/// A copy of the text of an assignment, and the empty text without one.
-fn text_of(alloc: Global, assigns: &[Assign], shown: Option<usize>) -> Result<Name, NoMem>
-    ensures { IfOk result (λ text. text ≡ value_of (assign_at assigns.now shown)) }
+/// The text of an assignment, and the empty text without one.
+pub(crate) fn text_of(assigns: &[Assign], shown: Option<usize>) -> &str
+    ensures { result.now ≡ value_of (assign_at assigns.now shown) }
 {
     let Some(at) = shown else {
-        return Name::new(alloc, "");
+        return "";
     };
-    if at < assigns.len() {
-        assigns[at].value.copy()
-    } else {
-        Name::new(alloc, "")
+    match assigns.get(at) {
+        Some(assign) => assign.value.as_str(),
+        None => "",
     }
 }
 
 /// What `string()` gives on a page, which is named by its place in the list, from 0 (css-gcpm-3, 1.1.2): for `first` the
 /// page's first assignment, else the one before the page; for `start` the page's first assignment where it stands on the
 /// page's first solid, else the one before; for `last` the page's last assignment, else the one before; for
-/// `first-except` nothing on a page that assigns, else the one before. The text is empty before any assignment.
+/// `first-except` nothing on a page that assigns, else the one before. The text is empty before any assignment. It goes
+/// through all assignments and pages: for more than one text make `Strings`.
 pub fn string_on(
     alloc: Global,
     flow: &Flow,
@@ -124,17 +91,6 @@ pub fn string_on(
     requires page { page < length list.now.pages }
     ensures { IfOk result (λ text. text ≡ string_of flow.now.main list.now.pages flow.now.strings page name.now keyword) }
 {
-    let marks = marks_of(alloc, flow, list, name)?;
-    let assigns = flow.strings.as_slice();
-    let first = first_on(marks.as_slice(), page);
-    let last = last_on(marks.as_slice(), page);
-    let entry = entry_of(marks.as_slice(), page);
-    let starts = starts_page(&flow.main, &list.pages.as_slice()[page], assigns, first);
-    let shown = Shown {
-        first,
-        last,
-        entry,
-        starts,
-    };
-    text_of(alloc, assigns, shown.by(keyword))
+    let strings = Strings::new(alloc, flow, list)?;
+    Name::new(alloc, strings.text(flow, page, name, keyword))
 }
