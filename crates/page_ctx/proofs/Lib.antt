@@ -1,2 +1,5 @@
 pub mod TableLemmas
+pub mod MarginLemmas
+pub mod GoodLemmas
+pub mod WeightLemmas
 pub mod WinnerLemmas

@@ -1,16 +1,19 @@
 -- Six cells a name, and the table that they make.
-use Rattle.std.proofs.Common.{◌≡◌, ℕ, zero, suc, ◌+◌, ◌==◌, Bool, true, false, List, [], ◌∷◌, ◌++◌, append_assoc, Option, None, Some, option_map, map, drop, slice_get, refl, sym, ◌∙◌, ap, subst, arith}
+use Rattle.std.proofs.Common.{◌≡◌, ℕ, zero, suc, ◌+◌, ◌==◌, Bool, true, false, List, [], ◌∷◌, ◌++◌, append_assoc, Option, None, Some, option_map, map, drop, slice_get, unwrap_or, refl, sym, ◌∙◌, ap, subst, arith}
 use Rattle.std.proofs.lemmas.Bool.{eqb-true}
+use Rattle.std.proofs.lemmas.List.{map-append}
 use Rattle.std.proofs.lemmas.Option.{slice_get-map}
+use Rattle.std.specs.List.{All}
 use Rattle.bk_num.specs.declared.ids.NameId.{NameId}
-use Rattle.boxes.specs.Frames.{side_of, is_left}
+use Rattle.boxes.specs.Frames.{side_of, is_left, IsGoodFrame}
 use Rattle.boxes.specs.Table.{cell_of, row_of}
 use Rattle.boxes.specs.declared.frames.PageKind.{PageKind}
 use Rattle.boxes.specs.declared.frames.PageKind.TheVariants.{Flow, Blank, Notes}
+use Rattle.boxes.specs.declared.table.PageCell.{PageCell}
 use Rattle.boxes.specs.declared.table.PageRow.{PageRow}
 use Rattle.css_page.specs.declared.rules.PageRule.{PageRule}
 use Rattle.page_ctx.specs.Selectors.{classes_of, takes}
-use Rattle.page_ctx.specs.Tables.{page_cell, texts_of, text_of, text_or_none, cell_in, IsTable, CellsSuffice, six_pages, row_by}
+use Rattle.page_ctx.specs.Tables.{page_cell, texts_of, text_of, cell_in, IsTable, CellsSuffice, six_pages, row_by}
 
 -- the pseudo-classes of a page are those of its cell
 pub six_is : (index : ℕ) (kind : PageKind) → slice_get six_pages (cell_of index kind) ≡ Some (classes_of index kind)
@@ -53,12 +56,12 @@ is_table rules names index name kind = by (slice_get (texts_of names) name.0) re
     at : (o : Option (List ℕ)) → slice_get (texts_of names) name.0 ≡ o → slice_get (map (row_by rules) (texts_of names)) name.0 ≡ option_map (row_by rules) o
     at o e = slice_get-map (row_by rules) (texts_of names) name.0 ∙ ap (option_map (row_by rules)) e
 
-    is : (o : Option (List ℕ)) → slice_get (texts_of names) name.0 ≡ o → row_of (map (row_by rules) (texts_of names)) name ≡ Some (row_by rules (text_or_none o))
+    is : (o : Option (List ℕ)) → slice_get (texts_of names) name.0 ≡ o → row_of (map (row_by rules) (texts_of names)) name ≡ Some (row_by rules (unwrap_or o []))
     is None e = row_past (map (row_by rules) (texts_of names)) name (at None e)
     is (Some text) e = row_there (map (row_by rules) (texts_of names)) name (row_by rules text) (at (Some text) e)
 
     by : (o : Option (List ℕ)) → slice_get (texts_of names) name.0 ≡ o → cell_in (row_of (map (row_by rules) (texts_of names)) name) (cell_of index kind) ≡ Some (page_cell rules (text_of names name) (classes_of index kind))
-    by o e = ap (λ r. cell_in r (cell_of index kind)) (is o e) ∙ cell_there rules (text_or_none o) index kind ∙ ap (λ x. Some (page_cell rules (text_or_none x) (classes_of index kind))) (sym e)
+    by o e = ap (λ r. cell_in r (cell_of index kind)) (is o e) ∙ cell_there rules (unwrap_or o []) index kind ∙ ap (λ x. Some (page_cell rules (unwrap_or x []) (classes_of index kind))) (sym e)
 
 -- the names from a number on
 names_from : (names : List (List ℕ)) (number : ℕ) (text : List ℕ) → slice_get names number ≡ Some text → drop number names ≡ text ∷ drop (suc number) names
@@ -67,10 +70,29 @@ names_from (x ∷ names) zero text e = let s : x ≡ text = cc in ap (λ t. t �
 names_from (x ∷ names) (suc number) text e = names_from names number text e
 
 -- the row of one more name
-pub rows_more : (f : List ℕ → PageRow) (rows new all : List PageRow) (names : List (List ℕ)) (number : ℕ) (text : List ℕ) (row : PageRow) → slice_get names number ≡ Some text → row ≡ f text
+pub rows_more : {A : Type 0} (f : List ℕ → A) (rows new all : List A) (names : List (List ℕ)) (number : ℕ) (text : List ℕ) (row : A) → slice_get names number ≡ Some text → row ≡ f text
     → new ≡ rows ++ row ∷ [] → rows ++ map f (drop number names) ≡ all → new ++ map f (drop (number + 1) names) ≡ all
 rows_more f rows new all names number text row at is pushed before =
     let n : suc number ≡ number + 1 = omega arith in
     let one : new ≡ rows ++ f text ∷ [] = pushed ∙ ap (λ r. rows ++ r ∷ []) is in
     let rest : f text ∷ map f (drop (suc number) names) ≡ map f (drop number names) = sym (ap (map f) (names_from names number text at)) in
     subst (λ k. new ++ map f (drop k names) ≡ all) n (ap (λ z. z ++ map f (drop (suc number) names)) one ∙ append_assoc rows (f text ∷ []) (map f (drop (suc number) names)) ∙ ap (λ z. rows ++ z) rest ∙ before)
+
+-- the row of no name
+pub rows_first : {A : Type 0} (f : List ℕ → A) (new : List A) (names : List (List ℕ)) (row : A) → row ≡ f [] → new ≡ [] ++ row ∷ [] → new ++ map f (drop 1 names) ≡ map f (texts_of names)
+rows_first f new names row is pushed = ap (λ z. z ++ map f (drop 1 names)) (pushed ∙ ap (λ r. r ∷ []) is)
+
+-- one more, as contracts see it
+pub push_in : {A B : Type 0} (h : A → B) (rows new : List A) (row : A) → new ≡ rows ++ row ∷ [] → map h new ≡ map h rows ++ h row ∷ []
+push_in h rows new row e = ap (map h) e ∙ map-append h rows (row ∷ [])
+
+-- six cells with good frames
+pub six_good : (a b c d e f : PageCell) → IsGoodFrame a.frame → IsGoodFrame b.frame → IsGoodFrame c.frame → IsGoodFrame d.frame → IsGoodFrame e.frame → IsGoodFrame f.frame
+    → All (λ (cell : PageCell). IsGoodFrame cell.frame) (a ∷ b ∷ c ∷ d ∷ e ∷ f ∷ [])
+six_good a b c d e f ga gb gc gd ge gf zero x l = ga
+six_good a b c d e f ga gb gc gd ge gf (suc zero) x l = gb
+six_good a b c d e f ga gb gc gd ge gf (suc (suc zero)) x l = gc
+six_good a b c d e f ga gb gc gd ge gf (suc (suc (suc zero))) x l = gd
+six_good a b c d e f ga gb gc gd ge gf (suc (suc (suc (suc zero)))) x l = ge
+six_good a b c d e f ga gb gc gd ge gf (suc (suc (suc (suc (suc zero))))) x l = gf
+six_good a b c d e f ga gb gc gd ge gf (suc (suc (suc (suc (suc (suc k)))))) x l = absurd (omega (arith, l))

@@ -1,64 +1,11 @@
 -- Winning declarations are greatest, and there is one.
-use Rattle.std.proofs.Common.{◌≡◌, ◌≤◌, ℕ, zero, suc, Bool, true, false, List, [], ◌∷◌, Option, None, Some, slice_get, cond, refl, sym, ◌∙◌, ap, subst, arith}
+use Rattle.std.proofs.Common.{◌≡◌, ◌≤◌, ℕ, zero, suc, Bool, true, false, List, [], ◌∷◌, Option, None, Some, slice_get, cond, refl, sym, ◌∙◌, subst, arith}
 use Rattle.std.specs.List.{fold}
-use Rattle.std.specs.Cmp.Lexicographic.{slice_cmp}
-use Rattle.std.proofs.lemmas.Cmp.{nat_list_cmp_total}
-use Rattle.std.specs.Ordering.{nat_cmp, is_gt, ordering_reverse}
-use Rattle.std.specs.declared.cmp.Ordering.{Ordering}
-use Rattle.std.specs.declared.cmp.Ordering.TheVariants.{Less, Equal, Greater}
 use Rattle.page_ctx.specs.declared.property.Property.{Property}
-use Rattle.page_ctx.specs.declared.weight.Weight.{Weight}
-use Rattle.page_ctx.specs.Weights.{ranks_of, is_above}
+use Rattle.page_ctx.specs.Weights.{is_above}
+use Rattle.page_ctx.proofs.WeightLemmas.{above-not, above-self, above-below, not-above}
 use Rattle.page_ctx.specs.Winners.{Declared, is_of, winning, with_declared, winner, IsWinner}
 use Rattle.page_ctx.specs.Laws.{WinnersAreGreatest}
-
--- ---- the order
-
-above-not : (a b : Weight) → is_above a b ≡ true → is_above b a ≡ false
-above-not a b h = by (slice_cmp nat_cmp (ranks_of a) (ranks_of b)) (slice_cmp nat_cmp (ranks_of b) (ranks_of a)) (nat_list_cmp_total.antisymm (ranks_of a) (ranks_of b)) h
-  where
-    by : (o p : Ordering) → o ≡ ordering_reverse p → is_gt o ≡ true → is_gt p ≡ false
-    by o Less e g = refl
-    by o Equal e g = refl
-    by o Greater e g = let z : is_gt o ≡ false = ap is_gt e in cc
-
-above-self : (a : Weight) → is_above a a ≡ false
-above-self a = by (is_above a a) refl
-  where
-    by : (b : Bool) → is_above a a ≡ b → b ≡ false
-    by true h = sym h ∙ above-not a a h
-    by false h = refl
-
-above-less : (a b : Weight) → is_above a b ≡ true → slice_cmp nat_cmp (ranks_of b) (ranks_of a) ≡ Less
-above-less a b h = nat_list_cmp_total.antisymm (ranks_of b) (ranks_of a) ∙ ap ordering_reverse (by (slice_cmp nat_cmp (ranks_of a) (ranks_of b)) h)
-  where
-    by : (o : Ordering) → is_gt o ≡ true → o ≡ Greater
-    by Less e = cc
-    by Equal e = cc
-    by Greater e = refl
-
-less-above : (a b : Weight) → slice_cmp nat_cmp (ranks_of b) (ranks_of a) ≡ Less → is_above a b ≡ true
-less-above a b e = ap is_gt (nat_list_cmp_total.antisymm (ranks_of a) (ranks_of b) ∙ ap ordering_reverse e)
-
--- what a weight is above, and another that is not below it, is above neither
-above-below : (b x d : Weight) → is_above b x ≡ true → is_above b d ≡ false → is_above x d ≡ false
-above-below b x d high low = by (is_above x d) refl
-  where
-    by : (v : Bool) → is_above x d ≡ v → v ≡ false
-    by true h = let z : is_above b d ≡ true = less-above b d (nat_list_cmp_total.trans (ranks_of d) (ranks_of x) (ranks_of b) (above-less x d h) (above-less b x high)) in cc
-    by false h = refl
-
-not-above : (b x d : Weight) → is_above b x ≡ false → is_above x d ≡ false → is_above b d ≡ false
-not-above b x d low high = by (is_above b d) refl
-  where
-    of : (o : Ordering) → slice_cmp nat_cmp (ranks_of x) (ranks_of d) ≡ o → is_above b d ≡ true → is_above b x ≡ true
-    of Less e h = less-above b x (nat_list_cmp_total.trans (ranks_of x) (ranks_of d) (ranks_of b) e (above-less b d h))
-    of Equal e h = less-above b x (nat_list_cmp_total.congr (ranks_of x) (ranks_of d) (ranks_of b) e ∙ above-less b d h)
-    of Greater e h = absurd (let z : is_above x d ≡ true = ap is_gt e in let w : true ≡ false = sym z ∙ high in cc)
-
-    by : (v : Bool) → is_above b d ≡ v → v ≡ false
-    by true h = let z : is_above b x ≡ true = of (slice_cmp nat_cmp (ranks_of x) (ranks_of d)) refl h in cc
-    by false h = refl
 
 -- ---- one more declaration before the others
 

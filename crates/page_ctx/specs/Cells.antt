@@ -6,20 +6,16 @@ use Rattle.style.specs.declared.values.Measure.TheVariants as measure
 use Rattle.style.specs.declared.long.Given.{Given}
 use Rattle.css_page.specs.declared.values.PageLong.{PageLong}
 use Rattle.css_page.specs.declared.values.PageLong.TheVariants as long
-use Rattle.page_ctx.specs.Values.{given_by, held, units_of, size_of}
+use Rattle.computed_values.specs.Values.{given_by, held, units_of}
 use Rattle.boxes.specs.declared.frames.Frame.{Frame}
 use Rattle.boxes.specs.declared.table.PageCell.{PageCell}
 use Rattle.page_ctx.specs.declared.property.Property.TheVariants as property
+use Rattle.page_ctx.specs.Settings.{page_setting}
 use Rattle.page_ctx.specs.Winners.{Declared, value_of}
-
--- the font size of a page: its parent has the initial values, so `inherit` is the initial size too
-abbrev pub font_size_by : Option PageLong → ℤ
-font_size_by (Some (long.FontSize g)) = given_by (size_of root_size) g root_size root_size
-font_size_by _ = root_size
 
 -- a length of the page's font size, not negative
 abbrev pub length_by : ℤ → Measure → ℤ
-length_by font m = held (units_of font (pos 0) m)
+length_by font m = held (units_of font root_size (pos 0) m)
 
 abbrev pub width_by : ℤ → Option PageLong → ℤ
 width_by font (Some (long.Size g)) = given_by (λ s. length_by font s.width) g page_width page_width
@@ -32,7 +28,7 @@ height_by font _ = page_height
 -- a used margin: `auto` is 0, and a percentage is of the page's width or height
 abbrev pub used_margin : ℤ → ℤ → Measure → ℤ
 used_margin font base measure.Auto = pos 0
-used_margin font base m = units_of font base m
+used_margin font base m = units_of font root_size base m
 
 abbrev pub given_margin : ℤ → ℤ → Given Measure → ℤ
 given_margin font base g = given_by (used_margin font base) g page_margin page_margin
@@ -71,8 +67,9 @@ cell_sized font width height ds =
     cell_with width height (margin_by font height (value_of property.MarginTop ds)) (margin_by font width (value_of property.MarginRight ds))
     (margin_by font height (value_of property.MarginBottom ds)) (margin_by font width (value_of property.MarginLeft ds))
 
+-- the font size of a page, whose parent has the initial values
 abbrev pub font_size_of : List Declared → ℤ
-font_size_of ds = font_size_by (value_of property.FontSize ds)
+font_size_of ds = (page_setting ds).size
 
 abbrev pub cell_fonted : ℤ → List Declared → PageCell
 cell_fonted font ds = cell_sized font (width_by font (value_of property.Size ds)) (height_by font (value_of property.Size ds)) ds

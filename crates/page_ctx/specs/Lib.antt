@@ -1,7 +1,8 @@
 pub mod Selectors
 pub mod Weights
 pub mod Winners
-pub mod Values
+pub mod Settings
 pub mod Cells
 pub mod Tables
+pub mod Margins
 pub mod Laws

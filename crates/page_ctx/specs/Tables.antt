@@ -1,5 +1,5 @@
 -- The table of pages: six cells a name (css-page-3, 3 and 4).
-use Rattle.std.specs.Prelude.{◌≡◌, ℕ, true, false, List, [], ◌∷◌, Option, None, Some, drop, map, slice_get}
+use Rattle.std.specs.Prelude.{◌≡◌, ℕ, true, false, List, [], ◌∷◌, Option, None, Some, drop, map, slice_get, unwrap_or}
 use Rattle.bk_num.specs.declared.ids.NameId.{NameId}
 use Rattle.boxes.specs.Table.{cell_of, row_of}
 use Rattle.boxes.specs.declared.frames.PageKind.{PageKind}
@@ -20,13 +20,9 @@ page_cell rules name c = cell_by (page_declared (applied_to name c rules))
 abbrev pub texts_of : List (List ℕ) → List (List ℕ)
 texts_of names = [] ∷ drop 1 names
 
-abbrev pub text_or_none : Option (List ℕ) → List ℕ
-text_or_none None = []
-text_or_none (Some text) = text
-
 -- a number past the names is that of no name
 abbrev pub text_of : List (List ℕ) → NameId → List ℕ
-text_of names name = text_or_none (slice_get (texts_of names) name.0)
+text_of names name = unwrap_or (slice_get (texts_of names) name.0) []
 
 abbrev pub cell_in : Option PageRow → ℕ → Option PageCell
 cell_in None place = None

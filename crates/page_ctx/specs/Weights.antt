@@ -1,5 +1,5 @@
 -- What decides between two declarations for a page (css-page-3, 3.3 and 4; CSS 2.1, 6.4).
-use Rattle.std.specs.Prelude.{ℕ, ◌+◌, Bool, true, false, List, [], ◌∷◌, Option, None, Some, if◌then◌else◌}
+use Rattle.std.specs.Prelude.{◌≡◌, ℕ, ◌+◌, Bool, true, false, List, [], ◌∷◌, Option, None, Some, slice_get, if◌then◌else◌}
 use Rattle.std.specs.Cmp.Lexicographic.{slice_cmp}
 use Rattle.std.specs.List.{fold}
 use Rattle.std.specs.Ordering.{nat_cmp, is_gt}
@@ -39,6 +39,16 @@ with_selector name c best s = if takes s name c then greater best (specificity s
 -- the greatest specificity of the selectors that take a page; none where none does
 abbrev pub greatest : List ℕ → PageClasses → List PageSelector → Option Weight
 greatest name c selectors = fold (with_selector name c) None selectors
+
+-- the weight of a selector that takes a page, above which is that of none of these
+pub record IsGreatest (name : List ℕ) (c : PageClasses) (selectors : List PageSelector) (w : Weight) : Type 0 where
+  pub place : ℕ
+  pub selector : PageSelector
+  pub there : slice_get selectors place ≡ Some selector
+  pub taking : takes selector name c ≡ true
+  pub weight : specificity selector ≡ w
+  pub greatest :
+      (k : ℕ) (s : PageSelector) → slice_get selectors k ≡ Some s → takes s name c ≡ true → is_above (specificity s) w ≡ false
 
 -- the weight of a declaration of a rule
 abbrev pub of_decl : Weight → Bool → Weight

@@ -1,5 +1,5 @@
 -- The winning declarations for a page (css-page-3, 4; CSS 2.1, 6.4): the greatest by importance, by specificity, and by order.
-use Rattle.std.specs.Prelude.{◌≡◌, ◌≤◌, ℕ, ◌==◌, Bool, true, false, List, Option, None, Some, option_map, map, slice_get, if◌then◌else◌}
+use Rattle.std.specs.Prelude.{◌≡◌, ◌≤◌, ℕ, ◌==◌, Bool, true, false, List, [], Option, None, Some, option_map, map, slice_get, if◌then◌else◌}
 use Rattle.std.specs.List.{fold, flat_map, filter_map}
 use Rattle.css_page.specs.declared.rules.PageRule.{PageRule}
 use Rattle.css_page.specs.declared.values.PageDecl.{PageDecl}
@@ -54,6 +54,17 @@ of_page a = decls_of a.weight a.rule.decls
 -- what is declared for a page, in the order of the sheets
 abbrev pub page_declared : List AppliedOf → List Declared
 page_declared rules = flat_map of_page rules
+
+-- what is declared for the margin box of a number by one block of a rule, which is of the box of its own number
+abbrev pub block_declared : Weight → ℕ → ℕ × List PageDecl → List Declared
+block_declared w place block = if block.0 == place then decls_of w block.1 else []
+
+abbrev pub rule_declared : ℕ → AppliedOf → List Declared
+rule_declared place a = flat_map (block_declared a.weight place) a.rule.boxes
+
+-- what is declared for the margin box of a number by the rules that are for a page, in the order of the sheets
+abbrev pub box_declared : ℕ → List AppliedOf → List Declared
+box_declared place rules = flat_map (rule_declared place) rules
 
 -- the property that a value is declared of
 abbrev pub property_of : PageLong → Property

@@ -1,13 +1,14 @@
 //! The rules that are for a page, and what they declare for it.
 
 ghost use Rattle.std.specs.Prelude.{◌≡◌, ◌++◌, map, option_map, option_to_list, IfOk, OnOk};
+ghost use Rattle.std.specs.List.{flat_map};
 ghost use Rattle.page_ctx.specs.Winners as spec;
 
 use crate::classes::PageClasses;
 use crate::weight::{Weight, greatest};
 use crate::winner::Candidate;
 use bk_num::name::NoMem;
-use css_page::rules::PageRule;
+use css_page::rules::{BoxDecls, PageRule};
 use css_page::values::{PageDecl, PageLong};
 use std::alloc::Global;
 
@@ -95,6 +96,58 @@ pub fn page_declared<'s>(alloc: Global, rules: &[Applied<'s>]) -> Result<Vec<Can
     let mut declared = Vec::new(alloc);
     for applied in rules {
         push_decls(&mut declared, applied.weight, applied.rule.decls.as_slice())?;
+    }
+    Ok(declared)
+}
+
+/// Appends what one block of a rule declares for the margin box of a number.
+fn push_block<'s>(
+    declared: &mut Vec<Candidate<'s>>,
+    weight: Weight,
+    place: u32,
+    block: &'s BoxDecls,
+) -> Result<(), NoMem>
+    ensures { OnOk result (map spec.candidate_in declared.new.items ≡ map spec.candidate_in declared.old.items ++
+        spec.block_declared weight place block.entry.now) }
+{
+    if u32::from(block.0) == place {
+        push_decls(declared, weight, block.1.as_slice())?;
+    }
+    Ok(())
+}
+
+/// Appends what a rule declares for the margin box of a number.
+fn push_blocks<'s>(
+    declared: &mut Vec<Candidate<'s>>,
+    weight: Weight,
+    place: u32,
+    blocks: &'s [BoxDecls],
+) -> Result<(), NoMem>
+    ensures { OnOk result (map spec.candidate_in declared.new.items ≡ map spec.candidate_in declared.old.items ++
+        flat_map (spec.block_declared weight place) blocks.entry.now) }
+{
+    for block in blocks {
+        push_block(declared, weight, place, block)?;
+    }
+    Ok(())
+}
+
+/// What the rules that are for a page declare for the margin box of a number, in the order of the sheets.
+pub fn box_declared<'s>(
+    alloc: Global,
+    place: u32,
+    rules: &[Applied<'s>],
+) -> Result<Vec<Candidate<'s>>, NoMem>
+    ensures { IfOk result (λ v. map spec.candidate_in v.items ≡ spec.box_declared place (map spec.applied_in rules.now)) }
+{
+    let mut declared = Vec::new(alloc);
+    for applied in rules {
+        push_blocks(
+            &mut declared,
+            applied.weight,
+            place,
+            applied.rule.boxes.as_slice(),
+        )?;
     }
     Ok(declared)
 }

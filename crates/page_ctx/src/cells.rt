@@ -2,35 +2,25 @@
 
 ghost use Rattle.std.specs.Prelude.{◌≡◌, ◌≤ℤ◌, ◌+ℤ◌, ◌-ℤ◌, pos, neg_ℤ, map, option_map};
 ghost use Rattle.boxes.specs.Frames.{IsGoodFrame};
-ghost use Rattle.page_ctx.specs.Values.{held};
+ghost use Rattle.computed_values.specs.Values.{held};
 ghost use Rattle.page_ctx.specs.Winners.{candidate_in};
 ghost use Rattle.page_ctx.specs.Cells as spec;
 
 use crate::property::Property;
-use crate::values::{held, px, size_of, units_of};
 use crate::winner::{Candidate, value_of};
 use bk_num::px::Px;
 use boxes::frames::Frame;
 use boxes::table::PageCell;
+use computed_values::lengths::{held, px, units_of};
 use css_page::values::PageLong;
 use style::long::Given;
 use style::values::Measure;
-
-/// The font size of a page.
-fn font_size_by(found: Option<&PageLong>) -> Px
-    ensures { result ≡ spec.font_size_by (option_map (λ l. l.now) found.entry) }
-{
-    match found {
-        Some(PageLong::FontSize(Given::Value(size))) => size_of(px(1024), size),
-        _ => px(1024),
-    }
-}
 
 /// A length of the page's font size, not negative.
 fn length_by(font: Px, measure: &Measure) -> Px
     ensures { result ≡ spec.length_by font measure.now }
 {
-    held(units_of(font, px(0), measure))
+    held(units_of(font, px(1024), px(0), measure))
 }
 
 fn width_by(font: Px, found: Option<&PageLong>) -> Px
@@ -57,7 +47,7 @@ fn used_margin(font: Px, base: Px, measure: &Measure) -> Px
 {
     match measure {
         Measure::Auto => px(0),
-        _ => units_of(font, base, measure),
+        _ => units_of(font, px(1024), base, measure),
     }
 }
 
@@ -159,19 +149,12 @@ fn cell_sized(font: Px, width: Px, height: Px, declared: &[Candidate<'_>]) -> Pa
     cell_with(width, height, top, right, bottom, left)
 }
 
-/// The font size of a page by what is declared for it.
-pub(crate) fn font_size_of(declared: &[Candidate<'_>]) -> Px
-    ensures { result ≡ spec.font_size_of (map candidate_in declared.now) }
-{
-    font_size_by(value_of(Property::FontSize, declared))
-}
-
-/// The page box by what is declared for a page.
-pub fn cell_by(declared: &[Candidate<'_>]) -> PageCell
+/// The page box by what is declared for a page with this font size.
+pub(crate) fn cell_by(font: Px, declared: &[Candidate<'_>]) -> PageCell
+    requires { font ≡ spec.font_size_of (map candidate_in declared.now) }
     ensures cell { result ≡ spec.cell_by (map candidate_in declared.now) }
     ensures good { IsGoodFrame result.frame }
 {
-    let font = font_size_of(declared);
     let size = value_of(Property::Size, declared);
     cell_sized(font, width_by(font, size), height_by(font, size), declared)
 }

@@ -1,14 +1,18 @@
-//! Pages by the page rules of all sheets: their boxes and frames (css-page-3).
+//! Pages by the page rules of all sheets: their boxes, their frames and the styles of their margin boxes (css-page-3).
 #![tactic(auto)]
 
 pub mod applied;
 pub mod cells;
 pub mod classes;
 pub mod laws;
+pub mod margin_style;
+pub mod margins;
 pub mod property;
-pub mod tables;
+pub mod resolve;
+mod settings;
 #[cfg(test)]
 mod tests;
-mod values;
+#[cfg(test)]
+mod tests_margins;
 pub mod weight;
 pub mod winner;

@@ -1,13 +1,18 @@
 //! Pages by their rules.
 
-use crate::tables::table_by;
+ghost use Rattle.page_seq.specs.Frames.{IsGoodTable};
+
+use crate::resolve::{PageStyles, resolve};
+use bk_num::ids::NameId;
 use bk_num::items::Items;
 use bk_num::name::NoMem;
-use boxes::table::{PageCell, PageTable};
+use boxes::frames::PageKind;
+use boxes::table::PageCell;
 use css_page::rules::{PageRule, read_page_rule};
 use css_rules::sheet::read_sheet;
 use std::alloc::Global;
 use std::test::Fail;
+use style::lists::Families;
 use style::names::Names;
 
 /// A sheet, and for pages by their index, their name and whether they are blank the top margin in px. `x` is a name past
@@ -83,7 +88,7 @@ size:0;margin:0 | 0 0 0 0 0 0 0 0
 size:9999999px;margin:-9999999px | 134217728 134217728 -134217728 -134217728 -134217728 -134217728 402653184 402653184
 color:red;line-height:2;font-weight:bold | 35800 50797 4608 4608 4608 4608 26584 41581";
 
-fn rules_of(alloc: Global, text: &str) -> Result<Items<PageRule>, Fail> {
+pub(crate) fn rules_of(alloc: Global, text: &str) -> Result<Items<PageRule>, Fail> {
     let sheet = read_sheet(alloc, text)?;
     let mut rules = Items::new(alloc);
     for slice in &sheet.pages {
@@ -95,61 +100,62 @@ fn rules_of(alloc: Global, text: &str) -> Result<Items<PageRule>, Fail> {
 }
 
 /// The names `n` and `m`, numbered 1 and 2.
-fn names(alloc: Global) -> Result<Names, NoMem> {
+pub(crate) fn names(alloc: Global) -> Result<Names, NoMem> {
     let mut names = Names::new(alloc);
     names.number(alloc, "n")?;
     names.number(alloc, "m")?;
     Ok(names)
 }
 
-/// A page's cell, by a word of its index and its name.
-fn cell_at(table: &PageTable, page: &str) -> Option<PageCell> {
-    let index = page.get(0..1)?.parse::<u32>().ok()?;
-    let (name, blank) = match page.get(1..2)? {
-        "n" => (1, false),
-        "m" => (2, false),
-        "x" => (3, false),
-        "b" => (0, true),
-        _ => (0, false),
-    };
-    let row = table
-        .rows
-        .as_slice()
-        .get(name)
-        .or(table.rows.as_slice().get(0))?;
-    let place = if index == 1 {
-        0
-    } else {
-        1 + index as usize % 2
-    };
-    let place = if blank { place + 3 } else { place };
-    row.cells.as_slice().get(place).copied()
+/// A page's index, name and kind by a word.
+pub(crate) fn page_of(page: &str) -> (u32, NameId, PageKind) {
+    let index = page
+        .get(0..1)
+        .and_then(|digit| digit.parse::<u32>().ok())
+        .unwrap_or(0);
+    match page.get(1..2) {
+        Some("n") => (index, NameId(1), PageKind::Flow),
+        Some("m") => (index, NameId(2), PageKind::Flow),
+        Some("x") => (index, NameId(3), PageKind::Notes),
+        Some("b") => (index, NameId(0), PageKind::Blank),
+        _ => (index, NameId(0), PageKind::Flow),
+    }
+}
+
+fn cell_at(styles: &PageStyles<'_>, page: &str) -> PageCell
+    requires { IsGoodTable styles.now.table.rows }
+{
+    let (index, name, kind) = page_of(page);
+    styles.cell(index, name, kind)
 }
 
 /// Whether the frame of a page begins at a number of px.
-fn has_top(table: &PageTable, page: &str, px: &str) -> bool {
+fn has_top(styles: &PageStyles<'_>, page: &str, px: &str) -> bool
+    requires { IsGoodTable styles.now.table.rows }
+{
     let Ok(px) = px.parse::<i32>() else {
         return false;
     };
-    cell_at(table, page).is_some_and(|cell| cell.frame.top == i64::from(px) * 64)
+    cell_at(styles, page).frame.top == i64::from(px) * 64
 }
 
 #[test]
 fn pages_take_the_rules_of_their_selectors(rt: HostRuntime) -> Result<(), Fail> {
     let names = names(rt.alloc())?;
+    let serif = Families::serif(rt.alloc())?;
     for row in SELECTORS.split('\n') {
         let Some((sheet, pages)) = row.split_once(" | ") else {
             assert!(rt; false, "{row}");
             return Ok(());
         };
         let rules = rules_of(rt.alloc(), sheet)?;
-        let table = table_by(rt.alloc(), rules.as_slice(), &names)?;
+        let styles = resolve(rt.alloc(), rules.as_slice(), &names, &serif)?;
         let mut page = None;
         for word in pages.split(' ') {
             page = match page {
                 None => Some(word),
                 Some(page) => {
-                    assert!(rt; has_top(&table, page, word), "{row} {page}");
+                    assert!(rt; has_top(&styles, page, word), "{row} {page}");
                     None
                 }
             };
@@ -175,6 +181,7 @@ fn printed(alloc: Global, cell: PageCell) -> Result<String, Fail> {
 #[test]
 fn page_boxes_and_frames_have_the_declared_lengths(rt: HostRuntime) -> Result<(), Fail> {
     let names = names(rt.alloc())?;
+    let serif = Families::serif(rt.alloc())?;
     for row in CELLS.split('\n') {
         let Some((decls, want)) = row.split_once(" | ") else {
             assert!(rt; false, "{row}");
@@ -182,11 +189,8 @@ fn page_boxes_and_frames_have_the_declared_lengths(rt: HostRuntime) -> Result<()
         };
         let sheet = format!(in rt.alloc(); "@page{{{decls}}}")?;
         let rules = rules_of(rt.alloc(), sheet.as_str())?;
-        let table = table_by(rt.alloc(), rules.as_slice(), &names)?;
-        let Some(cell) = cell_at(&table, "1-") else {
-            assert!(rt; false, "{row}");
-            return Ok(());
-        };
+        let styles = resolve(rt.alloc(), rules.as_slice(), &names, &serif)?;
+        let cell = cell_at(&styles, "1-");
         assert_eq!(rt; printed(rt.alloc(), cell)?.as_str(), want, "{row}");
     }
     Ok(())

@@ -1,0 +1,18 @@
+use Rattle.std.proofs.Common.{sym, ◌∙◌, subst, map}
+use Rattle.page_ctx.specs.Tables.{IsTable}
+use Rattle.page_ctx.specs.Margins.{AreMarginStyles, cells_in}
+use Rattle.page_ctx.proofs.GoodLemmas.{styles_good}
+use Rattle.page_ctx.proofs.MarginLemmas.{are_styles}
+use Rattle.page_ctx.proofs.TableLemmas.{is_table}
+use Rattle.page_ctx.proofs.resolve.resolve.Goals as goal
+
+pub of_names-requires : goal.of_names-requires
+of_names-requires c =
+    styles_good c.args.rules.now c.args.names.now (map cells_in c.in_ok-rows.rows.boxes)
+    (subst (AreMarginStyles c.args.rules.now c.args.names.now) (sym c.in_ok-rows.ensures.boxes) (are_styles c.args.rules.now c.args.names.now))
+
+pub returns-clause-table : goal.returns-clause-table
+returns-clause-table c = subst (IsTable c.args.rules.now c.args.names.now) (sym c.in_ok-rows.ensures.table) (is_table c.args.rules.now c.args.names.now)
+
+pub returns-clause-boxes : goal.returns-clause-boxes
+returns-clause-boxes c = subst (AreMarginStyles c.args.rules.now c.args.names.now) (sym (c.of_names.ensures ∙ c.in_ok-rows.ensures.boxes)) (are_styles c.args.rules.now c.args.names.now)

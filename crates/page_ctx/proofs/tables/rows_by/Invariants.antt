@@ -1,8 +1,0 @@
-use Rattle.std.proofs.Common.{◌≡◌, ◌++◌, map, drop}
-use Rattle.std.specs.List.{All}
-use Rattle.page_seq.specs.Frames.{HasGoodCells}
-use Rattle.page_ctx.specs.Tables.{row_by, texts_of}
-use Rattle.page_ctx.proofs.tables.rows_by.Given as goal
-
-abbrev pub invariant-loop-number : goal.invariant-loop-number
-invariant-loop-number l = (l.rows ++ map (row_by l.rules) (drop l.number l.names) ≡ map (row_by l.rules) (texts_of l.names)) × All HasGoodCells l.rows

@@ -1,0 +1,253 @@
+//! The styles of margin boxes (css-page-3, page-margin boxes).
+
+ghost use Rattle.std.specs.Prelude.{◌≡◌, ◌≤ℤ◌, ◌++◌, pos, map, option_map, option_to_list, slice_get, IfOk, IfSome, OnOk};
+ghost use Rattle.style.specs.Styles.{initial_style};
+ghost use Rattle.page_ctx.specs.Winners.{applied_in, candidate_in};
+ghost use Rattle.page_ctx.specs.Settings.{setting_in};
+ghost use Rattle.page_ctx.specs.Margins as spec;
+
+use crate::applied::{Applied, box_declared};
+pub use crate::margin_style::MarginStyle;
+use crate::margin_style::{Alignment, MarginBox, Setting};
+use crate::property::Property;
+use crate::settings::setting_by;
+use crate::winner::{Candidate, value_of};
+use bk_num::ids::NameId;
+use bk_num::items::Items;
+use bk_num::name::{Name, NoMem};
+use bk_num::values::Align;
+use boxes::frames::PageKind;
+use computed_values::fonts::used_line_height;
+use computed_values::given::chosen;
+use css_page::values::{PageLong, Upright};
+use page_seq::pages::cell_number;
+use std::alloc::Global;
+use std::marker::Model;
+use style::content::Part;
+use style::long::Given;
+
+const fn aligned(align: Align, upright: Upright) -> Alignment
+    ensures { result ≡ spec.aligned align upright }
+{
+    Alignment { align, upright }
+}
+
+/// Where the text of the margin box of a number stands if nothing is declared; None past 15.
+fn alignment_of(place: u32) -> Option<Alignment>
+    ensures { result ≡ slice_get spec.alignments place }
+{
+    let alignments = [
+        aligned(Align::Right, Upright::Middle),
+        aligned(Align::Left, Upright::Middle),
+        aligned(Align::Center, Upright::Middle),
+        aligned(Align::Right, Upright::Middle),
+        aligned(Align::Left, Upright::Middle),
+        aligned(Align::Center, Upright::Top),
+        aligned(Align::Center, Upright::Middle),
+        aligned(Align::Center, Upright::Bottom),
+        aligned(Align::Left, Upright::Middle),
+        aligned(Align::Right, Upright::Middle),
+        aligned(Align::Center, Upright::Middle),
+        aligned(Align::Left, Upright::Middle),
+        aligned(Align::Right, Upright::Middle),
+        aligned(Align::Center, Upright::Bottom),
+        aligned(Align::Center, Upright::Middle),
+        aligned(Align::Center, Upright::Top),
+    ];
+    alignments.get(place as usize).copied()
+}
+
+fn align_by(own: Align, found: Option<&PageLong>) -> Align
+    ensures { result ≡ spec.align_by own (option_map (λ l. l.now) found.entry) }
+{
+    match found {
+        Some(PageLong::TextAlign(given)) => chosen(given, own, own),
+        _ => own,
+    }
+}
+
+fn upright_by(own: Upright, found: Option<&PageLong>) -> Upright
+    ensures { result ≡ spec.upright_by own (option_map (λ l. l.now) found.entry) }
+{
+    match found {
+        Some(PageLong::VerticalAlign(given)) => chosen(given, own, own),
+        _ => own,
+    }
+}
+
+fn content_by<'s>(found: Option<&'s PageLong>) -> Option<&'s [Part]>
+    ensures { option_map (λ c. c.now) result ≡ spec.content_by (option_map (λ l. l.now) found.entry) }
+{
+    match found {
+        Some(PageLong::Content(Given::Value(Some(content)))) => Some(content.as_slice()),
+        _ => None,
+    }
+}
+
+fn style_set<'s>(
+    setting: &Setting<'s>,
+    own: Alignment,
+    declared: &[Candidate<'s>],
+    content: &'s [Part],
+) -> MarginStyle<'s>
+    ensures { spec.style_in result ≡
+        spec.style_set (setting_in setting.now) own (map candidate_in declared.now) content.entry.now }
+{
+    MarginStyle {
+        content,
+        align: align_by(own.align, value_of(Property::TextAlign, declared)),
+        upright: upright_by(own.upright, value_of(Property::VerticalAlign, declared)),
+        families: setting.families,
+        italic: setting.italic,
+        weight: setting.weight,
+        size: setting.size,
+        line_height: used_line_height(setting.size, &setting.line_height),
+        color: setting.color,
+    }
+}
+
+/// Appends the margin box of a number, if it has content, by what is declared for it. `initial` are the initial families.
+fn push_box<'s>(
+    boxes: &mut Items<MarginBox<'s>>,
+    page: &Setting<'s>,
+    initial: &'s [Name],
+    declared: &[Candidate<'s>],
+    place: u32,
+    own: Alignment,
+) -> Result<(), NoMem>
+    requires { initial.now ≡ initial_style.font_family }
+    ensures { OnOk result (map spec.box_in boxes.new ≡ map spec.box_in boxes.old ++ option_to_list
+        (option_map (spec.placed place) (spec.style_by (setting_in page.now) (map candidate_in declared.now) own))) }
+{
+    match content_by(value_of(Property::Content, declared)) {
+        Some(content) => {
+            let setting = setting_by(page, initial, declared);
+            let style = style_set(&setting, own, declared, content);
+            boxes.push(MarginBox { place, style })
+        }
+        None => Ok(()),
+    }
+}
+
+/// The same by the rules that are for a page.
+fn push_place<'s>(
+    alloc: Global,
+    boxes: &mut Items<MarginBox<'s>>,
+    page: &Setting<'s>,
+    initial: &'s [Name],
+    rules: &[Applied<'s>],
+    place: u32,
+) -> Result<(), NoMem>
+    requires { initial.now ≡ initial_style.font_family }
+    ensures { OnOk result (map spec.box_in boxes.new ≡ map spec.box_in boxes.old ++ option_to_list
+        (spec.box_at (spec.style_below (setting_in page.now) (map applied_in rules.now)) place)) }
+{
+    match alignment_of(place) {
+        Some(own) => {
+            let declared = box_declared(alloc, place, rules)?;
+            push_box(boxes, page, initial, &declared, place, own)
+        }
+        None => Ok(()),
+    }
+}
+
+/// The margin boxes that have content, in the order of their numbers, by the rules that are for a page. `initial` are the initial
+/// families.
+#[tactic(auto, unfolding(crate::specs::Margins::boxes_by))]
+pub(crate) fn boxes_by<'s>(
+    alloc: Global,
+    page: &Setting<'s>,
+    initial: &'s [Name],
+    rules: &[Applied<'s>],
+) -> Result<Items<MarginBox<'s>>, NoMem>
+    requires { initial.now ≡ initial_style.font_family }
+    ensures { IfOk result (λ boxes. map spec.box_in boxes ≡
+        spec.boxes_by (spec.style_below (setting_in page.now) (map applied_in rules.now))) }
+{
+    let mut boxes = Items::new(alloc);
+    for place in 0..16u32 {
+        push_place(alloc, &mut boxes, page, initial, rules, place)?;
+    }
+    Ok(boxes)
+}
+
+/// The margin boxes that have content on the pages of a name, for each of six cells.
+pub(crate) type BoxCells<'s> = Items<Items<MarginBox<'s>>>;
+
+/// The styles of the margin boxes of all pages. Contracts see, by the numbers of the names, for each of six cells the boxes that have
+/// content.
+#[derive(Drop)]
+pub struct MarginStyles<'s> {
+    rows: Items<BoxCells<'s>>,
+}
+
+impl<'s> Model for MarginStyles<'s> {
+    ghost use Rattle.std.specs.Prelude.{List, ℕ, map};
+    ghost use Rattle.page_ctx.specs.Margins.{AreGoodStyles, MarginStyleOf, cells_in};
+
+    ghost Value = { List (List (List (ℕ × MarginStyleOf))) };
+
+    ghost view = { λ m. map cells_in m.rows };
+
+    ghost invariant = { λ m. AreGoodStyles (map cells_in m.rows) };
+}
+
+/// The style of the box of a number among those of a cell.
+fn style_at<'a, 's>(boxes: &'a [MarginBox<'s>], place: u32) -> Option<&'a MarginStyle<'s>>
+    ensures { option_map (λ s. spec.style_in s.now) result ≡ spec.style_at place (map spec.box_in boxes.entry.now) }
+{
+    for found in boxes {
+        if found.place == place {
+            return Some(&found.style);
+        }
+    }
+    None
+}
+
+/// The boxes of the pages of a name, or else those of no name.
+fn cells_of<'a, 's>(rows: &'a [BoxCells<'s>], name: NameId) -> Option<&'a BoxCells<'s>>
+    ensures { option_map (λ cells. cells.now) result ≡ spec.row_or_first rows.entry.now name.0 }
+{
+    rows.get(name.0 as usize).or(rows.first())
+}
+
+/// The style of the box of a number on the pages of an index, a name and a kind.
+fn style_in<'a, 's>(
+    rows: &'a [BoxCells<'s>],
+    index: u32,
+    name: NameId,
+    kind: PageKind,
+    place: u32,
+) -> Option<&'a MarginStyle<'s>>
+    ensures { option_map (λ s. spec.style_in s.now) result ≡ spec.style_of (map spec.cells_in rows.entry.now) index name kind place }
+{
+    let cells = cells_of(rows, name)?;
+    let boxes = cells.as_slice().get(cell_number(index, kind))?;
+    style_at(boxes.as_slice(), place)
+}
+
+impl<'s> MarginStyles<'s> {
+    /// The styles of the names by their numbers. It takes no memory.
+    pub(crate) fn of_names(rows: Items<BoxCells<'s>>) -> MarginStyles<'s>
+        requires { spec.AreGoodStyles (map spec.cells_in rows) }
+        ensures { result ≡ map spec.cells_in rows.entry }
+    {
+        MarginStyles { rows }
+    }
+
+    /// The style of the margin box at a place, from 0 to 15 in the order in which css-page-3 lists the boxes, on the pages of an
+    /// index, a name and a kind. None where the box has no content, and past 15. A name past those of the rows counts as no name.
+    /// It takes no memory.
+    pub fn of(
+        &self,
+        index: u32,
+        name: NameId,
+        kind: PageKind,
+        place: u32,
+    ) -> Option<&MarginStyle<'s>>
+        ensures style { option_map (λ s. spec.style_in s.now) result ≡ spec.style_of self.now index name kind place }
+        ensures good { IfSome result (λ s. (pos 0 ≤ℤ s.now.size) × (pos 0 ≤ℤ s.now.line_height)) }
+    {
+        style_in(self.rows.as_slice(), index, name, kind, place)
+    }
+}

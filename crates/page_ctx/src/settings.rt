@@ -1,0 +1,133 @@
+//! How the texts of pages and of margin boxes are set by what is declared for them.
+
+ghost use Rattle.std.specs.Prelude.{◌≡◌, map, option_map};
+ghost use Rattle.style.specs.Styles.{initial_style};
+ghost use Rattle.page_ctx.specs.Winners.{candidate_in};
+ghost use Rattle.page_ctx.specs.Settings as spec;
+
+use crate::margin_style::Setting;
+use crate::property::Property;
+use crate::winner::{Candidate, value_of};
+use bk_num::decimal::Decimal;
+use bk_num::name::Name;
+use bk_num::px::Px;
+use bk_num::values::Color;
+use computed_values::fonts::{chosen_height, chosen_size, chosen_weight, copy_height};
+use computed_values::given::chosen;
+use computed_values::lengths::px;
+use css_page::values::PageLong;
+use style::long::Given;
+use style::values::LineHeight;
+
+fn families_by<'s>(
+    parent: &'s [Name],
+    initial: &'s [Name],
+    found: Option<&'s PageLong>,
+) -> &'s [Name]
+    requires { initial.now ≡ initial_style.font_family }
+    ensures { result.now ≡ spec.families_by parent.entry.now (option_map (λ l. l.now) found.entry) }
+{
+    match found {
+        Some(PageLong::FontFamily(Given::Value(families))) => families.as_slice(),
+        Some(PageLong::FontFamily(Given::Initial)) => initial,
+        _ => parent,
+    }
+}
+
+fn italic_by(parent: bool, found: Option<&PageLong>) -> bool
+    ensures { result ≡ spec.italic_by parent (option_map (λ l. l.now) found.entry) }
+{
+    match found {
+        Some(PageLong::FontStyle(given)) => chosen(given, parent, false),
+        _ => parent,
+    }
+}
+
+fn weight_by(parent: u16, found: Option<&PageLong>) -> u16
+    ensures { result ≡ spec.weight_by parent (option_map (λ l. l.now) found.entry) }
+{
+    match found {
+        Some(PageLong::FontWeight(given)) => chosen_weight(given, parent),
+        _ => parent,
+    }
+}
+
+/// A font size below a parent's, in units; a `rem` is 16 px.
+fn size_by(parent: Px, found: Option<&PageLong>) -> Px
+    ensures { result ≡ spec.size_by parent (option_map (λ l. l.now) found.entry) }
+{
+    match found {
+        Some(PageLong::FontSize(given)) => chosen_size(given, parent, px(1024)),
+        _ => parent,
+    }
+}
+
+/// A height of lines in a font of this size.
+fn line_height_by(parent: &LineHeight, size: Px, found: Option<&PageLong>) -> LineHeight
+    ensures { result ≡ spec.line_height_by parent.now size (option_map (λ l. l.now) found.entry) }
+{
+    match found {
+        Some(PageLong::LineHeight(given)) => chosen_height(given, parent, size, px(1024)),
+        _ => copy_height(parent),
+    }
+}
+
+fn color_by(parent: Color, found: Option<&PageLong>) -> Color
+    ensures { result ≡ spec.color_by parent (option_map (λ l. l.now) found.entry) }
+{
+    match found {
+        Some(PageLong::Color(given)) => chosen(given, parent, BLACK),
+        _ => parent,
+    }
+}
+
+/// The initial colour.
+const BLACK: Color = Color {
+    red: 0,
+    green: 0,
+    blue: 0,
+};
+
+/// How texts are set by what is declared for them, below a parent. `initial` are the initial families.
+pub(crate) fn setting_by<'s>(
+    parent: &Setting<'s>,
+    initial: &'s [Name],
+    declared: &[Candidate<'s>],
+) -> Setting<'s>
+    requires { initial.now ≡ initial_style.font_family }
+    ensures { spec.setting_in result ≡ spec.setting_by (spec.setting_in parent.now) (map candidate_in declared.now) }
+{
+    let size = size_by(parent.size, value_of(Property::FontSize, declared));
+    let height = value_of(Property::LineHeight, declared);
+    let families = value_of(Property::FontFamily, declared);
+    Setting {
+        families: families_by(parent.families, initial, families),
+        italic: italic_by(parent.italic, value_of(Property::FontStyle, declared)),
+        weight: weight_by(parent.weight, value_of(Property::FontWeight, declared)),
+        size,
+        line_height: line_height_by(&parent.line_height, size, height),
+        color: color_by(parent.color, value_of(Property::Color, declared)),
+    }
+}
+
+fn initial_setting<'s>(initial: &'s [Name]) -> Setting<'s>
+    requires { initial.now ≡ initial_style.font_family }
+    ensures { spec.setting_in result ≡ spec.initial_setting }
+{
+    Setting {
+        families: initial,
+        italic: false,
+        weight: 400,
+        size: px(1024),
+        line_height: LineHeight::Number(Decimal::new(125, 2)),
+        color: BLACK,
+    }
+}
+
+/// How the texts of a page are set by what is declared for it: its parent has the initial values.
+pub(crate) fn page_setting<'s>(initial: &'s [Name], declared: &[Candidate<'s>]) -> Setting<'s>
+    requires { initial.now ≡ initial_style.font_family }
+    ensures { spec.setting_in result ≡ spec.page_setting (map candidate_in declared.now) }
+{
+    setting_by(&initial_setting(initial), initial, declared)
+}
