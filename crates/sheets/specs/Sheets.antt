@@ -1,15 +1,9 @@
--- The style sheets of a document and of a file, and what their numbers of rules say.
-use Rattle.std.specs.Prelude.{◌≡◌, ℕ, zero, suc, ◌+◌, Bool, false, ◌&&◌, ◌==◌, nat_lt, if◌then◌else◌, List, [], ◌∷◌, ◌++◌, Option, None, Some, find, length, codes, unwrap_or}
-use Rattle.std.specs.List.{list_any}
+-- The style sheets of a document and of a file (HTML, 4.2.6; CSS 2.1, 6.4).
+use Rattle.std.specs.Prelude.{ℕ, zero, suc, ◌+◌, Bool, false, ◌&&◌, ◌==◌, if◌then◌else◌, List, [], ◌∷◌, ◌++◌, Option, None, Some, length, codes, unwrap_or}
 use Rattle.std.specs.Str.{bytes_eq}
-use Rattle.bk_num.specs.Limits.{most_rules, most_sheets}
 use Rattle.dom.specs.Nodes.{Node, parents_of, parent_at, name_at, text_at, attribute_at}
 use Rattle.css_tok.specs.Tokens.{tokens_of}
 use Rattle.css_rules.specs.Media.{is_media_list}
-use Rattle.css_rules.specs.Sheet.{RuleOf, IsSheet, rule_count}
-use Rattle.css_rules.specs.Pages.{PageOf}
-use Rattle.sheets.specs.declared.check.Verdict.{Verdict}
-use Rattle.sheets.specs.declared.check.Verdict.TheVariants as verdict
 
 -- a sheet: the number of its `style` element, or none for the file's, and its text
 pub record Sheet : Type 0 where
@@ -61,26 +55,3 @@ file_sheet file = record { element = None; text = file } ∷ []
 -- the sheets of a document, and that of a file
 abbrev pub sheets_of : List Node → List ℕ → List Sheet
 sheets_of nodes file = element_sheets nodes ++ file_sheet file
-
--- a function gives the number of rules of each text as a sheet: rulesets, page rules and margin boxes
-pub record IsRuleCount (count : List ℕ → ℕ) : Type 0 where
-  pub is : (text : List ℕ) (rs : List RuleOf) (ps : List PageOf) → IsSheet (tokens_of text) rs ps → count text ≡ rule_count rs ps
-
-abbrev pub has_many : (List ℕ → ℕ) → Sheet → Bool
-has_many count s = nat_lt most_rules (count s.text)
-
-abbrev pub has_rules : (List ℕ → ℕ) → Sheet → Bool
-has_rules count s = nat_lt 0 (count s.text)
-
-abbrev pub verdict_at : Option ℕ → Verdict
-verdict_at None = verdict.FileHasRules
-verdict_at (Some k) = verdict.ElementHasRules (record { 0 = k })
-
-abbrev pub verdict_by : Option Sheet → Verdict
-verdict_by None = verdict.Built
-verdict_by (Some s) = verdict_at s.element
-
--- more than 16 sheets, then a sheet of more than 20,000 rules, then the first element and at last the file with a rule
-abbrev pub verdict_of : (List ℕ → ℕ) → List Sheet → Verdict
-verdict_of count sheets = if nat_lt most_sheets (length sheets) then verdict.TooManySheets else
-    if list_any (has_many count) sheets then verdict.TooManyRules else verdict_by (find (has_rules count) sheets)

@@ -1,3 +1,4 @@
 pub mod PlaceLemmas
+pub mod PageLemmas
 pub mod ReadLemmas
 pub mod LeastLemmas

@@ -4,7 +4,7 @@ use Rattle.std.specs.Prelude.{is_some, if◌then◌else◌, Result, Ok, Err}
 use Rattle.std.specs.List.{AllZip, filter_map, list_any, cons_option}
 use Rattle.std.proofs.Math.Seq.{drop-cons}
 use Rattle.std.proofs.lemmas.Bool.Decides.{nat_tests}
-use Rattle.std.proofs.lemmas.List.{append-nil, drop_all, map-append, take_more}
+use Rattle.std.proofs.lemmas.List.{append-nil, drop_all}
 use Rattle.std.proofs.lemmas.List.Folds.{list_any-append}
 use Rattle.bk_num.specs.Limits.{most_rules, most_sheets}
 use Rattle.css_tok.specs.Tokens.{tokens_of}
@@ -15,7 +15,8 @@ use Rattle.dom.specs.Nodes.{Node}
 use Rattle.sheets.specs.Sheets.{Sheet, element_sheets, file_sheet, sheets_of}
 use Rattle.sheets.specs.declared.list.ElementSheet.{ElementSheet}
 use Rattle.unbuilt.specs.Readings.{SheetOf, AreReadings, has_many, unbuilt_place, is_unbuilt_sheet}
-use Rattle.unbuilt.specs.Sources.{has_many_rules, unbuilt_element, author_source, element_source, sources_of, IsReadFrom, IsAuthorOf, AreJudged, AreRead}
+use Rattle.unbuilt.proofs.PageLemmas.{authors-next, pairs_push}
+use Rattle.unbuilt.specs.Sources.{has_many_rules, unbuilt_element, author_source, default_source, sources_of, IsReadFrom, IsAuthorOf, AreJudged, AreRead}
 use Rattle.unbuilt.specs.declared.run_sheets.Sheets.{Sheets}
 use Rattle.unbuilt.specs.declared.run_sheets.SheetsErr.{SheetsErr}
 use Rattle.unbuilt.specs.declared.run_sheets.SheetsErr.TheVariants as err
@@ -45,13 +46,6 @@ module _ (reading : List ℕ → SheetOf) (text : List ℕ) (h : AreReadings rea
   read-place rs ps s = sym (ap unbuilt_place (h.is text rs ps s))
 
 -- ---- one sheet after another
-
--- one more pair
-pub pairs_push : {A B : Type 0} (R : A → B → Type 0) (xs : List A) (ys : List B) (x : A) (y : B) → AllZip R xs ys → R x y → AllZip R (xs ++ x ∷ []) (ys ++ y ∷ [])
-pairs_push R [] [] x y h r = (r, tt)
-pairs_push R [] (b ∷ bs) x y h r = absurd h
-pairs_push R (a ∷ rest) [] x y h r = absurd h
-pairs_push R (a ∷ rest) (b ∷ bs) x y h r = (h.0, pairs_push R rest bs x y h.1 r)
 
 -- no sheet of those before has too many rules, and these are the elements of those before that aren't built
 pub record IsLeft (reading : List ℕ → SheetOf) (listed : List ElementSheet) (i : ℕ) (elements : List ℕ) : Type 0 where
@@ -88,13 +82,14 @@ module _ (reading : List ℕ → SheetOf) (listed : List ElementSheet) (i : ℕ)
       let none : drop i listed ≡ [] = drop_all i listed h in
       (sym left.many ∙ ap (λ l. list_any (has_many_rules reading) (map sheet_in l)) none, sym (append-nil elements) ∙ sym (ap (λ l. elements ++ filter_map (unbuilt_element reading) (map sheet_in l)) none) ∙ left.found)
 
+-- the default sheet and the file's
+pub read-first : (file : List ℕ) (default own : ReadSheet) → IsReadFrom default_source default → IsReadFrom (author_source file) own → AllZip IsReadFrom (sources_of [] file) (default ∷ own ∷ [])
+read-first file default own d o = (d, (o, tt))
+
 -- the sheets read so far, and one more
 module _ (listed : List ElementSheet) (file : List ℕ) where
   sources-next : (e : ElementSheet) (i : ℕ) → i < length listed → e ≡ get_or listed i e → sources_of (map sheet_in (take (i + 1) listed)) file ≡ sources_of (map sheet_in (take i listed)) file ++ author_source e.text ∷ []
-  sources-next e i h is =
-      ap (λ l. sources_of (map sheet_in l) file) (take_more listed i e h ∙ ap (λ x. take i listed ++ x ∷ []) (sym is))
-      ∙ ap (λ l. sources_of l file) (map-append sheet_in (take i listed) (e ∷ []))
-      ∙ ap (λ l. sources_of [] file ++ l) (map-append element_source (map sheet_in (take i listed)) (sheet_in e ∷ []))
+  sources-next e i h is = ap (λ l. default_source ∷ l) (authors-next listed file e i h is)
 
   pub read-next : (e : ElementSheet) (i : ℕ) (read : List ReadSheet) (s : ReadSheet) → i < length listed → e ≡ get_or listed i e → AllZip IsReadFrom (sources_of (map sheet_in (take i listed)) file) read → IsReadFrom (author_source e.text) s → AllZip IsReadFrom (sources_of (map sheet_in (take (i + 1) listed)) file) (read ++ s ∷ [])
   read-next e i read s h is before one = rw (sources-next e i h is) (pairs_push IsReadFrom (sources_of (map sheet_in (take i listed)) file) read (author_source e.text) s before one)

@@ -1,8 +1,7 @@
 -- What of a sheet isn't built.
-use Rattle.std.specs.Prelude.{◌≡◌, ℕ, Bool, false, List, [], ◌∷◌, Option, None, Some, is_some, nat_lt}
+use Rattle.std.specs.Prelude.{◌≡◌, ℕ, Bool, false, List, Option, None, Some, is_some, nat_lt}
 use Rattle.std.specs.List.{list_any, position_from}
 use Rattle.bk_num.specs.Limits.{most_rules}
-use Rattle.dom.specs.Nodes.{first_of}
 use Rattle.css_tok.specs.Tokens.{tokens_of}
 use Rattle.css_rules.specs.Pages.{PageOf}
 use Rattle.css_rules.specs.Sheet.{RuleOf, IsSheet, rule_count, rules_in, pages_in}
@@ -43,14 +42,9 @@ is_unbuilt_read (Some r) = has_unbuilt r
 unfoldable pub is_unbuilt_rule : RuleOf → Bool
 is_unbuilt_rule r = is_unbuilt_read (rule_of r)
 
--- no page rule is built
-abbrev pub page_place : List PageOf → Option ℕ
-page_place [] = None
-page_place (p ∷ ps) = Some 1
-
--- the first place, from 1, of a ruleset that isn't built, or, where there is none, of a page rule
+-- the first place, from 1, of a ruleset that isn't built
 abbrev pub unbuilt_place : SheetOf → Option ℕ
-unbuilt_place s = first_of (position_from is_unbuilt_rule 1 s.rules) (page_place s.pages)
+unbuilt_place s = position_from is_unbuilt_rule 1 s.rules
 
 abbrev pub is_unbuilt_sheet : SheetOf → Bool
 is_unbuilt_sheet s = is_some (unbuilt_place s)

@@ -1,6 +1,6 @@
 -- The sheets of a run in the order of the cascade (CSS 2.1, 6.4), and what is found in them.
 use Rattle.std.specs.Prelude.{◌≡◌, ℕ, Bool, true, false, ◌||◌, List, ◌∷◌, Option, None, map, nat_lt, length, if◌then◌else◌, Result, Ok, Err}
-use Rattle.std.specs.List.{filter_map, list_any}
+use Rattle.std.specs.List.{AllZip, filter_map, flat_map, list_any}
 use Rattle.bk_num.specs.Limits.{most_sheets}
 use Rattle.bk_num.specs.declared.ids.NodeId.{NodeId}
 use Rattle.dom.specs.Nodes.{Node}
@@ -9,8 +9,13 @@ use Rattle.cascade.specs.Sheets.{IsReadSheet}
 use Rattle.cascade.specs.declared.sheet.Origin.{Origin}
 use Rattle.cascade.specs.declared.sheet.Origin.TheVariants as origin
 use Rattle.cascade.specs.declared.sheet.ReadSheet.{ReadSheet}
+use Rattle.css_tok.specs.Tokens.{tokens_of}
+use Rattle.css_rules.specs.Pages.{PageOf}
+use Rattle.css_rules.specs.Sheet.{RuleOf, IsSheet}
 use Rattle.css_rules.specs.declared.sheet.SheetErr.{SheetErr}
 use Rattle.css_rules.specs.declared.sheet.SheetErr.TheVariants as sheet_err
+use Rattle.css_page.specs.Rules.{rule_of}
+use Rattle.css_page.specs.declared.rules.PageRule.{PageRule}
 use Rattle.default_sheet.specs.Text.{default_text}
 use Rattle.unbuilt.specs.Readings.{SheetOf, has_many, unbuilt_place, is_unbuilt_sheet}
 use Rattle.unbuilt.specs.declared.author.AuthorSheet.{AuthorSheet}
@@ -32,13 +37,30 @@ author_source text = record { origin = origin.Author; text = text }
 abbrev pub element_source : Sheet → Source
 element_source s = author_source s.text
 
--- the sheets in the order of the cascade: the default one, the file's, and those of elements in tree order
+-- the sheets of authors in the order of the cascade: the file's, and those of elements in tree order
+abbrev pub authors_of : List Sheet → List ℕ → List Source
+authors_of elements file = author_source file ∷ map element_source elements
+
+-- the sheets in the order of the cascade: the default one, and those of authors
 abbrev pub sources_of : List Sheet → List ℕ → List Source
-sources_of elements file = default_source ∷ author_source file ∷ map element_source elements
+sources_of elements file = default_source ∷ authors_of elements file
 
 -- a sheet is what its text is read as
 abbrev pub IsReadFrom : Source → ReadSheet → Type 0
 IsReadFrom source s = IsReadSheet source.origin source.text s
+
+-- the page rules of a text in their order, without those whose selectors have no reading (css-page-3, 3)
+pub record ArePageRulesOf (text : List ℕ) (rules : List PageRule) : Type 0 where
+  pub rs : List RuleOf
+  pub ps : List PageOf
+  pub sheet : IsSheet (tokens_of text) rs ps
+  pub is : rules ≡ filter_map rule_of ps
+
+-- the page rules of sheets, sheet after sheet
+pub record ArePageRules (sources : List Source) (rules : List PageRule) : Type 0 where
+  pub lists : List (List PageRule)
+  pub each : AllZip (λ s l. ArePageRulesOf s.text l) sources lists
+  pub is : rules ≡ flat_map (λ l. l) lists
 
 abbrev pub has_many_rules : (List ℕ → SheetOf) → Sheet → Bool
 has_many_rules reading s = has_many (reading s.text)

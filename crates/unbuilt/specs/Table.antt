@@ -1,5 +1,5 @@
 -- Declarations that aren't built yet: one table. Whatever is built later leaves it.
-use Rattle.std.specs.Prelude.{ℕ, ℤ, Bool, true, false, List, Option, Some, codes}
+use Rattle.std.specs.Prelude.{ℕ, Bool, true, false, List, Option, Some, codes}
 use Rattle.std.specs.List.{list_any}
 use Rattle.std.specs.Str.{bytes_eq}
 use Rattle.style.specs.Longs.{longhand_of}
@@ -13,10 +13,9 @@ use Rattle.style.specs.declared.longhand.Longhand.{Longhand}
 use Rattle.style.specs.declared.longhand.Longhand.TheVariants as hand
 use Rattle.cascade.specs.declared.decl.ReadDecl.{ReadDecl}
 
--- the longhands of which no declaration is built: `float`, `string-set`, borders and backgrounds
+-- the longhands of which no declaration is built: `float`, borders and backgrounds
 abbrev pub is_unbuilt_longhand : Longhand → Bool
 is_unbuilt_longhand hand.Float = true
-is_unbuilt_longhand hand.StringSet = true
 is_unbuilt_longhand hand.BorderTopWidth = true
 is_unbuilt_longhand hand.BorderRightWidth = true
 is_unbuilt_longhand hand.BorderBottomWidth = true
@@ -45,17 +44,9 @@ abbrev pub refers_to_pages : Given (Option (List Part)) → Bool
 refers_to_pages (given.Value (Some parts)) = list_any is_page_reference parts
 refers_to_pages _ = false
 
-abbrev pub is_page_entry : List ℕ × ℤ → Bool
-is_page_entry entry = is_page entry.0
-
-abbrev pub resets_pages : Given (List (List ℕ × ℤ)) → Bool
-resets_pages (given.Value entries) = list_any is_page_entry entries
-resets_pages _ = false
-
--- `content` that refers to a page, `counter-reset` of `page`, and each declaration of those longhands
+-- `content` that refers to a page, and each declaration of those longhands
 unfoldable pub is_unbuilt : Long → Bool
 is_unbuilt (long.Content g) = refers_to_pages g
-is_unbuilt (long.CounterReset g) = resets_pages g
 is_unbuilt l = is_unbuilt_longhand (longhand_of l)
 
 -- a declaration by its longhands, which a shorthand's are too

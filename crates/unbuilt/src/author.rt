@@ -1,21 +1,23 @@
 //! An author's sheet: what it is read as, and what of it isn't built yet.
 
-ghost use Rattle.std.specs.Prelude.{◌≡◌, ℕ, ◌≤◌, List, length, map, IfOk};
+ghost use Rattle.std.specs.Prelude.{◌≡◌, ◌++◌, ℕ, ◌≤◌, List, length, map, option_to_list, IfOk, OnOk};
 ghost use Rattle.std.specs.List.{filter_map, list_any, position_from};
 ghost use Rattle.bk_num.specs.Limits.{most_rules};
 ghost use Rattle.css_rules.specs.Decls.{decl_in};
 ghost use Rattle.css_rules.specs.Pages.{page_in};
-ghost use Rattle.css_rules.specs.Sheet.{rule_in, rules_in};
-ghost use Rattle.dom.specs.Nodes.{first_of};
+ghost use Rattle.css_rules.specs.Sheet.{rule_in, rules_in, pages_in};
+ghost use Rattle.css_page.specs.Rules.{rule_of as page_rule_of};
 ghost use Rattle.cascade.specs.Sheets.{IsReadSheet, read_of, rule_of, sheet_of};
 ghost use Rattle.unbuilt.specs.Table.{is_unbuilt_decl};
 ghost use Rattle.unbuilt.specs.Readings as spec;
-ghost use Rattle.unbuilt.specs.Sources.{IsAuthor};
+ghost use Rattle.unbuilt.specs.Sources.{IsAuthor, ArePageRulesOf};
 
 use crate::table::is_any_unbuilt;
+use bk_num::items::Items;
 use bk_num::name::NoMem;
 use cascade::decl::ReadDecl;
 use cascade::sheet::{Origin, ReadRule, ReadSheet, read_rules};
+use css_page::rules::{PageRule, read_page_rule};
 use css_rules::decls::DeclSlice;
 use css_rules::pages::PageSlice;
 use css_rules::sheet::{Rule, Sheet, SheetErr, one_reading, read_sheet};
@@ -23,11 +25,11 @@ use css_values::decls::read_decl;
 use selectors::grammar::read_selectors;
 use std::alloc::Global;
 
-/// An author's sheet, as it is read, and its first place that isn't built: that of a ruleset, from 1, or, where each
-/// ruleset is built, that of a page rule.
+/// An author's sheet as it is read, its page rules, and the place, from 1, of its first ruleset that isn't built.
 #[derive(Drop)]
 pub struct AuthorSheet {
     pub read: ReadSheet,
+    pub pages: Items<PageRule>,
     pub unbuilt: Option<u32>,
 }
 
@@ -118,34 +120,50 @@ fn unbuilt_rule(alloc: Global, rules: &[Rule<'_>], read: &[ReadRule]) -> Result<
     }
 }
 
-fn or_page(place: Option<u32>, pages: &[PageSlice<'_>]) -> Option<u32>
-    ensures { result ≡ first_of place (spec.page_place (map page_in pages.now)) }
+/// Reads a page rule, and appends it where its selectors have a reading.
+fn push_page(alloc: Global, rules: &mut Items<PageRule>, page: &PageSlice<'_>) -> Result<(), NoMem>
+    ensures { OnOk result (rules.new ≡ rules.old ++ option_to_list (page_rule_of (page_in page.now))) }
 {
-    match (place, pages) {
-        (Some(place), _) => Some(place),
-        (None, [_, ..]) => Some(1),
-        (None, []) => None,
+    match read_page_rule(alloc, page)? {
+        Some(rule) => rules.push(rule),
+        None => Ok(()),
     }
+}
+
+/// Reads page rules, without those whose selectors have no reading.
+fn read_pages(alloc: Global, pages: &[PageSlice<'_>]) -> Result<Items<PageRule>, NoMem>
+    ensures { IfOk result (λ rules. rules ≡ filter_map page_rule_of (map page_in pages.now)) }
+{
+    let mut rules = Items::new(alloc);
+    for page in pages {
+        push_page(alloc, &mut rules, page)?;
+    }
+    Ok(rules)
 }
 
 /// What a sheet within the limit of rules is read as, and what of it isn't built.
 fn judged(alloc: Global, sheet: &Sheet<'_>) -> Result<AuthorSheet, NoMem>
     requires { length (rules_in sheet.now) ≤ most_rules }
     ensures read { IfOk result (λ a. a.read ≡ sheet_of Origin.Author (rules_in sheet.now)) }
+    ensures pages { IfOk result (λ a. a.pages ≡ filter_map page_rule_of (pages_in sheet.now)) }
     ensures unbuilt { IfOk result (λ a. a.unbuilt ≡ spec.unbuilt_place (spec.sheet_in sheet.now)) }
 {
     let read = read_rules(alloc, sheet, Origin::Author)?;
-    let place = unbuilt_rule(alloc, &sheet.rules, read.rules.as_slice())?;
+    let pages = read_pages(alloc, &sheet.pages)?;
+    let unbuilt = unbuilt_rule(alloc, &sheet.rules, read.rules.as_slice())?;
     Ok(AuthorSheet {
         read,
-        unbuilt: or_page(place, &sheet.pages),
+        pages,
+        unbuilt,
     })
 }
 
-/// Reads an author's sheet and finds its first place that isn't built. `Rules` comes exactly where it has more than 20,000
-/// rules. Each value is read once, but for a sheet with an unbuilt ruleset, which is read again up to it.
+/// Reads an author's sheet and finds its first ruleset that isn't built. `Rules` comes exactly where it has more than 20,000
+/// rules. A page rule whose selectors have no reading is left out. Each value is read once, but for a sheet with an unbuilt
+/// ruleset, which is read again up to it.
 pub fn read_author(alloc: Global, text: &str) -> Result<AuthorSheet, SheetErr>
     ensures read { IfOk result (λ a. IsReadSheet Origin.Author text.now a.read) }
+    ensures pages { IfOk result (λ a. ArePageRulesOf text.now a.pages) }
     ensures answer { (reading : List ℕ → spec.SheetOf) → spec.AreReadings reading → IsAuthor (reading text.now) result }
 {
     one_reading();

@@ -1,6 +1,6 @@
-//! What is first, and that texts have readings.
+//! What is first, that texts have readings, and that sheets have one list of page rules.
 
-ghost use Rattle.unbuilt.specs.Laws.{LeastIsFirst, TextsAreRead};
+ghost use Rattle.unbuilt.specs.Laws.{LeastIsFirst, PageRulesAreOne, TextsAreRead};
 
 use css_rules::sheet::one_reading;
 
@@ -12,6 +12,13 @@ pub fn least_is_first()
 /// Law: a function gives what each text is read as.
 pub fn texts_are_read()
     ensures { TextsAreRead }
+{
+    one_reading();
+}
+
+/// Law: sheets have one list of page rules.
+pub fn page_rules_are_one()
+    ensures { PageRulesAreOne }
 {
     one_reading();
 }

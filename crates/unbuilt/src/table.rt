@@ -6,7 +6,6 @@ ghost use Rattle.unbuilt.specs.Table as spec;
 
 use bk_num::name::Name;
 use style::content::{Content, Part};
-use style::lists::CounterList;
 use style::long::{Given, Long};
 use style::longhand::Longhand;
 
@@ -16,7 +15,6 @@ fn is_unbuilt_longhand(hand: Longhand) -> bool
     matches!(
         hand,
         Longhand::Float
-            | Longhand::StringSet
             | Longhand::BorderTopWidth
             | Longhand::BorderRightWidth
             | Longhand::BorderBottomWidth
@@ -63,36 +61,14 @@ fn refers_to_pages(content: &Given<Option<Content>>) -> bool
     }
 }
 
-fn is_page_entry(entry: &(Name, i64)) -> bool
-    ensures { result ≡ spec.is_page_entry entry.now }
-{
-    is_page(&entry.0)
-}
-
-fn has_page_entry(entries: &[(Name, i64)]) -> bool
-    ensures { result ≡ list_any spec.is_page_entry entries.now }
-{
-    entries.iter().any(|entry| is_page_entry(entry))
-}
-
-fn resets_pages(counters: &Given<CounterList>) -> bool
-    ensures { result ≡ spec.resets_pages counters.now }
-{
-    match counters {
-        Given::Value(entries) => has_page_entry(entries.as_slice()),
-        Given::Inherit | Given::Initial => false,
-    }
-}
-
-/// Whether a declared longhand isn't built yet: `float`, `string-set`, borders and backgrounds, `counter-reset` of
-/// `page`, and `content` with a `target-counter()` of `page`.
+/// Whether a declared longhand isn't built yet: `float`, borders and backgrounds, and `content` with a `target-counter()`
+/// of `page`.
 #[tactic(auto, unfolding(crate::specs::Table::is_unbuilt))]
 pub fn is_unbuilt(long: &Long) -> bool
     ensures { result ≡ spec.is_unbuilt long.now }
 {
     match long {
         Long::Content(content) => refers_to_pages(content),
-        Long::CounterReset(counters) => resets_pages(counters),
         _ => is_unbuilt_longhand(long.longhand()),
     }
 }

@@ -1,8 +1,9 @@
-//! Documents and sheets with what isn't built.
+//! Documents and sheets with what isn't built, and their page rules.
 
 use crate::nodes::first_unbuilt;
 use crate::run_sheets::{SheetsErr, read_sheets};
 use bk_num::ids::NodeId;
+use css_page::rules::PageRule;
 use dom::Dom;
 use std::alloc::Global;
 
@@ -13,10 +14,12 @@ p{color:red}/**/@media screen{@page{}}|color:blue|br|q{width:0}|-
 p{float:footnote}||br||html 2
 p{float:left;border:thick red 5}||br||-
 p::x,q{float:none}||br||-
-@media print{p{string-set:none}}||br||html 2
-@page{}||br||html 2
-|||@page{}|sheet 1
+@media print{p{float:none}}||br||html 2
+@page{}@page a{size:a4;@top-left{content:string(s)}}||br|@page{margin:0}|-
+@page{float:left;border:0;@top-left{float:left}}||br|@page{background:red}|-
 ||br|p{}@page{}q{Border-Top:0}|sheet 2
+p{string-set:s content()}|string-set:none|br|p{string-set:s 'a'}|-
+p{counter-reset:page}|counter-reset:a 1 page 2|br|p{counter-reset:page 5}|-
 ||br|p{}q{color:red}r{color:red;background:transparent!important}|sheet 3
 p{float:none}||br|q{float:none}|html 2
 |float:none|br|q{float:none}|html 4
@@ -25,8 +28,6 @@ p{float:none}||br|q{float:none}|html 2
 |content:'a' target-counter('#a',page)|br||html 4
 |content:'page' target-counter('#a',pages)|br||-
 |content:initial|br||-
-|counter-reset:a 1 page 2|br||html 4
-|counter-reset:pages|br||-
 |counter-increment:page|br||-
 |list-style:none;margin:0;padding:1px|br||-";
 
@@ -90,6 +91,51 @@ fn holds(alloc: Global, row: &str) -> Option<bool> {
 fn the_first_that_is_not_built_is_told(rt: HostRuntime) {
     for row in ROWS.split('\n') {
         assert_eq!(rt; holds(rt.alloc(), row), Some(true), "{row}");
+    }
+}
+
+/// The sheets of two `style` elements, the sheet of a file, and the names that the page rules of all are for; `*` where one is
+/// for pages of any name.
+const PAGE_ROWS: &str = "\
+|||
+p{}|/**/|q{}|
+@page a{}|@page b{}|@page c{}|c a b
+@page a{}p{}@page b{}|@page{}|q{}|a b *
+@page a{}|@page a{}||a a
+@page 1{}@page b{}|@page a b{}|@page,{}@page{}|* b
+@media print{@page a{}}|@media screen{@page b{}}|@page c{@page d{}}|c a
+p{float:left}@page a{}|hr{}|@page b{x:y}q{border:0}|b a";
+
+/// The names that page rules of one selector are for.
+fn names_of(alloc: Global, rules: &[PageRule]) -> Option<String> {
+    let mut names = String::new(alloc);
+    for rule in rules {
+        let [selector] = rule.selectors.as_slice() else {
+            return None;
+        };
+        let name = selector.name.as_ref().map(|name| name.as_str());
+        names.push_str(name.unwrap_or("*")).ok()?;
+        names.push_str(" ").ok()?;
+    }
+    Some(names)
+}
+
+/// Whether the page rules of a row's sheets are for these names.
+fn has_names(alloc: Global, row: &str) -> Option<bool> {
+    let mut fields = row.split('|');
+    let (first, second) = (fields.next()?, fields.next()?);
+    let file = fields.next()?;
+    let last = format!(in alloc; "style|5 t {second}").ok()?;
+    let dom = document(alloc, first, "", last.as_str())?;
+    let sheets = read_sheets(alloc, &dom, file).ok()?;
+    let names = names_of(alloc, sheets.pages.as_slice())?;
+    Some(names.as_str().trim_end() == fields.next()?)
+}
+
+#[test]
+fn page_rules_are_the_files_and_then_those_of_elements(rt: HostRuntime) {
+    for row in PAGE_ROWS.split('\n') {
+        assert_eq!(rt; has_names(rt.alloc(), row), Some(true), "{row}");
     }
 }
 

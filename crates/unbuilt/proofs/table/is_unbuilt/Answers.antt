@@ -1,5 +1,4 @@
-use Rattle.std.proofs.Common.{◌≡◌, ℕ, List, Option, refl, ap, ◌∙◌}
-use Rattle.std.specs.Prelude.{ℤ}
+use Rattle.std.proofs.Common.{◌≡◌, List, Option, refl, ap, ◌∙◌}
 use Rattle.style.specs.Longs.{longhand_of}
 use Rattle.style.specs.declared.content.Part.{Part}
 use Rattle.style.specs.declared.long.Given.{Given}
@@ -8,11 +7,10 @@ use Rattle.style.specs.declared.long.Long.TheVariants as long
 use Rattle.unbuilt.specs.Table.{is_unbuilt, is_unbuilt_longhand}
 use Rattle.unbuilt.proofs.table.is_unbuilt.Goals as goal
 
-default_is : (l : Long) → ((g : Given (Option (List Part))) → l ≡ long.Content g → ⊥) → ((g : Given (List (List ℕ × ℤ))) → l ≡ long.CounterReset g → ⊥) → is_unbuilt_longhand (longhand_of l) ≡ is_unbuilt l
+default_is : (l : Long) → ((g : Given (Option (List Part))) → l ≡ long.Content g → ⊥) → is_unbuilt_longhand (longhand_of l) ≡ is_unbuilt l
 unfolding is_unbuilt
-default_is (long.Content g) n m = absurd (n g refl)
-default_is (long.CounterReset g) n m = absurd (m g refl)
-default_is _ n m = refl
+default_is (long.Content g) n = absurd (n g refl)
+default_is _ n = refl
 
 pub returns-in_default : goal.returns-in_default
-returns-in_default c = c.is_unbuilt_longhand.ensures ∙ ap is_unbuilt_longhand c.longhand.ensures ∙ default_is c.args.long.now c.in_default.not-Content c.in_default.not-CounterReset
+returns-in_default c = c.is_unbuilt_longhand.ensures ∙ ap is_unbuilt_longhand c.longhand.ensures ∙ default_is c.args.long.now c.in_default.not-Content
