@@ -1,0 +1,5 @@
+pub mod Areas
+pub mod Placing
+pub mod Texts
+pub mod Margins
+pub mod Conditions

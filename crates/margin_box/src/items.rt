@@ -1,0 +1,199 @@
+//! The items of the margin boxes of a page.
+
+ghost use Rattle.std.specs.Prelude.{◌≡◌, ◌<◌, ◌≤ℤ◌, ◌++◌, pos, length, option_map, string_bytes, All, IfOk, OnOk, IfSome};
+ghost use Rattle.page_ctx.specs.Margins.{style_in};
+ghost use Rattle.margin_box.specs.Conditions.{CanShowMargins};
+ghost use Rattle.margin_box.specs.Margins as spec;
+ghost use Rattle.margin_box.specs.Margins.{HasFace, items_of, margins_in};
+
+use crate::areas::{MARGIN_BOXES, areas_of};
+use crate::line::{line_baseline, line_left};
+use crate::text::box_text;
+use bk_num::name::{Name, NoMem};
+use boxes::flow::Flow;
+use boxes::leaf::Span;
+use boxes::page::{Page, PageList};
+use face_choice::choose;
+use metrics::Faces;
+use page_ctx::margins::MarginStyle;
+use page_ctx::resolve::PageStyles;
+use paint::item::{Area, Style};
+use std::alloc::Global;
+use strings::assigned::Strings;
+
+/// What the margin boxes of a page list are printed with: the faces, the flow that stands on the pages, the pages with
+/// their numbers, the running strings on them, and the page boxes and margin boxes of the page rules.
+#[derive(Clone, Copy)]
+pub struct Margins<'a> {
+    pub faces: &'a Faces,
+    pub flow: &'a Flow,
+    pub list: &'a PageList,
+    pub numbers: &'a [i64],
+    pub strings: &'a Strings,
+    pub styles: &'a PageStyles<'a>,
+}
+
+/// A text in a margin box, with its place and how it is painted.
+#[derive(Drop)]
+pub struct MarginText {
+    pub style: Style,
+    pub text: Name,
+}
+
+/// The strut of a margin box: its style as a span over no text, in the face that it chooses.
+fn strut_of(faces: &Faces, style: &MarginStyle<'_>) -> Span
+    ensures strut { result ≡ spec.strut_of faces.now (style_in style.now) }
+    ensures size { result.size ≡ style.now.size }
+    ensures face { result.face.0 < length faces.now }
+{
+    Span {
+        from: 0,
+        to: 0,
+        face: choose(faces, style.families, style.italic, style.weight),
+        size: style.size,
+        line_height: style.line_height,
+        color: style.color,
+        wrap: false,
+        anywhere: false,
+    }
+}
+
+/// Where a text stands in its box, and how it is painted. None where its place is past 64 bits.
+fn placed_in(faces: &Faces, area: &Area, style: &MarginStyle<'_>, text: &str) -> Option<Style>
+    requires { pos 0 ≤ℤ style.now.size }
+    ensures style { IfSome result (λ s. s ≡ spec.placed_in faces.now area.now (style_in style.now) text.now) }
+    ensures face { IfSome result (λ s. s.face.0 < length faces.now) }
+{
+    let strut = strut_of(faces, style);
+    let x = line_left(faces, &strut, area, style.align, text)?;
+    let y = line_baseline(faces, &strut, area, style.upright)?;
+    Some(Style {
+        x,
+        y,
+        face: strut.face,
+        size: strut.size,
+        color: strut.color,
+    })
+}
+
+/// Adds a text in its box; an empty one is not printed.
+fn push_text(
+    items: &mut Vec<MarginText>,
+    faces: &Faces,
+    area: &Area,
+    style: &MarginStyle<'_>,
+    text: String,
+) -> Result<(), NoMem>
+    requires size { pos 0 ≤ℤ style.now.size }
+    requires faces { All (HasFace faces.now) items.old.items }
+    ensures items { OnOk result (items_of faces.now items.new.items ≡ items_of faces.now items.old.items ++
+        spec.shown_in faces.now area.now (style_in style.now) (string_bytes text)) }
+    ensures faces { OnOk result (All (HasFace faces.now) items.new.items) }
+{
+    if text.is_empty() {
+        return Ok(());
+    }
+    let Some(style) = placed_in(faces, area, style, text.as_str()) else {
+        return Err(NoMem);
+    };
+    items.push(MarginText {
+        style,
+        text: Name::from_string(text),
+    })?;
+    Ok(())
+}
+
+/// Adds the text of a box on a page, if the box has content there.
+fn push_box(
+    alloc: Global,
+    items: &mut Vec<MarginText>,
+    margins: &Margins<'_>,
+    page: usize,
+    area: &Area,
+    style: Option<&MarginStyle<'_>>,
+) -> Result<(), NoMem>
+    requires can { CanShowMargins margins.now }
+    requires page { page < length margins.now.list.now.pages }
+    requires size { IfSome style (λ s. pos 0 ≤ℤ s.now.size) }
+    requires faces { All (HasFace margins.now.faces.now) items.old.items }
+    ensures items { OnOk result (items_of margins.now.faces.now items.new.items ≡ items_of margins.now.faces.now items.old.items ++
+        spec.styled_items (margins_in margins.now) page area.now (option_map (λ s. style_in s.now) style.entry)) }
+    ensures faces { OnOk result (All (HasFace margins.now.faces.now) items.new.items) }
+{
+    let Some(style) = style else {
+        return Ok(());
+    };
+    let text = box_text(alloc, margins, page, style.content)?;
+    push_text(items, margins.faces, area, style, text)
+}
+
+/// Adds the text of the box of a number on a page, where the boxes have these areas.
+fn push_numbered(
+    alloc: Global,
+    items: &mut Vec<MarginText>,
+    margins: &Margins<'_>,
+    number: usize,
+    page: &Page,
+    areas: &[Area; MARGIN_BOXES],
+    place: usize,
+) -> Result<(), NoMem>
+    requires can { CanShowMargins margins.now }
+    requires number { number < length margins.now.list.now.pages }
+    requires place { place < MARGIN_BOXES }
+    requires faces { All (HasFace margins.now.faces.now) items.old.items }
+    ensures items { OnOk result (items_of margins.now.faces.now items.new.items ≡ items_of margins.now.faces.now items.old.items ++
+        spec.box_items (margins_in margins.now) number page.now areas.now place) }
+    ensures faces { OnOk result (All (HasFace margins.now.faces.now) items.new.items) }
+{
+    let boxes = &margins.styles.boxes;
+    let style = boxes.of(page.index, page.name, page.kind, place as u32);
+    push_box(alloc, items, margins, number, &areas[place], style)
+}
+
+/// The texts of the margin boxes of a page, which have these areas, in their order.
+fn boxes_items(
+    alloc: Global,
+    margins: &Margins<'_>,
+    number: usize,
+    page: &Page,
+    areas: &[Area; MARGIN_BOXES],
+) -> Result<Vec<MarginText>, NoMem>
+    requires can { CanShowMargins margins.now }
+    requires number { number < length margins.now.list.now.pages }
+    ensures items { IfOk result (λ v. items_of margins.now.faces.now v.items ≡
+        spec.boxes_items (margins_in margins.now) number page.now areas.now) }
+    ensures faces { IfOk result (λ v. All (HasFace margins.now.faces.now) v.items) }
+{
+    let mut items = Vec::new(alloc);
+    for place in 0..MARGIN_BOXES {
+        push_numbered(alloc, &mut items, margins, number, page, areas, place)?;
+    }
+    Ok(items)
+}
+
+/// The texts of the margin boxes of a page, which is named by its place in the list, from 0, in the order in which the
+/// boxes are listed: from the page's top left corner clockwise (css-page-3, page-margin boxes). A box without content, or
+/// whose text is empty, has none. A text is one line, never broken, and stands in its box as its style says.
+///
+/// # Errors
+///
+/// `NoMem`, also where a place is past 64 bits.
+#[tactic(auto, unfolding(crate::specs::Margins::margin_items))]
+pub fn margin_items(
+    alloc: Global,
+    margins: &Margins<'_>,
+    page: usize,
+) -> Result<Vec<MarginText>, NoMem>
+    requires can { CanShowMargins margins.now }
+    requires page { page < length margins.now.list.now.pages }
+    ensures items { IfOk result (λ v. items_of margins.now.faces.now v.items ≡
+        spec.margin_items (margins_in margins.now) page) }
+    ensures faces { IfOk result (λ v. All (HasFace margins.now.faces.now) v.items) }
+{
+    let shown = &margins.list.pages.as_slice()[page];
+    let cell = margins.styles.cell(shown.index, shown.name, shown.kind);
+    let Some(areas) = areas_of(&cell) else {
+        return Err(NoMem);
+    };
+    boxes_items(alloc, margins, page, shown, &areas)
+}

@@ -1,0 +1,10 @@
+//! The margin boxes of pages: what they print, and where (css-page-3, page-margin boxes).
+#![tactic(auto)]
+
+pub mod areas;
+pub mod items;
+mod line;
+pub mod place;
+#[cfg(test)]
+mod tests;
+mod text;
