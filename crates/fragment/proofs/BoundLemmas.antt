@@ -31,12 +31,13 @@ use Rattle.cursor.specs.Remainder.{SolidView, IsSolid, IsContent, IsLineSolid, I
 use Rattle.cursor.specs.Remainder.IsContent.{of_line, of_open, of_close}
 use Rattle.cursor.proofs.RemLemmas.{Stands, solid_stands, begins_of, found_of}
 use Rattle.fragment.specs.Bounds.{HaveTexts, chars_among, chars_by, is_sided, sided_among, sided_in, most_pages_of}
-use Rattle.fragment.specs.Pages.{CutsSolids, IsEnded, IsFlowCut, IsPaged, IsStep, PageFrames, State, after_flow, meets_at, name_at, place_after, rows_of, row_of, first_gap, start_of}
+use Rattle.fragment.specs.Pages.{CutsSolids, IsEnded, IsFlowCut, IsPaged, IsStep, PageFrames, State, after_flow, meets_at, name_at, place_after, rows_of, row_of, start_of}
 use Rattle.fragment.specs.Pages.IsStep.{blank, flow}
 use Rattle.fragment.specs.Parted.{edges_among, text_at, text_by, text_of}
 use Rattle.fragment.specs.declared.next_cut.Cut.{Cut}
 use Rattle.fragment.proofs.BreakLemmas.{cut_breaks, seam_next}
-use Rattle.fragment.proofs.PageLemmas.{cut_within, drop_get, drop_drop, solid_at}
+use Rattle.cuts.proofs.CutLemmas.{cut_within}
+use Rattle.fragment.proofs.PageLemmas.{drop_get, drop_drop, solid_at}
 use Rattle.fragment.proofs.PartLemmas.{cut_stands, start_stands}
 
 abbrev place : ℕ → ℕ → Position
@@ -457,9 +458,9 @@ cut_leaves free faces t frame from kept cut tree texts st char is going = by is.
   where
     by : (solids : List SolidView) → IsRemainder faces t frame.width from solids → CutsSolids t frame.height kept solids cut → Leaves free t from cut.to
     by [] r e = absurd (let f : true ≡ false = sym (ap (λ (c : Cut). c.ended) e) ∙ going in cc)
-    by (x ∷ xs) r (zero, at) = absurd (let w = (cut_within (first_gap kept (x ∷ xs)) frame.height (rows_of t (x ∷ xs)) cut.level 0 at.best).0 in omega arith)
+    by (x ∷ xs) r (zero, at) = absurd (let w = (cut_within (rows_of t (x ∷ xs)) cut.level 0 at.best).0 in omega arith)
     by (x ∷ xs) r (suc n, at) =
-        let w = cut_within (first_gap kept (x ∷ xs)) frame.height (rows_of t (x ∷ xs)) cut.level (suc n) at.best in
+        let w = cut_within (rows_of t (x ∷ xs)) cut.level (suc n) at.best in
         let most = w.1 in
         let size : length (rows_of t (x ∷ xs)) ≡ length (x ∷ xs) = length-map (x ∷ xs) (row_of t) in
         let other : suc n ≢ length (x ∷ xs) = unlike (suc n) (length (x ∷ xs)) (sym at.ended_is ∙ going) in

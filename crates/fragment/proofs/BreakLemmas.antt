@@ -1,6 +1,5 @@
 -- Forced seams stand between pages, and the pages after them meet their demands.
-use Rattle.std.proofs.Common.{◌≡◌, ◌≢◌, ◌<◌, ◌≤◌, ◌+◌, ◌==◌, ℕ, zero, suc, ℤ, pos, ◌+ℤ◌, Bool, true, false, not, cond, eqb, All, List, [], ◌∷◌, Option, None, Some, is_some, option_map, length, take, slice_get, refl, sym, ap, ◌∙◌, subst, arith, ◌⊎◌, ⊎_elim, inl, inr}
-use Rattle.std.specs.List.{prefix_len}
+use Rattle.std.proofs.Common.{◌≡◌, ◌≢◌, ◌<◌, ◌≤◌, ◌==◌, ℕ, zero, suc, ℤ, pos, ◌+ℤ◌, Bool, true, false, cond, eqb, List, [], ◌∷◌, Option, None, Some, option_map, length, take, slice_get, refl, sym, ap, ◌∙◌, subst, arith, ◌⊎◌, ⊎_elim, inl, inr}
 use Rattle.std.proofs.lemmas.Bool.{cases_lt}
 use Rattle.std.proofs.lemmas.Bool.Decides.{eqb_tells}
 use Rattle.std.proofs.lemmas.List.Elements.{All-nil, All-cons}
@@ -8,7 +7,6 @@ use Rattle.std.proofs.lemmas.Option.{slice_get-map}
 use Rattle.metrics.specs.Face.{FontFace}
 use Rattle.boxes.specs.Steps.{IsRun}
 use Rattle.boxes.specs.Tree.{Tree, IsTree}
-use Rattle.boxes.specs.declared.frames.Demand.{Demand}
 use Rattle.boxes.specs.declared.frames.Frame.{Frame}
 use Rattle.boxes.specs.declared.frames.PageKind.TheVariants as kind
 use Rattle.boxes.specs.declared.page.Page.{Page}
@@ -20,14 +18,11 @@ use Rattle.seams.specs.declared.seam_info.SeamInfo.{SeamInfo}
 use Rattle.seams.proofs.RunLemmas.{after_solid}
 use Rattle.cursor.specs.Remainder.{SolidView, IsSolid, IsRemainder}
 use Rattle.cursor.proofs.RemLemmas.{Stands, begins_of}
-use Rattle.fragment.specs.declared.row.Row.{Row}
-use Rattle.fragment.specs.Rows.{is_free, limit_of}
 use Rattle.fragment.specs.declared.next_cut.Cut.{Cut}
 use Rattle.std.proofs.lemmas.List.{length-map}
 use Rattle.boxes.proofs.ListLemmas.{slice_get_at}
-use Rattle.fragment.specs.Cuts.{IsRowCut}
-use Rattle.fragment.specs.Cuts.IsCut.{at_level, at_loose, at_first}
-use Rattle.fragment.proofs.CutLemmas.{limit_within}
+use Rattle.cuts.proofs.CutLemmas.{cut_limit}
+use Rattle.cuts.proofs.PointLemmas.{free_below, limit_within}
 use Rattle.fragment.proofs.PartLemmas.{cut_stands, start_stands}
 use Rattle.fragment.specs.Pages.{IsEnded, IsPaged, start_of, forced_after, PageFrames, State, IsStep, IsFlowCut, CutsSolids, meets_at, name_at, first_gap, placed_at, placed_below, placed_from, row_of, rows_of, place_after}
 use Rattle.fragment.specs.Pages.IsStep.{blank, flow}
@@ -72,28 +67,6 @@ seam_next faces t w from s st is m = by (eqb_tells s.placed_at.event from.event)
         ∙ sym (ap (λ (o : ℕ). cond (o == 0) (seam_before t s.placed_at.event m) (line_seam t s.placed_at.event)) offset)
 
 -- ---- the solids of a page
-below : (ys : List Row) (i : ℕ) (r : Row) → i < prefix_len is_free ys → slice_get ys i ≡ Some r → is_free r ≡ true
-below [] i r low g = absurd (cc)
-below (y ∷ ys) zero r low g = by (is_free y) refl low
-  where
-    by : (b : Bool) → is_free y ≡ b → 0 < cond b (1 + prefix_len is_free ys) 0 → is_free r ≡ true
-    by true e h = let same : y ≡ r = cc in ap is_free (sym same) ∙ e
-    by false e h = absurd (omega arith)
-below (y ∷ ys) (suc i) r low g = by (is_free y) low (below ys i r)
-  where
-    by : (b : Bool) → suc i < cond b (1 + prefix_len is_free ys) 0 → (i < prefix_len is_free ys → slice_get ys i ≡ Some r → is_free r ≡ true) → is_free r ≡ true
-    by true h more = more (omega arith) g
-    by false h more = absurd (omega arith)
-
--- behind the first solid and before the limit no seam is forced
-pub free_below : (rows : List Row) (k : ℕ) (r : Row) → suc k < limit_of rows → slice_get rows (suc k) ≡ Some r → r.seam.forced ≡ None
-free_below [] k r less e = absurd (omega arith)
-free_below (x ∷ xs) k r less e = none_by r.seam.forced (below xs k r (omega arith) e)
-  where
-    none_by : (o : Option Demand) → not (is_some o) ≡ true → o ≡ None
-    none_by None h = refl
-    none_by (Some d) h = absurd (cc)
-
 -- a solid has its seam
 pub seam_at : (faces : List FontFace) (t : Tree) (w : ℤ) (from : Position) (xs : List SolidView) (k : ℕ) (v : SolidView) → IsRemainder faces t w from xs → slice_get xs k ≡ Some v → v.seam ≡ seam_of t v.placed_at w
 seam_at faces t w from [] k v r e = absurd (cc)
@@ -118,11 +91,6 @@ take_get (x ∷ xs) zero k v e = absurd (cc)
 take_get (x ∷ xs) (suc n) zero v e = (omega arith, e)
 take_get (x ∷ xs) (suc n) (suc k) v e = let r = take_get xs n k v e in let l = r.0 in (omega arith, r.1)
 
-count_low : (first height : ℤ) (rows : List Row) (level j : ℕ) → IsRowCut first rows height level j → j ≤ limit_of rows
-count_low first height rows level j (at_level low n p f g) = p.within
-count_low first height rows level j (at_loose e n own o p q g) = p.within
-count_low first height rows level j (at_first e n n2 own o p g) = p.within
-
 -- what a page's cut says of the seams on it and behind it
 pub record Breaks (t : Tree) (w : ℤ) (from : Position) (cut : Cut) : Type 0 where
   pub inside : (k : ℕ) (s : Placed) → slice_get cut.solids (suc k) ≡ Some s → (seam_of t s.at w).forced ≡ None
@@ -146,7 +114,7 @@ cut_breaks faces t frame from kept cut st is = by is.solids is.rest is.cuts
           let v = placed_get (first_gap kept (x ∷ xs)) (take count (x ∷ xs)) (suc k) s (ap (λ (ps : List Placed). slice_get ps (suc k)) (sym at.solids_is) ∙ g) in
           let got = take_get (x ∷ xs) count (suc k) v.0 v.1 in
           let less = got.0 in
-          let low = count_low (first_gap kept (x ∷ xs)) frame.height (rows_of t (x ∷ xs)) cut.level count at.best in
+          let low = cut_limit (rows_of t (x ∷ xs)) cut.level count at.best in
           let row : slice_get (rows_of t (x ∷ xs)) (suc k) ≡ Some (row_of t v.0) = slice_get-map (row_of t) (x ∷ xs) (suc k) ∙ ap (option_map (row_of t)) got.1 in
           let free = free_below (rows_of t (x ∷ xs)) k (row_of t v.0) (omega arith) row in
           ap (λ (p : Position). (seam_of t p w).forced) v.2 ∙ sym (ap (λ (i : SeamInfo). i.forced) (seam_at faces t w from (x ∷ xs) (suc k) v.0 r got.1)) ∙ free;
@@ -156,7 +124,7 @@ cut_breaks faces t frame from kept cut st is = by is.solids is.rest is.cuts
           let same : x ≡ v.0 = (let h = got.1 in cc) in
           ap (λ (p : Position). (seam_of t p w).forced) (v.2 ∙ ap (λ (y : SolidView). y.placed_at) (sym same)) ∙ forced_any t x.placed_at w (pos 0) ∙ sym (ap (λ (i : SeamInfo). i.forced) (seam_next faces t w from x st r.1.0 (pos 0)));
       next = λ g.
-          let low = count_low (first_gap kept (x ∷ xs)) frame.height (rows_of t (x ∷ xs)) cut.level count at.best in
+          let low = cut_limit (rows_of t (x ∷ xs)) cut.level count at.best in
           let most = limit_within (rows_of t (x ∷ xs)) in
           let size : length (rows_of t (x ∷ xs)) ≡ length (x ∷ xs) = length-map (x ∷ xs) (row_of t) in
           let other : count ≢ length (x ∷ xs) = unlike count (length (x ∷ xs)) (sym at.ended_is ∙ g) in

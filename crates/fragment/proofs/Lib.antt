@@ -1,12 +1,10 @@
 pub mod BoundLemmas
 pub mod BreakLemmas
-pub mod CutLemmas
 pub mod ExistLemmas
 pub mod FlowLemmas
 pub mod InsideLemmas
 pub mod NearLemmas
 pub mod PageLemmas
 pub mod PartLemmas
-pub mod PrefixLemmas
 pub mod SizeLemmas
 pub mod TextLemmas

@@ -28,21 +28,19 @@ use Rattle.cursor.specs.Fields.{solid_view}
 use Rattle.cursor.specs.Remainder.{SolidView, IsSolid, IsContent, IsLineSolid, IsRemainder, IsSmallSolid, HaveOneRemainder, leaf_measure, end_of}
 use Rattle.cursor.specs.Remainder.IsContent.{of_line, of_open, of_close}
 use Rattle.cursor.proofs.RemLemmas.{Stands, solid_stands, place_stands, begins_of, found_of, solid_within}
-use Rattle.fragment.specs.declared.row.Row.{Row}
-use Rattle.fragment.specs.Rows.{IsSmall, AreForcedBetween, limit_of}
-use Rattle.fragment.specs.Cuts.{IsRowCut}
+use Rattle.cuts.specs.declared.row.Row.{Row}
+use Rattle.cuts.specs.Rows.{IsSmall, AreForcedBetween}
 use Rattle.fragment.specs.Pages.IsStep.{blank, flow}
 use Rattle.fragment.specs.declared.next_cut.Carried.{Carried}
 use Rattle.boxes.specs.declared.page.Page.{Page}
 use Rattle.boxes.specs.declared.page.Placed.{Placed}
 use Rattle.boxes.specs.declared.frames.PageKind.TheVariants as kind
 use Rattle.boxes.proofs.RunLemmas.{run_unique}
-use Rattle.fragment.specs.Cuts.IsCut.{at_level, at_loose, at_first}
 use Rattle.fragment.specs.Pages.{State, PageFrames, IsStep, IsEnded, IsPaged, HasOnePageList, LeavesNothing, LeavesSome, CutsAt, CutsSolids, IsFlowCut, start_of, name_at, flow_page_of, flow_page, meets_at, blank_page, blank_at, AreBlanks, AddsBlanks, after_flow, is_forced, first_gap, placed_from, row_of, rows_of, place_after, forced_after, text_size, size_of}
 use Rattle.fragment.specs.declared.next_cut.Cut.{Cut}
 use Rattle.boxes.specs.declared.frames.Frame.{Frame}
 use Rattle.seams.specs.declared.seam_info.SeamInfo.{SeamInfo}
-use Rattle.fragment.proofs.CutLemmas.{limit_within, cut_unique}
+use Rattle.cuts.proofs.CutLemmas.{cut_unique}
 
 abbrev place : ℕ → ℕ → Position
 place event offset = record { event = event; offset = offset }
@@ -58,16 +56,7 @@ view_at (x ∷ xs) zero s h = let same : x ≡ s = cc in ap (λ (y : Solid). Som
 view_at (x ∷ xs) (suc k) s h = view_at xs k s h
 
 pub small_rows : (t : Tree) (solids : List Solid) → All (λ s. IsSmallSolid (solid_view s)) solids → All IsSmall (rows_of t (map solid_view solids))
-small_rows t solids small = All-map IsSmall (row_of t) (map solid_view solids) (All-map (λ v. IsSmall (row_of t v)) solid_view solids (λ k d h. let s = small k d h in record { gap_low = s.whole_low; gap_high = s.whole_high; height_low = s.height_low; height_high = s.height_high }))
-
--- a cut stands after one solid at least, and within them
-pub cut_within : (first height : ℤ) (rows : List Row) (level j : ℕ) → IsRowCut first rows height level j → (0 < j) × (j ≤ length rows)
-cut_within first height rows level j cut = by cut (limit_within rows)
-  where
-    by : IsRowCut first rows height level j → limit_of rows ≤ length rows → (0 < j) × (j ≤ length rows)
-    by (at_level low n p f g) all = let w = p.within in (p.some, omega arith)
-    by (at_loose e n own o p q g) all = let w = p.within in (p.some, omega arith)
-    by (at_first e n n2 own o p g) all = let w = p.within in (p.some, omega arith)
+small_rows t solids small = All-map IsSmall (row_of t) (map solid_view solids) (All-map (λ v. IsSmall (row_of t v)) solid_view solids (λ k d h. let s = small k d h in record { kept_low = s.kept_low; kept_high = s.kept_high; gap_low = s.whole_low; gap_high = s.whole_high; height_low = s.height_low; height_high = s.height_high }))
 
 -- what holds of each solid of a remainder
 pub each_solid : (faces : List FontFace) (t : Tree) (w : ℤ) → IsTree t → (P : SolidView → Type 0) → ((at : Position) (s : SolidView) → Stands t at → IsSolid faces t w at s → P s) →

@@ -1,9 +1,5 @@
 pub mod Bounds
 pub mod Conditions
-pub mod Cuts
-pub mod Prefixes
 pub mod Inside
-pub mod Notes
 pub mod Pages
 pub mod Parted
-pub mod Rows

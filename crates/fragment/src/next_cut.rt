@@ -9,12 +9,9 @@ ghost use Rattle.cursor.specs.Remainder.{SolidView, IsSmallSolid};
 ghost use Rattle.fragment.specs.Conditions.{CanBeCut, CanBePaged};
 ghost use Rattle.fragment.specs.Pages.{CutsAt, IsFlowCut, IsPagePrefix, IsNear, row_of, rows_of, placed_at, placed_from, first_gap, place_after, forced_after, end_cut};
 ghost use Rattle.fragment.specs.Inside.{EndsBy};
-ghost use Rattle.fragment.specs.Rows.{AreForcedBetween};
+ghost use Rattle.cuts.specs.Rows.{AreForcedBetween};
 ghost use Rattle.seams.specs.Levels.{block_at, widows_in, orphans_in};
 
-use crate::cut::cut_rows;
-use crate::prefix::Look;
-use crate::row::Row;
 use bk_num::items::Items;
 use bk_num::name::NoMem;
 use bk_num::steps::Steps;
@@ -24,6 +21,9 @@ use boxes::page::{Placed, PlacedNote};
 use boxes::place::Position;
 use boxes::tree::BoxTree;
 use cursor::{Solid, next_solid};
+use cuts::cut::cut_noted;
+use cuts::look::Look;
+use cuts::row::{Room, Row};
 use metrics::Faces;
 use seams::seam::widths_at;
 use std::alloc::Global;
@@ -196,27 +196,25 @@ fn forced_after(solids: &[Solid<'_>], count: usize) -> Option<Demand>
     }
 }
 
-/// The gap above a solid on its page, which is the first one or stands below others.
-fn gap_on_page(solid: &Solid<'_>, is_first: bool, kept: bool) -> i64
-    requires { IsSmallSolid (solid_view solid.now) }
-    ensures head { is_first ≡ true → result ≡ first_gap kept (solid_view solid.now ∷ []) }
-    ensures below { is_first ≡ false → result ≡ solid.now.seam.whole_gap }
-    ensures low { neg_ℤ (pos (2 ^ 32)) ≤ℤ result }
-    ensures high { result ≤ℤ pos (2 ^ 32) }
-{
-    if is_first {
-        first_gap(solid, kept)
-    } else {
-        solid.seam.whole_gap
-    }
-}
-
 /// Whether a page ends before a solid whatever fits: its seam is forced, and it isn't the page's first solid.
 fn ends_page(solid: &Solid<'_>, is_first: bool) -> bool
     ensures forced { result ≡ true → (is_first ≡ false) × (is_some solid.now.seam.forced ≡ true) }
     ensures free { result ≡ false → is_first ≡ false → solid.now.seam.forced ≡ None }
 {
     !is_first && solid.seam.forced.is_some()
+}
+
+/// What a page without notes has room for.
+const fn room_of(kept: bool, height: i64) -> Room
+    ensures kept { result.kept ≡ kept }
+    ensures height { result.height ≡ height }
+    ensures carried { result.carried ≡ pos 0 }
+{
+    Room {
+        kept,
+        height,
+        carried: 0,
+    }
 }
 
 /// The solids of a flow that tell a page's cut: those up to the first forced seam behind the first one, or up to the
@@ -238,15 +236,15 @@ fn prefix<'t, L: Ledger>(
 {
     let _count = tree.count();
     let mut solids = Vec::new(alloc);
+    let room = room_of(from.kept, frame.height);
     let mut look = Look::start();
     let mut widths = widths_at(tree, from.at, frame.width);
     let mut at = from.at;
     while let Some(solid) = next_solid(tree, faces, at, frame.width, &mut widths, steps) {
         at = solid.end;
         let is_first = solids.is_empty();
-        let gap = gap_on_page(&solid, is_first, from.kept);
         let ends = ends_page(&solid, is_first);
-        look.take(&row_of(tree, &solid), gap, frame.height);
+        look.take(&row_of(tree, &solid), 0, &room);
         if solids.push(solid).is_err() {
             return Err(NoMem);
         }
@@ -295,8 +293,8 @@ fn cut_solids(
     ensures near { IfOk result (λ cut. All IsNear cut.solids) }
 {
     let rows = rows_of(alloc, tree, solids)?;
+    let cut = cut_noted(rows.as_slice(), &[], &room_of(kept, height));
     let first = first_gap(&solids[0], kept);
-    let cut = cut_rows(rows.as_slice(), first, height);
     let placed = place_all(alloc, &solids[..cut.count], first)?;
     Ok(Cut {
         to: place_after(tree, solids, cut.count),

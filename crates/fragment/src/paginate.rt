@@ -8,7 +8,6 @@ ghost use Rattle.fragment.specs.Inside.{EndInside};
 ghost use Rattle.fragment.specs.Pages.{HasOnePageList, HasSomePageList, HaveNearTops, IsPaged, LeavesNothing, LeavesSome, flow_page_of, blank_of, meets_at, AddsBlanks};
 ghost use Rattle.fragment.specs.Parted.{HoldsAll, HoldsBreaks, HoldsEdges, HoldsText, solids_of};
 
-use crate::cut::one_cut;
 use crate::next_cut::{Cut, CutFrom, cut_tree};
 use bk_num::ids::NameId;
 use bk_num::items::Items;
@@ -20,6 +19,7 @@ use boxes::page::{Page, PageList};
 use boxes::place::{Event, Position};
 use boxes::tree::BoxTree;
 use cursor::laws::remainder_is_one;
+use cuts::laws::one_cut;
 use metrics::Faces;
 use seams::seam::seam;
 use std::alloc::Global;

@@ -1,7 +1,7 @@
-use Rattle.std.proofs.Common.{◌≡◌, ◌<◌, ◌≤◌, ◌+◌, ◌==◌, ◌^◌, ℕ, ℤ, true, false, not, List, [], ◌∷◌, ◌++◌, All, map, length, length-append, append_assoc, vec_len, rules, refl, sym, ap, ◌∙◌, subst, arith}
+use Rattle.std.proofs.Common.{Bool, pos, ◌≡◌, ◌<◌, ◌≤◌, ◌+◌, ◌==◌, ◌^◌, ℕ, ℤ, true, false, not, List, [], ◌∷◌, ◌++◌, All, map, length, length-append, append_assoc, vec_len, rules, refl, sym, ap, ◌∙◌, subst, arith}
 use Rattle.std.specs.Result.{is_ok}
 use Rattle.std.proofs.lemmas.Bool.Decides.{nat_tests}
-use Rattle.std.proofs.lemmas.Int.{ints, to_z-of_z}
+use Rattle.std.proofs.lemmas.Int.{to_z-of_z}
 use Rattle.std.proofs.lemmas.List.{length-map, map-append}
 use Rattle.std.proofs.lemmas.List.Elements.{All-push}
 use mir.Val.{SFits}
@@ -12,10 +12,14 @@ use Rattle.cursor.specs.Fields.{solid_view}
 use Rattle.cursor.specs.Remainder.{SolidView, IsSolid, IsRemainder, IsSmallSolid}
 use Rattle.cursor.proofs.RemLemmas.{solid_falls, solid_within, stands}
 use Rattle.seams.specs.Widths.{widths_at}
-use Rattle.fragment.specs.declared.row.Row.{Row}
-use Rattle.fragment.specs.Rows.{gap_above}
-use Rattle.fragment.specs.Prefixes.{AreFree, HasForced, HasMissed, IsLook, look_by}
-use Rattle.fragment.specs.Pages.{first_gap, rows_of}
+use Rattle.bk_num.specs.Limits.{most_entries}
+use Rattle.cuts.specs.declared.row.Row.{Row}
+use Rattle.cuts.specs.Areas.{AreTold}
+use Rattle.cuts.specs.Cuts.{NoteLists, no_notes}
+use Rattle.cuts.specs.Rows.{IsSmall}
+use Rattle.cuts.specs.Prefixes.{AreFree, HasForced, HasMissed, HasRead, IsLook}
+use Rattle.cuts.proofs.ReachLemmas.{reached_low}
+use Rattle.fragment.specs.Pages.{rows_of}
 use Rattle.fragment.proofs.FlowLemmas.{look_on, read_few, read_missed, read_forced, read_all, views_free, views_forced}
 use Rattle.fragment.proofs.next_cut.prefix.Given as given
 use Rattle.fragment.proofs.next_cut.prefix.Goals as goal
@@ -44,29 +48,20 @@ small_on g c = subst (All IsSmallSolid) (sym (views_now g c)) (All-push IsSmallS
 placed_on : (g : given.Over) (c : Else-is_err g) → All (λ (v : SolidView). Holds c.args.tree.now v.placed_at) (map solid_view c.push.new.self.items)
 placed_on g c = subst (All (λ (v : SolidView). Holds c.args.tree.now v.placed_at)) (sym (views_now g c)) (All-push (λ (v : SolidView). Holds c.args.tree.now v.placed_at) (map solid_view c.loop-solid.solids.items) (solid_view c.in-Some.solid) c.loop-solid.invariant.placed c.in-Some.ensures.placed)
 
-none_read : (xs : List Solid) → map solid_view xs ≡ [] → (length xs == 0) ≡ true
-none_read [] e = refl
-none_read (x ∷ xs) e = absurd (cc)
-
 some_read : (n : ℕ) → 0 < n → (n == 0) ≡ false
 some_read n h = grind (arith, nat_tests)
 
-looks : (g : given.Over) (c : Else-is_err g) → IsLook (first_gap c.args.from.kept (map solid_view c.push.new.self.items)) c.args.frame.height (rows_of c.args.tree.now (map solid_view c.push.new.self.items)) c.take.new.self
+looks : (g : given.Over) (c : Else-is_err g) → IsLook c.args.from.kept c.args.frame.height no_notes 0 (rows_of c.args.tree.now (map solid_view c.push.new.self.items)) c.take.new.self
 looks g c =
     let t : Tree = c.args.tree.now in
-    let old : List Solid = c.loop-solid.solids.items in
-    let s : SolidView = solid_view c.in-Some.solid in
+    let kept : Bool = c.args.from.kept in
     let tall : SFits w64 c.args.frame.height = search rules in
-    let fits : SFits w64 c.gap_on_page-gap.result = search rules in
-    let size : length (map solid_view old) ≡ length old = rw length-map refl in
-    let kept : vec_len c.loop-solid.solids ≡ length old = omega arith in
-    let empty : c.is_empty-is_first.result ≡ (length old == 0) = c.is_empty-is_first.ensures ∙ ap (λ (n : ℕ). n == 0) kept in
-    subst (λ (vs : List SolidView). IsLook (first_gap c.args.from.kept vs) c.args.frame.height (rows_of t vs) c.take.new.self) (sym (views_now g c))
-    (look_on t c.args.from.kept c.args.frame.height (map solid_view old) s c.loop-solid.look c.take.new.self c.gap_on_page-gap.result c.row_of.result c.row_of.ensures
-    (λ e. c.gap_on_page-gap.ensures.head (empty ∙ none_read old e))
-    (λ h. c.gap_on_page-gap.ensures.below (empty ∙ some_read (length old) (omega arith)))
-    (subst (λ (z : ℤ). (first : ℤ) (rows : List Row) → c.gap_on_page-gap.result ≡ gap_above first (rows ++ c.row_of.result ∷ []) (length rows) → IsLook first z rows c.loop-solid.look → IsLook first z (rows ++ c.row_of.result ∷ []) c.take.new.self) (to_z-of_z w64 c.args.frame.height tall)
-    (λ first rows e look. c.take.ensures.look first rows (to_z-of_z w64 c.gap_on_page-gap.result fits ∙ e) look))
+    let height : c.room_of-room.result.height ≡ c.args.frame.height = c.room_of-room.ensures.height ∙ to_z-of_z w64 c.args.frame.height tall in
+    subst (λ (vs : List SolidView). IsLook kept c.args.frame.height no_notes 0 (rows_of t vs) c.take.new.self) (sym (views_now g c))
+    (look_on t kept c.args.frame.height (map solid_view c.loop-solid.solids.items) (solid_view c.in-Some.solid) c.loop-solid.look c.take.new.self c.row_of.result c.row_of.ensures
+    (subst (λ (z : ℤ). (rows : List Row) (list : NoteLists) (n : ℕ) → (0 < length rows → AreTold z list n (length rows) (pos 0) (pos 0)) → IsLook kept z list n rows c.loop-solid.look → IsLook kept z list n (rows ++ c.row_of.result ∷ []) c.take.new.self) height
+    (subst (λ (k : Bool). (rows : List Row) (list : NoteLists) (n : ℕ) → (0 < length rows → AreTold c.room_of-room.result.height list n (length rows) (pos 0) (pos 0)) → IsLook k c.room_of-room.result.height list n rows c.loop-solid.look → IsLook k c.room_of-room.result.height list n (rows ++ c.row_of.result ∷ []) c.take.new.self) c.room_of-room.ensures.kept
+    (λ rows list n told look. c.take.ensures.look rows list n (λ some. subst (λ (z : ℤ). AreTold c.room_of-room.result.height list n (length rows) (pos 0) z) (sym c.room_of-room.ensures.carried) (told some)) look)))
     c.loop-solid.invariant.look)
 
 -- whether solids were read before this one
@@ -89,7 +84,6 @@ few g c =
 pub loop-solid-init : goal.loop-solid-init
 loop-solid-init g c =
     let none = c.new-solids.ensures.items in
-    let zero = c.start-look.ensures.bottom in
     record {
       holds = c.requires.holds;
       widths = c.widths_at-widths.ensures ∙ ap (λ (w : ℤ). widths_at c.args.tree.now w c.args.from.at) (let wide : SFits w64 c.args.frame.width = search rules in to_z-of_z w64 c.args.frame.width wide);
@@ -97,27 +91,30 @@ loop-solid-init g c =
       small = rw none (λ k d h. absurd (omega arith));
       placed = rw none (λ k d h. absurd (omega arith));
       free = subst (λ (xs : List Solid). AreFree (rows_of c.args.tree.now (map solid_view xs))) (sym none) (λ k r e. absurd (cc));
-      look = subst (λ (xs : List Solid). IsLook (first_gap c.args.from.kept (map solid_view xs)) c.args.frame.height (rows_of c.args.tree.now (map solid_view xs)) c.start-look.result) (sym none) (c.start-look.ensures.look _ _);
-      low = rw (none, zero) (omega (arith, ints));
-      high = rw (none, zero) (omega (arith, ints));
+      look = subst (λ (xs : List Solid). IsLook c.args.from.kept c.args.frame.height no_notes 0 (rows_of c.args.tree.now (map solid_view xs)) c.start-look.result) (sym none) (c.start-look.ensures.look c.args.from.kept c.args.frame.height no_notes 0);
+      read = subst (λ (xs : List Solid). HasRead (length xs) c.start-look.result) (sym none) c.start-look.ensures.read;
     }
 
 pub row_of-requires : goal.row_of-requires
 row_of-requires g c = let low = solid_within c.args.tree.now c.loop-solid.at.event c.in-Some.solid.placed_at.event c.in-Some.ensures.solid.found in omega arith
 
-pub take-requires-clause-low : goal.take-requires-clause-low
-take-requires-clause-low g c = let n = few g (goal.at.take-requires-clause-low g c).After-row_of in let low = c.loop-solid.invariant.low in omega (arith, ints)
+pub take-requires-clause-read : goal.take-requires-clause-read
+take-requires-clause-read g c =
+    let n = few g (goal.at.take-requires-clause-read g c).After-row_of in
+    reached_low (length c.loop-solid.solids.items) most_entries c.loop-solid.look.reach n c.loop-solid.invariant.read
 
-pub take-requires-clause-high : goal.take-requires-clause-high
-take-requires-clause-high g c = let n = few g (goal.at.take-requires-clause-high g c).After-row_of in let high = c.loop-solid.invariant.high in omega (arith, ints)
+pub take-requires-clause-small : goal.take-requires-clause-small
+take-requires-clause-small g c =
+    let s = c.in-Some.ensures.small in
+    subst IsSmall (sym c.row_of.ensures) (record { kept_low = s.kept_low; kept_high = s.kept_high; gap_low = s.whole_low; gap_high = s.whole_high; height_low = s.height_low; height_high = s.height_high })
 
 pub returns-then-is_enough-clause-prefix : goal.returns-then-is_enough-clause-prefix
 returns-then-is_enough-clause-prefix g c =
     let d = (goal.at.returns-then-is_enough-clause-prefix g c).Else-is_err in
     let views : List SolidView = map solid_view c.push.new.self.items in
     let some : 0 < length views = rw (views_now g d, length-append) (omega arith) in
-    let missed : HasMissed (first_gap c.args.from.kept views) c.args.frame.height (rows_of c.args.tree.now views) 0 = subst (look_by (first_gap c.args.from.kept views) c.args.frame.height (rows_of c.args.tree.now views) c.take.new.self) (c.is_enough.ensures c.if-is_enough.true) (looks g d) in
-    read_missed c.args.faces.now c.args.tree.now c.args.frame c.args.from.at c.args.from.kept c.count-count.ensures.tree c.requires.holds views c.in-Some.solid.end c.in-Some.ensures.holds (goes_on g d) c.requires.frame.height_low some (frees g d c.if-ends.false) missed
+    let missed : HasMissed c.args.from.kept c.args.frame.height no_notes 0 (rows_of c.args.tree.now views) 0 = c.is_enough.ensures c.if-is_enough.true c.args.from.kept c.args.frame.height no_notes 0 (rows_of c.args.tree.now views) (looks g d) in
+    read_missed c.args.faces.now c.args.tree.now c.args.frame c.args.from.at c.args.from.kept c.count-count.ensures.tree c.requires.holds views c.in-Some.solid.end c.in-Some.ensures.holds (goes_on g d) some (frees g d c.if-ends.false) missed
 
 pub returns-then-is_enough-clause-small : goal.returns-then-is_enough-clause-small
 returns-then-is_enough-clause-small g c = small_on g (goal.at.returns-then-is_enough-clause-small g c).Else-is_err
@@ -164,8 +161,7 @@ loop-solid-preserved g c =
       placed = placed_on g d;
       free = frees g d (c.if-ends.false);
       look = looks g d;
-      low = let a = c.take.ensures.low in let b = c.loop-solid.invariant.low in rw size (omega (arith, ints));
-      high = let a = c.take.ensures.high in let b = c.loop-solid.invariant.high in rw size (omega (arith, ints));
+      read = rw size (c.take.ensures.read (length c.loop-solid.solids.items) c.loop-solid.invariant.read);
     }
 
 pub returns-clause-prefix : goal.returns-clause-prefix

@@ -1,0 +1,50 @@
+use Rattle.std.proofs.Common.{◌≡◌, ◌+ℤ◌, ◌≤ℤ◌, ◌∷◌, ◌++◌, [], ℤ, Bool, true, false, rules, refl, sym, subst, ◌||◌}
+use Rattle.std.proofs.lemmas.Int.{to_z-of_z}
+use mir.Val.{SFits}
+use mir.Syntax.{w64}
+use Rattle.cuts.specs.declared.look.Look.{Look}
+use Rattle.cuts.specs.Prefixes.{HasMissed, IsGoing, look_by}
+use Rattle.cuts.proofs.LookLemmas.{took_missed, took_miss, took_going, seam_misses, seam_fits}
+use Rattle.cuts.proofs.ReachLemmas.{reached_more}
+use Rattle.cuts.proofs.look.Look.take.Goals as goal
+
+pub returns-in-Some-clause-look : goal.returns-in-Some-clause-look
+returns-in-Some-clause-look c = λ rows list n told look.
+    let m : HasMissed c.args.room.now.kept c.args.room.now.height list n rows c.in-Some.left = subst (look_by c.args.room.now.kept c.args.room.now.height list n rows c.args.self.now) c.in-Some.is look in
+    took_missed c.args.room.now.kept c.args.room.now.height list n rows c.args.row.now c.in-Some.left c.left_after.result c.left_after.ensures m
+
+pub returns-then-misses-clause-look : goal.returns-then-misses-clause-look
+returns-then-misses-clause-look c = λ rows list n told look.
+    let kept : Bool = c.args.room.now.kept in
+    let height : ℤ = c.args.room.now.height in
+    let going : IsGoing kept height list n rows c.args.self.now = subst (look_by kept height list n rows c.args.self.now) c.in_default.is look in
+    let area : SFits w64 c.args.area = c.ranges.area in
+    let point = c.misses.ensures.point c.if-misses.true in
+    let fitted : c.args.self.now.fitted ≡ true → ¬ ((c.args.self.now.reach.extent +ℤ c.args.area) ≤ℤ height) = simp to_z-of_z at (c.misses.ensures.fitted c.if-misses.true) in
+    let none : c.args.self.now.fitted ≡ false → ¬ ((c.args.self.now.reach.extent +ℤ c.args.room.now.carried) ≤ℤ height) = c.misses.ensures.none c.if-misses.true in
+    subst (HasMissed kept height list n (rows ++ c.args.row.now ∷ [])) (sym c.saturating_sub.ensures)
+    (took_miss kept height list n rows c.args.row.now c.args.self.now c.least_with-self.result going c.least_with-self.ensures.own c.least_with-self.ensures.kept point.1 point.0
+    (seam_misses kept height list n rows c.args.row.now c.args.self.now c.args.area c.args.room.now.carried going told c.requires.read.least point.0 fitted none))
+
+pub returns-clause-look : goal.returns-clause-look
+returns-clause-look c = λ rows list n told look.
+    let kept : Bool = c.args.room.now.kept in
+    let height : ℤ = c.args.room.now.height in
+    let old : Look = c.args.self.now in
+    let new : Look = record { some = true; reach = c.place.new.self; fitted = c.fits.result || old.fitted; least = c.least_with-self.result; left = old.left } in
+    let going : IsGoing kept height list n rows old = subst (look_by kept height list n rows old) c.in_default.is look in
+    let area : SFits w64 c.args.area = c.ranges.area in
+    let gap : SFits w64 c.gap_above-gap.result = search rules in
+    let tall : SFits w64 c.args.row.now.height = search rules in
+    let fit : c.fits.result ≡ true → (old.reach.extent +ℤ c.args.area) ≤ℤ height = simp to_z-of_z at c.fits.ensures.fits in
+    let bottom : c.place.new.self.bottom ≡ (old.reach.bottom +ℤ c.gap_above-gap.result) +ℤ c.args.row.now.height = simp to_z-of_z at c.place.ensures.bottom in
+    let fitted = seam_fits kept height list n rows c.args.row.now old c.args.area c.args.room.now.carried going told c.requires.read.least c.fits.result c.fits.ensures.point fit in
+    subst (look_by kept height list n (rows ++ c.args.row.now ∷ []) new) (sym c.in_default.is)
+    (took_going kept height list n rows c.args.row.now old new c.gap_above-gap.result going c.least_with-self.ensures.own c.least_with-self.ensures.kept c.gap_above-gap.ensures.top c.gap_above-gap.ensures.below refl bottom c.place.ensures.extent fitted)
+
+pub returns-clause-read : goal.returns-clause-read
+returns-clause-read c = λ n read.
+    let gap : SFits w64 c.gap_above-gap.result = search rules in
+    let tall : SFits w64 c.args.row.now.height = search rules in
+    let bottom : c.place.new.self.bottom ≡ (c.args.self.now.reach.bottom +ℤ c.gap_above-gap.result) +ℤ c.args.row.now.height = simp to_z-of_z at c.place.ensures.bottom in
+    reached_more n c.args.self.now.reach c.place.new.self c.gap_above-gap.result c.args.row.now.height read c.gap_above-gap.ensures.low c.gap_above-gap.ensures.high c.requires.small.height_low c.requires.small.height_high bottom c.place.ensures.extent

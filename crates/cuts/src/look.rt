@@ -1,0 +1,141 @@
+//! How far a page's cut reads.
+
+ghost use Rattle.std.specs.Prelude.{◌≡◌, ℕ, ℤ, Bool, List, true, false, pos, neg_ℤ, ◌+◌, ◌<◌, ◌≤◌, ◌^◌, length, Some, ◌∷◌, ◌++◌, [], ◌≤ℤ◌, ◌+ℤ◌};
+ghost use Rattle.bk_num.specs.Limits.{most_entries};
+ghost use Rattle.cuts.specs.Areas.{AreTold, IsArea};
+ghost use Rattle.cuts.specs.Cuts.{NoteLists};
+ghost use Rattle.cuts.specs.Prefixes.{HasMissed, HasRead, IsLook, is_break};
+ghost use Rattle.cuts.specs.Rows.{IsSmall, is_joined, top_gap};
+ghost use Rattle.cuts.specs.declared.row.Row.{Row};
+
+use crate::reach::Reach;
+use crate::row::{Room, Row};
+
+/// What is kept of the solids of a page while they are read: whether there are any, how far they reach, whether some
+/// point has fitted, the most widows that the lines at their end ask for, and, once a point misses, how many lines more
+/// tell whether too few follow a break.
+#[derive(Clone, Copy, Debug)]
+pub struct Look {
+    pub(crate) some: bool,
+    pub(crate) reach: Reach,
+    pub(crate) fitted: bool,
+    pub(crate) least: u32,
+    pub(crate) left: Option<u32>,
+}
+
+/// The most widows that the lines at the end ask for, with one more solid.
+fn least_with(least: u32, row: &Row) -> u32
+    ensures own { row.now.widows ≤ result }
+    ensures kept { is_joined row.now ≡ true → least ≤ result }
+{
+    if row.joins() {
+        least.max(row.widows)
+    } else {
+        row.widows
+    }
+}
+
+/// How many lines more are to be read behind a point that misses, once a solid more is.
+fn left_after(left: u32, row: &Row) -> u32
+    ensures { is_joined row.now ≡ true → left ≤ result + 1 }
+{
+    if row.joins() {
+        left.saturating_sub(1)
+    } else {
+        0
+    }
+}
+
+impl Look {
+    /// Before any solid.
+    pub fn start() -> Look
+        ensures look { (kept : Bool) (height : ℤ) (list : NoteLists) (c : ℕ) → IsLook kept height list c [] result }
+        ensures read { HasRead 0 result }
+    {
+        Look {
+            some: false,
+            reach: Reach::START,
+            fitted: false,
+            least: 0,
+            left: None,
+        }
+    }
+
+    /// Whether the solids read so far tell the cut.
+    pub fn is_enough(&self) -> bool
+        ensures { result ≡ true → (kept : Bool) (height : ℤ) (list : NoteLists) (c : ℕ) (rows : List Row) →
+            IsLook kept height list c rows self.now → HasMissed kept height list c rows 0 }
+    {
+        self.left == Some(0)
+    }
+
+    /// The gap above the next solid.
+    fn gap_above(&self, row: &Row, room: &Room) -> i64
+        requires { IsSmall row.now }
+        ensures top { self.now.some ≡ false → result ≡ top_gap room.now.kept (Some row.now) }
+        ensures below { self.now.some ≡ true → result ≡ row.now.seam.whole_gap }
+        ensures low { neg_ℤ (pos (2 ^ 32)) ≤ℤ result }
+        ensures high { result ≤ℤ pos (2 ^ 32) }
+    {
+        if self.some {
+            row.seam.whole_gap
+        } else if room.kept {
+            row.seam.kept_gap
+        } else {
+            0
+        }
+    }
+
+    /// Whether the seam before the next solid may be a break point that fits.
+    fn fits(&self, row: &Row, area: i64, room: &Room) -> bool
+        requires read { HasRead most_entries self.now }
+        requires area { IsArea area }
+        ensures point { result ≡ true → (self.now.some ≡ true) × (is_break row.now ≡ true) }
+        ensures fits { result ≡ true → (self.now.reach.extent +ℤ area) ≤ℤ room.now.height }
+    {
+        self.some && row.breaks() && self.reach.fits_above(area, room.height)
+    }
+
+    /// Whether the seam before the next solid may be a break point that misses: with the notes that have to stand on the
+    /// page once some point has fitted, before with the carried notes alone.
+    fn misses(&self, row: &Row, area: i64, room: &Room) -> bool
+        requires read { HasRead most_entries self.now }
+        requires area { IsArea area }
+        requires carried { IsArea room.now.carried }
+        ensures point { result ≡ true → (self.now.some ≡ true) × (is_break row.now ≡ true) }
+        ensures fitted { result ≡ true → self.now.fitted ≡ true → ¬ ((self.now.reach.extent +ℤ area) ≤ℤ room.now.height) }
+        ensures none { result ≡ true → self.now.fitted ≡ false → ¬ ((self.now.reach.extent +ℤ room.now.carried) ≤ℤ room.now.height) }
+    {
+        let needed = if self.fitted { area } else { room.carried };
+        self.some && row.breaks() && !self.reach.fits_above(needed, room.height)
+    }
+
+    /// Takes the next solid of a page. `area` is that of the notes that have to stand on the page where it ends before
+    /// that solid, in units of 1/64 px, or any number above the frame's height where that area is; before the first
+    /// solid it isn't read.
+    pub fn take(&mut self, row: &Row, area: i64, room: &Room)
+        requires read { HasRead most_entries self.old }
+        requires small { IsSmall row.now }
+        requires area { IsArea area }
+        requires carried { IsArea room.now.carried }
+        ensures look { (rows : List Row) (list : NoteLists) (c : ℕ) →
+            (0 < length rows → AreTold room.now.height list c (length rows) area room.now.carried) →
+            IsLook room.now.kept room.now.height list c rows self.old →
+            IsLook room.now.kept room.now.height list c (rows ++ row.now ∷ []) self.new }
+        ensures read { (n : ℕ) → HasRead n self.old → HasRead (n + 1) self.new }
+    {
+        if let Some(left) = self.left {
+            self.left = Some(left_after(left, row));
+            return;
+        }
+        self.least = least_with(self.least, row);
+        if self.misses(row, area, room) {
+            self.left = Some(self.least.saturating_sub(1));
+            return;
+        }
+        self.fitted = self.fits(row, area, room) | self.fitted;
+        let gap = self.gap_above(row, room);
+        self.reach.place(gap, row.height);
+        self.some = true;
+    }
+}
