@@ -1,3 +1,4 @@
+pub mod Books
 pub mod Built
 pub mod Complete
 pub mod Conditions
@@ -7,3 +8,4 @@ pub mod PutLemmas
 pub mod Ranges
 pub mod RequestLemmas
 pub mod Stopping
+pub mod Tables

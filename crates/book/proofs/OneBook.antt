@@ -13,15 +13,16 @@ use Rattle.counters.specs.Document.{values_of}
 use Rattle.css_rules.specs.Sheet.{HaveOneReading}
 use Rattle.css_tok.specs.Tokens.{tokens_of}
 use Rattle.dom.specs.Nodes.{IsTree}
-use Rattle.fragment.specs.Pages.{IsPaged, HasOnePageList}
+use Rattle.fragment.specs.Pages.{PageFrames, IsPaged, HasOnePageList}
 use Rattle.gen_text.specs.Generated.{AreGenerated, AreOne, GeneratedIsOne, generated_text, assigned_strings, source_of as texts_from}
 use Rattle.gen_text.specs.declared.generated.NodeTexts.{NodeTexts}
 use Rattle.sheets.specs.Sheets.{element_sheets}
 use Rattle.style.specs.Nodes.{NodeStyles}
-use Rattle.unbuilt.specs.Sources.{Source as SheetSource, sources_of, IsReadFrom}
+use Rattle.unbuilt.specs.Laws.{PageRulesAreOne}
+use Rattle.unbuilt.specs.Sources.{Source as SheetSource, authors_of, sources_of, IsReadFrom}
 use Rattle.book.specs.Document.{Document}
 use Rattle.book.specs.Flow.{IsFlowOf, source_for}
-use Rattle.book.specs.Answer.{page_frames}
+use Rattle.book.specs.Answer.{page_frames, print_of}
 use Rattle.book_print.specs.Printed.{Print, listing_of}
 use Rattle.book.specs.Laws.{HasOneBook}
 
@@ -52,7 +53,7 @@ one_source d rows a b texts strings = λ i. record {
   assigned = λ n. strings n i;
 }
 
-module _ (reading : HaveOneReading) (styles : StylesAreOne) (texts : GeneratedIsOne) (pages : HasOnePageList) where
+module _ (reading : HaveOneReading) (styles : StylesAreOne) (texts : GeneratedIsOne) (one_list : PageRulesAreOne) (pages : HasOnePageList) where
   one_flow : (d : Document) (names others : List (List ℕ)) (flow other : Flow) → IsTree d.nodes → IsFlowOf d names flow → IsFlowOf d others other → (names ≡ others) × (flow ≡ other)
   one_flow d names others flow other tree x y =
       let sheets : x.sheets ≡ y.sheets = pairs_one IsReadFrom (one_sheet reading) (sources_of (element_sheets d.nodes) d.sheet) x.sheets y.sheets x.read y.read in
@@ -67,8 +68,11 @@ module _ (reading : HaveOneReading) (styles : StylesAreOne) (texts : GeneratedIs
   one_book d b c tree x y =
       let same = one_flow d x.names y.names x.flow y.flow tree x.of y.of in
       let flow : x.flow ≡ y.flow = same.1 in
-      let list : x.pages ≡ y.pages = pages d.faces y.flow.main page_frames x.pages y.pages (subst (λ (f : Flow). IsPaged d.faces f.main page_frames x.pages) flow x.paged) y.paged in
-      let print : ◌≡◌ {A = Print} (record { faces = d.faces; flow = x.flow; names = x.names }) (record { faces = d.faces; flow = y.flow; names = y.names }) = λ i. record { faces = d.faces; flow = flow i; names = same.0 i } in
+      let rules : x.rules ≡ y.rules = one_list (authors_of (element_sheets d.nodes) d.sheet) x.rules y.rules x.by y.by in
+      let frames : page_frames x.rules x.names ≡ page_frames y.rules y.names = λ i. page_frames (rules i) (same.0 i) in
+      let paged : IsPaged d.faces y.flow.main (page_frames y.rules y.names) x.pages = subst (λ (fs : PageFrames). IsPaged d.faces y.flow.main fs x.pages) frames (subst (λ (f : Flow). IsPaged d.faces f.main (page_frames x.rules x.names) x.pages) flow x.paged) in
+      let list : x.pages ≡ y.pages = pages d.faces y.flow.main (page_frames y.rules y.names) x.pages y.pages paged y.paged in
+      let print : print_of d.faces x.rules x.names x.flow ≡ print_of d.faces y.rules y.names y.flow = λ i. print_of d.faces (rules i) (same.0 i) (flow i) in
       let count : b.pages ≡ c.pages = x.count ∙ ap (λ (ps : List Page). length ps) list ∙ sym y.count in
-      let bytes : b.bytes ≡ c.bytes = x.listed ∙ ap (λ (p : Print). listing_of p x.pages) print ∙ ap (listing_of (record { faces = d.faces; flow = y.flow; names = y.names })) list ∙ sym y.listed in
+      let bytes : b.bytes ≡ c.bytes = x.listed ∙ ap (λ (p : Print). listing_of p x.pages) print ∙ ap (listing_of (print_of d.faces y.rules y.names y.flow)) list ∙ sym y.listed in
       λ i. record { pages = count i; bytes = bytes i }

@@ -1,6 +1,6 @@
 -- The flow of a document: what its styles, counters and generated texts make of its nodes.
-use Rattle.std.specs.Prelude.{◌≡◌, ◌<◌, ℕ, List, [], codes}
-use Rattle.std.specs.List.{AllZip}
+use Rattle.std.specs.Prelude.{◌≡◌, ◌<◌, ℕ, List, [], codes, map}
+use Rattle.std.specs.List.{All, AllZip}
 use Rattle.bk_num.specs.Limits.{most_text_bytes}
 use Rattle.bk_num.specs.declared.values.Pseudo.TheVariants as pseudo
 use Rattle.boxes.specs.declared.flow.Flow.{Flow}
@@ -13,6 +13,8 @@ use Rattle.computed.specs.Document.{AreDocumentStyles}
 use Rattle.counters.specs.Document.{values_of}
 use Rattle.gen_text.specs.Generated.{AreGenerated, generated_text, assigned_strings, source_of as texts_from}
 use Rattle.gen_text.specs.declared.generated.NodeTexts.{NodeTexts}
+use Rattle.page_seq.specs.Numbers.{IsSmallReset}
+use Rattle.page_seq.specs.Places.{NeverFall}
 use Rattle.sheets.specs.Sheets.{element_sheets}
 use Rattle.style.specs.Nodes.{NodeStyles}
 use Rattle.unbuilt.specs.Sources.{sources_of, IsReadFrom}
@@ -50,3 +52,9 @@ pub record IsFlowOf (d : Document) (names : List (List ℕ)) (flow : Flow) : Typ
   pub rows : List NodeStyles
   pub styles : AreDocumentStyles names d.nodes sheets rows
   pub by : IsFlowBy d rows flow
+
+-- the running strings and the resets of page numbers of a flow stand in order, and the resets are small
+pub record HasOrder (flow : Flow) : Type 0 where
+  pub strings : NeverFall (map (λ a. a.at) flow.strings)
+  pub resets : NeverFall (map (λ r. r.at) flow.resets)
+  pub small : All IsSmallReset flow.resets

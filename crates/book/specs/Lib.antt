@@ -4,6 +4,7 @@ pub mod DocumentView
 pub mod Expect
 pub mod FilesView
 pub mod Flow
+pub mod Laid
 pub mod Laws
 pub mod Message
 pub mod Request

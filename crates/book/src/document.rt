@@ -8,7 +8,7 @@ ghost use Rattle.html_tree.specs.Tree.{tree_of};
 ghost use Rattle.sheets.specs.Sheets.{element_sheets};
 ghost use Rattle.unbuilt.specs.Nodes.{first_unbuilt};
 ghost use Rattle.unbuilt.specs.Readings.{SheetOf, AreReadings};
-ghost use Rattle.unbuilt.specs.Sources.{AreRead, IsReadFrom, numbers_of, sources_of};
+ghost use Rattle.unbuilt.specs.Sources.{ArePageRules, AreRead, IsReadFrom, authors_of, numbers_of, sources_of};
 ghost use Rattle.book.specs.Expect.{IsRefusedUnlessMemory, IsGiven};
 ghost use Rattle.book.specs.Document.{document_of, faces_expected, nodes_expected, sheets_expected, form_by};
 ghost use Rattle.book.specs.DocumentView.{document_in, HasSheets};
@@ -19,6 +19,7 @@ use bk_num::ids::NodeId;
 use bk_num::items::Items;
 use bk_num::name::NoMem;
 use cascade::sheet::ReadSheet;
+use css_page::rules::PageRule;
 use dom::{Dom, DomErr};
 use html_tree::read_html;
 use metrics::{Faces, MetricsErr, read_metrics};
@@ -26,14 +27,15 @@ use std::alloc::{AllocError, Global};
 use unbuilt::nodes::first_unbuilt;
 use unbuilt::run_sheets::{Sheets, SheetsErr, read_sheets};
 
-/// The faces of the metrics text, the tree, the text of the file's sheet, and what the document's sheets are read as, in the
-/// order of the cascade.
+/// The faces of the metrics text, the tree, the text of the file's sheet, and what the document's sheets and their page
+/// rules are read as, in the order of the cascade.
 #[derive(Drop)]
 pub(crate) struct Document<'a> {
     pub(crate) faces: Faces,
     pub(crate) dom: Dom,
     pub(crate) sheet: &'a str,
     pub(crate) read: Items<ReadSheet>,
+    pub(crate) pages: Items<PageRule>,
 }
 
 /// The texts of the files, less a leading U+FEFF.
@@ -101,6 +103,7 @@ fn read_tree(alloc: Global, html: &str) -> Result<Dom, Outcome>
 /// The sheets of the HTML and of the file, within their limits.
 fn read_run_sheets(alloc: Global, dom: &Dom, sheet: &str) -> Result<Sheets, Outcome>
     ensures read { IfOk result (λ s. AllZip IsReadFrom (sources_of (element_sheets dom.now) sheet.now) s.read) }
+    ensures pages { IfOk result (λ s. ArePageRules (authors_of (element_sheets dom.now) sheet.now) s.pages) }
     ensures found { (reading : List ℕ → SheetOf) → AreReadings reading → IfOk result (λ s. AreRead reading dom.now sheet.now (Ok s)) }
     ensures sheets { (reading : List ℕ → SheetOf) → AreReadings reading → MatchResult result (λ s. IsGiven (sheets_expected reading dom.now sheet.now) tt)
         (λ o. IsRefusedUnlessMemory (sheets_expected reading dom.now sheet.now) o) }
@@ -165,5 +168,6 @@ pub(crate) fn read_document<'a>(alloc: Global, texts: Texts<'a>) -> Result<Docum
         dom,
         sheet: texts.sheet,
         read: sheets.read,
+        pages: sheets.pages,
     })
 }

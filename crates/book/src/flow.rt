@@ -10,7 +10,7 @@ ghost use Rattle.fragment.specs.Conditions.{CanBePaged};
 ghost use Rattle.gen_text.specs.Generated.{AreGenerated, source_of as texts_from};
 ghost use Rattle.paint.specs.Conditions.{CanFlowBePainted};
 ghost use Rattle.book.specs.DocumentView.{document_in, HasSheets};
-ghost use Rattle.book.specs.Flow.{IsFlowBy, IsFlowOf, HasLongFlow};
+ghost use Rattle.book.specs.Flow.{IsFlowBy, IsFlowOf, HasLongFlow, HasOrder};
 ghost use Rattle.book.specs.Run.{Ends, IsOfTexts};
 
 use crate::document::Document;
@@ -25,6 +25,7 @@ use computed::document::styles;
 use computed::laws::{root_is_shown, styles_keep_ranges};
 use counters::at::CounterAt;
 use counters::number::number_all;
+use css_page::rules::PageRule;
 use dom::Dom;
 use gen_text::generate::generate;
 use gen_text::generated::Generated;
@@ -34,10 +35,11 @@ use std::alloc::Global;
 use style::names::Names;
 use style::styles::Styles;
 
-/// A flow with the faces that set it, and the names of its pages.
+/// A flow with the faces that set it, the rules of its pages, and their names.
 #[derive(Drop)]
 pub(crate) struct SetFlow {
     pub(crate) faces: Faces,
+    pub(crate) rules: Items<PageRule>,
     pub(crate) names: Names,
     pub(crate) flow: Flow,
 }
@@ -76,6 +78,7 @@ fn boxes_of(alloc: Global, document: &Document<'_>, styles: &Styles) -> Result<F
     ensures room { IfOk result (λ flow. leaf_bytes flow.main.leaves ≤ most_text_bytes) }
     ensures paged { IfOk result (λ flow. CanBePaged document.now.faces flow) }
     ensures painted { IfOk result (λ flow. CanFlowBePainted document.now.faces flow) }
+    ensures order { IfOk result (λ flow. HasOrder flow) }
     ensures err { IfErr result (λ o. (o ≡ Outcome.NoMemory) ⊎
         ((o ≡ Outcome.Limit LimitOf.Text) × HasLongFlow (document_in document.now) styles.now)) }
 {
@@ -104,6 +107,8 @@ pub(crate) fn flow_of(alloc: Global, document: Document<'_>) -> Result<SetFlow, 
     ensures room { IfOk result (λ s. leaf_bytes s.flow.main.leaves ≤ most_text_bytes) }
     ensures paged { IfOk result (λ s. CanBePaged s.faces s.flow) }
     ensures painted { IfOk result (λ s. CanFlowBePainted s.faces s.flow) }
+    ensures order { IfOk result (λ s. HasOrder s.flow) }
+    ensures rules { IfOk result (λ s. s.rules ≡ document.entry.pages) }
     ensures ends { IfErr result (λ o. Ends (document_in document.entry) o) }
     ensures of_texts { IfErr result IsOfTexts }
 {
@@ -111,6 +116,7 @@ pub(crate) fn flow_of(alloc: Global, document: Document<'_>) -> Result<SetFlow, 
     let flow = boxes_of(alloc, &document, &styles)?;
     Ok(SetFlow {
         faces: document.faces,
+        rules: document.pages,
         names,
         flow,
     })

@@ -4,21 +4,25 @@ ghost use Rattle.std.specs.Prelude.{◌≡◌, ◌<◌};
 
 use crate::outcome::{FileOf, LimitOf, Outcome, WordsFault};
 use crate::run::run;
-use bk_io::mem_shelf::MemShelf;
-use bk_io::mem_sink::MemSink;
 use bk_io::shelf::Shelf;
 use bk_io::sink::Sink;
 use bk_io::still_shelf::StillShelf;
 use bk_io::still_sink::StillSink;
 use bk_num::name::Name;
 use bk_num::steps::Steps;
+use books::SMALL_PAGE;
 use metrics::MetricsWhy;
 use std::alloc::Global;
 use std::marker::Brand;
 use std::sync::ledger::{Blank, Ledger};
 
+mod books;
 mod documents;
+mod faults;
 mod frames;
+mod levels;
+mod margin_boxes;
+mod pages;
 mod style_sheets;
 
 const METRICS: &str = "bookmetrics 1\nface test normal 400 16 12 4 8\nglyph 0300 036F 0\n";
@@ -336,57 +340,6 @@ fn refusals_of_words(rt: HostRuntime) {
     }
 }
 
-#[test]
-fn faults_of_files_and_streams(rt: HostRuntime) {
-    let alloc = rt.alloc();
-    let words = ["format", "m", "h", "s"];
-    let html = b"<p>aaaa bbbb cccc</p>";
-    let fail = Vec::from_slice(alloc, &[5u64]).ok();
-    let (Some(kept), Some(fail)) = (files(alloc, METRICS.as_bytes(), html, b""), fail) else {
-        assert!(rt; false);
-        return;
-    };
-    let mut shelf = MemShelf::new(kept, fail);
-    let (Ok(mut out), Ok(mut err)) = (StillSink::new(alloc, 4096), StillSink::new(alloc, 200))
-    else {
-        assert!(rt; false);
-        return;
-    };
-    let outcome = answered(alloc, &words, &mut shelf, &mut out, &mut err);
-    assert_eq!(rt;
-        outcome,
-        Some(Outcome::ReadFault {
-            file: FileOf::Sheet(1)
-        })
-    );
-    assert!(rt; out.bytes().is_empty());
-    assert!(rt; err.bytes() == b"bookfmt: cannot read sheet 1\n".as_slice());
-}
-
-#[test]
-fn a_failed_put_leaves_a_prefix(rt: HostRuntime) {
-    let alloc = rt.alloc();
-    let words = ["format", "m", "h", "s"];
-    let html = b"<p>aaaa bbbb cccc</p>";
-    let fail = Vec::from_slice(alloc, &[3u64]).ok();
-    let (Some(kept), Some(fail)) = (files(alloc, METRICS.as_bytes(), html, b""), fail) else {
-        assert!(rt; false);
-        return;
-    };
-    let mut shelf = StillShelf::new(kept);
-    let (Ok(mut out), Ok(mut err)) = (
-        MemSink::new(alloc, 4096, 16, fail),
-        StillSink::new(alloc, 200),
-    ) else {
-        assert!(rt; false);
-        return;
-    };
-    let outcome = answered(alloc, &words, &mut shelf, &mut out, &mut err);
-    assert_eq!(rt; outcome, Some(Outcome::WriteFault));
-    assert!(rt; out.bytes() == b"book 1 1\npage 1 1 right flow \"\" ".as_slice());
-    assert!(rt; err.bytes() == b"bookfmt: cannot write\n".as_slice());
-}
-
 /// The same start tag a number of times.
 fn nested(alloc: Global, tag: &[u8], count: usize) -> Option<Vec<u8>> {
     let mut html = Vec::new(alloc);
@@ -427,7 +380,7 @@ fn limits_of_trees(rt: HostRuntime) {
             rt.alloc(),
             METRICS.as_bytes(),
             &html,
-            b"",
+            SMALL_PAGE.as_bytes(),
         ));
         let Some(left) = left else {
             assert!(rt; false);

@@ -28,6 +28,11 @@ fn a_file_that_is_built(rt: HostRuntime) {
         "p",
         "p{}",
         "@media screen{p{float:none}}",
+        "@page{}",
+        "p{}@page{@top-left{}}",
+        "@media{@page{}}",
+        "p{string-set:a \"b\"}",
+        "p{counter-reset:page 3}",
         // without a reading
         "p{float:up;border:0 0}",
         "p::x{float:none}",
@@ -48,13 +53,10 @@ fn a_file_with_a_rule_that_is_not_built(rt: HostRuntime) {
     for sheet in [
         "p{float:none}",
         "p{float:none",
-        "\u{FEFF}p{string-set:a \"b\"}",
+        "\u{FEFF}p{float:footnote}",
         "@import \"x\";p{background:red}",
-        "@page{}",
-        "p{}@page{@top-left{}}",
+        "@page{}p{border:0}",
         "@media print{p{border:0}}",
-        "@media{@page{}}",
-        "p{counter-reset:page 3}",
         "a::after{content:target-counter(attr(href),page)}",
     ] {
         let Some(left) = formatted(rt.alloc(), METRICS.as_bytes(), b"<p>a", sheet.as_bytes()) else {
@@ -85,7 +87,7 @@ fn the_first_node_that_is_not_built_is_told_before_the_file(rt: HostRuntime) {
             element(2),
         ),
         (
-            "<head><title>a</title><style media=\"tv, PRINT\">@page{}</style></head>",
+            "<head><title>a</title><style media=\"tv, PRINT\">p{float:none}</style></head>",
             "",
             element(4),
         ),
