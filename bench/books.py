@@ -17,6 +17,9 @@ ITEM = "<h2>One &amp; two</h2><p>" + LINE * 5 + "<b>Bold</b> and <em>slanted</em
 SHEET = "h2{margin:1em 0 .5em}p{margin:0;text-align:justify;text-indent:1em}h2+p{text-indent:0}li{margin:.2em 0}code{font-size:90%}"
 
 
+NOTES = ".n{float:footnote}"
+
+
 def manual(size):
     return ITEM * (size // len(ITEM) + 1)
 
@@ -36,6 +39,10 @@ BOOKS = {
     "spaces that are kept": (lambda size: "<pre>" + "a " * (size // 2), "pre{white-space:pre-wrap}"),
     "counters": (lambda size: "<ol>" + "<li>a" * (size // 20), "li{counter-increment:x 2 y}li::before{content:counter(x)\":\"counters(y,\".\")\" \"}"),
     "forced breaks": (lambda size: "<p>a" * min(99_000, size // 40), "p{break-before:page}"),
+    "a manual with notes": (lambda size: ("<h2>One</h2><p>" + LINE * 4 + "<span class=n>" + LINE + "</span> " + LINE * 3) * (size // 900), SHEET + NOTES),
+    "a paragraph of calls": (lambda size: "<p>" + "a<span class=n>x</span> " * (size // 300), NOTES),
+    "a note of lines": (lambda size: "<p>a<span class=n>" + "a<br>" * (size // 30) + "</span>", NOTES),
+    "notes of one line": (lambda size: "<p>a<span class=n>x</span>" * (size // 32), NOTES),
     "kept together": (lambda size: ("<div><p>" + LINE + "<p>" + LINE + "</div>") * (size // 220), "div{break-inside:avoid}"),
 }
 

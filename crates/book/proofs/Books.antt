@@ -1,49 +1,138 @@
--- What is laid out of the flow of a document is of the document.
-use Rattle.std.proofs.Common.{◌≡◌, ◌∙◌, ◌≤◌, ◌⊎◌, inl, inr, List, ap, subst}
-use Rattle.bk_num.specs.Limits.{most_text_bytes, most_pages}
-use Rattle.box_gen.specs.Sites.{leaf_bytes}
-use Rattle.metrics.specs.Face.{FontFace}
-use Rattle.fragment.specs.Pages.{IsPaged, LeavesSome}
-use Rattle.book.specs.Answer.{AreRulesOf, Book, IsBookOf, page_frames, print_of}
+-- What the passes over a document in its styles settle with is of the document.
+use Rattle.std.proofs.Common.{◌≡◌, ◌∙◌, ℕ, ℤ, List, Option, Err, length, refl, subst}
+use Rattle.std.specs.Io.KnownBytes.{Appends}
+use Rattle.bk_num.specs.declared.ids.NodeId.{NodeId}
+use Rattle.bk_num.specs.declared.values.Pseudo.{Pseudo}
+use Rattle.counters.specs.At.{counter_values}
+use Rattle.counters.specs.Document.{values_of}
+use Rattle.dom.specs.Nodes.{Node}
+use Rattle.gen_text.specs.References.{AreTargets}
+use Rattle.passes.specs.Passes.{End, EndsIn, settled, unsettled, long, many}
+use Rattle.passes.specs.Work.{Work}
+use Rattle.book.specs.Answer.{Book, IsBookOf, output_of, print_of}
 use Rattle.book.specs.Document.{Document}
-use Rattle.book.specs.Flow.{IsFlowOf}
-use Rattle.book.specs.Laid.{HasMorePages, IsBookBy}
-use Rattle.book.specs.Run.{Ends, IsOfTexts}
-use Rattle.book.specs.declared.flow.SetFlow.{SetFlow}
+use Rattle.book.specs.Flow.{HasEnd, IsWorkOf, page_frames, work_by}
+use Rattle.book.specs.Keeps.{IsWholeBook}
+use Rattle.book.specs.Laid.{EndSo, IsBookBy, IsStyledOf, StopsBy, WritesBy, of_print, work_in}
+use Rattle.book.specs.Run.{IsOfBook, PutsOnlyABook, Writes}
 use Rattle.book.specs.declared.outcome.LimitOf.TheVariants as limit
 use Rattle.book.specs.declared.outcome.Outcome.{Outcome}
 use Rattle.book.specs.declared.outcome.Outcome.TheVariants as out
-use Rattle.book_print.specs.Printed.{listing_of}
+use Rattle.book.specs.declared.styled.Styled.{Styled}
+use Rattle.book.specs.Laws.{PageLaws}
+use Rattle.book.proofs.KeepLemmas.{keeps}
+use Rattle.book.proofs.Stopping.{keeps_same}
+use Rattle.book_print.specs.Puts.{Puts}
+use Rattle.book_print.specs.declared.print.PrintErr.{PrintErr}
+use Rattle.book_print.specs.declared.print.PrintErr.TheVariants as print
+use Rattle.boxes.specs.declared.flow.Flow.{Flow}
+use Rattle.boxes.specs.declared.page.Page.{Page}
+use Rattle.gen_text.specs.declared.table.Entry.{Entry}
+use Rattle.note_list.specs.Conditions.{CanBePaged}
 
-module _ (d : Document) (set : SetFlow) (faces : set.faces ≡ d.faces) (flow : IsFlowOf d set.names set.flow) (room : leaf_bytes set.flow.main.leaves ≤ most_text_bytes) (rules : AreRulesOf d set.rules) where
-  pub book_is : (b : Book) → IsBookBy set b → IsBookOf d b
-  book_is b by = record {
-    names = set.names;
-    flow = set.flow;
-    of = flow;
-    room = room;
-    rules = set.rules;
-    by = rules;
-    pages = by.pages;
-    paged = subst (λ (fs : List FontFace). IsPaged fs set.flow.main (page_frames set.rules set.names) by.pages) faces by.are.paged;
-    few = by.are.few;
-    count = by.count;
-    listed = by.listed ∙ ap (λ (fs : List FontFace). listing_of (print_of fs set.rules set.names set.flow) by.pages) faces;
+module _ (d : Document) (s : Styled) (is : IsStyledOf d s) where
+  work_is : (targets : List NodeId) → work_in s targets ≡ work_by d s.rules s.names s.styles targets
+  work_is targets =
+      let values : ◌≡◌ {A = ℕ → Pseudo → List ℕ → List ℤ} (counter_values s.counters) (values_of d.nodes s.styles) = λ i n p x. is.values n p x i in
+      λ i. record {
+        nodes = is.nodes i;
+        rows = s.styles;
+        values = values i;
+        faces = is.faces i;
+        frames = page_frames s.rules s.names;
+        targets = targets;
+      }
+
+  work_of : (targets : List NodeId) → AreTargets s.dom s.styles targets → IsWorkOf d s.rules s.names (work_in s targets)
+  work_of targets are = record {
+    by = is.rules;
+    rows = s.styles;
+    styles = is.styles;
+    targets = targets;
+    are = subst (λ (nodes : List Node). AreTargets nodes s.styles targets) is.nodes are;
+    is = work_is targets;
   }
 
-  pub ends_so : (o : Outcome) → ((o ≡ out.NoMemory) ⊎ ((o ≡ out.Limit limit.Pages) × HasMorePages set)) → Ends d o × IsOfTexts o
-  ends_so o h = elim h [
-    | inl e ↦ rw e (tt, tt)
-    | inr m ↦ rw m.0 (
-      record {
-        names = set.names;
-        flow = set.flow;
-        of = flow;
-        room = room;
-        rules = set.rules;
-        by = rules;
-        left = subst (λ (fs : List FontFace). LeavesSome fs set.flow.main (page_frames set.rules set.names) most_pages) faces m.1.left;
-      },
-      tt,
-    )
-  ]
+  within : (w : Work) (end : End) → EndsIn w s.passes end → EndsIn w d.passes end
+  within w end e = subst (λ (n : ℕ). EndsIn w n end) is.passes e
+
+  end_is : (end : End) → EndSo s end → HasEnd d end
+  end_is end e = record { rules = s.rules; names = s.names; work = work_in s e.targets; of = work_of e.targets e.are; ends = within (work_in s e.targets) end e.ends }
+
+  put_is : (b : Book) (by : IsBookBy s b) → output_of s.output (print_of s.faces s.rules s.names b.passes by.flow) by.pages by.table ≡ output_of d.output (print_of d.faces s.rules s.names b.passes by.flow) by.pages by.table
+  put_is b by = λ i. output_of (is.output i) (print_of (is.faces i) s.rules s.names b.passes by.flow) by.pages by.table
+
+  put_book : (b : Book) → IsBookBy s b → IsBookOf d b
+  put_book b by = record {
+    rules = s.rules;
+    names = s.names;
+    work = work_in s by.settles.targets;
+    of = work_of by.settles.targets by.settles.are;
+    flow = by.flow;
+    pages = by.pages;
+    table = by.table;
+    settles = within (work_in s by.settles.targets) (settled b.passes by.flow by.pages by.table) by.settles.ends;
+    count = by.count;
+    put = by.put ∙ put_is b by;
+  }
+
+  pub book_is : PageLaws → (b : Book) → IsBookBy s b → IsWholeBook d b
+  unfolding put_book
+  book_is laws b by = (put_book b by, keeps laws (work_in s by.settles.targets) s.passes b.passes by.flow by.pages by.table by.can by.settles.ends)
+
+  pub laid_out : PageLaws → (old new : Option (List ℕ)) (o : Outcome) → WritesBy s old new o → Writes d old new o × PutsOnlyABook old new o × IsOfBook o
+  laid_out laws old new (out.Done pages passes) (b, by, p, k, a) = ((b, book_is laws b by, p, k, a), tt, tt)
+  laid_out laws old new out.WriteFault (b, by, n) = ((b, book_is laws b by, n), tt, tt)
+  laid_out laws old new (out.NotSettled target one other) (h, kept) = (end_is (unsettled target one other) h, kept, tt)
+  laid_out laws old new (out.Limit limit.Text) (h, kept) = (end_is long h, kept, tt)
+  laid_out laws old new (out.Limit limit.Pages) (h, kept) = (end_is many h, kept, tt)
+  laid_out laws old new (out.Limit limit.Nodes) h = absurd h.0
+  laid_out laws old new (out.Limit limit.Depth) h = absurd h.0
+  laid_out laws old new (out.Limit limit.Sheets) h = absurd h.0
+  laid_out laws old new (out.Limit limit.Rules) h = absurd h.0
+  laid_out laws old new out.NoMemory (h, kept) = (tt, kept, tt)
+  laid_out laws old new (out.NotRead k) h = absurd h.0
+  laid_out laws old new (out.ReadFault f) h = absurd h.0
+  laid_out laws old new (out.TooLarge f) h = absurd h.0
+  laid_out laws old new (out.NotUtf8 f at) h = absurd h.0
+  laid_out laws old new (out.BadMetrics line why) h = absurd h.0
+
+-- an answer that comes before anything is put
+pub stops_write : (s : Styled) (old : Option (List ℕ)) (o : Outcome) → StopsBy s o → WritesBy s old old o
+stops_write s old (out.NotSettled target one other) h = (h, keeps_same old)
+stops_write s old (out.Limit limit.Text) h = (h, keeps_same old)
+stops_write s old (out.Limit limit.Pages) h = (h, keeps_same old)
+stops_write s old (out.Limit limit.Nodes) h = absurd h
+stops_write s old (out.Limit limit.Depth) h = absurd h
+stops_write s old (out.Limit limit.Sheets) h = absurd h
+stops_write s old (out.Limit limit.Rules) h = absurd h
+stops_write s old out.NoMemory h = (tt, keeps_same old)
+stops_write s old (out.Done pages passes) h = absurd h
+stops_write s old (out.NotRead k) h = absurd h
+stops_write s old (out.ReadFault f) h = absurd h
+stops_write s old (out.TooLarge f) h = absurd h
+stops_write s old (out.NotUtf8 f at) h = absurd h
+stops_write s old (out.BadMetrics line why) h = absurd h
+stops_write s old out.WriteFault h = absurd h
+
+-- what is put of the pages that settled
+module _ (s : Styled) (passes : ℕ) (flow : Flow) (pages : List Page) (table : List Entry) (settles : EndSo s (settled passes flow pages table)) (can : CanBePaged s.faces flow) where
+  whole : Book
+  whole = record { pages = length pages; passes = passes; bytes = output_of s.output (print_of s.faces s.rules s.names passes flow) pages table }
+
+  by : IsBookBy s whole
+  unfolding whole
+  by = record { flow = flow; pages = pages; table = table; settles = settles; can = can; count = refl; put = refl }
+
+  pub put_fails : (old new : Option (List ℕ)) (e : PrintErr) → Puts old new (output_of s.output (print_of s.faces s.rules s.names passes flow) pages table) (Err e) → WritesBy s old new (of_print e)
+  unfolding whole
+  put_fails old new print.Failed h = (whole, by, h)
+  put_fails old new print.NoMemory h = (tt, h)
+
+  pub put_done : (old new : Option (List ℕ)) (count : ℕ) → count ≡ length pages → Appends old new (output_of s.output (print_of s.faces s.rules s.names passes flow) pages table) → WritesBy s old new (out.Done count passes)
+  unfolding whole
+  put_done old new count is h = (whole, by, is, refl, h)
+
+-- want of memory is no write fault
+pub no_fault : {R : Type 0} → out.NoMemory ≡ out.WriteFault → R
+no_fault e = absurd (cc)

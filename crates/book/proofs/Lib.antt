@@ -1,11 +1,12 @@
 pub mod Books
-pub mod Built
 pub mod Complete
 pub mod Conditions
 pub mod Documents
+pub mod KeepLemmas
 pub mod OneBook
+pub mod PassLemmas
 pub mod PutLemmas
 pub mod Ranges
-pub mod RequestLemmas
+pub mod Samples
 pub mod Stopping
 pub mod Tables

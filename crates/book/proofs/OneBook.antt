@@ -1,29 +1,27 @@
 -- A document has one book.
 use Rattle.std.proofs.Common.{◌≡◌, ◌∙◌, ℕ, List, [], ◌∷◌, length, refl, sym, ap, subst}
 use Rattle.std.specs.List.{AllZip}
-use Rattle.bk_num.specs.declared.values.Pseudo.{Pseudo}
 use Rattle.boxes.specs.declared.flow.Flow.{Flow}
 use Rattle.boxes.specs.declared.page.Page.{Page}
-use Rattle.box_gen.specs.Flow.{flow_of}
 use Rattle.cascade.specs.Sheets.{sheet_of}
 use Rattle.cascade.specs.declared.sheet.ReadSheet.{ReadSheet}
 use Rattle.computed.specs.Document.{AreDocumentStyles}
 use Rattle.computed.specs.Laws.{StylesAreOne}
-use Rattle.counters.specs.Document.{values_of}
+use Rattle.css_page.specs.declared.rules.PageRule.{PageRule}
 use Rattle.css_rules.specs.Sheet.{HaveOneReading}
 use Rattle.css_tok.specs.Tokens.{tokens_of}
 use Rattle.dom.specs.Nodes.{IsTree}
-use Rattle.fragment.specs.Pages.{PageFrames, IsPaged, HasOnePageList}
-use Rattle.gen_text.specs.Generated.{AreGenerated, AreOne, GeneratedIsOne, generated_text, assigned_strings, source_of as texts_from}
-use Rattle.gen_text.specs.declared.generated.NodeTexts.{NodeTexts}
-use Rattle.sheets.specs.Sheets.{element_sheets}
+use Rattle.gen_text.specs.References.{AreTargets, TargetsAreOne}
+use Rattle.gen_text.specs.declared.table.Entry.{Entry}
+use Rattle.passes.specs.Passes.{End, EndsIn, HaveOneEnd, settled, unsettled, long, many}
+use Rattle.passes.specs.Work.{Work}
 use Rattle.style.specs.Nodes.{NodeStyles}
-use Rattle.unbuilt.specs.Laws.{PageRulesAreOne}
-use Rattle.unbuilt.specs.Sources.{Source as SheetSource, authors_of, sources_of, IsReadFrom}
+use Rattle.run_sheets.specs.Laws.{PageRulesAreOne}
+use Rattle.run_sheets.specs.Sources.{Source as SheetSource, authors_of, sources_of, IsReadFrom}
+use Rattle.book.specs.Answer.{output_of, print_of}
 use Rattle.book.specs.Document.{Document}
-use Rattle.book.specs.Flow.{IsFlowOf, source_for}
-use Rattle.book.specs.Answer.{page_frames, print_of}
-use Rattle.book_print.specs.Printed.{Print, listing_of}
+use Rattle.book.specs.Flow.{AreStylesBy, IsWorkOf, texts_of, work_by}
+use Rattle.book_print.specs.Printed.{Print}
 use Rattle.book.specs.Laws.{HasOneBook}
 
 -- what two lists are paired with is one list, where each is paired with one
@@ -42,37 +40,67 @@ one_sheet one source s t h g =
     let same = readings.1 h.rules g.rules h.pages g.pages h.is_sheet g.is_sheet in
     h.is ∙ ap (sheet_of source.origin) same.0 ∙ sym g.is
 
--- equal texts and strings make one source
-one_source : (d : Document) (rows : List NodeStyles) (a b : List NodeTexts) → ((n : ℕ) (p : Pseudo) → generated_text a n p ≡ generated_text b n p) → ((n : ℕ) → assigned_strings a n ≡ assigned_strings b n) → source_for d rows a ≡ source_for d rows b
-one_source d rows a b texts strings = λ i. record {
-  nodes = d.nodes;
-  styles = rows;
-  items = (source_for d rows a).items;
-  face = (source_for d rows a).face;
-  generated = λ n p. texts n p i;
-  assigned = λ n. strings n i;
-}
+-- what passes settle with, where they do
+abbrev passes_of : End → ℕ
+passes_of (settled passes flow pages table) = passes
+passes_of (unsettled target before after) = 0
+passes_of long = 0
+passes_of many = 0
 
-module _ (reading : HaveOneReading) (styles : StylesAreOne) (texts : GeneratedIsOne) (one_list : PageRulesAreOne) (pages : HasOnePageList) where
-  one_flow : (d : Document) (names others : List (List ℕ)) (flow other : Flow) → IsTree d.nodes → IsFlowOf d names flow → IsFlowOf d others other → (names ≡ others) × (flow ≡ other)
-  one_flow d names others flow other tree x y =
-      let sheets : x.sheets ≡ y.sheets = pairs_one IsReadFrom (one_sheet reading) (sources_of (element_sheets d.nodes) d.sheet) x.sheets y.sheets x.read y.read in
-      let same = styles d.nodes y.sheets names others x.rows y.rows tree (subst (λ (ss : List ReadSheet). AreDocumentStyles names d.nodes ss x.rows) sheets x.styles) y.styles in
+abbrev flow_or : Flow → End → Flow
+flow_or other (settled passes flow pages table) = flow
+flow_or other (unsettled target before after) = other
+flow_or other long = other
+flow_or other many = other
+
+abbrev pages_of : End → List Page
+pages_of (settled passes flow pages table) = pages
+pages_of (unsettled target before after) = []
+pages_of long = []
+pages_of many = []
+
+abbrev table_of : End → List Entry
+table_of (settled passes flow pages table) = table
+table_of (unsettled target before after) = []
+table_of long = []
+table_of many = []
+
+module _ (reading : HaveOneReading) (styles : StylesAreOne) (one_targets : TargetsAreOne) (one_list : PageRulesAreOne) (one_end : HaveOneEnd) where
+  one_styles : (d : Document) (names others : List (List ℕ)) (rows more : List NodeStyles) → IsTree d.nodes → AreStylesBy d names rows → AreStylesBy d others more → (names ≡ others) × (rows ≡ more)
+  one_styles d names others rows more tree x y =
+      let sheets : x.sheets ≡ y.sheets = pairs_one IsReadFrom (one_sheet reading) (sources_of (texts_of d)) x.sheets y.sheets x.read y.read in
+      styles d.nodes y.sheets names others rows more tree (subst (λ (ss : List ReadSheet). AreDocumentStyles names d.nodes ss rows) sheets x.styles) y.styles
+
+  one_rules : (d : Document) (rules others : List PageRule) (names more : List (List ℕ)) (v w : Work) → IsWorkOf d rules names v → IsWorkOf d others more w → rules ≡ others
+  one_rules d rules others names more v w x y = one_list (authors_of (texts_of d)) rules others x.by y.by
+
+  one_names : (d : Document) (rules others : List PageRule) (names more : List (List ℕ)) (v w : Work) → IsTree d.nodes → IsWorkOf d rules names v → IsWorkOf d others more w → names ≡ more
+  one_names d rules others names more v w tree x y = (one_styles d names more x.rows y.rows tree x.styles y.styles).0
+
+  one_work : (d : Document) (rules others : List PageRule) (names more : List (List ℕ)) (v w : Work) → IsTree d.nodes → IsWorkOf d rules names v → IsWorkOf d others more w → v ≡ w
+  one_work d rules others names more v w tree x y =
+      let list = one_rules d rules others names more v w x y in
+      let same = one_styles d names more x.rows y.rows tree x.styles y.styles in
       let rows : x.rows ≡ y.rows = same.1 in
-      let generated : AreGenerated (texts_from d.nodes y.rows (values_of d.nodes y.rows) []) x.by.texts = subst (λ (rs : List NodeStyles). AreGenerated (texts_from d.nodes rs (values_of d.nodes rs) []) x.by.texts) rows x.by.generated in
-      let one : (n : ℕ) → AreOne (texts_from d.nodes y.rows (values_of d.nodes y.rows) []) x.by.texts y.by.texts n = λ n. texts (texts_from d.nodes y.rows (values_of d.nodes y.rows) []) x.by.texts y.by.texts n tree generated y.by.generated in
-      let source : source_for d x.rows x.by.texts ≡ source_for d y.rows y.by.texts = ap (λ (rs : List NodeStyles). source_for d rs x.by.texts) rows ∙ one_source d y.rows x.by.texts y.by.texts (λ n p. (one n).texts p) (λ n. (one n).strings) in
-      (same.0, x.by.is ∙ ap flow_of source ∙ sym y.by.is)
+      let targets : x.targets ≡ y.targets = one_targets d.nodes y.rows x.targets y.targets (subst (λ (rs : List NodeStyles). AreTargets d.nodes rs x.targets) rows x.are) y.are in
+      let work : work_by d rules names x.rows x.targets ≡ work_by d others more y.rows y.targets = λ i. work_by d (list i) (same.0 i) (rows i) (targets i) in
+      x.is ∙ work ∙ sym y.is
 
   pub one_book : HasOneBook
   one_book d b c tree x y =
-      let same = one_flow d x.names y.names x.flow y.flow tree x.of y.of in
-      let flow : x.flow ≡ y.flow = same.1 in
-      let rules : x.rules ≡ y.rules = one_list (authors_of (element_sheets d.nodes) d.sheet) x.rules y.rules x.by y.by in
-      let frames : page_frames x.rules x.names ≡ page_frames y.rules y.names = λ i. page_frames (rules i) (same.0 i) in
-      let paged : IsPaged d.faces y.flow.main (page_frames y.rules y.names) x.pages = subst (λ (fs : PageFrames). IsPaged d.faces y.flow.main fs x.pages) frames (subst (λ (f : Flow). IsPaged d.faces f.main (page_frames x.rules x.names) x.pages) flow x.paged) in
-      let list : x.pages ≡ y.pages = pages d.faces y.flow.main (page_frames y.rules y.names) x.pages y.pages paged y.paged in
-      let print : print_of d.faces x.rules x.names x.flow ≡ print_of d.faces y.rules y.names y.flow = λ i. print_of d.faces (rules i) (same.0 i) (flow i) in
+      let rules = one_rules d x.rules y.rules x.names y.names x.work y.work x.of y.of in
+      let names = one_names d x.rules y.rules x.names y.names x.work y.work tree x.of y.of in
+      let work = one_work d x.rules y.rules x.names y.names x.work y.work tree x.of y.of in
+      let nodes : IsTree y.work.nodes = subst (λ (w : Work). IsTree w.nodes) (sym y.of.is) tree in
+      let ends : EndsIn y.work d.passes (settled b.passes x.flow x.pages x.table) = subst (λ (w : Work). EndsIn w d.passes (settled b.passes x.flow x.pages x.table)) work x.settles in
+      let end : settled b.passes x.flow x.pages x.table ≡ settled c.passes y.flow y.pages y.table = one_end y.work d.passes (settled b.passes x.flow x.pages x.table) (settled c.passes y.flow y.pages y.table) nodes ends y.settles in
+      let passes : b.passes ≡ c.passes = ap passes_of end in
+      let flow : x.flow ≡ y.flow = ap (flow_or x.flow) end in
+      let list : x.pages ≡ y.pages = ap pages_of end in
+      let table : x.table ≡ y.table = ap table_of end in
+      let print : ◌≡◌ {A = Print} (print_of d.faces x.rules x.names b.passes x.flow) (print_of d.faces y.rules y.names c.passes y.flow) = λ i. print_of d.faces (rules i) (names i) (passes i) (flow i) in
       let count : b.pages ≡ c.pages = x.count ∙ ap (λ (ps : List Page). length ps) list ∙ sym y.count in
-      let bytes : b.bytes ≡ c.bytes = x.listed ∙ ap (λ (p : Print). listing_of p x.pages) print ∙ ap (listing_of (print_of d.faces y.rules y.names y.flow)) list ∙ sym y.listed in
-      λ i. record { pages = count i; bytes = bytes i }
+      let put : output_of d.output (print_of d.faces x.rules x.names b.passes x.flow) x.pages x.table ≡ output_of d.output (print_of d.faces y.rules y.names c.passes y.flow) y.pages y.table =
+      λ i. output_of d.output (print i) (list i) (table i) in
+      let bytes : b.bytes ≡ c.bytes = x.put ∙ put ∙ sym y.put in
+      λ i. record { pages = count i; passes = passes i; bytes = bytes i }

@@ -1,6 +1,10 @@
 -- How a run stops at a file, and goes on after one.
-use Rattle.std.proofs.Common.{◌≡◌, ◌≢◌, ap, ◌⊎◌, ℕ, ◌≤◌, List, length, nat_lt, true, false, cond, inl, inr, refl, sym, arith, subst, Option, Some, None, Result, Ok, Err, Bool}
+use Rattle.std.proofs.Common.{◌≡◌, ◌≢◌, ap, ◌⊎◌, ℕ, suc, ◌+◌, ◌<◌, ◌≤◌, List, [], ◌∷◌, ◌++◌, append_assoc, drop, get_or, length, map, nat_lt, option_map, slice_get, true, false, cond, inl, inr, refl, sym, ◌∙◌, arith, subst, Option, None, Some, Result, Ok, Err, Bool}
+use Rattle.std.proofs.Math.Seq.{drop-cons}
+use Rattle.std.proofs.lemmas.List.{append-nil, drop_all}
+use Rattle.std.proofs.lemmas.Option.{slice_get-map, slice_get_read}
 use Rattle.std.specs.List.{list_any}
+use Rattle.std.specs.Io.KnownBytes.{Keeps}
 use Rattle.std.specs.Str.{is_utf8}
 use Rattle.bk_num.specs.Limits.{most_file_bytes, most_sheets}
 use Rattle.bk_io.proofs.Reading.{Rose-since}
@@ -13,15 +17,14 @@ use Rattle.dom.specs.Nodes.{Node}
 use Rattle.dom.specs.declared.dom.DomErr.{DomErr}
 use Rattle.dom.specs.declared.dom.DomErr.TheVariants as dom_err
 use Rattle.html_tree.specs.Tree.{tree_of}
-use Rattle.sheets.specs.Sheets.{sheets_of}
-use Rattle.unbuilt.specs.Readings.{SheetOf, unbuilt_place}
-use Rattle.unbuilt.specs.Sources.{has_many_rules}
-use Rattle.unbuilt.specs.Nodes.{unbuilt_node}
-use Rattle.book.specs.Request.{Names, name_of, asked}
-use Rattle.book.specs.Document.{Texts, Document, document_of, faces_expected, nodes_expected, sheets_expected, form_by}
-use Rattle.book.specs.Run.{text_of, StopsAt, Stops, Ends, Halts, HaltsAt, ComesBefore, IsReadBefore, IsUnforeseen, file_stage, texts_expected, HasReadCause, HasCauseAt, HasWordsCause, IsBookFor, IsOfTexts, IsNoPut}
-use Rattle.book.specs.Answer.{Book}
-use Rattle.book.specs.declared.outcome.WordsFault.{WordsFault}
+use Rattle.sheets.specs.Sheets.{author_texts, element_sheets}
+use Rattle.run_sheets.specs.Readings.{SheetOf}
+use Rattle.run_sheets.specs.Sources.{has_many_rules}
+use Rattle.book.specs.Request.{Task, files, chapters, name_of}
+use Rattle.words.specs.Asked.{FormatWords}
+use Rattle.book.specs.Document.{Texts, Document, document_of, faces_expected, nodes_expected, sheets_expected}
+use Rattle.book.specs.Run.{text_of, StopsAt, Stops, Ends, ComesBefore, IsReadBefore, IsUnforeseen, Meets, PutsOnlyABook, Writes, document_for, file_stage, sheets_from, texts_for, texts_named, HasFileCause, HasReadCause, HasCauseAt, HasSheetCause, HasTaskCause, HasWordsCause, IsOfBook, IsOfFiles, IsOfTexts, IsOfWords}
+use Rattle.book.specs.declared.document.Output.TheVariants as output
 use Rattle.book.specs.declared.outcome.FileOf.{FileOf}
 use Rattle.book.specs.declared.outcome.FileOf.TheVariants as file
 use Rattle.book.specs.declared.outcome.Outcome.{Outcome}
@@ -69,21 +72,19 @@ later_nodes f (Err dom_err.Nodes) = tt
 later_nodes f (Err dom_err.Depth) = tt
 later_nodes f (Err dom_err.NoMemory) = tt
 
-later_sheets : (f : FileOf) (reading : List ℕ → SheetOf) (nodes : List Node) (sheet : List ℕ) → Later f (sheets_expected reading nodes sheet)
-later_sheets f reading nodes sheet = later_cond f (nat_lt most_sheets (length (sheets_of nodes sheet))) _ _ tt
-    (later_cond f (list_any (has_many_rules reading) (sheets_of nodes sheet)) _ _ tt tt)
-
-later_form : (f : FileOf) (node place : Option ℕ) → Later f (form_by node place)
-later_form f (Some n) place = tt
-later_form f None (Some k) = tt
-later_form f None None = tt
+later_sheets : (f : FileOf) (reading : List ℕ → SheetOf) (texts : List (List ℕ)) → Later f (sheets_expected reading texts)
+later_sheets f reading texts = later_cond f (nat_lt most_sheets (length texts)) _ _ tt (later_cond f (list_any (has_many_rules reading) texts) _ _ tt tt)
 
 later_book : (reading : List ℕ → SheetOf) (f : FileOf) (t : Texts) → Later f (document_of reading t)
 later_book reading f t =
     later_bind f _ _ (later_faces f (faces_of t.metrics)) (λ faces.
     later_bind f _ _ (later_nodes f (tree_of t.html)) (λ nodes.
-    later_bind f _ _ (later_sheets f reading nodes t.sheet) (λ few.
-    later_bind f _ _ (later_form f (unbuilt_node reading nodes) (unbuilt_place (reading t.sheet))) (λ built. tt))))
+    later_bind f _ _ (later_sheets f reading (author_texts (element_sheets nodes) t.sheets)) (λ few. tt)))
+
+later_names : (f : FileOf) (told : List ℕ → Told) (k : ℕ) (names : List (List ℕ)) → file_stage f ≤ 2 + k → Later f (sheets_from k told names)
+later_names f told k [] h = tt
+later_names f told k (name ∷ names) h = later_bind f _ _ (later_text f (file.Sheet k) (told name) h) (λ text.
+    later_bind f _ _ (later_names f told (suc k) names (omega arith)) (λ texts. tt))
 
 unforeseen_before : (f : FileOf) (p o : Outcome) → IsReadBefore f p → (o ≡ out.ReadFault f) ⊎ (o ≡ out.NoMemory) → ComesBefore o p
 unforeseen_before f p o l u = elim u [ inl e ↦ rw e l | inr e ↦ rw e tt ]
@@ -98,32 +99,206 @@ stops_at f free o k l h s = tt
 stops_at f (refused p) o k l h s = elim s [ inl e ↦ inl e | inr u ↦ inr (unforeseen_before f p o l u) ]
 stops_at f (given x) o k l h s = elim s [ inl e ↦ absurd e | inr u ↦ stops_unforeseen f (k x) o (h x) u ]
 
-module _ (ws : List (List ℕ)) (told : List ℕ → Told) (names : Names) (o : Outcome) (given_names : IsGiven (asked ws) names) where
-  pub stops_at_metrics : StopsAt file.Metrics (text_of file.Metrics (told names.metrics)) o → Stops (texts_expected ws told) o
-  stops_at_metrics s = after_given (asked ws) names _ (λ e. Stops e o) tt given_names (
-      stops_at file.Metrics _ o _ (later_text file.Metrics file.Metrics (told names.metrics) (omega arith)) (λ m.
+-- what stops a step that others follow stops the whole
+stops_in : {A B : Type 0} (e : Expect A) (k : A → Expect B) (o : Outcome) → ((x : A) → IsUnforeseen o → Stops (k x) o) → Stops e o → Stops (e >>= k) o
+stops_in free k o h s = tt
+stops_in (refused p) k o h s = s
+stops_in (given x) k o h s = h x s
+
+module _ (told : List ℕ → Told) (names : FormatWords) (o : Outcome) where
+  pub stops_at_metrics : StopsAt file.Metrics (text_of file.Metrics (told names.metrics)) o → Stops (texts_named names told) o
+  stops_at_metrics s = stops_at file.Metrics _ o _ (later_text file.Metrics file.Metrics (told names.metrics) (omega arith)) (λ m.
       later_bind file.Metrics _ _ (later_text file.Metrics file.Html (told names.html) (omega arith)) (λ h.
-      later_bind file.Metrics _ _ (later_text file.Metrics (file.Sheet 1) (told names.sheet) (omega arith)) (λ s. tt))) s)
+      later_bind file.Metrics _ _ (later_names file.Metrics told 1 names.sheets (omega arith)) (λ s. tt))) s
 
-  pub stops_at_html : (m : List ℕ) → IsGiven (text_of file.Metrics (told names.metrics)) m → StopsAt file.Html (text_of file.Html (told names.html)) o → Stops (texts_expected ws told) o
-  stops_at_html m given_m s = after_given (asked ws) names _ (λ e. Stops e o) tt given_names (
-      after_given (text_of file.Metrics (told names.metrics)) m _ (λ e. Stops e o) tt given_m (
+  pub stops_at_html : (m : List ℕ) → IsGiven (text_of file.Metrics (told names.metrics)) m → StopsAt file.Html (text_of file.Html (told names.html)) o → Stops (texts_named names told) o
+  stops_at_html m given_m s = after_given (text_of file.Metrics (told names.metrics)) m _ (λ e. Stops e o) tt given_m (
       stops_at file.Html _ o _ (later_text file.Html file.Html (told names.html) (omega arith)) (λ h.
-      later_bind file.Html _ _ (later_text file.Html (file.Sheet 1) (told names.sheet) (omega arith)) (λ s. tt)) s))
+      later_bind file.Html _ _ (later_names file.Html told 1 names.sheets (omega arith)) (λ s. tt)) s)
 
-  pub stops_at_sheet : (m h : List ℕ) → IsGiven (text_of file.Metrics (told names.metrics)) m → IsGiven (text_of file.Html (told names.html)) h → StopsAt (file.Sheet 1) (text_of (file.Sheet 1) (told names.sheet)) o → Stops (texts_expected ws told) o
-  stops_at_sheet m h given_m given_h s = after_given (asked ws) names _ (λ e. Stops e o) tt given_names (
-      after_given (text_of file.Metrics (told names.metrics)) m _ (λ e. Stops e o) tt given_m (
+  pub stops_at_sheets : (m h : List ℕ) → IsGiven (text_of file.Metrics (told names.metrics)) m → IsGiven (text_of file.Html (told names.html)) h → Stops (sheets_from 1 told names.sheets) o → Stops (texts_named names told) o
+  stops_at_sheets m h given_m given_h s = after_given (text_of file.Metrics (told names.metrics)) m _ (λ e. Stops e o) tt given_m (
       after_given (text_of file.Html (told names.html)) h _ (λ e. Stops e o) tt given_h (
-      stops_at (file.Sheet 1) _ o _ (later_text (file.Sheet 1) (file.Sheet 1) (told names.sheet) (omega arith)) (λ s. tt) s)))
+      stops_in (sheets_from 1 told names.sheets) _ o (λ x u. u) s))
 
--- a read fault in the last of some reads has its cause in all of them
-pub has_cause : (e : Expect Names) (names : Names) (f : FileOf) (name : List ℕ) (told : List ℕ → Told) (before mid now : ℕ) (last : Option (List ℕ)) (o : Outcome) → name_of names f ≡ Some name → IsGiven e names → before ≤ mid → HasCauseAt f (told name) name mid now last o → HasReadCause e told before now last o
-has_cause free names f name told before mid now last o m g l h = tt
-has_cause (refused p) names f name told before mid now last o m g l h = absurd g
-has_cause (given n) names f name told before mid now last (out.ReadFault k) m g l h =
-    rw (h.0, ← g, m) (elim h.1 [ inl a ↦ inl a | inr r ↦ inr (Rose-since before mid now l r.0, r.1) ])
-has_cause (given n) names f name told before mid now last o m g l h = tt
+pub texts_given : (told : List ℕ → Told) (names : FormatWords) (m h : List ℕ) (ss : List (List ℕ)) → IsGiven (text_of file.Metrics (told names.metrics)) m → IsGiven (text_of file.Html (told names.html)) h → IsGiven (sheets_from 1 told names.sheets) ss → IsGiven (texts_named names told) (record { passes = names.passes; output = output.Listing; metrics = m; html = h; sheets = ss })
+texts_given told names m h ss given_m given_h given_s =
+    after_given (text_of file.Metrics (told names.metrics)) m _ (λ e. IsGiven e (record { passes = names.passes; output = output.Listing; metrics = m; html = h; sheets = ss })) tt given_m (
+    after_given (text_of file.Html (told names.html)) h _ (λ e. IsGiven e (record { passes = names.passes; output = output.Listing; metrics = m; html = h; sheets = ss })) tt given_h (
+    after_given (sheets_from 1 told names.sheets) ss _ (λ e. IsGiven e (record { passes = names.passes; output = output.Listing; metrics = m; html = h; sheets = ss })) tt given_s refl))
+
+-- ---- one sheet after another
+
+-- what is expected of all sheets comes of these texts and of what is expected of the rest
+abbrev pub Leads : Expect (List (List ℕ)) → List (List ℕ) → Expect (List (List ℕ)) → Type 0
+Leads whole texts rest = (whole ≡ free) ⊎ (whole ≡ (rest >>= λ more. given (texts ++ more)))
+
+pub leads_first : (whole : Expect (List (List ℕ))) → Leads whole [] whole
+leads_first free = inl refl
+leads_first (refused p) = inr refl
+leads_first (given x) = inr refl
+
+leads_given : (whole : Expect (List (List ℕ))) (texts : List (List ℕ)) (text : List ℕ) (rest : Expect (List (List ℕ))) → whole ≡ ((rest >>= λ more. given (text ∷ more)) >>= λ more. given (texts ++ more)) → Leads whole (texts ++ text ∷ []) rest
+leads_given whole texts text free h = inl h
+leads_given whole texts text (refused p) h = inr h
+leads_given whole texts text (given more) h = inr (h ∙ ap given (sym (append_assoc texts (text ∷ []) more)))
+
+leads_by : (whole : Expect (List (List ℕ))) (texts : List (List ℕ)) (text : List ℕ) (e : Expect (List ℕ)) (rest : Expect (List (List ℕ))) → IsGiven e text → Leads whole texts (e >>= λ t. rest >>= λ more. given (t ∷ more)) → Leads whole (texts ++ text ∷ []) rest
+leads_by whole texts text free rest g (inl h) = inl h
+leads_by whole texts text free rest g (inr h) = inl h
+leads_by whole texts text (refused p) rest g h = absurd g
+leads_by whole texts text (given t) rest g (inl h) = inl h
+leads_by whole texts text (given t) rest g (inr h) = leads_given whole texts text rest (h ∙ ap (λ (z : List ℕ). (rest >>= λ more. given (z ∷ more)) >>= λ more. given (texts ++ more)) (sym g))
+
+leads_halt : (whole : Expect (List (List ℕ))) (texts : List (List ℕ)) (rest : Expect (List (List ℕ))) (o : Outcome) → Leads whole texts rest → Stops rest o → Stops whole o
+leads_halt whole texts rest o (inl h) s = subst (λ (e : Expect (List (List ℕ))). Stops e o) (sym h) tt
+leads_halt whole texts rest o (inr h) s = subst (λ (e : Expect (List (List ℕ))). Stops e o) (sym h) (stops_in rest _ o (λ x u. u) s)
+
+memory_stops : {A : Type 0} (e : Expect A) → Stops e out.NoMemory
+memory_stops free = tt
+memory_stops (refused p) = inr tt
+memory_stops (given x) = tt
+
+pub leads_memory : (whole : Expect (List (List ℕ))) → Stops whole out.NoMemory
+leads_memory whole = memory_stops whole
+
+module _ {A : Type 0} (told : List ℕ → Told) (name : A → List ℕ) (xs : List A) (i : ℕ) (x : A) (less : i < length xs) (is : x ≡ get_or xs i x) where
+  names_next : map name (drop i xs) ≡ name x ∷ map name (drop (i + 1) xs)
+  names_next =
+      let next : suc i ≡ i + 1 = omega arith in
+      ap (map name) (drop-cons xs i x less ∙ ap (λ (y : A). y ∷ drop (suc i) xs) (sym is) ∙ ap (λ (j : ℕ). x ∷ drop j xs) next)
+
+  pub name_is : slice_get (map name xs) i ≡ Some (name x)
+  name_is = slice_get-map name xs i ∙ ap (option_map name) (slice_get_read xs (length xs) i x refl less is)
+
+  rest_is : (k : ℕ) → sheets_from k told (map name (drop i xs)) ≡ (text_of (file.Sheet k) (told (name x)) >>= λ text. sheets_from (suc k) told (map name (drop (i + 1) xs)) >>= λ texts. given (text ∷ texts))
+  rest_is k = ap (sheets_from k told) names_next
+
+  pub leads_next : (whole : Expect (List (List ℕ))) (texts : List (List ℕ)) (k : ℕ) (text : List ℕ) → IsGiven (text_of (file.Sheet k) (told (name x))) text → Leads whole texts (sheets_from k told (map name (drop i xs))) → Leads whole (texts ++ text ∷ []) (sheets_from (suc k) told (map name (drop (i + 1) xs)))
+  leads_next whole texts k text g h = leads_by whole texts text (text_of (file.Sheet k) (told (name x))) (sheets_from (suc k) told (map name (drop (i + 1) xs))) g (subst (Leads whole texts) (rest_is k) h)
+
+  pub leads_stop : (whole : Expect (List (List ℕ))) (texts : List (List ℕ)) (k : ℕ) (o : Outcome) → StopsAt (file.Sheet k) (text_of (file.Sheet k) (told (name x))) o → Leads whole texts (sheets_from k told (map name (drop i xs))) → Stops whole o
+  leads_stop whole texts k o s h = leads_halt whole texts (sheets_from k told (map name (drop i xs))) o h (subst (λ (e : Expect (List (List ℕ))). Stops e o) (sym (rest_is k))
+      (stops_at (file.Sheet k) _ o _ (later_text (file.Sheet k) (file.Sheet k) (told (name x)) (omega arith)) (λ text.
+      later_bind (file.Sheet k) _ _ (later_names (file.Sheet k) told (suc k) (map name (drop (i + 1) xs)) (omega arith)) (λ texts. tt)) s))
+
+pub leads_end : {A : Type 0} (told : List ℕ → Told) (name : A → List ℕ) (xs : List A) (i k : ℕ) (whole : Expect (List (List ℕ))) (texts : List (List ℕ)) → length xs ≤ i → Leads whole texts (sheets_from k told (map name (drop i xs))) → IsGiven whole texts
+leads_end told name xs i k whole texts h (inl e) = subst (λ (w : Expect (List (List ℕ))). IsGiven w texts) (sym e) tt
+leads_end {A} told name xs i k whole texts h (inr e) =
+    let none : drop i xs ≡ [] = drop_all i xs h in
+    subst (λ (w : Expect (List (List ℕ))). IsGiven w texts) (sym (e ∙ ap (λ (ys : List A). sheets_from k told (map name ys) >>= λ more. given (texts ++ more)) none)) (sym (append-nil texts))
+
+-- ---- causes
+
+-- a cause of later calls is one of all
+pub cause_since : (f : FileOf) (told : Told) (name : List ℕ) (before mid now : ℕ) (last : Option (List ℕ)) (o : Outcome) → before ≤ mid → HasCauseAt f told name mid now last o → HasCauseAt f told name before now last o
+cause_since f told name before mid now last (out.ReadFault g) l h = (h.0, elim h.1 [ inl a ↦ inl a | inr r ↦ inr (Rose-since before mid now l r.0, r.1) ])
+cause_since f told name before mid now last (out.NotRead k) l h = h
+cause_since f told name before mid now last (out.Done pages passes) l h = h
+cause_since f told name before mid now last out.WriteFault l h = h
+cause_since f told name before mid now last (out.TooLarge k) l h = tt
+cause_since f told name before mid now last (out.NotUtf8 k at) l h = tt
+cause_since f told name before mid now last (out.BadMetrics line why) l h = tt
+cause_since f told name before mid now last (out.NotSettled target one other) l h = tt
+cause_since f told name before mid now last (out.Limit what) l h = tt
+cause_since f told name before mid now last out.NoMemory l h = tt
+
+-- a cause at a file that is named is one of the files
+pub file_cause : (names : FormatWords) (f : FileOf) (name : List ℕ) (told : List ℕ → Told) (before mid now : ℕ) (last : Option (List ℕ)) (o : Outcome) → name_of names f ≡ Some name → before ≤ mid → HasCauseAt f (told name) name mid now last o → IsOfFiles names told before now last o
+file_cause names f name told before mid now last (out.ReadFault k) m l h =
+    rw (h.0, m) (elim h.1 [ inl a ↦ inl a | inr r ↦ inr (Rose-since before mid now l r.0, r.1) ])
+file_cause names f name told before mid now last (out.NotRead k) m l h = absurd h
+file_cause names f name told before mid now last (out.Done pages passes) m l h = absurd h
+file_cause names f name told before mid now last out.WriteFault m l h = absurd h
+file_cause names f name told before mid now last (out.TooLarge k) m l h = tt
+file_cause names f name told before mid now last (out.NotUtf8 k at) m l h = tt
+file_cause names f name told before mid now last (out.BadMetrics line why) m l h = tt
+file_cause names f name told before mid now last (out.NotSettled target one other) m l h = tt
+file_cause names f name told before mid now last (out.Limit what) m l h = tt
+file_cause names f name told before mid now last out.NoMemory m l h = tt
+
+pub sheet_cause : (names : FormatWords) (told : List ℕ → Told) (before mid now : ℕ) (last : Option (List ℕ)) (o : Outcome) → before ≤ mid → HasSheetCause names.sheets told mid now last o → IsOfFiles names told before now last o
+sheet_cause names told before mid now last o l h = file_cause names (file.Sheet (suc h.place)) h.name told before mid now last o h.is l h.cause
+
+-- what stops the reads of files, or comes after them, has a cause
+pub reading_cause : (names : FormatWords) (told : List ℕ → Told) (before now : ℕ) (last : Option (List ℕ)) (o : Outcome) → IsOfFiles names told before now last o → HasFileCause names told before now last o
+reading_cause names told before now last (out.ReadFault k) h = h
+reading_cause names told before now last (out.NotRead k) h = absurd h
+reading_cause names told before now last (out.Done pages passes) h = absurd h
+reading_cause names told before now last out.WriteFault h = absurd h
+reading_cause names told before now last (out.TooLarge k) h = tt
+reading_cause names told before now last (out.NotUtf8 k at) h = tt
+reading_cause names told before now last (out.BadMetrics line why) h = tt
+reading_cause names told before now last (out.NotSettled target one other) h = tt
+reading_cause names told before now last (out.Limit what) h = tt
+reading_cause names told before now last out.NoMemory h = tt
+
+pub book_cause : (names : FormatWords) (told : List ℕ → Told) (before now : ℕ) (last : Option (List ℕ)) (o : Outcome) → IsOfBook o → HasFileCause names told before now last o
+book_cause names told before now last (out.ReadFault k) h = absurd h
+book_cause names told before now last (out.NotRead k) h = absurd h
+book_cause names told before now last (out.Done pages passes) h = tt
+book_cause names told before now last out.WriteFault h = tt
+book_cause names told before now last (out.TooLarge k) h = tt
+book_cause names told before now last (out.NotUtf8 k at) h = tt
+book_cause names told before now last (out.BadMetrics line why) h = tt
+book_cause names told before now last (out.NotSettled target one other) h = tt
+book_cause names told before now last (out.Limit what) h = tt
+book_cause names told before now last out.NoMemory h = tt
+
+pub of_book : (o : Outcome) → IsOfTexts o → IsOfBook o
+of_book (out.ReadFault k) h = absurd h
+of_book (out.NotRead k) h = absurd h
+of_book (out.Done pages passes) h = tt
+of_book out.WriteFault h = tt
+of_book (out.TooLarge k) h = tt
+of_book (out.NotUtf8 k at) h = tt
+of_book (out.BadMetrics line why) h = tt
+of_book (out.NotSettled target one other) h = tt
+of_book (out.Limit what) h = tt
+of_book out.NoMemory h = tt
+
+-- nothing was put
+pub keeps_same : (a : Option (List ℕ)) → Keeps a a
+keeps_same None = tt
+keeps_same (Some a) = refl
+
+pub puts_nothing : (a : Option (List ℕ)) (o : Outcome) → PutsOnlyABook a a o
+puts_nothing a (out.ReadFault k) = keeps_same a
+puts_nothing a (out.NotRead k) = keeps_same a
+puts_nothing a (out.Done pages passes) = tt
+puts_nothing a out.WriteFault = tt
+puts_nothing a (out.TooLarge k) = keeps_same a
+puts_nothing a (out.NotUtf8 k at) = keeps_same a
+puts_nothing a (out.BadMetrics line why) = keeps_same a
+puts_nothing a (out.NotSettled target one other) = keeps_same a
+puts_nothing a (out.Limit what) = keeps_same a
+puts_nothing a out.NoMemory = keeps_same a
+
+-- what stops a task that the words ask for
+task_cause_of : (task : Task) (told : List ℕ → Told) (before now : ℕ) (last : Option (List ℕ)) (o : Outcome) → HasTaskCause task told before now last o → HasReadCause (given task) told before now last o × HasWordsCause (given task) o
+task_cause_of (files names) told before now last (out.ReadFault k) h = (h, tt)
+task_cause_of (files names) told before now last (out.NotRead k) h = absurd h
+task_cause_of (files names) told before now last (out.Done pages passes) h = (tt, tt)
+task_cause_of (files names) told before now last out.WriteFault h = (tt, tt)
+task_cause_of (files names) told before now last (out.TooLarge k) h = (tt, tt)
+task_cause_of (files names) told before now last (out.NotUtf8 k at) h = (tt, tt)
+task_cause_of (files names) told before now last (out.BadMetrics line why) h = (tt, tt)
+task_cause_of (files names) told before now last (out.NotSettled target one other) h = (tt, tt)
+task_cause_of (files names) told before now last (out.Limit what) h = (tt, tt)
+task_cause_of (files names) told before now last out.NoMemory h = (tt, tt)
+task_cause_of (chapters count) told before now last (out.ReadFault k) h = absurd h
+task_cause_of (chapters count) told before now last (out.NotRead k) h = absurd h
+task_cause_of (chapters count) told before now last (out.Done pages passes) h = (tt, tt)
+task_cause_of (chapters count) told before now last out.WriteFault h = (tt, tt)
+task_cause_of (chapters count) told before now last (out.TooLarge k) h = (tt, tt)
+task_cause_of (chapters count) told before now last (out.NotUtf8 k at) h = (tt, tt)
+task_cause_of (chapters count) told before now last (out.BadMetrics line why) h = (tt, tt)
+task_cause_of (chapters count) told before now last (out.NotSettled target one other) h = (tt, tt)
+task_cause_of (chapters count) told before now last (out.Limit what) h = (tt, tt)
+task_cause_of (chapters count) told before now last out.NoMemory h = (tt, tt)
+
+pub task_cause : (e : Expect Task) (task : Task) (told : List ℕ → Told) (before now : ℕ) (last : Option (List ℕ)) (o : Outcome) → e ≡ given task → HasTaskCause task told before now last o → HasReadCause e told before now last o × HasWordsCause e o
+task_cause e task told before now last o is h = subst (λ (x : Expect Task). HasReadCause x told before now last o × HasWordsCause x o) (sym is) (task_cause_of task told before now last o h)
 
 -- what no input explains ends a run over any document
 ends_unforeseen : (d : Document) (o : Outcome) → IsUnforeseen o → Ends d o
@@ -134,9 +309,31 @@ ends_unforeseen d (out.NotRead k) u = absurd u
 ends_unforeseen d (out.TooLarge f) u = absurd u
 ends_unforeseen d (out.NotUtf8 f at) u = absurd u
 ends_unforeseen d (out.BadMetrics line why) u = absurd u
-ends_unforeseen d (out.NotBuilt f at) u = absurd u
+ends_unforeseen d (out.NotSettled target one other) u = absurd u
 ends_unforeseen d (out.Limit what) u = absurd u
 ends_unforeseen d out.WriteFault u = absurd u
+
+-- how a run ends that put nothing, by what is expected
+abbrev pub Halts : Expect Document → Outcome → Type 0
+Halts (given d) o = Ends d o
+Halts e o = Stops e o
+
+ends_write : (d : Document) (old new : Option (List ℕ)) (o : Outcome) → Ends d o → Writes d old new o
+ends_write d old new (out.ReadFault k) h = h
+ends_write d old new (out.NotRead k) h = h
+ends_write d old new (out.Done pages passes) h = absurd h
+ends_write d old new out.WriteFault h = absurd h
+ends_write d old new (out.TooLarge k) h = h
+ends_write d old new (out.NotUtf8 k at) h = h
+ends_write d old new (out.BadMetrics line why) h = h
+ends_write d old new (out.NotSettled target one other) h = h
+ends_write d old new (out.Limit what) h = h
+ends_write d old new out.NoMemory h = h
+
+pub halts_meet : (e : Expect Document) (old new : Option (List ℕ)) (o : Outcome) → Halts e o → Meets e old new o
+halts_meet free old new o h = h
+halts_meet (refused p) old new o h = h
+halts_meet (given d) old new o h = ends_write d old new o h
 
 -- what stops before the texts are there stops the document
 unforeseen_halts : (e : Expect Document) (o : Outcome) → ((f : FileOf) → Later f e) → IsUnforeseen o → Halts e o
@@ -148,7 +345,7 @@ unforeseen_halts (refused p) (out.NotRead k) l u = absurd u
 unforeseen_halts (refused p) (out.TooLarge f) l u = absurd u
 unforeseen_halts (refused p) (out.NotUtf8 f at) l u = absurd u
 unforeseen_halts (refused p) (out.BadMetrics line why) l u = absurd u
-unforeseen_halts (refused p) (out.NotBuilt f at) l u = absurd u
+unforeseen_halts (refused p) (out.NotSettled target one other) l u = absurd u
 unforeseen_halts (refused p) (out.Limit what) l u = absurd u
 unforeseen_halts (refused p) out.WriteFault l u = absurd u
 unforeseen_halts (given d) o l u = ends_unforeseen d o u
@@ -159,7 +356,7 @@ texts_stop reading (refused p) o s = s
 texts_stop reading (given t) o s = unforeseen_halts (document_of reading t) o (λ f. later_book reading f t) s
 
 -- a refusal of the texts stops the document
-refused_halts : (e : Expect Document) (o : Outcome) → HaltsAt e o → Halts e o
+pub refused_halts : (e : Expect Document) (o : Outcome) → IsRefusedUnlessMemory e o → Halts e o
 refused_halts free o r = tt
 refused_halts (refused p) (out.ReadFault f) r = inl r
 refused_halts (refused p) out.NoMemory r = inr tt
@@ -168,67 +365,47 @@ refused_halts (refused p) (out.NotRead k) r = inl r
 refused_halts (refused p) (out.TooLarge f) r = inl r
 refused_halts (refused p) (out.NotUtf8 f at) r = inl r
 refused_halts (refused p) (out.BadMetrics line why) r = inl r
-refused_halts (refused p) (out.NotBuilt f at) r = inl r
+refused_halts (refused p) (out.NotSettled target one other) r = inl r
 refused_halts (refused p) (out.Limit what) r = inl r
 refused_halts (refused p) out.WriteFault r = inl r
-refused_halts (given d) o r = r
+refused_halts (given d) out.NoMemory r = tt
+refused_halts (given d) (out.ReadFault f) r = absurd r
+refused_halts (given d) (out.Done pages passes) r = absurd r
+refused_halts (given d) (out.NotRead k) r = absurd r
+refused_halts (given d) (out.TooLarge f) r = absurd r
+refused_halts (given d) (out.NotUtf8 f at) r = absurd r
+refused_halts (given d) (out.BadMetrics line why) r = absurd r
+refused_halts (given d) (out.NotSettled target one other) r = absurd r
+refused_halts (given d) (out.Limit what) r = absurd r
+refused_halts (given d) out.WriteFault r = absurd r
 
-pub document_stops : (reading : List ℕ → SheetOf) (e : Expect Texts) (t : Texts) (o : Outcome) → IsGiven e t → HaltsAt (document_of reading t) o → Halts (e >>= document_of reading) o
-document_stops reading free t o g r = tt
-document_stops reading (refused p) t o g r = absurd g
-document_stops reading (given u) t o g r = subst (λ v. Halts (document_of reading v) o) g (refused_halts (document_of reading t) o r)
-
-pub book_for : (reading : List ℕ → SheetOf) (e : Expect Texts) (t : Texts) (b : Book) → IsGiven e t → IsBookFor (document_of reading t) b → IsBookFor (e >>= document_of reading) b
-book_for reading free t b g r = tt
-book_for reading (refused p) t b g r = absurd g
-book_for reading (given u) t b g r = subst (λ v. IsBookFor (document_of reading v) b) g r
-
--- a refusal of a file is none of the words, and no put
-pub cause_words : (f : FileOf) (told : Told) (name : List ℕ) (before now : ℕ) (last : Option (List ℕ)) (e : Expect Names) (o : Outcome) → HasCauseAt f told name before now last o → HasWordsCause e o
-cause_words f told name before now last e (out.NotRead k) h = absurd h
-cause_words f told name before now last e (out.ReadFault g) h = tt
-cause_words f told name before now last e (out.Done pages passes) h = tt
-cause_words f told name before now last e (out.TooLarge g) h = tt
-cause_words f told name before now last e (out.NotUtf8 g at) h = tt
-cause_words f told name before now last e (out.BadMetrics line why) h = tt
-cause_words f told name before now last e (out.NotBuilt g at) h = tt
-cause_words f told name before now last e (out.Limit what) h = tt
-cause_words f told name before now last e out.WriteFault h = tt
-cause_words f told name before now last e out.NoMemory h = tt
-
--- a refusal of the texts has no cause to show
-pub texts_fault : (e : Expect Names) (told : List ℕ → Told) (before now : ℕ) (last : Option (List ℕ)) (o : Outcome) → IsOfTexts o → HasReadCause e told before now last o × HasWordsCause e o × IsNoPut o
-texts_fault free told before now last (out.TooLarge g) h = (tt, tt, tt)
-texts_fault (refused p) told before now last (out.TooLarge g) h = (tt, tt, tt)
-texts_fault (given n) told before now last (out.TooLarge g) h = (tt, tt, tt)
-texts_fault free told before now last (out.NotUtf8 g at) h = (tt, tt, tt)
-texts_fault (refused p) told before now last (out.NotUtf8 g at) h = (tt, tt, tt)
-texts_fault (given n) told before now last (out.NotUtf8 g at) h = (tt, tt, tt)
-texts_fault free told before now last (out.BadMetrics line why) h = (tt, tt, tt)
-texts_fault (refused p) told before now last (out.BadMetrics line why) h = (tt, tt, tt)
-texts_fault (given n) told before now last (out.BadMetrics line why) h = (tt, tt, tt)
-texts_fault free told before now last (out.NotBuilt g at) h = (tt, tt, tt)
-texts_fault free told before now last (out.Limit what) h = (tt, tt, tt)
-texts_fault (refused p) told before now last (out.NotBuilt g at) h = (tt, tt, tt)
-texts_fault (refused p) told before now last (out.Limit what) h = (tt, tt, tt)
-texts_fault (given n) told before now last (out.NotBuilt g at) h = (tt, tt, tt)
-texts_fault (given n) told before now last (out.Limit what) h = (tt, tt, tt)
-texts_fault free told before now last out.NoMemory h = (tt, tt, tt)
-texts_fault (refused p) told before now last out.NoMemory h = (tt, tt, tt)
-texts_fault (given n) told before now last out.NoMemory h = (tt, tt, tt)
-texts_fault e told before now last (out.Done pages passes) h = absurd h
-texts_fault e told before now last (out.NotRead k) h = absurd h
-texts_fault e told before now last (out.ReadFault f) h = absurd h
-texts_fault e told before now last out.WriteFault h = absurd h
+-- what a document of given texts comes to
+pub texts_meet : (reading : List ℕ → SheetOf) (e : Expect Texts) (t : Texts) (old new : Option (List ℕ)) (o : Outcome) → IsGiven e t → Meets (document_of reading t) old new o → Meets (e >>= document_of reading) old new o
+texts_meet reading e t old new o g h = after_given e t (document_of reading) (λ z. Meets z old new o) tt g h
 
 -- a refusal of the words is one of theirs, and no read fault
-pub words_fault : (e : Expect Names) (told : List ℕ → Told) (before now : ℕ) (last : Option (List ℕ)) (o : Outcome) (k : WordsFault) → o ≡ out.NotRead k → IsRefused e o → e ≢ free → HasReadCause e told before now last o × HasWordsCause e o
-words_fault e told before now last o k is r n = rw is (by e (subst (λ p. IsRefused e p) is r) n)
-  where
-    by : (e : Expect Names) → IsRefused e (out.NotRead k) → e ≢ free → HasReadCause e told before now last (out.NotRead k) × HasWordsCause e (out.NotRead k)
-    by free r n = absurd (n refl)
-    by (refused p) r n = (tt, ap refused (sym r))
-    by (given x) r n = absurd r
+pub words_cause : (e : Expect Task) (told : List ℕ → Told) (before now : ℕ) (last : Option (List ℕ)) (o : Outcome) → IsOfWords o → IsRefusedUnlessMemory e o → e ≢ free → HasReadCause e told before now last o × HasWordsCause e o
+words_cause free told before now last o w r n = absurd (n refl)
+words_cause (given x) told before now last (out.NotRead k) w r n = absurd r
+words_cause (given x) told before now last out.NoMemory w r n = (tt, tt)
+words_cause (refused p) told before now last (out.NotRead k) w r n = (tt, ap refused (sym r))
+words_cause (refused p) told before now last out.NoMemory w r n = (tt, tt)
+words_cause (refused p) told before now last (out.Done pages passes) w r n = absurd w
+words_cause (refused p) told before now last (out.ReadFault f) w r n = absurd w
+words_cause (refused p) told before now last (out.TooLarge f) w r n = absurd w
+words_cause (refused p) told before now last (out.NotUtf8 f at) w r n = absurd w
+words_cause (refused p) told before now last (out.BadMetrics line why) w r n = absurd w
+words_cause (refused p) told before now last (out.NotSettled target one other) w r n = absurd w
+words_cause (refused p) told before now last (out.Limit what) w r n = absurd w
+words_cause (refused p) told before now last out.WriteFault w r n = absurd w
+words_cause (given x) told before now last (out.Done pages passes) w r n = absurd w
+words_cause (given x) told before now last (out.ReadFault f) w r n = absurd w
+words_cause (given x) told before now last (out.TooLarge f) w r n = absurd w
+words_cause (given x) told before now last (out.NotUtf8 f at) w r n = absurd w
+words_cause (given x) told before now last (out.BadMetrics line why) w r n = absurd w
+words_cause (given x) told before now last (out.NotSettled target one other) w r n = absurd w
+words_cause (given x) told before now last (out.Limit what) w r n = absurd w
+words_cause (given x) told before now last out.WriteFault w r n = absurd w
 
 -- a refusal of a step is one of the whole, and so is want of memory
 refused_bind : {A B : Type 0} (e : Expect A) (k : A → Expect B) (o : Outcome) → IsRefused e o → IsRefused (e >>= k) o
@@ -244,7 +421,7 @@ memory_bind e k (out.NotRead w) r = refused_bind e k _ r
 memory_bind e k (out.TooLarge f) r = refused_bind e k _ r
 memory_bind e k (out.NotUtf8 f at) r = refused_bind e k _ r
 memory_bind e k (out.BadMetrics line why) r = refused_bind e k _ r
-memory_bind e k (out.NotBuilt f at) r = refused_bind e k _ r
+memory_bind e k (out.NotSettled target one other) r = refused_bind e k _ r
 memory_bind e k (out.Limit what) r = refused_bind e k _ r
 memory_bind e k out.WriteFault r = refused_bind e k _ r
 
@@ -256,7 +433,7 @@ nothing_told A (out.NotRead w) = tt
 nothing_told A (out.TooLarge f) = tt
 nothing_told A (out.NotUtf8 f at) = tt
 nothing_told A (out.BadMetrics line why) = tt
-nothing_told A (out.NotBuilt f at) = tt
+nothing_told A (out.NotSettled target one other) = tt
 nothing_told A (out.Limit what) = tt
 nothing_told A out.WriteFault = tt
 
@@ -264,23 +441,34 @@ nothing_told A out.WriteFault = tt
 pub refused_after : {A B : Type 0} (e : Expect A) (x : A) (k : A → Expect B) (o : Outcome) → IsGiven e x → IsRefusedUnlessMemory (k x) o → IsRefusedUnlessMemory (e >>= k) o
 refused_after {A} {B} e x k o g r = after_given e x k (λ z. IsRefusedUnlessMemory z o) (nothing_told B o) g r
 
--- a refusal of the texts is one of the book
-pub texts_halt : (e : Expect Document) (o : Outcome) → IsRefusedUnlessMemory e o → HaltsAt e o
-texts_halt free o r = tt
-texts_halt (refused p) o r = r
-texts_halt (given d) out.NoMemory r = tt
-texts_halt (given d) (out.ReadFault f) r = absurd r
-texts_halt (given d) (out.Done pages passes) r = absurd r
-texts_halt (given d) (out.NotRead k) r = absurd r
-texts_halt (given d) (out.TooLarge f) r = absurd r
-texts_halt (given d) (out.NotUtf8 f at) r = absurd r
-texts_halt (given d) (out.BadMetrics line why) r = absurd r
-texts_halt (given d) (out.NotBuilt f at) r = absurd r
-texts_halt (given d) (out.Limit what) r = absurd r
-texts_halt (given d) out.WriteFault r = absurd r
+-- a document that is laid out is the one that is expected
+pub document_meets : (e : Expect Document) (d : Document) (old new : Option (List ℕ)) (o : Outcome) → IsGiven e d → Writes d old new o → Meets e old new o
+document_meets free d old new o g h = tt
+document_meets (refused p) d old new o g h = absurd g
+document_meets (given e) d old new o g h = subst (λ (x : Document). Writes x old new o) g h
 
--- a document that isn't laid out halts
-pub unlaid_halts : (e : Expect Document) (d : Document) (o : Outcome) → IsGiven e d → Ends d o → HaltsAt e o
-unlaid_halts free d o g h = tt
-unlaid_halts (refused p) d o g h = absurd g
-unlaid_halts (given e) d o g h = subst (λ x. Ends x o) g h
+-- ---- words
+
+memory_halts : (e : Expect Document) → Halts e out.NoMemory
+memory_halts free = tt
+memory_halts (refused p) = inr tt
+memory_halts (given d) = tt
+
+-- a refusal of the words halts the book that they ask for
+pub words_halt : (reading : List ℕ → SheetOf) (e : Expect Task) (told : List ℕ → Told) (o : Outcome) → IsRefusedUnlessMemory e o → Halts ((e >>= λ task. texts_for task told) >>= document_of reading) o
+words_halt reading free told o r = tt
+words_halt reading (refused p) told o r = refused_halts (refused p) o (memory_bind (refused p) (λ task. texts_for task told >>= document_of reading) o r)
+words_halt reading (given x) told out.NoMemory r = memory_halts _
+words_halt reading (given x) told (out.NotRead k) r = absurd r
+words_halt reading (given x) told (out.Done pages passes) r = absurd r
+words_halt reading (given x) told (out.ReadFault f) r = absurd r
+words_halt reading (given x) told (out.TooLarge f) r = absurd r
+words_halt reading (given x) told (out.NotUtf8 f at) r = absurd r
+words_halt reading (given x) told (out.BadMetrics line why) r = absurd r
+words_halt reading (given x) told (out.NotSettled target one other) r = absurd r
+words_halt reading (given x) told (out.Limit what) r = absurd r
+words_halt reading (given x) told out.WriteFault r = absurd r
+
+-- what a task comes to is what the words come to that ask for it
+pub task_meets : (reading : List ℕ → SheetOf) (e : Expect Task) (task : Task) (told : List ℕ → Told) (old new : Option (List ℕ)) (o : Outcome) → e ≡ given task → Meets (document_for reading task told) old new o → Meets ((e >>= λ x. texts_for x told) >>= document_of reading) old new o
+task_meets reading e task told old new o g h = subst (λ (x : Expect Task). Meets ((x >>= λ y. texts_for y told) >>= document_of reading) old new o) (sym g) h

@@ -7,14 +7,15 @@ use Rattle.boxes.specs.declared.flow.Flow.{Flow}
 use Rattle.boxes.specs.declared.frames.PageKind.{PageKind}
 use Rattle.boxes.specs.declared.table.PageRow.{PageRow}
 use Rattle.css_page.specs.declared.rules.PageRule.{PageRule}
-use Rattle.fragment.specs.Pages.{PageFrames}
+use Rattle.page_list.specs.Pages.{PageFrames}
 use Rattle.metrics.specs.Face.{FontFace}
 use Rattle.page_ctx.specs.Margins.{AreMarginStyles, style_of}
 use Rattle.page_ctx.specs.Selectors.{classes_of}
 use Rattle.page_ctx.specs.Tables.{IsTable, cell_in, page_cell, text_of}
 use Rattle.page_ctx.specs.declared.resolve.PageStyles.{PageStyles}
 use Rattle.page_seq.specs.Frames.{frame_at, frame_in, frame_of}
-use Rattle.book.specs.Answer.{page_frames, print_of}
+use Rattle.book.specs.Answer.{print_of}
+use Rattle.book.specs.Flow.{page_frames}
 use Rattle.book_print.specs.Printed.{Print}
 
 frame_in_cell : (row : Option PageRow) (place : ℕ) → frame_at row place ≡ frame_in (cell_in row place)
@@ -26,8 +27,9 @@ abbrev pub table_frames : List PageRow → PageFrames
 table_frames rows = record { meets = meets_by_parity; frame_of = λ index name kind. frame_of rows index name kind }
 
 -- what is printed of a flow, whose page boxes and margin boxes are these
-abbrev pub table_print : List FontFace → PageStyles → List (List ℕ) → Flow → Print
-table_print faces styles names flow = record {
+abbrev pub table_print : List FontFace → PageStyles → List (List ℕ) → ℕ → Flow → Print
+table_print faces styles names passes flow = record {
+  passes = passes;
   faces = faces;
   flow = flow;
   names = names;
@@ -42,8 +44,9 @@ module _ (rules : List PageRule) (names : List (List ℕ)) where
   pub frames_are : (rows : List PageRow) → IsTable rules names rows → table_frames rows ≡ page_frames rules names
   frames_are rows table = λ i. record { meets = meets_by_parity; frame_of = λ index name kind. frame_is rows table index name kind i }
 
-  pub print_is : (faces : List FontFace) (flow : Flow) (styles : PageStyles) → IsTable rules names styles.table.rows → AreMarginStyles rules names styles.boxes → table_print faces styles names flow ≡ print_of faces rules names flow
-  print_is faces flow styles table boxes = λ i. record {
+  pub print_is : (faces : List FontFace) (passes : ℕ) (flow : Flow) (styles : PageStyles) → IsTable rules names styles.table.rows → AreMarginStyles rules names styles.boxes → table_print faces styles names passes flow ≡ print_of faces rules names passes flow
+  print_is faces passes flow styles table boxes = λ i. record {
+    passes = passes;
     faces = faces;
     flow = flow;
     names = names;

@@ -1,15 +1,20 @@
--- What a document in memory stands for.
+-- What texts and a document in memory stand for.
 use Rattle.std.specs.List.{AllZip}
-use Rattle.sheets.specs.Sheets.{element_sheets}
-use Rattle.unbuilt.specs.Sources.{sources_of, IsReadFrom}
-use Rattle.book.specs.Answer.{AreRulesOf}
-use Rattle.book.specs.Document.{Document}
+use Rattle.sheets.specs.Sheets.{author_texts, element_sheets}
+use Rattle.run_sheets.specs.Files.{file_texts}
+use Rattle.run_sheets.specs.Sources.{sources_of, IsReadFrom}
+use Rattle.book.specs.Document.{Document, Texts}
+use Rattle.book.specs.Flow.{AreRulesOf}
 use Rattle.book.specs.declared.document.Document.{Document as InMemory}
+use Rattle.book.specs.declared.document.Texts.{Texts as TextsInMemory}
+
+abbrev pub texts_in : TextsInMemory → Texts
+texts_in t = record { passes = t.passes; output = t.output; metrics = t.metrics.now; html = t.html.now; sheets = file_texts t.sheets.now }
 
 abbrev pub document_in : InMemory → Document
-document_in d = record { faces = d.faces; nodes = d.dom; sheet = d.sheet.now }
+document_in d = record { passes = d.passes; output = d.output; faces = d.faces; nodes = d.dom; sheets = file_texts d.sheets.now }
 
 -- its sheets and its page rules are what their texts are read as, in the order of the cascade
 pub record HasSheets (d : InMemory) : Type 0 where
-  pub read : AllZip IsReadFrom (sources_of (element_sheets d.dom) d.sheet.now) d.read
+  pub read : AllZip IsReadFrom (sources_of (author_texts (element_sheets d.dom) (file_texts d.sheets.now))) d.read
   pub pages : AreRulesOf (document_in d) d.pages

@@ -1,13 +1,17 @@
 -- What the texts of files in memory stand for.
-use Rattle.std.specs.Prelude.{string_bytes}
+use Rattle.std.specs.Prelude.{ℕ, string_bytes}
 use Rattle.bk_text.specs.Texts.{unmarked}
+use Rattle.run_sheets.specs.Files.{file_texts}
 use Rattle.book.specs.Document.{Texts}
+use Rattle.book.specs.declared.document.Output.TheVariants as output
 use Rattle.book.specs.declared.files.FileTexts.{FileTexts}
 
-abbrev pub texts_in : FileTexts → Texts
-texts_in t = record {
+-- the texts of a book that is to be listed
+abbrev pub listed_texts : ℕ → FileTexts → Texts
+listed_texts passes t = record {
+  passes = passes;
+  output = output.Listing;
   metrics = unmarked (string_bytes t.metrics);
   html = unmarked (string_bytes t.html);
-  sheet =
-      unmarked (string_bytes t.sheet);
+  sheets = file_texts t.sheets.items;
 }

@@ -1,60 +1,68 @@
--- The flow of a document: what its styles, counters and generated texts make of its nodes.
-use Rattle.std.specs.Prelude.{◌≡◌, ◌<◌, ℕ, List, [], codes, map}
-use Rattle.std.specs.List.{All, AllZip}
-use Rattle.bk_num.specs.Limits.{most_text_bytes}
-use Rattle.bk_num.specs.declared.values.Pseudo.TheVariants as pseudo
-use Rattle.boxes.specs.declared.flow.Flow.{Flow}
-use Rattle.box_gen.specs.Faces.{face_of}
-use Rattle.box_gen.specs.Flow.{flow_of}
-use Rattle.box_gen.specs.Sites.{leaf_bytes}
-use Rattle.box_gen.specs.Trees.{Source}
+-- What the passes over a document read, and how they end.
+use Rattle.std.specs.Prelude.{◌≡◌, ℕ, List}
+use Rattle.std.specs.List.{AllZip}
+use Rattle.bk_num.specs.declared.ids.NodeId.{NodeId}
+use Rattle.boxes.specs.Frames.{meets_by_parity}
 use Rattle.cascade.specs.declared.sheet.ReadSheet.{ReadSheet}
 use Rattle.computed.specs.Document.{AreDocumentStyles}
 use Rattle.counters.specs.Document.{values_of}
-use Rattle.gen_text.specs.Generated.{AreGenerated, generated_text, assigned_strings, source_of as texts_from}
-use Rattle.gen_text.specs.declared.generated.NodeTexts.{NodeTexts}
-use Rattle.page_seq.specs.Numbers.{IsSmallReset}
-use Rattle.page_seq.specs.Places.{NeverFall}
-use Rattle.sheets.specs.Sheets.{element_sheets}
+use Rattle.css_page.specs.declared.rules.PageRule.{PageRule}
+use Rattle.gen_text.specs.References.{AreTargets}
+use Rattle.page_ctx.specs.Selectors.{classes_of}
+use Rattle.page_ctx.specs.Tables.{page_cell, text_of}
+use Rattle.page_list.specs.Pages.{PageFrames}
+use Rattle.passes.specs.Passes.{End, EndsIn}
+use Rattle.passes.specs.Work.{Work}
+use Rattle.sheets.specs.Sheets.{author_texts, element_sheets}
 use Rattle.style.specs.Nodes.{NodeStyles}
-use Rattle.unbuilt.specs.Sources.{sources_of, IsReadFrom}
+use Rattle.run_sheets.specs.Sources.{ArePageRules, authors_of, sources_of, IsReadFrom}
 use Rattle.book.specs.Document.{Document}
 
--- what the boxes of a document are made from: its nodes with their styles, the values of their counters, faces, and generated texts
-abbrev pub source_for : Document → List NodeStyles → List NodeTexts → Source
-source_for d rows texts = record {
-  nodes = d.nodes;
-  styles = rows;
-  items = λ n. values_of d.nodes rows n pseudo.Element (codes "list-item");
-  face = λ s. face_of d.faces s;
-  generated = λ n p. generated_text texts n p;
-  assigned = λ n. assigned_strings texts n;
+-- the texts of a document's sheets: those of files, and then those of its `style` elements (CSS 2.1, 6.4)
+abbrev pub texts_of : Document → List (List ℕ)
+texts_of d = author_texts (element_sheets d.nodes) d.sheets
+
+-- the page rules of a document's sheets (css-page-3, 3)
+abbrev pub AreRulesOf : Document → List PageRule → Type 0
+AreRulesOf d rules = ArePageRules (authors_of (texts_of d)) rules
+
+-- each page has the frame that its winning page declarations give; page 1 is a right page, and sides alternate (css-page-3, 3 to 7)
+abbrev pub page_frames : List PageRule → List (List ℕ) → PageFrames
+page_frames rules names = record {
+  meets = meets_by_parity;
+  frame_of = λ index name kind. (page_cell rules (text_of names name) (classes_of index kind)).frame;
 }
 
--- a flow is that of a document whose nodes have these styles: its counters have their values by them (CSS 2.1, 12.4), its
--- pseudo-elements their texts (12.1), in which no page reference shows a number yet, and its boxes are those of its elements (9.2)
-pub record IsFlowBy (d : Document) (rows : List NodeStyles) (flow : Flow) : Type 0 where
-  pub texts : List NodeTexts
-  pub generated : AreGenerated (texts_from d.nodes rows (values_of d.nodes rows) []) texts
-  pub is : flow ≡ flow_of (source_for d rows texts)
-
--- this flow has more text than is laid out
-pub record HasLongFlow (d : Document) (rows : List NodeStyles) : Type 0 where
-  pub flow : Flow
-  pub by : IsFlowBy d rows flow
-  pub much : most_text_bytes < leaf_bytes flow.main.leaves
-
--- a flow is that of a document whose pages have these names: its nodes have the computed styles (CSS 2.1, 6) that the default sheet,
--- the file's and those of `style` elements give
-pub record IsFlowOf (d : Document) (names : List (List ℕ)) (flow : Flow) : Type 0 where
+-- nodes have the computed styles (CSS 2.1, 6) that the default sheet and those of the document give, with these names of pages
+pub record AreStylesBy (d : Document) (names : List (List ℕ)) (rows : List NodeStyles) : Type 0 where
   pub sheets : List ReadSheet
-  pub read : AllZip IsReadFrom (sources_of (element_sheets d.nodes) d.sheet) sheets
-  pub rows : List NodeStyles
+  pub read : AllZip IsReadFrom (sources_of (texts_of d)) sheets
   pub styles : AreDocumentStyles names d.nodes sheets rows
-  pub by : IsFlowBy d rows flow
 
--- the running strings and the resets of page numbers of a flow stand in order, and the resets are small
-pub record HasOrder (flow : Flow) : Type 0 where
-  pub strings : NeverFall (map (λ a. a.at) flow.strings)
-  pub resets : NeverFall (map (λ r. r.at) flow.resets)
-  pub small : All IsSmallReset flow.resets
+-- what the passes over a document read: its nodes in their styles, the values of its counters by them (CSS 2.1, 12.4), its faces, the
+-- frames that its page rules give, and the elements that its page references lead to
+abbrev pub work_by : Document → List PageRule → List (List ℕ) → List NodeStyles → List NodeId → Work
+work_by d rules names rows targets = record {
+  nodes = d.nodes;
+  rows = rows;
+  values = values_of d.nodes rows;
+  faces = d.faces;
+  frames = page_frames rules names;
+  targets = targets;
+}
+
+pub record IsWorkOf (d : Document) (rules : List PageRule) (names : List (List ℕ)) (w : Work) : Type 0 where
+  pub by : AreRulesOf d rules
+  pub rows : List NodeStyles
+  pub styles : AreStylesBy d names rows
+  pub targets : List NodeId
+  pub are : AreTargets d.nodes rows targets
+  pub is : w ≡ work_by d rules names rows targets
+
+-- how the passes over a document end, of which there are at most so many
+pub record HasEnd (d : Document) (end : End) : Type 0 where
+  pub rules : List PageRule
+  pub names : List (List ℕ)
+  pub work : Work
+  pub of : IsWorkOf d rules names work
+  pub ends : EndsIn work d.passes end

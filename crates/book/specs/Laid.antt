@@ -1,34 +1,111 @@
--- What is laid out of a flow, as the arguments have it.
-use Rattle.std.specs.Prelude.{◌≡◌, ◌≤◌, List, length}
-use Rattle.bk_num.specs.Limits.{most_pages}
+-- What is laid out of a document, as the arguments have it.
+use Rattle.std.specs.Prelude.{◌≡◌, ℕ, List, Option, Result, Ok, Err, length, take}
+use Rattle.std.specs.Io.KnownBytes.{Appends, Keeps}
+use Rattle.bk_num.specs.declared.ids.NodeId.{NodeId}
+use Rattle.bk_num.specs.declared.values.Pseudo.{Pseudo}
+use Rattle.boxes.specs.declared.flow.Flow.{Flow}
 use Rattle.boxes.specs.declared.page.Page.{Page}
-use Rattle.fragment.specs.Pages.{IsPaged, LeavesSome}
+use Rattle.box_gen.specs.Sources.{AreInRange, IsRootShown}
+use Rattle.counters.specs.At.{counter_values}
+use Rattle.counters.specs.Document.{values_of}
+use Rattle.gen_text.specs.References.{AreTargets}
+use Rattle.note_list.specs.Conditions.{CanBePaged}
+use Rattle.gen_text.specs.declared.table.Entry.{Entry}
 use Rattle.page_ctx.specs.Margins.{AreMarginStyles}
 use Rattle.page_ctx.specs.Tables.{IsTable}
 use Rattle.page_ctx.specs.declared.resolve.PageStyles.{PageStyles}
 use Rattle.page_seq.specs.Frames.{IsGoodTable}
-use Rattle.book.specs.Answer.{Book, page_frames, print_of}
-use Rattle.book.specs.declared.flow.SetFlow.{SetFlow}
-use Rattle.book_print.specs.Printed.{listing_of}
+use Rattle.passes.specs.Passes.{End, EndsIn, settled, unsettled, long, many}
+use Rattle.passes.specs.Work.{Work}
+use Rattle.passes.specs.declared.settle.PassErr.{PassErr}
+use Rattle.passes.specs.declared.settle.PassErr.TheVariants as err
+use Rattle.book.specs.Answer.{Book, output_of, print_of}
+use Rattle.book.specs.Document.{Document}
+use Rattle.book.specs.Flow.{AreRulesOf, AreStylesBy, page_frames}
+use Rattle.book.specs.declared.lay_out.Done.{Done}
+use Rattle.book.specs.declared.outcome.LimitOf.TheVariants as limit
+use Rattle.book.specs.declared.outcome.Outcome.{Outcome}
+use Rattle.book.specs.declared.outcome.Outcome.TheVariants as out
+use Rattle.book.specs.declared.styled.Styled.{Styled}
+use Rattle.book_print.specs.declared.print.PrintErr.{PrintErr}
+use Rattle.book_print.specs.declared.print.PrintErr.TheVariants as print
 
--- page boxes and margin boxes are those that the page rules of a flow give
-pub record AreStylesOf (set : SetFlow) (styles : PageStyles) : Type 0 where
-  pub table : IsTable set.rules set.names styles.table.rows
+-- the styles of nodes are in range, and the root is shown
+pub record AreGoodStyles (s : Styled) : Type 0 where
+  pub ranges : AreInRange s.styles
+  pub shown : IsRootShown s.styles
+
+-- a document in its styles, with its counters and its page rules
+pub record IsStyledOf (d : Document) (s : Styled) : Type 0 where
+  pub passes : s.passes ≡ d.passes
+  pub output : s.output ≡ d.output
+  pub nodes : s.dom ≡ d.nodes
+  pub faces : s.faces ≡ d.faces
+  pub styles : AreStylesBy d s.names s.styles
+  pub values : (n : ℕ) (p : Pseudo) (x : List ℕ) → counter_values s.counters n p x ≡ values_of d.nodes s.styles n p x
+  pub rules : AreRulesOf d s.rules
+
+-- page boxes and margin boxes are those that the page rules of a document give
+pub record AreBoxesOf (s : Styled) (styles : PageStyles) : Type 0 where
+  pub table : IsTable s.rules s.names styles.table.rows
   pub good : IsGoodTable styles.table.rows
-  pub boxes : AreMarginStyles set.rules set.names styles.boxes
+  pub boxes : AreMarginStyles s.rules s.names styles.boxes
 
--- a page list of a flow by its page rules
-pub record ArePagesOf (set : SetFlow) (pages : List Page) : Type 0 where
-  pub paged : IsPaged set.faces set.flow.main (page_frames set.rules set.names) pages
-  pub few : length pages ≤ most_pages
+-- what the passes over a document in its styles read
+abbrev pub work_in : Styled → List NodeId → Work
+work_in s targets = record {
+  nodes = s.dom;
+  rows = s.styles;
+  values = counter_values s.counters;
+  faces = s.faces;
+  frames = page_frames s.rules s.names;
+  targets = targets;
+}
 
--- a book is the page list of a flow by its page rules, and its listing
-pub record IsBookBy (set : SetFlow) (b : Book) : Type 0 where
+-- how they end, of which there are at most so many
+pub record EndSo (s : Styled) (end : End) : Type 0 where
+  pub targets : List NodeId
+  pub are : AreTargets s.dom s.styles targets
+  pub ends : EndsIn (work_in s targets) s.passes end
+
+-- how passes that don't settle are answered
+abbrev pub of_passes : PassErr → Outcome
+of_passes (err.NotSettled target before after) = out.NotSettled target before after
+of_passes err.Text = out.Limit limit.Text
+of_passes err.Pages = out.Limit limit.Pages
+of_passes err.NoMemory = out.NoMemory
+
+-- the answer of passes that don't settle
+abbrev pub StopsBy : Styled → Outcome → Type 0
+StopsBy s (out.NotSettled target before after) = EndSo s (unsettled target before after)
+StopsBy s (out.Limit limit.Text) = EndSo s long
+StopsBy s (out.Limit limit.Pages) = EndSo s many
+StopsBy s out.NoMemory = Unit {0}
+StopsBy s o = ⊥
+
+-- a book is what the passes settle with, which can be paged, and what is put of it
+pub record IsBookBy (s : Styled) (b : Book) : Type 0 where
+  pub flow : Flow
   pub pages : List Page
-  pub are : ArePagesOf set pages
+  pub table : List Entry
+  pub settles : EndSo s (settled b.passes flow pages table)
+  pub can : CanBePaged s.faces flow
   pub count : b.pages ≡ length pages
-  pub listed : b.bytes ≡ listing_of (print_of set.faces set.rules set.names set.flow) pages
+  pub put : b.bytes ≡ output_of s.output (print_of s.faces s.rules s.names b.passes flow) pages table
 
--- the most pages leave something of a flow unplaced
-pub record HasMorePages (set : SetFlow) : Type 0 where
-  pub left : LeavesSome set.faces set.flow.main (page_frames set.rules set.names) most_pages
+-- how a print that put only a prefix, or nothing for want of memory, is answered
+abbrev pub of_print : PrintErr → Outcome
+of_print print.Failed = out.WriteFault
+of_print print.NoMemory = out.NoMemory
+
+-- what a run answers that laid a document out, or stopped
+abbrev pub outcome_of : Result Done Outcome → Outcome
+outcome_of (Ok done) = out.Done done.pages done.passes
+outcome_of (Err o) = o
+
+-- what a run over a document in its styles answers, by the bytes taken: Done put its book, a write fault a prefix of it, and no other
+-- answer anything
+abbrev pub WritesBy : Styled → Option (List ℕ) → Option (List ℕ) → Outcome → Type 0
+WritesBy s old new (out.Done pages passes) = (b : Book) × IsBookBy s b × (pages ≡ b.pages) × (passes ≡ b.passes) × Appends old new b.bytes
+WritesBy s old new out.WriteFault = (b : Book) × IsBookBy s b × ((n : ℕ) × Appends old new (take n b.bytes))
+WritesBy s old new o = StopsBy s o × Keeps old new

@@ -1,9 +1,11 @@
 pub mod Answer
+pub mod Counts
 pub mod Document
 pub mod DocumentView
 pub mod Expect
 pub mod FilesView
 pub mod Flow
+pub mod Keeps
 pub mod Laid
 pub mod Laws
 pub mod Message

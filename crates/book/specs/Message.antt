@@ -10,7 +10,7 @@ use Rattle.book.specs.declared.outcome.FileOf.{FileOf}
 use Rattle.book.specs.declared.outcome.FileOf.TheVariants as file
 use Rattle.book.specs.declared.outcome.LimitOf.{LimitOf}
 use Rattle.book.specs.declared.outcome.LimitOf.TheVariants as limit
-use Rattle.book.specs.declared.outcome.WordsFault.TheVariants as words
+use Rattle.words.specs.declared.fault.WordsFault.TheVariants as words
 
 unfoldable pub decimal : ℕ → List ℕ
 decimal n = signed_decimal (pos n)
@@ -48,8 +48,8 @@ texts_of (out.TooLarge f) = codes "bookfmt: " ∷ (file_words f).0 ∷ (file_wor
 texts_of (out.NotUtf8 f at) =
     codes "bookfmt: " ∷ (file_words f).0 ∷ (file_words f).1 ∷ codes " is not UTF-8 at " ∷ decimal at ∷ codes "\n" ∷ []
 texts_of (out.BadMetrics line reason) = codes "bookfmt: metrics line " ∷ decimal line ∷ codes ": " ∷ why_text reason ∷ codes "\n" ∷ []
-texts_of (out.NotBuilt f at) =
-    codes "bookfmt: not built: " ∷ (file_words f).0 ∷ (file_words f).1 ∷ codes " at " ∷ decimal at ∷ codes "\n" ∷ []
+texts_of (out.NotSettled target before after) =
+    codes "bookfmt: page reference to " ∷ target ∷ codes " not settled: " ∷ signed_decimal before ∷ codes " then " ∷ signed_decimal after ∷ codes "\n" ∷ []
 texts_of (out.Limit what) = codes "bookfmt: limit: " ∷ limit_text what ∷ codes "\n" ∷ []
 texts_of out.WriteFault = codes "bookfmt: cannot write\n" ∷ []
 texts_of out.NoMemory = codes "bookfmt: no memory\n" ∷ []
@@ -70,6 +70,6 @@ status_of (out.TooLarge f) = 8
 status_of (out.NotUtf8 f at) = 3
 status_of (out.BadMetrics line reason) = 5
 status_of (out.Limit what) = 8
-status_of (out.NotBuilt f at) = 10
+status_of (out.NotSettled target before after) = 6
 status_of out.WriteFault = 7
 status_of out.NoMemory = 9

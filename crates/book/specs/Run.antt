@@ -1,5 +1,5 @@
 -- What the words and the files ask for, and what a run answers.
-use Rattle.std.specs.Prelude.{◌≡◌, ℕ, ◌+◌, ◌≤◌, List, length, take, nat_lt, if◌then◌else◌, Option, None, Some, ◌⊎◌}
+use Rattle.std.specs.Prelude.{◌≡◌, ℕ, suc, ◌+◌, ◌≤◌, List, [], ◌∷◌, length, slice_get, take, nat_lt, if◌then◌else◌, Option, None, Some, ◌⊎◌}
 use Rattle.std.specs.Io.KnownBytes.{Appends, Keeps}
 use Rattle.std.specs.Str.{is_utf8}
 use Rattle.std.specs.Str.Lossy.{utf8_valid_len}
@@ -7,11 +7,18 @@ use Rattle.bk_num.specs.Limits.{most_file_bytes}
 use Rattle.bk_text.specs.Texts.{unmarked}
 use Rattle.bk_io.specs.Shelf.{Told, untold, absent, holds, Faulted}
 use Rattle.bk_io.specs.Causes.{Rose}
-use Rattle.unbuilt.specs.Readings.{SheetOf, AreReadings}
-use Rattle.book.specs.Expect.{Expect, free, refused, given, ◌>>=◌, IsRefused, IsRefusedUnlessMemory}
-use Rattle.book.specs.Request.{Names, name_of, asked}
+use Rattle.passes.specs.Passes.{unsettled, long, many}
+use Rattle.run_sheets.specs.Readings.{SheetOf, AreReadings}
+use Rattle.sample.specs.Html.{html_of}
+use Rattle.sample.specs.Texts.{css_text, metrics_text}
+use Rattle.book.specs.Expect.{Expect, free, refused, given, ◌>>=◌, IsRefused}
+use Rattle.book.specs.Request.{Task, files, chapters, name_of, asked}
+use Rattle.words.specs.Asked.{FormatWords}
 use Rattle.book.specs.Document.{Texts, Document, document_of}
-use Rattle.book.specs.Answer.{Book, IsBookOf, HasTooMuchText, HasTooManyPages}
+use Rattle.book.specs.Answer.{Book}
+use Rattle.book.specs.Flow.{HasEnd}
+use Rattle.book.specs.Keeps.{IsWholeBook}
+use Rattle.book.specs.declared.document.Output.TheVariants as output
 use Rattle.book.specs.declared.outcome.Outcome.{Outcome}
 use Rattle.book.specs.declared.outcome.Outcome.TheVariants as out
 use Rattle.book.specs.declared.outcome.FileOf.{FileOf}
@@ -26,13 +33,37 @@ text_of f absent = refused (out.ReadFault f)
 text_of f (holds bytes) = if nat_lt most_file_bytes (length bytes) then refused (out.TooLarge f) else
     if is_utf8 bytes then given (unmarked bytes) else refused (out.NotUtf8 f (utf8_valid_len bytes))
 
--- the texts of the files that the words name, or the first refusal in the order of the steps
-abbrev pub texts_expected : List (List ℕ) → (List ℕ → Told) → Expect Texts
-texts_expected ws told = asked ws >>= λ names.
-    text_of file.Metrics (told names.metrics) >>= λ metrics.
+-- the texts of sheets, which are numbered from k on, or the first refusal
+abbrev pub sheets_from : ℕ → (List ℕ → Told) → List (List ℕ) → Expect (List (List ℕ))
+sheets_from k told [] = given []
+sheets_from k told (name ∷ names) = text_of (file.Sheet k) (told name) >>= λ text.
+    sheets_from (suc k) told names >>= λ texts.
+    given (text ∷ texts)
+
+-- the texts of the files that are named, or the first refusal in the order of the steps
+abbrev pub texts_named : FormatWords → (List ℕ → Told) → Expect Texts
+texts_named names told = text_of file.Metrics (told names.metrics) >>= λ metrics.
     text_of file.Html (told names.html) >>= λ html.
-    text_of (file.Sheet 1) (told names.sheet) >>= λ sheet.
-    given (record { metrics = metrics; html = html; sheet = sheet })
+    sheets_from 1 told names.sheets >>= λ sheets.
+    given (record { passes = names.passes; output = output.Listing; metrics = metrics; html = html; sheets = sheets })
+
+-- the document of the files that are named, or the first refusal
+abbrev pub document_named : (List ℕ → SheetOf) → FormatWords → (List ℕ → Told) → Expect Document
+document_named reading names told = texts_named names told >>= document_of reading
+
+-- the texts of a sample book of so many chapters, which is to settle in 8 passes at most, and of which the counts are told
+abbrev pub sample_texts : ℕ → Texts
+sample_texts count = record { passes = 8; output = output.Counts count; metrics = metrics_text; html = html_of count; sheets = css_text ∷ [] }
+
+abbrev pub texts_for : Task → (List ℕ → Told) → Expect Texts
+texts_for (files names) told = texts_named names told
+texts_for (chapters count) told = given (sample_texts count)
+
+abbrev pub document_for : (List ℕ → SheetOf) → Task → (List ℕ → Told) → Expect Document
+document_for reading task told = texts_for task told >>= document_of reading
+
+abbrev pub texts_expected : List (List ℕ) → (List ℕ → Told) → Expect Texts
+texts_expected ws told = asked ws >>= λ task. texts_for task told
 
 -- what is expected of these words over this shelf: the document, or the first refusal in the order of the steps; `reading` gives what
 -- each text is read as, as a sheet
@@ -81,35 +112,27 @@ Stops free o = Unit {0}
 Stops (refused p) o = (o ≡ p) ⊎ ComesBefore o p
 Stops (given b) o = IsUnforeseen o
 
--- the limits that a document's own text and pages pass
+-- the limits that the passes over a document pass: the flow of one has more text than is laid out, or more pages
 abbrev pub Passes : Document → LimitOf → Type 0
-Passes d limit.Text = HasTooMuchText d
-Passes d limit.Pages = HasTooManyPages d
+Passes d limit.Text = HasEnd d long
+Passes d limit.Pages = HasEnd d many
 Passes d limit.Nodes = ⊥
 Passes d limit.Depth = ⊥
 Passes d limit.Sheets = ⊥
 Passes d limit.Rules = ⊥
 
--- a run over a document that puts nothing: its text is too much, its pages are too many, or no input explains it
+-- a run over a document that puts nothing: its text is too much, its pages are too many, each pass changes the number of a page
+-- reference, of which the first with its last two numbers is told, or no input explains it
 abbrev pub Ends : Document → Outcome → Type 0
 Ends d (out.Limit what) = Passes d what
+Ends d (out.NotSettled target before after) = HasEnd d (unsettled target before after)
 Ends d o = IsUnforeseen o
 
--- the outcome of a run that puts nothing, by what is expected
-abbrev pub Halts : Expect Document → Outcome → Type 0
-Halts (given d) o = Ends d o
-Halts e o = Stops e o
-
--- the texts of the files are laid out no further: a refusal of theirs, too much text or too many pages; want of memory is free
-abbrev pub HaltsAt : Expect Document → Outcome → Type 0
-HaltsAt free o = Unit {0}
-HaltsAt (refused p) o = IsRefusedUnlessMemory {A = Document} (refused p) o
-HaltsAt (given d) o = Ends d o
-
--- what a run over a document answers, by the bytes taken: Done wrote the document's book, and a write fault a prefix of it
+-- what a run over a document answers, by the bytes taken: Done wrote the document's book, which keeps all that is promised, and a write
+-- fault a prefix of it
 abbrev pub Writes : Document → Option (List ℕ) → Option (List ℕ) → Outcome → Type 0
-Writes d old new (out.Done pages passes) = (b : Book) × IsBookOf d b × (pages ≡ b.pages) × (passes ≡ 1) × Appends old new b.bytes
-Writes d old new out.WriteFault = (b : Book) × IsBookOf d b × ((n : ℕ) × Appends old new (take n b.bytes))
+Writes d old new (out.Done pages passes) = (b : Book) × IsWholeBook d b × (pages ≡ b.pages) × (passes ≡ b.passes) × Appends old new b.bytes
+Writes d old new out.WriteFault = (b : Book) × IsWholeBook d b × ((n : ℕ) × Appends old new (take n b.bytes))
 Writes d old new o = Ends d o
 
 -- what a run answers, by what is expected and the bytes taken
@@ -120,12 +143,6 @@ Meets e old new o = Stops e o
 -- what is expected of the words over the shelf is met
 abbrev pub Answers : List (List ℕ) → (List ℕ → Told) → Option (List ℕ) → Option (List ℕ) → Outcome → Type 0
 Answers ws told old new o = (e : Expect Document) × IsExpected ws told e × Meets e old new o
-
--- a book of the document, where one is expected
-abbrev pub IsBookFor : Expect Document → Book → Type 0
-IsBookFor free b = Unit {0}
-IsBookFor (refused o) b = ⊥
-IsBookFor (given d) b = IsBookOf d b
 
 -- with any answer but Done and a write fault nothing was put
 abbrev pub PutsOnlyABook : Option (List ℕ) → Option (List ℕ) → Outcome → Type 0
@@ -138,17 +155,16 @@ abbrev pub IsFaultOf : Option (List ℕ) → (List ℕ → Told) → ℕ → ℕ
 IsFaultOf None told before now last = ⊥
 IsFaultOf (Some name) told before now last = Faulted (told name) name before now last
 
--- a read fault is of a file that the words name, with its cause
-abbrev pub HasReadCause : Expect Names → (List ℕ → Told) → ℕ → ℕ → Option (List ℕ) → Outcome → Type 0
-HasReadCause (given names) told before now last (out.ReadFault f) = IsFaultOf (name_of names f) told before now last
-HasReadCause (refused o) told before now last (out.ReadFault f) = ⊥
-HasReadCause names told before now last o = Unit {0}
+-- a file of a task was not read for a cause; a sample book has no file
+abbrev pub IsTaskFault : Task → FileOf → (List ℕ → Told) → ℕ → ℕ → Option (List ℕ) → Type 0
+IsTaskFault (files names) f told before now last = IsFaultOf (name_of names f) told before now last
+IsTaskFault (chapters count) f told before now last = ⊥
 
--- nothing was put
-abbrev pub IsNoPut : Outcome → Type 0
-IsNoPut (out.Done pages passes) = ⊥
-IsNoPut out.WriteFault = ⊥
-IsNoPut o = Unit {0}
+-- a read fault is of a file that the words name, with its cause
+abbrev pub HasReadCause : Expect Task → (List ℕ → Told) → ℕ → ℕ → Option (List ℕ) → Outcome → Type 0
+HasReadCause (given task) told before now last (out.ReadFault f) = IsTaskFault task f told before now last
+HasReadCause (refused o) told before now last (out.ReadFault f) = ⊥
+HasReadCause task told before now last o = Unit {0}
 
 -- the read of a file stops with the refusal that is expected, or as no input explains
 abbrev pub StopsAt : FileOf → Expect (List ℕ) → Outcome → Type 0
@@ -162,14 +178,46 @@ HasCauseAt f told name before now last (out.Done pages passes) = ⊥
 HasCauseAt f told name before now last out.WriteFault = ⊥
 HasCauseAt f told name before now last o = Unit {0}
 
+-- what stops the reads of sheets is of one that is named
+pub record HasSheetCause (names : List (List ℕ)) (told : List ℕ → Told) (before now : ℕ) (last : Option (List ℕ)) (o : Outcome) : Type 0 where
+  pub place : ℕ
+  pub name : List ℕ
+  pub is : slice_get names place ≡ Some name
+  pub cause : HasCauseAt (file.Sheet (suc place)) (told name) name before now last o
+
+-- what stops the reads of files is of one that is named, and no put
+abbrev pub IsOfFiles : FormatWords → (List ℕ → Told) → ℕ → ℕ → Option (List ℕ) → Outcome → Type 0
+IsOfFiles names told before now last (out.ReadFault f) = IsFaultOf (name_of names f) told before now last
+IsOfFiles names told before now last (out.NotRead k) = ⊥
+IsOfFiles names told before now last (out.Done pages passes) = ⊥
+IsOfFiles names told before now last out.WriteFault = ⊥
+IsOfFiles names told before now last o = Unit {0}
+
 -- words are refused only for their own fault
-abbrev pub HasWordsCause : Expect Names → Outcome → Type 0
+abbrev pub HasWordsCause : Expect Task → Outcome → Type 0
 HasWordsCause e (out.NotRead k) = e ≡ refused (out.NotRead k)
 HasWordsCause e o = Unit {0}
 
 -- a line was put: all of it, or, where the count of faults rose, a prefix of it
 abbrev pub PutsLine : Option (List ℕ) → Option (List ℕ) → ℕ → ℕ → List ℕ → Type 0
 PutsLine old new before now line = (before ≤ now) × (Appends old new line ⊎ (Rose before now × ((n : ℕ) × Appends old new (take n line))))
+
+-- the answer is neither a refusal of words nor a read fault
+abbrev pub IsOfBook : Outcome → Type 0
+IsOfBook (out.NotRead k) = ⊥
+IsOfBook (out.ReadFault f) = ⊥
+IsOfBook o = Unit {0}
+
+-- a read fault is of a file that is named, with its cause, and words are not refused
+abbrev pub HasFileCause : FormatWords → (List ℕ → Told) → ℕ → ℕ → Option (List ℕ) → Outcome → Type 0
+HasFileCause names told before now last (out.ReadFault f) = IsFaultOf (name_of names f) told before now last
+HasFileCause names told before now last (out.NotRead k) = ⊥
+HasFileCause names told before now last o = Unit {0}
+
+-- the same for any task
+abbrev pub HasTaskCause : Task → (List ℕ → Told) → ℕ → ℕ → Option (List ℕ) → Outcome → Type 0
+HasTaskCause (files names) told before now last o = HasFileCause names told before now last o
+HasTaskCause (chapters count) told before now last o = IsOfBook o
 
 -- the answer is neither a refusal of words or of files nor one of a run that put something
 abbrev pub IsOfTexts : Outcome → Type 0
@@ -179,9 +227,10 @@ IsOfTexts (out.ReadFault f) = ⊥
 IsOfTexts out.WriteFault = ⊥
 IsOfTexts o = Unit {0}
 
--- the answer is a refusal of words
+-- the answer is a refusal of words, or memory ran out
 abbrev pub IsOfWords : Outcome → Type 0
 IsOfWords (out.NotRead k) = Unit {0}
+IsOfWords out.NoMemory = Unit {0}
 IsOfWords o = ⊥
 
 -- the limits of a document that is laid out
@@ -193,16 +242,18 @@ IsOfLayout limit.Depth = ⊥
 IsOfLayout limit.Sheets = ⊥
 IsOfLayout limit.Rules = ⊥
 
--- a book was put, or its text is too much or its pages are too many, or memory ran out
-abbrev pub IsDoneOrTooLong : Outcome → Type 0
-IsDoneOrTooLong (out.Done pages passes) = Unit {0}
-IsDoneOrTooLong (out.Limit what) = IsOfLayout what
-IsDoneOrTooLong out.NoMemory = Unit {0}
-IsDoneOrTooLong o = ⊥
+-- a book was put, or the passes over the document don't settle, or memory ran out
+abbrev pub IsDoneOrUnsettled : Outcome → Type 0
+IsDoneOrUnsettled (out.Done pages passes) = Unit {0}
+IsDoneOrUnsettled (out.Limit what) = IsOfLayout what
+IsDoneOrUnsettled (out.NotSettled target before after) = Unit {0}
+IsDoneOrUnsettled out.NoMemory = Unit {0}
+IsDoneOrUnsettled o = ⊥
 
--- where a document is expected and neither count of faults rose, the answer is Done or the limit of text or of pages, but for want of memory
+-- where a document is expected and neither count of faults rose, the answer is Done, but where the passes over it don't settle, and for
+-- want of memory
 abbrev pub IsComplete : Expect Document → Type 0 → Type 0 → Outcome → Type 0
-IsComplete (given d) shelf_rose out_rose o = ¬ shelf_rose → ¬ out_rose → IsDoneOrTooLong o
+IsComplete (given d) shelf_rose out_rose o = ¬ shelf_rose → ¬ out_rose → IsDoneOrUnsettled o
 IsComplete e shelf_rose out_rose o = Unit {0}
 
 abbrev pub Completes : List (List ℕ) → (List ℕ → Told) → Type 0 → Type 0 → Outcome → Type 0

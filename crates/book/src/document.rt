@@ -1,21 +1,20 @@
 //! Reads the texts of the files as a document.
 
-ghost use Rattle.std.specs.Prelude.{◌≡◌, ℕ, ◌≤◌, List, MatchResult, IfErr, IfOk, length, option_map};
+ghost use Rattle.std.specs.Prelude.{◌≡◌, ℕ, ◌≤◌, List, MatchResult, IfErr, IfOk, length};
 ghost use Rattle.std.specs.List.{AllZip};
 ghost use Rattle.bk_num.specs.Limits.{most_text_bytes};
 ghost use Rattle.metrics.specs.Text.{faces_of};
 ghost use Rattle.html_tree.specs.Tree.{tree_of};
-ghost use Rattle.sheets.specs.Sheets.{element_sheets};
-ghost use Rattle.unbuilt.specs.Nodes.{first_unbuilt};
-ghost use Rattle.unbuilt.specs.Readings.{SheetOf, AreReadings};
-ghost use Rattle.unbuilt.specs.Sources.{ArePageRules, AreRead, IsReadFrom, authors_of, numbers_of, sources_of};
+ghost use Rattle.sheets.specs.Sheets.{author_texts, element_sheets};
+ghost use Rattle.run_sheets.specs.Files.{file_texts};
+ghost use Rattle.run_sheets.specs.Readings.{SheetOf, AreReadings};
+ghost use Rattle.run_sheets.specs.Sources.{ArePageRules, IsReadFrom, authors_of, sources_of};
 ghost use Rattle.book.specs.Expect.{IsRefusedUnlessMemory, IsGiven};
-ghost use Rattle.book.specs.Document.{document_of, faces_expected, nodes_expected, sheets_expected, form_by};
-ghost use Rattle.book.specs.DocumentView.{document_in, HasSheets};
+ghost use Rattle.book.specs.Document.{document_of, faces_expected, nodes_expected, sheets_expected};
+ghost use Rattle.book.specs.DocumentView.{document_in, texts_in, HasSheets};
 ghost use Rattle.book.specs.Run.{IsOfTexts};
 
-use crate::outcome::{FileOf, LimitOf, Outcome};
-use bk_num::ids::NodeId;
+use crate::outcome::{LimitOf, Outcome};
 use bk_num::items::Items;
 use bk_num::name::NoMem;
 use cascade::sheet::ReadSheet;
@@ -23,27 +22,41 @@ use css_page::rules::PageRule;
 use dom::{Dom, DomErr};
 use html_tree::read_html;
 use metrics::{Faces, MetricsErr, read_metrics};
+use run_sheets::read::{Sheets, SheetsErr, read_sheets};
 use std::alloc::{AllocError, Global};
-use unbuilt::nodes::first_unbuilt;
-use unbuilt::run_sheets::{Sheets, SheetsErr, read_sheets};
 
-/// The faces of the metrics text, the tree, the text of the file's sheet, and what the document's sheets and their page
-/// rules are read as, in the order of the cascade.
-#[derive(Drop)]
-pub(crate) struct Document<'a> {
-    pub(crate) faces: Faces,
-    pub(crate) dom: Dom,
-    pub(crate) sheet: &'a str,
-    pub(crate) read: Items<ReadSheet>,
-    pub(crate) pages: Items<PageRule>,
+/// What is put of a book.
+#[derive(Clone, Copy, Debug, PartialEq, Eq)]
+pub enum Output {
+    /// Its listing.
+    Listing,
+    /// A line with its counts, as a sample of so many chapters.
+    Counts(u32),
 }
 
-/// The texts of the files, less a leading U+FEFF.
+/// In how many passes at most a document is to settle, what is to be put of it, the faces of the metrics text, the tree,
+/// the texts of the files' sheets, and what the document's sheets and their page rules are read as, in the order of the
+/// cascade.
+#[derive(Drop)]
+pub struct Document<'a> {
+    pub passes: u32,
+    pub output: Output,
+    pub faces: Faces,
+    pub dom: Dom,
+    pub sheets: &'a [String],
+    pub read: Items<ReadSheet>,
+    pub pages: Items<PageRule>,
+}
+
+/// In how many passes at most a book is to settle, what is to be put of it, and its texts, the first two less a leading
+/// U+FEFF.
 #[derive(Clone, Copy, Debug)]
-pub(crate) struct Texts<'a> {
-    pub(crate) metrics: &'a str,
-    pub(crate) html: &'a str,
-    pub(crate) sheet: &'a str,
+pub struct Texts<'a> {
+    pub passes: u32,
+    pub output: Output,
+    pub metrics: &'a str,
+    pub html: &'a str,
+    pub sheets: &'a [String],
 }
 
 impl From<AllocError> for Outcome {
@@ -100,16 +113,15 @@ fn read_tree(alloc: Global, html: &str) -> Result<Dom, Outcome>
     }
 }
 
-/// The sheets of the HTML and of the file, within their limits.
-fn read_run_sheets(alloc: Global, dom: &Dom, sheet: &str) -> Result<Sheets, Outcome>
-    ensures read { IfOk result (λ s. AllZip IsReadFrom (sources_of (element_sheets dom.now) sheet.now) s.read) }
-    ensures pages { IfOk result (λ s. ArePageRules (authors_of (element_sheets dom.now) sheet.now) s.pages) }
-    ensures found { (reading : List ℕ → SheetOf) → AreReadings reading → IfOk result (λ s. AreRead reading dom.now sheet.now (Ok s)) }
-    ensures sheets { (reading : List ℕ → SheetOf) → AreReadings reading → MatchResult result (λ s. IsGiven (sheets_expected reading dom.now sheet.now) tt)
-        (λ o. IsRefusedUnlessMemory (sheets_expected reading dom.now sheet.now) o) }
+/// The sheets of the HTML and of the files, within their limits.
+fn read_run_sheets(alloc: Global, dom: &Dom, files: &[String]) -> Result<Sheets, Outcome>
+    ensures read { IfOk result (λ s. AllZip IsReadFrom (sources_of (author_texts (element_sheets dom.now) (file_texts files.now))) s.read) }
+    ensures pages { IfOk result (λ s. ArePageRules (authors_of (author_texts (element_sheets dom.now) (file_texts files.now))) s.pages) }
+    ensures sheets { (reading : List ℕ → SheetOf) → AreReadings reading → let sheets = sheets_expected reading (author_texts (element_sheets dom.now) (file_texts files.now)) in
+        MatchResult result (λ s. IsGiven sheets tt) (λ o. IsRefusedUnlessMemory sheets o) }
     ensures of_texts { IfErr result IsOfTexts }
 {
-    match read_sheets(alloc, dom, sheet) {
+    match read_sheets(alloc, dom, files) {
         Ok(sheets) => Ok(sheets),
         Err(SheetsErr::Sheets) => Err(Outcome::Limit {
             what: LimitOf::Sheets,
@@ -121,52 +133,25 @@ fn read_run_sheets(alloc: Global, dom: &Dom, sheet: &str) -> Result<Sheets, Outc
     }
 }
 
-/// Nothing stands at these places that isn't built.
-fn check_places(node: Option<NodeId>, place: Option<u32>) -> Result<(), Outcome>
-    ensures form { MatchResult result (λ u. IsGiven (form_by (option_map (λ n. n.0) node) place) u)
-        (λ o. IsRefusedUnlessMemory (form_by (option_map (λ n. n.0) node) place) o) }
-    ensures of_texts { IfErr result IsOfTexts }
-{
-    match (node, place) {
-        (Some(node), _) => Err(Outcome::NotBuilt {
-            file: FileOf::Html,
-            at: u64::from(node.0),
-        }),
-        (None, Some(place)) => Err(Outcome::NotBuilt {
-            file: FileOf::Sheet(1),
-            at: u64::from(place),
-        }),
-        (None, None) => Ok(()),
-    }
-}
-
-/// Nothing stands in the document that isn't built.
-fn check_form(alloc: Global, dom: &Dom, sheets: &Sheets) -> Result<(), Outcome>
-    ensures form { let form = form_by (first_unbuilt (numbers_of sheets.now.elements) dom.now) sheets.now.place in
-        MatchResult result (λ u. IsGiven form u) (λ o. IsRefusedUnlessMemory form o) }
-    ensures of_texts { IfErr result IsOfTexts }
-{
-    let node = first_unbuilt(alloc, dom, sheets.elements.as_slice())?;
-    check_places(node, sheets.place)
-}
-
 /// The document of the texts.
-pub(crate) fn read_document<'a>(alloc: Global, texts: Texts<'a>) -> Result<Document<'a>, Outcome>
+pub fn read_document<'a>(alloc: Global, texts: Texts<'a>) -> Result<Document<'a>, Outcome>
     requires { length texts.metrics.now ≤ most_text_bytes }
     ensures document { (reading : List ℕ → SheetOf) → AreReadings reading →
-        let document = document_of reading (record { metrics = texts.entry.metrics.now; html = texts.entry.html.now; sheet = texts.entry.sheet.now }) in
+        let document = document_of reading (texts_in texts.entry) in
         MatchResult result (λ d. IsGiven document (document_in d)) (λ o. IsRefusedUnlessMemory document o) }
+    ensures passes { IfOk result (λ d. d.passes ≡ texts.entry.passes) }
     ensures read { IfOk result HasSheets }
     ensures of_texts { IfErr result IsOfTexts }
 {
     let faces = read_faces(alloc, texts.metrics)?;
     let dom = read_tree(alloc, texts.html)?;
-    let sheets = read_run_sheets(alloc, &dom, texts.sheet)?;
-    check_form(alloc, &dom, &sheets)?;
+    let sheets = read_run_sheets(alloc, &dom, texts.sheets)?;
     Ok(Document {
+        passes: texts.passes,
+        output: texts.output,
         faces,
         dom,
-        sheet: texts.sheet,
+        sheets: texts.sheets,
         read: sheets.read,
         pages: sheets.pages,
     })

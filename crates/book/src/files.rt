@@ -1,27 +1,28 @@
-//! Reads the text of a file.
+//! Reads the texts of files.
 
 ghost use Rattle.std.specs.Prelude.{◌≡◌, ◌≤◌, MatchResult, IfErr, IfOk, map, string_bytes, string_len};
 ghost use Rattle.bk_num.specs.Limits.{most_file_bytes};
 ghost use Rattle.bk_text.specs.Texts.{unmarked};
 ghost use Rattle.book.specs.Expect.{IsGiven};
-ghost use Rattle.book.specs.FilesView.{texts_in};
-ghost use Rattle.book.specs.Request.{asked};
-ghost use Rattle.book.specs.Run.{text_of, texts_expected, Stops, StopsAt, HasCauseAt, HasReadCause, HasWordsCause, IsNoPut};
+ghost use Rattle.book.specs.FilesView.{listed_texts};
+ghost use Rattle.book.specs.Run.{text_of, sheets_from, texts_named, Stops, StopsAt, HasCauseAt, HasSheetCause, IsOfFiles};
+ghost use Rattle.run_sheets.specs.Files.{file_texts};
+ghost use Rattle.words.specs.Asked.{format_view};
 
 use crate::outcome::{FileOf, Outcome};
-use crate::words::names_of;
 use bk_io::read_all::{ReadErr, read_all};
 use bk_io::shelf::Shelf;
 use bk_num::limits::MOST_FILE_BYTES;
 use bk_text::text_from;
 use std::alloc::Global;
+use words::Format;
 
 /// The texts of the files, a leading U+FEFF included.
 #[derive(Drop)]
 pub(crate) struct FileTexts {
     pub(crate) metrics: String,
     pub(crate) html: String,
-    pub(crate) sheet: String,
+    pub(crate) sheets: Vec<String>,
 }
 
 /// The text of one file, a leading U+FEFF included.
@@ -53,26 +54,47 @@ fn read_text<F: Shelf>(
     }
 }
 
-/// The texts of the files that the words name, read whole one after the other.
+/// The texts of the sheets, read whole one after the other. They are numbered from 1.
+fn read_sheets<F: Shelf>(
+    alloc: Global,
+    shelf: &mut F,
+    names: &[&str],
+) -> Result<Vec<String>, Outcome>
+    ensures told { F.told shelf.new ≡ F.told shelf.old }
+    ensures texts { let texts = sheets_from 1 (F.told shelf.old) (map (λ n. n.now) names.now) in
+        MatchResult result (λ v. IsGiven texts (file_texts v.items)) (λ o. Stops texts o) }
+    ensures later { F.faults shelf.old ≤ F.faults shelf.new }
+    ensures cause { IfErr result (λ o. HasSheetCause (map (λ n. n.now) names.now) (F.told shelf.old) (F.faults shelf.old) (F.faults shelf.new) (F.last_fault shelf.new) o) }
+{
+    let mut texts = Vec::new(alloc);
+    let mut number = 1;
+    for name in names {
+        let text = read_text(alloc, shelf, name, FileOf::Sheet(number))?;
+        if texts.push(text).is_err() {
+            return Err(Outcome::NoMemory);
+        }
+        number += 1;
+    }
+    Ok(texts)
+}
+
+/// The texts of the files that are named, read whole one after the other.
 pub(crate) fn read_files<F: Shelf>(
     alloc: Global,
-    words: &[String],
+    names: &Format<'_>,
     shelf: &mut F,
 ) -> Result<FileTexts, Outcome>
-    ensures texts { let texts = texts_expected (map (λ w. string_bytes w) words.now) (F.told shelf.old) in
-        MatchResult result (λ t. IsGiven texts (texts_in t)) (λ o. Stops texts o) }
+    ensures texts { let texts = texts_named (format_view names.now) (F.told shelf.old) in
+        MatchResult result (λ t. IsGiven texts (listed_texts names.now.passes t)) (λ o. Stops texts o) }
     ensures small { IfOk result (λ t. string_len t.metrics ≤ most_file_bytes) }
-    ensures fault { IfErr result (λ o. HasReadCause (asked (map (λ w. string_bytes w) words.now)) (F.told shelf.old) (F.faults shelf.old) (F.faults shelf.new) (F.last_fault shelf.new) o) }
-    ensures words { IfErr result (λ o. HasWordsCause (asked (map (λ w. string_bytes w) words.now)) o) }
-    ensures no_put { IfErr result IsNoPut }
+    ensures cause { IfErr result (λ o. IsOfFiles (format_view names.now) (F.told shelf.old) (F.faults shelf.old) (F.faults shelf.new) (F.last_fault shelf.new) o) }
 {
-    let names = names_of(words)?;
     let metrics = read_text(alloc, shelf, names.metrics, FileOf::Metrics)?;
     let html = read_text(alloc, shelf, names.html, FileOf::Html)?;
-    let sheet = read_text(alloc, shelf, names.sheet, FileOf::Sheet(1))?;
+    let sheets = read_sheets(alloc, shelf, names.sheets.as_slice())?;
     Ok(FileTexts {
         metrics,
         html,
-        sheet,
+        sheets,
     })
 }

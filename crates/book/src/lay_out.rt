@@ -1,138 +1,243 @@
-//! Lays a document out.
+//! Lays a document out, and puts what is asked for of its book.
 
-ghost use Rattle.std.specs.Prelude.{◌≡◌, ◌⊎◌, IfOk, IfErr};
+ghost use Rattle.std.specs.Prelude.{◌≡◌, ◌<◌, ◌≤◌, IfOk, IfErr, length};
+ghost use Rattle.bk_io.specs.Causes.{Rose};
+ghost use Rattle.bk_num.specs.Limits.{most_pages};
+ghost use Rattle.passes.specs.Conditions.{IsGoodFlow};
+ghost use Rattle.passes.specs.Passes.{settled};
 ghost use Rattle.style.specs.Styles.{initial_style};
 ghost use Rattle.book_print.specs.Printed.{listing_of};
-ghost use Rattle.fragment.specs.Conditions.{CanBePaged};
-ghost use Rattle.paint.specs.Conditions.{CanFlowBePainted};
-ghost use Rattle.book.specs.Answer.{IsBookOf, print_of};
+ghost use Rattle.book_print.specs.Puts.{HasPutCause, Puts};
+ghost use Rattle.book.specs.Answer.{output_of, print_of};
 ghost use Rattle.book.specs.DocumentView.{document_in, HasSheets};
-ghost use Rattle.book.specs.Flow.{HasOrder};
-ghost use Rattle.book.specs.Laid.{AreStylesOf, ArePagesOf, HasMorePages, IsBookBy};
-ghost use Rattle.book.specs.Run.{Ends, IsOfTexts};
+ghost use Rattle.book.specs.Laid.{AreBoxesOf, AreGoodStyles, EndSo, StopsBy, WritesBy, outcome_of};
+ghost use Rattle.book.specs.Laws.{PageLaws};
+ghost use Rattle.book.specs.Run.{IsOfBook, PutsOnlyABook, Writes};
 
-use crate::document::Document;
-use crate::flow::{SetFlow, flow_of};
+use crate::counts::put_counts;
+use crate::document::{Document, Output};
 use crate::outcome::{LimitOf, Outcome};
+use crate::styled::{Styled, in_styles};
+use bk_io::sink::Sink;
 use bk_num::name::NoMem;
 use bk_num::steps::Steps;
-use book_print::print::{Printer, print};
+use book_print::pages::Printer;
+use book_print::print::{PrintErr, print};
 use boxes::page::PageList;
-use fragment::paginate::{PageErr, paginate};
 use page_ctx::resolve::{PageStyles, resolve};
+use page_list::laws::{
+    breaks_hold, main_stands_once, notes_begin_in_time, notes_stand_once, pages_end_inside,
+};
 use page_seq::numbers::numbers;
 use page_seq::pages::Pages;
+use passes::settle::{Input, PassErr, Settled, settle};
 use std::alloc::Global;
 use std::sync::ledger::Ledger;
 use strings::assigned::Strings;
 use style::lists::Families;
 use style::style::Style;
 
-/// A book: how many pages, and the bytes of its listing.
-#[derive(Drop)]
-pub(crate) struct Book {
+/// A document that was laid out, and what is put of it was: how many pages, and in how many passes it settled.
+#[derive(Clone, Copy, Debug, PartialEq, Eq)]
+pub(crate) struct Done {
     pub(crate) pages: u32,
-    pub(crate) bytes: Vec<u8>,
+    pub(crate) passes: u32,
 }
 
-/// The page boxes and the styles of margin boxes that the page rules of a flow give.
-fn styles_of<'s>(
-    alloc: Global,
-    set: &'s SetFlow,
-    initial: &'s Families,
-) -> Result<PageStyles<'s>, NoMem>
-    requires { initial.now ≡ initial_style.font_family }
-    ensures { IfOk result (λ styles. AreStylesOf set.entry.now styles) }
-{
-    resolve(alloc, set.rules.as_slice(), &set.names, initial)
-}
+impl From<PassErr> for Outcome {
+    ghost use Rattle.std.specs.Prelude.{◌≡◌};
+    ghost use Rattle.book.specs.Laid.{of_passes};
 
-/// The pages of a flow, in the frames that its page rules give.
-fn pages_of<L: Ledger>(
-    alloc: Global,
-    set: &SetFlow,
-    styles: &PageStyles<'_>,
-    steps: &mut Steps<L>,
-) -> Result<PageList, Outcome>
-    requires paged { CanBePaged set.now.faces set.now.flow }
-    requires styles { AreStylesOf set.now styles.now }
-    ensures pages { IfOk result (λ list. ArePagesOf set.now list.pages) }
-    ensures err { IfErr result (λ o. (o ≡ Outcome.NoMemory) ⊎ ((o ≡ Outcome.Limit LimitOf.Pages) × HasMorePages set.now)) }
-{
-    let frames = Pages::new(styles.table.copy(alloc)?);
-    match paginate(alloc, &set.flow, &set.faces, &frames, steps) {
-        Ok(list) => Ok(list),
-        Err(PageErr::Pages) => Err(Outcome::Limit {
-            what: LimitOf::Pages,
-        }),
-        Err(PageErr::NoMemory) => Err(Outcome::NoMemory),
+    ghost from_gives = { λ e o. o ≡ of_passes e };
+
+    fn from(e: PassErr) -> Outcome {
+        match e {
+            PassErr::NotSettled {
+                target,
+                before,
+                after,
+            } => Outcome::NotSettled {
+                target,
+                before,
+                after,
+            },
+            PassErr::Text => Outcome::Limit {
+                what: LimitOf::Text,
+            },
+            PassErr::Pages => Outcome::Limit {
+                what: LimitOf::Pages,
+            },
+            PassErr::NoMemory => Outcome::NoMemory,
+        }
     }
 }
 
-/// The listing of the pages of a flow. Their numbers and the running strings along them are found once, for all pages.
-fn print_pages<L: Ledger>(
+impl From<PrintErr> for Outcome {
+    ghost use Rattle.std.specs.Prelude.{◌≡◌};
+    ghost use Rattle.book.specs.Laid.{of_print};
+
+    ghost from_gives = { λ e o. o ≡ of_print e };
+
+    fn from(e: PrintErr) -> Outcome {
+        match e {
+            PrintErr::Failed => Outcome::WriteFault,
+            PrintErr::NoMemory => Outcome::NoMemory,
+        }
+    }
+}
+
+/// The page boxes and the styles of margin boxes that the page rules of a document give.
+fn boxes_of<'s>(
     alloc: Global,
-    set: &SetFlow,
-    styles: &PageStyles<'_>,
-    list: &PageList,
-    steps: &mut Steps<L>,
-) -> Result<Vec<u8>, NoMem>
-    requires painted { CanFlowBePainted set.now.faces set.now.flow }
-    requires order { HasOrder set.now.flow }
-    requires styles { AreStylesOf set.now styles.now }
-    requires pages { ArePagesOf set.now list.now.pages }
-    ensures { IfOk result (λ v. v.items ≡
-        listing_of (print_of set.now.faces set.now.rules set.now.names set.now.flow) list.now.pages) }
+    styled: &'s Styled,
+    initial: &'s Families,
+) -> Result<PageStyles<'s>, NoMem>
+    requires { initial.now ≡ initial_style.font_family }
+    ensures { IfOk result (λ styles. AreBoxesOf styled.entry.now styles) }
 {
-    let numbers = numbers(alloc, &set.flow, list)?;
-    let strings = Strings::new(alloc, &set.flow, list)?;
+    resolve(alloc, styled.rules.as_slice(), &styled.names, initial)
+}
+
+/// The flow whose page references print the numbers of its own pages, with these pages.
+fn settle_passes<L: Ledger>(
+    alloc: Global,
+    styled: &Styled,
+    boxes: &PageStyles<'_>,
+    steps: &mut Steps<L>,
+) -> Result<Settled, Outcome>
+    requires passes { 0 < styled.now.passes }
+    requires good { AreGoodStyles styled.now }
+    requires boxes { AreBoxesOf styled.now boxes.now }
+    ensures settled { IfOk result (λ s. EndSo styled.now (settled s.passes s.flow s.pages.pages s.table)) }
+    ensures good { IfOk result (λ s. IsGoodFlow styled.now.faces s.flow) }
+    ensures few { IfOk result (λ s. length s.pages.pages ≤ most_pages) }
+    ensures stops { IfErr result (λ o. StopsBy styled.now o) }
+{
+    let frames = Pages::new(boxes.table.copy(alloc)?);
+    let input = Input {
+        dom: &styled.dom,
+        styles: &styled.styles,
+        counters: &styled.counters,
+        faces: &styled.faces,
+    };
+    let settled = settle(alloc, &input, &frames, styled.passes, steps)?;
+    Ok(settled)
+}
+
+/// Puts the listing of the pages that settled. Their numbers and the running strings along them are found once, for all
+/// pages.
+fn print_settled<O: Sink, L: Ledger>(
+    alloc: Global,
+    styled: &Styled,
+    boxes: &PageStyles<'_>,
+    laid: &Settled,
+    out: &mut O,
+    steps: &mut Steps<L>,
+) -> Result<(), PrintErr>
+    requires good { IsGoodFlow styled.now.faces laid.now.flow }
+    requires boxes { AreBoxesOf styled.now boxes.now }
+    requires few { length laid.now.pages.pages ≤ most_pages }
+    ensures bytes { Puts (O.taken out.old) (O.taken out.new)
+        (listing_of (print_of styled.now.faces styled.now.rules styled.now.names laid.now.passes laid.now.flow) laid.now.pages.pages) result }
+    ensures cause { HasPutCause (O.faults out.old) (O.faults out.new) result }
+{
+    let flow = &laid.flow;
+    let list = &laid.pages;
+    let numbers = numbers(alloc, flow, list)?;
+    let strings = Strings::new(alloc, flow, list)?;
     let printer = Printer {
-        faces: &set.faces,
-        flow: &set.flow,
-        names: &set.names,
+        passes: laid.passes,
+        faces: &styled.faces,
+        flow,
+        names: &styled.names,
         list,
         numbers: numbers.as_slice(),
         strings: &strings,
-        styles,
+        styles: boxes,
     };
-    print(alloc, &printer, steps)
+    print(alloc, &printer, out, steps)
 }
 
-/// The book of a flow, in the page boxes and the margin boxes of its page rules.
-fn book_of<L: Ledger>(
+/// Puts what is asked for of the pages that settled.
+fn put_settled<O: Sink, L: Ledger>(
     alloc: Global,
-    set: &SetFlow,
-    styles: &PageStyles<'_>,
+    styled: &Styled,
+    boxes: &PageStyles<'_>,
+    laid: &Settled,
+    out: &mut O,
     steps: &mut Steps<L>,
-) -> Result<Book, Outcome>
-    requires paged { CanBePaged set.now.faces set.now.flow }
-    requires painted { CanFlowBePainted set.now.faces set.now.flow }
-    requires order { HasOrder set.now.flow }
-    requires styles { AreStylesOf set.now styles.now }
-    ensures book { IfOk result (λ b. IsBookBy set.now (record { pages = b.pages; bytes = b.bytes.items })) }
-    ensures err { IfErr result (λ o. (o ≡ Outcome.NoMemory) ⊎ ((o ≡ Outcome.Limit LimitOf.Pages) × HasMorePages set.now)) }
+) -> Result<(), PrintErr>
+    requires good { IsGoodFlow styled.now.faces laid.now.flow }
+    requires boxes { AreBoxesOf styled.now boxes.now }
+    requires few { length laid.now.pages.pages ≤ most_pages }
+    ensures bytes { Puts (O.taken out.old) (O.taken out.new)
+        (output_of styled.now.output (print_of styled.now.faces styled.now.rules styled.now.names laid.now.passes laid.now.flow) laid.now.pages.pages laid.now.table) result }
+    ensures cause { HasPutCause (O.faults out.old) (O.faults out.new) result }
 {
-    let list = pages_of(alloc, set, styles, steps)?;
-    let bytes = print_pages(alloc, set, styles, &list, steps)?;
-    Ok(Book {
-        pages: list.pages.as_slice().len() as u32,
-        bytes,
+    match styled.output {
+        Output::Listing => print_settled(alloc, styled, boxes, laid, out, steps),
+        Output::Counts(chapters) => Ok(put_counts(out, chapters, laid)?),
+    }
+}
+
+/// How many pages there are.
+fn count_of(list: &PageList) -> u32
+    requires { length list.now.pages ≤ most_pages }
+    ensures { result ≡ length list.now.pages }
+{
+    list.pages.as_slice().len() as u32
+}
+
+/// Lays out a document in its styles, in the page boxes and the margin boxes of its page rules, and puts what is asked for.
+fn put_styled<O: Sink, L: Ledger>(
+    alloc: Global,
+    styled: &Styled,
+    boxes: &PageStyles<'_>,
+    out: &mut O,
+    steps: &mut Steps<L>,
+) -> Result<Done, Outcome>
+    requires passes { 0 < styled.now.passes }
+    requires good { AreGoodStyles styled.now }
+    requires boxes { AreBoxesOf styled.now boxes.now }
+    ensures writes { WritesBy styled.now (O.taken out.old) (O.taken out.new) (outcome_of result) }
+    ensures fault { outcome_of result ≡ Outcome.WriteFault → Rose (O.faults out.old) (O.faults out.new) }
+{
+    let settled = settle_passes(alloc, styled, boxes, steps)?;
+    put_settled(alloc, styled, boxes, &settled, out, steps)?;
+    Ok(Done {
+        pages: count_of(&settled.pages),
+        passes: settled.passes,
     })
 }
 
-/// The book of a document.
-pub(crate) fn lay_out<L: Ledger>(
+/// What holds of all page lists.
+fn page_laws()
+    ensures { PageLaws }
+{
+    main_stands_once();
+    notes_stand_once();
+    breaks_hold();
+    pages_end_inside();
+    notes_begin_in_time();
+}
+
+/// Lays a document out, and puts what is asked for of its book. What that keeps is said by the laws of page lists.
+pub(crate) fn lay_out<O: Sink, L: Ledger>(
     alloc: Global,
     document: Document<'_>,
+    out: &mut O,
     steps: &mut Steps<L>,
-) -> Result<Book, Outcome>
-    requires { HasSheets document }
-    ensures book { IfOk result (λ b. IsBookOf (document_in document.entry) (record { pages = b.pages; bytes = b.bytes.items })) }
-    ensures ends { IfErr result (λ o. Ends (document_in document.entry) o) }
-    ensures of_texts { IfErr result IsOfTexts }
+) -> Result<Done, Outcome>
+    requires passes { 0 < document.passes }
+    requires sheets { HasSheets document }
+    ensures writes { Writes (document_in document.entry) (O.taken out.old) (O.taken out.new) (outcome_of result) }
+    ensures put { PutsOnlyABook (O.taken out.old) (O.taken out.new) (outcome_of result) }
+    ensures of_book { IsOfBook (outcome_of result) }
+    ensures fault { outcome_of result ≡ Outcome.WriteFault → Rose (O.faults out.old) (O.faults out.new) }
 {
-    let set = flow_of(alloc, document)?;
+    page_laws();
+    let styled = in_styles(alloc, document)?;
     let initial = Style::initial(alloc)?;
-    let styles = styles_of(alloc, &set, &initial.font_family)?;
-    book_of(alloc, &set, &styles, steps)
+    let boxes = boxes_of(alloc, &styled, &initial.font_family)?;
+    put_styled(alloc, &styled, &boxes, out, steps)
 }

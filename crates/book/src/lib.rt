@@ -1,13 +1,11 @@
 //! The call behind the program: from words and files to a listing.
 #![tactic(auto)]
 
-mod document;
+mod counts;
+pub mod document;
 mod files;
-mod flow;
 mod lay_out;
 pub mod message;
 pub mod outcome;
 pub mod run;
-#[cfg(test)]
-mod tests;
-mod words;
+pub mod styled;

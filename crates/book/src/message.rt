@@ -1,6 +1,7 @@
 //! Puts the line of an answer.
 
 ghost use Rattle.std.specs.Prelude.{◌≡◌, ◌∷◌, [], codes};
+ghost use Rattle.std.specs.Fmt.{signed_decimal};
 ghost use Rattle.std.specs.List.{flat_map};
 ghost use Rattle.bk_io.specs.Sink.{AppendsAllOrPrefix, HasCause};
 ghost use Rattle.book.specs.Message.{message, texts_of, file_words, why_text, limit_text, decimal};
@@ -16,7 +17,7 @@ const USAGE: &str =
     "bookfmt: usage: bookfmt format [--passes N] METRICS HTML [CSS ...] or bookfmt sample N\n";
 
 /// Puts some texts one after the other.
-fn put_texts<E: Sink>(sink: &mut E, texts: &[&str]) -> Result<(), Failed>
+pub(crate) fn put_texts<E: Sink>(sink: &mut E, texts: &[&str]) -> Result<(), Failed>
     ensures bytes { AppendsAllOrPrefix (E.taken sink.old) (E.taken sink.new) (flat_map (λ t. t.now) texts.now) result }
     ensures cause { HasCause (E.faults sink.old) (E.faults sink.new) result }
 {
@@ -155,38 +156,62 @@ fn put_pages_line<E: Sink>(err: &mut E, pages: u32, passes: u32) -> Result<(), F
     )
 }
 
+/// Puts the line that tells which page reference doesn't settle.
+fn put_reference_line<E: Sink>(
+    err: &mut E,
+    target: &str,
+    before: i64,
+    after: i64,
+) -> Result<(), Failed>
+    ensures bytes { AppendsAllOrPrefix (E.taken err.old) (E.taken err.new)
+        (flat_map (λ t. t) (codes "bookfmt: page reference to " ∷ target.now ∷ codes " not settled: " ∷ signed_decimal before ∷ codes " then " ∷ signed_decimal after ∷ codes "\n" ∷ [])) result }
+    ensures cause { HasCause (E.faults err.old) (E.faults err.new) result }
+{
+    let (mut first, mut second) = (Buffer::new(), Buffer::new());
+    put_texts(
+        err,
+        &[
+            "bookfmt: page reference to ",
+            target,
+            " not settled: ",
+            first.format(before),
+            " then ",
+            second.format(after),
+            "\n",
+        ],
+    )
+}
+
 /// Puts the line of an answer. It takes no memory but what the sink takes.
 #[tactic(auto, unfolding(crate::specs::Message::texts_of))]
 pub fn put_message<E: Sink>(err: &mut E, outcome: &Outcome) -> Result<(), Failed>
     ensures bytes { AppendsAllOrPrefix (E.taken err.old) (E.taken err.new) (message outcome.now) result }
     ensures cause { HasCause (E.faults err.old) (E.faults err.new) result }
 {
-    match *outcome {
-        Outcome::Done { pages, passes } => put_pages_line(err, pages, passes),
+    match outcome {
+        Outcome::Done { pages, passes } => put_pages_line(err, *pages, *passes),
         Outcome::NotRead { .. } => put_texts(err, &[USAGE]),
-        Outcome::ReadFault { file } => put_file_line(err, "bookfmt: cannot read ", file, "\n"),
+        Outcome::ReadFault { file } => put_file_line(err, "bookfmt: cannot read ", *file, "\n"),
         Outcome::TooLarge { file } => put_file_line(
             err,
             "bookfmt: ",
-            file,
+            *file,
             " has more than 16777216 bytes\n",
         ),
         Outcome::NotUtf8 { file, at } => put_place_line(
             err,
             "bookfmt: ",
-            file,
+            *file,
             " is not UTF-8 at ",
-            at,
+            *at,
         ),
-        Outcome::BadMetrics { line, why } => put_metrics_line(err, line, why),
-        Outcome::NotBuilt { file, at } => put_place_line(
-            err,
-            "bookfmt: not built: ",
-            file,
-            " at ",
-            at,
-        ),
-        Outcome::Limit { what } => put_limit_line(err, what),
+        Outcome::BadMetrics { line, why } => put_metrics_line(err, *line, *why),
+        Outcome::NotSettled {
+            target,
+            before,
+            after,
+        } => put_reference_line(err, target.as_str(), *before, *after),
+        Outcome::Limit { what } => put_limit_line(err, *what),
         Outcome::WriteFault => put_texts(err, &["bookfmt: cannot write\n"]),
         Outcome::NoMemory => put_texts(err, &["bookfmt: no memory\n"]),
     }

@@ -29,11 +29,6 @@ flat-next f n =
     let e : 0 + n ≡ n = omega arith in
     ap (λ (k : ℕ). flat_map f (range_with_len 0 k)) more ∙ flat-more f 0 n ∙ ap (λ (k : ℕ). flat_map f (range_with_len 0 n) ++ f k) e
 
--- three lists, one after the other
-pub added : (old one two new head items texts : List ℕ) → one ≡ old ++ head → two ≡ one ++ items → new ≡ two ++ texts → new ≡ old ++ (head ++ items ++ texts)
-added old one two new head items texts a b c =
-    c ∙ ap (λ (z : List ℕ). z ++ texts) (b ∙ ap (λ (z : List ℕ). z ++ items) a ∙ append_assoc old head items) ∙ append_assoc old (head ++ items) texts
-
 -- the bytes of the page that stands at a place
 pub page_is : (p : Print) (pages : List Page) (place : ℕ) (page : Page) → slice_get pages place ≡ Some page → page_bytes p pages place ≡ bytes_on p pages place page
 unfolding page_bytes

@@ -16,9 +16,10 @@ use Rattle.page_ctx.specs.Margins.{MarginStyleOf}
 use Rattle.page_seq.specs.Numbers.{numbers_of}
 use Rattle.paint.specs.Pages.{items_of}
 
--- what is printed: faces, a flow, the names of pages by their numbers, and for each index, name and kind the page box, and the
--- style of each margin box
+-- what is printed: in how many passes page references settled, faces, a flow, the names of pages by their numbers, and for each
+-- index, name and kind the page box, and the style of each margin box
 pub record Print : Type 0 where
+  pub passes : ℕ
   pub faces : List FontFace
   pub flow : Flow
   pub names : List (List ℕ)
@@ -75,6 +76,6 @@ bytes_of p pages place (Some page) = bytes_on p pages place page
 unfoldable pub page_bytes : Print → List Page → ℕ → List ℕ
 page_bytes p pages place = bytes_of p pages place (slice_get pages place)
 
--- the listing of a page list that settled in the first pass
+-- the listing of a page list
 unfoldable pub listing_of : Print → List Page → List ℕ
-listing_of p pages = book_record (length pages) 1 ++ flat_map (page_bytes p pages) (range_with_len 0 (length pages)) ++ end_record
+listing_of p pages = book_record (length pages) p.passes ++ flat_map (page_bytes p pages) (range_with_len 0 (length pages)) ++ end_record

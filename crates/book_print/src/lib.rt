@@ -1,4 +1,5 @@
-//! Prints a page list.
+//! The listing of a page list.
 #![tactic(auto)]
 
+pub mod pages;
 pub mod print;

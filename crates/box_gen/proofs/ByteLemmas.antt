@@ -17,7 +17,7 @@ use Rattle.box_gen.specs.Leaves.{leaf_by, leaf_style_of}
 use Rattle.box_gen.specs.Props.{anonymous_props}
 use Rattle.box_gen.specs.Runs.{spans_of, text_of}
 use Rattle.box_gen.specs.Sites.{leaf_bytes, with_any, with_text}
-use Rattle.box_gen.specs.Trees.{Source, Role, text, hidden, inline, block, role_of}
+use Rattle.box_gen.specs.Trees.{Source, Role, text, hidden, inline, block, note, role_of}
 use Rattle.box_gen.specs.Walk.{Walk, after_step, after_steps, enter_by, enter_node, innermost, leave_by, leave_node, walk}
 
 bytes-push : (ls : List LeafData) (l : LeafData) → leaf_bytes (ls ++ l ∷ []) ≡ leaf_bytes ls + length l.text
@@ -62,6 +62,7 @@ more-step src w (Enter n) = by w.unshown
     enters hidden = omega arith
     enters (text t) = omega arith
     enters (inline u) = omega arith
+    enters (note u) = omega arith
     enters (block u) = let e = bytes-run src (innermost w.blocks) true w.gathered.built w.gathered.run in omega (arith, e)
 
     by : (o : Option ℕ) → bytes-of w ≤ bytes-of (enter_by src n.0 o w)
@@ -73,6 +74,7 @@ more-step src w (Leave n) = by w.unshown
     leaves hidden = omega arith
     leaves (text t) = omega arith
     leaves (inline u) = omega arith
+    leaves (note u) = omega arith
     leaves (block u) =
         let g : Gathered = adds (last_items src n.0) w.gathered in
         let a = bytes-ended src u g in

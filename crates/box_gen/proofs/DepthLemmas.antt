@@ -18,7 +18,7 @@ use Rattle.box_gen.specs.Gather.{Gathered, adds, begun, gather_node, gathered, m
 use Rattle.box_gen.specs.Leaves.{leaf_by, leaf_style_of}
 use Rattle.box_gen.specs.Props.{anonymous_props, props_of}
 use Rattle.box_gen.specs.Runs.{spans_of, text_of}
-use Rattle.box_gen.specs.Trees.{Source, Forest, none, node, side_by_side, below, forest_of, Role, text, hidden, inline, block, role_by, role_of}
+use Rattle.box_gen.specs.Trees.{Source, Forest, none, node, side_by_side, below, forest_of, Role, text, hidden, inline, block, note, is_note_element, role_by, role_of}
 use Rattle.box_gen.proofs.FlowLemmas.{grown-end, grows, opens-gathered}
 use Rattle.box_gen.proofs.TreeLemmas.{opens, opens-box, opens-close, opens-leaf, opens-opened, opens-run}
 use Rattle.box_gen.proofs.WalkLemmas.{Under, under, parent-child}
@@ -38,7 +38,7 @@ rest-few (o ∷ os) = omega arith
 depth-close : (t : Tree) (b m : ℕ) → depth_of t.events ≤ m → depth_of (with_close t b).events ≤ m
 depth-close t b m d = let a = most-push [] t.events (Closes b) in let e = ap (λ (l : List ℕ). length l) (opens-close t b) in let r = rest-few (opens t) in let c = open_least [] t.events in omega (arith, a, e, r, c, d)
 
-depth-shut : (t : Tree) (m : ℕ) → depth_of t.events ≤ m → depth_of (shut t).events ≤ m
+pub depth-shut : (t : Tree) (m : ℕ) → depth_of t.events ≤ m → depth_of (shut t).events ≤ m
 depth-shut t m d = by (innermost_of t.events)
   where
     by : (o : Option ℕ) → depth_of (close_by t o).events ≤ m
@@ -46,7 +46,7 @@ depth-shut t m d = by (innermost_of t.events)
     by (Some b) = depth-close t b m d
 
 -- a run opens one box at most
-depth-run : (src : Source) (s : Style) (wrap : Bool) (b : Built) (items : List InlineItem) (m : ℕ) → depth_of b.tree.events ≤ m → length (opens b.tree) < m → depth_of (with_run src s wrap b items).tree.events ≤ m
+pub depth-run : (src : Source) (s : Style) (wrap : Bool) (b : Built) (items : List InlineItem) (m : ℕ) → depth_of b.tree.events ≤ m → length (opens b.tree) < m → depth_of (with_run src s wrap b items).tree.events ≤ m
 depth-run src s wrap b items m d few = by (length (text_of items) == 0) wrap
   where
     leaf : LeafData
@@ -60,17 +60,18 @@ depth-run src s wrap b items m d few = by (length (text_of items) == 0) wrap
 -- ---- nodes
 
 -- no more blocks than a number are in each other
-abbrev LowNode : Role → ℕ → (ℕ → Type 0) → Type 0
+abbrev pub LowNode : Role → ℕ → (ℕ → Type 0) → Type 0
 LowNode hidden k inside = Unit {0}
 LowNode (text t) k inside = Unit {0}
 LowNode (inline u) k inside = inside k
 LowNode (block u) k inside = (0 < k) × inside (k - 1)
+LowNode (note u) k inside = Unit {0}
 
-unfoldable Low : Source → Forest → ℕ → Type 0
+unfoldable pub Low : Source → Forest → ℕ → Type 0
 Low src none k = Unit {0}
 Low src (node n kids more) k = LowNode (role_of src n) k (λ j. Low src kids j) × Low src more k
 
-depth-gathered : (src : Source) (s b : Style) (f : Forest) (k : ℕ) (g : Gathered) (m : ℕ) → Low src f k → depth_of g.built.tree.events ≤ m → length (opens g.built.tree) + k < m → depth_of (gathered src s b f g).built.tree.events ≤ m
+pub depth-gathered : (src : Source) (s b : Style) (f : Forest) (k : ℕ) (g : Gathered) (m : ℕ) → Low src f k → depth_of g.built.tree.events ≤ m → length (opens g.built.tree) + k < m → depth_of (gathered src s b f g).built.tree.events ≤ m
 unfolding gathered Low
 depth-gathered src s b none k g m low d few = d
 depth-gathered src s b (node n kids more) k g m low d few =
@@ -85,6 +86,7 @@ depth-gathered src s b (node n kids more) k g m low d few =
         depth_of (gather_node src s b n r (λ u c h. gathered src u c kids h) g).built.tree.events ≤ m
     by hidden l rec = d
     by (text t) l rec = d
+    by (note u) l rec = d
     by (inline u) l rec = rec u b k (adds (first_items src u n) (adds (item.Start (record { 0 = n }) ∷ []) g)) l d few
     by (block u) l rec =
         let before : Built = with_run src b true g.built g.run in
@@ -114,14 +116,17 @@ child-depth nodes t c n p = by (slice_get nodes c) refl (sym (slice_get-map (λ 
 shallow : (src : Source) → IsTree src.nodes → (c : ℕ) (u : Style) (x : Node) → slice_get src.nodes c ≡ Some x → role_of src c ≡ block u → depth_at src.nodes c ≤ 200
 shallow src t c u x is e = by x.what refl
   where
-    role : role_by (c == 0) (slice_get src.styles c) (text_in x.what) ≡ block u
-    role = sym (ap (λ (o : Option Node). role_by (c == 0) (slice_get src.styles c) (part_of text_in o)) is) ∙ e
+    f : Bool
+    f = is_note_element src c
+
+    role : role_by f (c == 0) (slice_get src.styles c) (text_in x.what) ≡ block u
+    role = sym (ap (λ (o : Option Node). role_by f (c == 0) (slice_get src.styles c) (part_of text_in o)) is) ∙ e
 
     by : (w : NodeData) → x.what ≡ w → depth_at src.nodes c ≤ 200
     by (Element name attrs) h = let d = subst (λ w. reach_of x.depth w ≤ 201) h (t.deep c x is) in let a : depth_at src.nodes c ≡ x.depth = ap node_depth is in omega (arith, d, a)
-    by (Text y) h = let r : role_by (c == 0) (slice_get src.styles c) (Some y) ≡ block u = sym (ap (λ w. role_by (c == 0) (slice_get src.styles c) (text_in w)) h) ∙ role in absurd (cc)
+    by (Text y) h = let r : role_by f (c == 0) (slice_get src.styles c) (Some y) ≡ block u = sym (ap (λ w. role_by f (c == 0) (slice_get src.styles c) (text_in w)) h) ∙ role in absurd (cc)
 
-low-below : (src : Source) → IsTree src.nodes → (d n k : ℕ) → 200 ≤ k + depth_at src.nodes n → Low src (below (parents_of src.nodes) d n) k
+pub low-below : (src : Source) → IsTree src.nodes → (d n k : ℕ) → 200 ≤ k + depth_at src.nodes n → Low src (below (parents_of src.nodes) d n) k
 unfolding Low Under
 low-below src t zero n k deep = tt
 low-below src t (suc d) n k deep = all (λ c j e. low-below src t d c j e) (children_of ps n) (under ps n (falling src.nodes t))
@@ -136,6 +141,7 @@ low-below src t (suc d) n k deep = all (λ c j e. low-below src t d c j e) (chil
         by : (r : Role) → role_of src c ≡ r → (x : Node) × (slice_get src.nodes c ≡ Some x) × (depth_at src.nodes c ≡ depth_at src.nodes n + 1) → LowNode r k (λ j. Low src (below ps d c) j)
         by hidden e h = tt
         by (text y) e h = tt
+        by (note v) e h = tt
         by (inline v) e h = let one = h.2 in rec c k (omega (arith, deep, one))
         by (block v) e h = let one = h.2 in let most = shallow src t c v h.0 h.1 e in (omega (arith, deep, one, most), rec c (k - 1) (omega (arith, deep, one, most)))
 
@@ -162,5 +168,6 @@ few-open src t =
     by : (r : Role) → LowNode r 201 (λ j. Low src kids j)
     by hidden = tt
     by (text y) = tt
+    by (note u) = tt
     by (inline u) = low-below src t (length src.nodes - 1) 0 201 (omega arith)
     by (block u) = (omega arith, low-below src t (length src.nodes - 1) 0 200 (omega arith))

@@ -30,41 +30,41 @@ use Rattle.box_gen.specs.Props.{anonymous_props}
 use Rattle.box_gen.specs.Represented.{represented_text}
 use Rattle.box_gen.specs.Runs.{marks_in, printed_in, spans_from, spans_of, styles_in, text_of}
 use Rattle.box_gen.specs.TextStyles.{span_by, text_style_of}
-use Rattle.box_gen.specs.Trees.{Source, Role, text, hidden, inline, block, role_of}
+use Rattle.box_gen.specs.Trees.{Source, Role, text, hidden, inline, block, note, role_of}
 use Rattle.box_gen.specs.Walk.{Walk, after_step, after_steps, enter_by, enter_node, innermost, leave_by, leave_node, style_around, walk, walked}
 use Rattle.box_gen.proofs.ByteLemmas.{leaves-shut}
 use Rattle.box_gen.proofs.OwnerLemmas.{all-append, all-shut}
 use Rattle.box_gen.proofs.SoundLemmas.{leads-all, pending-run}
-use Rattle.box_gen.proofs.WalkLemmas.{walk-builds}
+use Rattle.box_gen.proofs.WalkLemmas.{walk-main}
 
-abbrev IsStyleFaced : List FontFace → TextStyle → Type 0
+abbrev pub IsStyleFaced : List FontFace → TextStyle → Type 0
 IsStyleFaced faces t = t.face.0 < length faces
 
-abbrev IsSpanFaced : List FontFace → Span → Type 0
+abbrev pub IsSpanFaced : List FontFace → Span → Type 0
 IsSpanFaced faces s = s.face.0 < length faces
 
-abbrev IsLeadFaced : List FontFace → Lead → Type 0
+abbrev pub IsLeadFaced : List FontFace → Lead → Type 0
 IsLeadFaced faces l = l.span.face.0 < length faces
 
-abbrev IsLeafFaced : List FontFace → LeafData → Type 0
+abbrev pub IsLeafFaced : List FontFace → LeafData → Type 0
 IsLeafFaced faces l = HasFaces faces l × All (IsLeadFaced faces) l.leads
 
-abbrev AreTextsFaced : List FontFace → List InlineItem → Type 0
+abbrev pub AreTextsFaced : List FontFace → List InlineItem → Type 0
 AreTextsFaced faces items = All (IsStyleFaced faces) (styles_in (marks_in items))
 
 -- the face of each style is there
-abbrev HasStyleFaces : List FontFace → Source → Type 0
+abbrev pub HasStyleFaces : List FontFace → Source → Type 0
 HasStyleFaces faces src = (s : Style) → (src.face s).0 < length faces
 
 -- what is gathered has faces that are there
-record Faced (faces : List FontFace) (g : Gathered) : Type 0 where
+pub record Faced (faces : List FontFace) (g : Gathered) : Type 0 where
   pub leaves : All (IsLeafFaced faces) g.built.tree.leaves
   pub leads : All (IsLeadFaced faces) g.built.pending
   pub texts : AreTextsFaced faces g.run
 
 -- ---- texts
 
-texts-append : (faces : List FontFace) (xs ys : List InlineItem) → AreTextsFaced faces xs → AreTextsFaced faces ys → AreTextsFaced faces (xs ++ ys)
+pub texts-append : (faces : List FontFace) (xs ys : List InlineItem) → AreTextsFaced faces xs → AreTextsFaced faces ys → AreTextsFaced faces (xs ++ ys)
 texts-append faces xs ys a b = subst (All (IsStyleFaced faces)) (sym (styles-append xs ys)) (all-append (IsStyleFaced faces) (styles_in (marks_in xs)) (styles_in (marks_in ys)) a b)
   where
     styles-append : (xs ys : List InlineItem) → styles_in (marks_in (xs ++ ys)) ≡ styles_in (marks_in xs) ++ styles_in (marks_in ys)
@@ -75,14 +75,14 @@ texts-append faces xs ys a b = subst (All (IsStyleFaced faces)) (sym (styles-app
 styled-faced : (faces : List FontFace) (src : Source) (s : Style) (p : TextPart) → HasStyleFaces faces src → AreTextsFaced faces (styled src s p ∷ [])
 styled-faced faces src s p there = All-cons (IsStyleFaced faces) (text_style_of s p.space (src.face s)) [] (there s) (All-nil (IsStyleFaced faces))
 
-generated-faced : (faces : List FontFace) (src : Source) (n : ℕ) (p : Pseudo) → HasStyleFaces faces src → AreTextsFaced faces (generated_items src n p)
+pub generated-faced : (faces : List FontFace) (src : Source) (n : ℕ) (p : Pseudo) → HasStyleFaces faces src → AreTextsFaced faces (generated_items src n p)
 generated-faced faces src n p there = by (style_at src.styles n p)
   where
     by : (o : Option Style) → AreTextsFaced faces (generated_by src n p o)
     by None = All-nil (IsStyleFaced faces)
     by (Some s) = styled-faced faces src s (record { text = src.generated n p; space = s.white_space }) there
 
-first-faced : (faces : List FontFace) (src : Source) (s : Style) (n : ℕ) → HasStyleFaces faces src → AreTextsFaced faces (first_items src s n)
+pub first-faced : (faces : List FontFace) (src : Source) (s : Style) (n : ℕ) → HasStyleFaces faces src → AreTextsFaced faces (first_items src s n)
 first-faced faces src s n there = texts-append faces (generated_items src n pseudo.Before) (represented_items src s (represented_text src.nodes n s.white_space)) (generated-faced faces src n pseudo.Before there) (by (represented_text src.nodes n s.white_space))
   where
     by : (o : Option TextPart) → AreTextsFaced faces (represented_items src s o)
@@ -120,7 +120,7 @@ run-leaves faces src s wrap b items there ls ds ts = by (length (text_of items) 
 
 -- ---- steps
 
-faced-adds : (faces : List FontFace) (g : Gathered) (items : List InlineItem) → AreTextsFaced faces items → Faced faces g → Faced faces (adds items g)
+pub faced-adds : (faces : List FontFace) (g : Gathered) (items : List InlineItem) → AreTextsFaced faces items → Faced faces g → Faced faces (adds items g)
 faced-adds faces g items t f = record { leaves = f.leaves; leads = f.leads; texts = texts-append faces g.run items f.texts t }
 
 faced-begun : (faces : List FontFace) (src : Source) (b : Style) (n : ℕ) (u : Style) (g : Gathered) → HasStyleFaces faces src → Faced faces g → Faced faces (begun src b n u g)
@@ -133,7 +133,7 @@ faced-begun faces src b n u g there f = record {
     before : Built
     before = with_run src b true g.built g.run
 
-faced-ended : (faces : List FontFace) (src : Source) (u : Style) (g : Gathered) → HasStyleFaces faces src → Faced faces g → Faced faces (ended src u g)
+pub faced-ended : (faces : List FontFace) (src : Source) (u : Style) (g : Gathered) → HasStyleFaces faces src → Faced faces g → Faced faces (ended src u g)
 faced-ended faces src u g there f = record {
   leaves = subst (All (IsLeafFaced faces)) (sym (leaves-shut put.tree)) (run-leaves faces src u w g.built g.run there f.leaves f.leads f.texts);
   leads = by (innermost_of put.tree.events) (pending-run (IsLeadFaced faces) src u w g.built g.run f.leads);
@@ -157,6 +157,7 @@ faced-step faces src w (Enter n) there f = by w.unshown
     enters hidden = f
     enters (text t) = faced-adds faces w.gathered (text_item src (style_around src n.0) t ∷ []) (styled-faced faces src (style_around src n.0) (record { text = t; space = (style_around src n.0).white_space }) there) f
     enters (inline u) = faced-adds faces (adds (item.Start (record { 0 = n.0 }) ∷ []) w.gathered) (first_items src u n.0) (first-faced faces src u n.0 there) (faced-adds faces w.gathered (item.Start (record { 0 = n.0 }) ∷ []) (All-nil (IsStyleFaced faces)) f)
+    enters (note u) = faced-adds faces (adds (item.Start (record { 0 = n.0 }) ∷ []) w.gathered) (generated_items src n.0 pseudo.Call) (generated-faced faces src n.0 pseudo.Call there) (faced-adds faces w.gathered (item.Start (record { 0 = n.0 }) ∷ []) (All-nil (IsStyleFaced faces)) f)
     enters (block u) = faced-begun faces src (innermost w.blocks) n.0 u w.gathered there f
 
     by : (o : Option ℕ) → Faced faces (enter_by src n.0 o w).gathered
@@ -170,6 +171,7 @@ faced-step faces src w (Leave n) there f = by w.unshown
     leaves : (r : Role) → Faced faces (leave_node src n.0 r w).gathered
     leaves hidden = f
     leaves (text t) = f
+    leaves (note u) = f
     leaves (inline u) = last
     leaves (block u) = faced-ended faces src u (adds (last_items src n.0) w.gathered) there last
 
@@ -181,7 +183,7 @@ faced-step faces src w (Leave n) there f = by w.unshown
     by None = leaves (role_of src n.0)
     by (Some h) = out (h == n.0)
 
-faced-steps : (faces : List FontFace) (src : Source) (w : Walk) (steps : List Step) → HasStyleFaces faces src → Faced faces w.gathered → Faced faces (after_steps src w steps).gathered
+pub faced-steps : (faces : List FontFace) (src : Source) (w : Walk) (steps : List Step) → HasStyleFaces faces src → Faced faces w.gathered → Faced faces (after_steps src w steps).gathered
 faced-steps faces src w [] there f = f
 faced-steps faces src w (s ∷ steps) there f = faced-steps faces src (after_step src w s) steps there (faced-step faces src w s there f)
 
@@ -190,5 +192,5 @@ pub all-faced : (faces : List FontFace) (src : Source) → HasStyleFaces faces s
 all-faced faces src there t =
     let start : Walk = walk (make nothing []) [] None in
     let f : Faced faces (walked src).gathered = faced-steps faces src start (steps_of src.nodes) there (record { leaves = All-nil (IsLeafFaced faces); leads = All-nil (IsLeadFaced faces); texts = All-nil (IsStyleFaced faces) }) in
-    let all : All (IsLeafFaced faces) (built_of src).tree.leaves = subst (λ (b : Built). All (IsLeafFaced faces) b.tree.leaves) (sym (walk-builds src t)) (run-leaves faces src initial_style true (walked src).gathered.built (walked src).gathered.run there f.leaves f.leads f.texts) in
+    let all : All (IsLeafFaced faces) (built_of src).tree.leaves = subst (λ (b : Built). All (IsLeafFaced faces) b.tree.leaves) (sym (walk-main src t)) (run-leaves faces src initial_style true (walked src).gathered.built (walked src).gathered.run there f.leaves f.leads f.texts) in
     λ l leaf is. subst (IsLeafFaced faces) (get_or_from_slice_get (built_of src).tree.leaves l leaf leaf is) (all l leaf (slice_get_within (built_of src).tree.leaves l leaf is))

@@ -2,13 +2,14 @@
 use Rattle.std.proofs.Common.{◌≡◌, ◌∙◌, ℕ, Bool, true, false, not, ◌||◌, List, [], ◌∷◌, ◌++◌, append-nil, length, refl, sym, ap, subst, ◌⊎◌, inl, inr}
 use Rattle.boxes.specs.declared.flow.Start.{Start}
 use Rattle.boxes.specs.Tree.{takes_leaf}
+use Rattle.bk_num.specs.declared.values.Pseudo.TheVariants as pseudo
 use Rattle.style.specs.declared.style.Style.{Style}
 use Rattle.box_gen.specs.declared.inline.InlineItem.{InlineItem}
 use Rattle.box_gen.specs.declared.inline.InlineItem.TheVariants as item
 use Rattle.box_gen.specs.Props.{props_of}
 use Rattle.box_gen.specs.Runs.{text_of, starts_of}
-use Rattle.box_gen.specs.Trees.{Source, Forest, none, node, Role, text, hidden, inline, block, role_of}
-use Rattle.box_gen.specs.Flow.{Content, end, run, box, with_item, with_items, with_node, content_of, has_block, Built, built, grown, with_run, closed, opened, text_item, first_items, last_items}
+use Rattle.box_gen.specs.Trees.{Source, Forest, none, node, Role, text, hidden, inline, block, note, role_of}
+use Rattle.box_gen.specs.Flow.{Content, end, run, box, with_item, with_items, with_node, content_of, has_block, Built, built, grown, with_run, closed, opened, text_item, first_items, generated_items, last_items}
 use Rattle.box_gen.specs.Gather.{Gathered, make, adds, begun, gather_node, gathered}
 use Rattle.box_gen.proofs.TreeLemmas.{opens, opens-opened, opens-run, opens-shut, EndsClosed, shut-ends, ends-takes, box-takes}
 
@@ -18,6 +19,7 @@ node_blocks hidden kids = false
 node_blocks (text t) kids = false
 node_blocks (inline u) kids = kids
 node_blocks (block u) kids = true
+node_blocks (note u) kids = false
 
 unfoldable pub forest_blocks : Source → Forest → Bool
 forest_blocks src none = false
@@ -88,6 +90,7 @@ has-content src s (node n kids more) c = by (role_of src n) (has-content src s m
     by (text t) m k = has-item (text_item src s t) (content_of src s more c) ∙ m
     by (inline u) m k = has-item (item.Start (record { 0 = n })) (with_items (first_items src u n) (content_of src u kids (with_items (last_items src n) (content_of src s more c)))) ∙ has-items (first_items src u n) (content_of src u kids (with_items (last_items src n) (content_of src s more c))) ∙ k u (with_items (last_items src n) (content_of src s more c)) ∙ ap (λ (q : Bool). forest_blocks src kids || q) (has-items (last_items src n) (content_of src s more c) ∙ m) ∙ or_assoc (forest_blocks src kids) (forest_blocks src more) (has_block c)
     by (block u) m k = refl
+    by (note u) m k = has-item (item.Start (record { 0 = n })) (with_items (generated_items src n pseudo.Call) (content_of src s more c)) ∙ has-items (generated_items src n pseudo.Call) (content_of src s more c) ∙ m
 
 -- ---- open boxes
 
@@ -107,6 +110,7 @@ opens-gathered src s b (node n kids more) g = opens-gathered src s b more (gathe
         let before : Built = with_run src b true g.built g.run in
         opens-shut (with_run src u (not (takes_leaf g2.built.tree.events)) g2.built g2.run).tree (length before.tree.boxes) (opens g.built.tree)
         (opens-run src u (not (takes_leaf g2.built.tree.events)) g2.built g2.run ∙ k u u g1 ∙ opens-opened src n u before ∙ ap (λ (l : List ℕ). length before.tree.boxes ∷ l) (opens-run src b true g.built g.run))
+    by (note u) k = refl
 
 -- blocks end in a closed box, and other nodes leave what is built as it is
 abbrev Leaves : Bool → Built → Built → Type 0
@@ -134,6 +138,7 @@ leaves src s b (node n kids more) g = leaves-both (node_blocks (role_of src n) (
         let g2 : Gathered = adds (last_items src n) (gathered src u u kids g1) in
         let before : Built = with_run src b true g.built g.run in
         inr (refl, shut-ends (with_run src u (not (takes_leaf g2.built.tree.events)) g2.built g2.run).tree (length before.tree.boxes) (opens before.tree) (opens-run src u (not (takes_leaf g2.built.tree.events)) g2.built g2.run ∙ opens-gathered src u u kids g1 ∙ opens-opened src n u before))
+    by (note u) k = inl (refl, refl)
 
 -- a box is wrapped in exactly where a block was put into it
 wraps : (src : Source) (s b : Style) (f : Forest) (g : Gathered) (last : List InlineItem) → takes_leaf g.built.tree.events ≡ true → has_block (content_of src s f (with_items last end)) ≡ not (takes_leaf (gathered src s b f g).built.tree.events)
@@ -189,3 +194,22 @@ grows src s b (node n kids more) w t r rest h = by (role_of src n) h
         ∙ ap (λ (q : Bool). grown src b w (closed (grown src u q v inside)) (content_of src s more rest)) same
         ∙ ap (λ (x : Built). grown src b w (closed x) (content_of src s more rest)) full
         ∙ m (closed put) [] (λ e. wrap)
+    by (note u) h m k =
+        let begins : InlineItem = item.Start (record { 0 = n }) in
+        let call : List InlineItem = generated_items src n pseudo.Call in
+        ap (grown src b w t) (items-more r (begins ∷ []) (with_items call (content_of src s more rest)) ∙ items-more (r ++ begins ∷ []) call (content_of src s more rest))
+        ∙ m t ((r ++ begins ∷ []) ++ call) h
+
+-- what is put into a box that is new, at whose end a run waits
+pub grows-full : (src : Source) (u : Style) (kids : Forest) (v : Built) (first last : List InlineItem) → takes_leaf v.tree.events ≡ true →
+    let inside : Content = with_items first (content_of src u kids (with_items last end)) in
+    let g : Gathered = gathered src u u kids (make v first) in
+    grown src u (has_block inside) v inside ≡ with_run src u (not (takes_leaf g.built.tree.events)) g.built (g.run ++ last)
+grows-full src u kids v first last fresh =
+    let inner : Content = content_of src u kids (with_items last end) in
+    let hb : Bool = has_block inner in
+    let g : Gathered = gathered src u u kids (make v first) in
+    ap (λ (q : Bool). grown src u q v (with_items first inner)) (has-items first inner)
+    ∙ grows src u u kids hb v first (with_items last end) (λ e. has-content src u kids (with_items last end) ∙ ap (λ (q : Bool). q || has_block (with_items last end)) e)
+    ∙ ap (grown src u hb g.built) (items-more g.run last end) ∙ grown-end src u hb g.built (g.run ++ last)
+    ∙ ap (λ (q : Bool). with_run src u q g.built (g.run ++ last)) (wraps src u u kids (make v first) last fresh)

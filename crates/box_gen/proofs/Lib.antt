@@ -7,6 +7,7 @@ pub mod ExampleLemmas
 pub mod PutLemmas
 pub mod OwnerLemmas
 pub mod SoundLemmas
+pub mod BodyLemmas
 pub mod ByteLemmas
 pub mod RangeLemmas
 pub mod FacedLemmas
@@ -14,3 +15,10 @@ pub mod DepthLemmas
 pub mod WholeLemmas
 pub mod OrderLemmas
 pub mod ResetLemmas
+pub mod NoteFacts
+pub mod ElementLemmas
+pub mod NoteSums
+pub mod RoomLemmas
+pub mod PlaceLemmas
+pub mod StartLemmas
+pub mod BuildLemmas

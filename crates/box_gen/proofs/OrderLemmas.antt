@@ -1,10 +1,11 @@
 -- The places at which elements begin never fall, and so don't those of their strings and resets.
-use Rattle.std.proofs.Common.{◌≡◌, ℕ, zero, suc, ◌+◌, ◌<◌, ◌≤◌, ◌==◌, Bool, true, false, List, [], ◌∷◌, ◌++◌, Option, None, Some, length, map, ltb, ℤ, refl, sym, subst, arith, length-append}
+use Rattle.std.proofs.Common.{◌≡◌, ℕ, zero, suc, ◌+◌, ◌<◌, ◌≤◌, ◌==◌, Bool, true, false, List, [], ◌∷◌, ◌++◌, Option, None, Some, cond, not, filter, length, map, ltb, ℤ, refl, sym, subst, arith, length-append}
 use Rattle.std.specs.List.{flat_map}
 use Rattle.std.proofs.lemmas.Bool.Decides.{nat_tests}
 use Rattle.std.proofs.lemmas.List.{map-append}
 use Rattle.bk_num.specs.declared.values.Pseudo.TheVariants as pseudo
 use Rattle.boxes.specs.declared.flow.Assign.{Assign}
+use Rattle.boxes.specs.declared.flow.Note.{Note}
 use Rattle.boxes.specs.declared.flow.Reset.{Reset}
 use Rattle.boxes.specs.declared.flow.Start.{Start}
 use Rattle.boxes.specs.declared.leaf.Leaf.{Leaf as LeafData}
@@ -20,12 +21,12 @@ use Rattle.box_gen.specs.declared.inline.InlineItem.{InlineItem}
 use Rattle.box_gen.specs.declared.inline.Mark.{Mark}
 use Rattle.box_gen.specs.declared.inline.Mark.TheVariants as mark
 use Rattle.box_gen.specs.declared.leaf.LeafStyle.{LeafStyle}
-use Rattle.box_gen.specs.Flow.{Built, Content, end, run, box, assigns_at, built_of, close_by, closed, content_of, grown, has_block, nothing, opened, page_resets, put, put_by, resets_at, resets_of, shut, start_at, starts_by, strings_of, with_run}
+use Rattle.box_gen.specs.Flow.{Built, Content, end, run, box, assigns_at, built_of, calls_of, close_by, closed, content_of, grown, has_block, nothing, notes_by, opened, own_starts, page_resets, put, put_by, resets_at, resets_of, shut, start_at, starts_by, strings_of, with_run}
 use Rattle.box_gen.specs.Leaves.{leaf_by, leaf_style_of}
 use Rattle.box_gen.specs.Order.{StartsNeverFall}
 use Rattle.box_gen.specs.Props.{anonymous_props}
 use Rattle.box_gen.specs.Runs.{joined, marks_in, printed_in, spans_of, starts_from, starts_of, text_of}
-use Rattle.box_gen.specs.Trees.{Source, forest_of}
+use Rattle.box_gen.specs.Trees.{Source, forest_of, is_note_element}
 
 -- ---- the order of places
 
@@ -198,10 +199,38 @@ resets-rise : (at : Position) (values : List ℤ) → Rise at (map (λ (r : Rese
 resets-rise at [] = here at
 resets-rise at (v ∷ values) = (here at, resets-rise at values)
 
-pub strings-never-fall : (src : Source) → NeverFall (map (λ (s : Assign). s.at) (strings_of src (built_of src).starts))
-strings-never-fall src = never-falls (place 0 0) (map (λ (s : Assign). s.at) (strings_of src (built_of src).starts)) (next (built_of src).tree)
-    (all-rise (λ (s : Assign). s.at) (λ (a : Start). assigns_at a.at (src.assigned a.node.0)) (λ a. assigns-rise a.at (src.assigned a.node.0)) (built_of src).starts (place 0 0) (next (built_of src).tree) (built-in-order src))
+-- ---- main starts and calls
 
-pub resets-never-fall : (src : Source) → NeverFall (map (λ (r : Reset). r.at) (resets_of src (built_of src).starts))
-resets-never-fall src = never-falls (place 0 0) (map (λ (r : Reset). r.at) (resets_of src (built_of src).starts)) (next (built_of src).tree)
-    (all-rise (λ (r : Reset). r.at) (λ (a : Start). resets_at a.at (page_resets (style_at src.styles a.node.0 pseudo.Element))) (λ a. resets-rise a.at (page_resets (style_at src.styles a.node.0 pseudo.Element))) (built_of src).starts (place 0 0) (next (built_of src).tree) (built-in-order src))
+rise-filter : (keep : Start → Bool) (starts : List Start) (low high : Position) → Rise low (places starts) high → Rise low (places (filter keep starts)) high
+rise-filter keep [] low high r = r
+rise-filter keep (a ∷ starts) low high r = by (keep a) (rise-filter keep starts a.at high r.1)
+  where
+    by : (b : Bool) → Rise a.at (places (filter keep starts)) high → Rise low (places (cond b (a ∷ filter keep starts) (filter keep starts))) high
+    by true s = (r.0, s)
+    by false s = rise-from low a.at (places (filter keep starts)) high r.0 s
+
+rise-whole : (low : Position) (ps : List Position) (high : Position) → Rise low ps high → NoLater low high
+rise-whole low [] high r = r
+rise-whole low (p ∷ ps) high r = after r.0 (rise-whole p ps high r.1)
+
+-- the calls of notes are those of their bodies that there are
+notes-rise : (low : Position) (calls : List Position) (bodies : List Built) (high : Position) → Rise low calls high → Rise low (map (λ (n : Note). n.call) (notes_by calls bodies)) high
+notes-rise low [] bodies high r = r
+notes-rise low (c ∷ calls) [] high r = rise-whole low (c ∷ calls) high r
+notes-rise low (c ∷ calls) (b ∷ bodies) high r = (r.0, notes-rise c calls bodies high r.1)
+
+pub calls-never-fall : (src : Source) (bodies : List Built) → NeverFall (map (λ (n : Note). n.call) (notes_by (calls_of src (built_of src).starts) bodies))
+calls-never-fall src bodies = never-falls (place 0 0) (map (λ (n : Note). n.call) (notes_by (calls_of src (built_of src).starts) bodies)) (next (built_of src).tree)
+    (notes-rise (place 0 0) (calls_of src (built_of src).starts) bodies (next (built_of src).tree)
+    (rise-filter (λ (a : Start). is_note_element src a.node.0) (built_of src).starts (place 0 0) (next (built_of src).tree) (built-in-order src)))
+
+own-rise : (src : Source) → Rise (place 0 0) (places (own_starts src (built_of src).starts)) (next (built_of src).tree)
+own-rise src = rise-filter (λ (a : Start). not (is_note_element src a.node.0)) (built_of src).starts (place 0 0) (next (built_of src).tree) (built-in-order src)
+
+pub strings-never-fall : (src : Source) → NeverFall (map (λ (s : Assign). s.at) (strings_of src (own_starts src (built_of src).starts)))
+strings-never-fall src = never-falls (place 0 0) (map (λ (s : Assign). s.at) (strings_of src (own_starts src (built_of src).starts))) (next (built_of src).tree)
+    (all-rise (λ (s : Assign). s.at) (λ (a : Start). assigns_at a.at (src.assigned a.node.0)) (λ a. assigns-rise a.at (src.assigned a.node.0)) (own_starts src (built_of src).starts) (place 0 0) (next (built_of src).tree) (own-rise src))
+
+pub resets-never-fall : (src : Source) → NeverFall (map (λ (r : Reset). r.at) (resets_of src (own_starts src (built_of src).starts)))
+resets-never-fall src = never-falls (place 0 0) (map (λ (r : Reset). r.at) (resets_of src (own_starts src (built_of src).starts))) (next (built_of src).tree)
+    (all-rise (λ (r : Reset). r.at) (λ (a : Start). resets_at a.at (page_resets (style_at src.styles a.node.0 pseudo.Element))) (λ a. resets-rise a.at (page_resets (style_at src.styles a.node.0 pseudo.Element))) (own_starts src (built_of src).starts) (place 0 0) (next (built_of src).tree) (own-rise src))

@@ -1,5 +1,5 @@
 -- The styles of nodes stay in range where a node is added.
-use Rattle.std.proofs.Common.{◌≡◌, ◌∙◌, zero, suc, List, [], ◌∷◌, ◌++◌, Option, None, Some, length, refl, ap, subst, sym, arith, Bool, ◌⊎◌, inl, inr}
+use Rattle.std.proofs.Common.{◌≡◌, ◌∙◌, ◌<◌, zero, suc, List, [], ◌∷◌, ◌++◌, Option, None, Some, length, refl, ap, subst, sym, arith, Bool, ◌⊎◌, inl, inr}
 use Rattle.std.specs.Prelude.{slice_get}
 use Rattle.std.proofs.lemmas.Int.{ints}
 use Rattle.bk_num.specs.declared.values.Pseudo.{Pseudo}
@@ -47,19 +47,45 @@ range-own xs t shown note in_note all r = range-push xs (own_style t shown note 
     own pseudo.Call s e = cc
     own pseudo.Marker s e = cc
 
-pub range-before : (xs : List NodeStyles) (t : Style) → AreInRange xs → IsInRange t → AreInRange (change_last (with_style pseudo.Before t) xs)
-range-before [] t all r n p s e = all n p s e
-range-before (x ∷ []) t all r zero p s e = by p e
+pub range-put : (xs : List NodeStyles) (q : Pseudo) (t : Style) → AreInRange xs → IsInRange t → AreInRange (change_last (with_style q t) xs)
+range-put [] q t all r n p s e = all n p s e
+range-put (x ∷ []) q t all r zero p s e = by q p e
   where
-    by : (p : Pseudo) → style_in (with_style pseudo.Before t x) p ≡ Some s → IsInRange s
-    by pseudo.Element h = all 0 pseudo.Element s h
-    by pseudo.Before h = let same : t ≡ s = cc in subst IsInRange same r
-    by pseudo.After h = all 0 pseudo.After s h
-    by pseudo.Call h = all 0 pseudo.Call s h
-    by pseudo.Marker h = all 0 pseudo.Marker s h
-range-before (x ∷ []) t all r (suc n) p s e = all (suc n) p s e
-range-before (x ∷ (y ∷ ys)) t all r zero p s e = all 0 p s e
-range-before (x ∷ (y ∷ ys)) t all r (suc n) p s e = range-before (y ∷ ys) t (λ k q u h. all (suc k) q u h) r n p s e
+    by : (q p : Pseudo) → style_in (with_style q t x) p ≡ Some s → IsInRange s
+    by pseudo.Element pseudo.Element h = let same : t ≡ s = cc in subst IsInRange same r
+    by pseudo.Element pseudo.Before h = all 0 pseudo.Before s h
+    by pseudo.Element pseudo.After h = all 0 pseudo.After s h
+    by pseudo.Element pseudo.Call h = all 0 pseudo.Call s h
+    by pseudo.Element pseudo.Marker h = all 0 pseudo.Marker s h
+    by pseudo.Before pseudo.Element h = all 0 pseudo.Element s h
+    by pseudo.Before pseudo.Before h = let same : t ≡ s = cc in subst IsInRange same r
+    by pseudo.Before pseudo.After h = all 0 pseudo.After s h
+    by pseudo.Before pseudo.Call h = all 0 pseudo.Call s h
+    by pseudo.Before pseudo.Marker h = all 0 pseudo.Marker s h
+    by pseudo.After pseudo.Element h = all 0 pseudo.Element s h
+    by pseudo.After pseudo.Before h = all 0 pseudo.Before s h
+    by pseudo.After pseudo.After h = let same : t ≡ s = cc in subst IsInRange same r
+    by pseudo.After pseudo.Call h = all 0 pseudo.Call s h
+    by pseudo.After pseudo.Marker h = all 0 pseudo.Marker s h
+    by pseudo.Call pseudo.Element h = all 0 pseudo.Element s h
+    by pseudo.Call pseudo.Before h = all 0 pseudo.Before s h
+    by pseudo.Call pseudo.After h = all 0 pseudo.After s h
+    by pseudo.Call pseudo.Call h = let same : t ≡ s = cc in subst IsInRange same r
+    by pseudo.Call pseudo.Marker h = all 0 pseudo.Marker s h
+    by pseudo.Marker pseudo.Element h = all 0 pseudo.Element s h
+    by pseudo.Marker pseudo.Before h = all 0 pseudo.Before s h
+    by pseudo.Marker pseudo.After h = all 0 pseudo.After s h
+    by pseudo.Marker pseudo.Call h = all 0 pseudo.Call s h
+    by pseudo.Marker pseudo.Marker h = let same : t ≡ s = cc in subst IsInRange same r
+range-put (x ∷ []) q t all r (suc n) p s e = all (suc n) p s e
+range-put (x ∷ (y ∷ ys)) q t all r zero p s e = all 0 p s e
+range-put (x ∷ (y ∷ ys)) q t all r (suc n) p s e = range-put (y ∷ ys) q t (λ k u v h. all (suc k) u v h) r n p s e
+
+-- a style that is given takes no node away
+pub some-put : (xs : List NodeStyles) (q : Pseudo) (t : Style) → 0 < length xs → 0 < length (change_last (with_style q t) xs)
+some-put [] q t l = l
+some-put (x ∷ []) q t l = omega arith
+some-put (x ∷ (y ∷ ys)) q t l = omega arith
 
 pub initial-range : IsInRange initial_style
 initial-range = record {

@@ -13,11 +13,11 @@ use Rattle.dom.proofs.WalkLemmas.{AreFalling, falling, root-parent}
 use Rattle.style.specs.declared.style.Style.{Style}
 use Rattle.style.specs.Nodes.{NodeStyles, style_at, style_of}
 use Rattle.box_gen.specs.declared.inline.InlineItem.TheVariants as item
-use Rattle.box_gen.specs.Trees.{Source, Forest, none, node, side_by_side, below, forest_of, Role, text, hidden, inline, block, is_block, shown_role, element_role, role_by, role_of}
+use Rattle.box_gen.specs.Trees.{Source, Forest, none, node, side_by_side, below, forest_of, Role, text, hidden, inline, block, note, is_block, is_note_element, shown_role, element_role, role_by, role_of}
 use Rattle.style.specs.Styles.{initial_style}
-use Rattle.box_gen.specs.Flow.{end, nothing, with_run, first_items, text_item}
-use Rattle.box_gen.specs.Gather.{Gathered, make, adds, begun, gather_node, gathered}
-use Rattle.box_gen.specs.Walk.{Walk, WalkBuildsFlow, walk, element_style, style_or_initial, style_around, innermost, enter_node, leave_node, leave_by, after_step, after_steps}
+use Rattle.box_gen.specs.Flow.{built_of, end, nothing, with_run, first_items, text_item}
+use Rattle.box_gen.specs.Gather.{Gathered, make, adds, begun, called, gather_node, gathered}
+use Rattle.box_gen.specs.Walk.{Walk, walk, walked, element_style, style_or_initial, style_around, innermost, enter_node, leave_node, leave_by, after_step, after_steps}
 use Rattle.box_gen.proofs.FlowLemmas.{grows, grown-end}
 
 -- the steps through nodes
@@ -54,16 +54,17 @@ PlacedIn n hidden kids in_style = Greater n kids
 PlacedIn n (text t) kids in_style = kids ≡ none
 PlacedIn n (inline u) kids in_style = in_style u
 PlacedIn n (block u) kids in_style = in_style u
+PlacedIn n (note u) kids in_style = Greater n kids
 
 -- nodes in an element of a style
 unfoldable pub Placed : Source → Style → Forest → Type 0
 Placed src s none = Unit {0}
 Placed src s (node n kids more) = (style_around src n ≡ s) × PlacedIn n (role_of src n) kids (λ u. Placed src u kids) × Placed src s more
 
-walks : (src : Source) (s : Style) (f : Forest) (g : Gathered) (bs : List Style) → Placed src s f → after_steps src (walk g bs None) (steps_in f) ≡ walk (gathered src s (innermost bs) f g) bs None
+pub walks-in : (src : Source) (s : Style) (f : Forest) (g : Gathered) (bs : List Style) → Placed src s f → after_steps src (walk g bs None) (steps_in f) ≡ walk (gathered src s (innermost bs) f g) bs None
 unfolding steps_in Placed gathered
-walks src s none g bs p = refl
-walks src s (node n kids more) g bs p = by (role_of src n) refl p.1 (λ u h cs q. walks src u kids h cs q) ∙ walks src s more (gather_node src s (innermost bs) n (role_of src n) (λ u c h. gathered src u c kids h) g) bs p.2
+walks-in src s none g bs p = refl
+walks-in src s (node n kids more) g bs p = by (role_of src n) refl p.1 (λ u h cs q. walks-in src u kids h cs q) ∙ walks-in src s more (gather_node src s (innermost bs) n (role_of src n) (λ u c h. gathered src u c kids h) g) bs p.2
   where
     rest : List Step
     rest = Leave (record { 0 = n }) ∷ steps_in more
@@ -89,6 +90,11 @@ walks src s (node n kids more) g bs p = by (role_of src n) refl p.1 (λ u h cs q
     by (block u) e q k =
         let h : Gathered = begun src (innermost bs) n u g in
         goes (block u) e (walk h (u ∷ bs) None) (walk (gathered src u u kids h) (u ∷ bs) None) (k u h (u ∷ bs) q) refl
+    by (note u) e q k =
+        let h : Gathered = called src n g in
+        let w : Walk = walk h bs (Some n) in
+        after-append src w (steps_in kids) rest ∙ ap (λ (y : Walk). after_steps src y rest) (skips src n kids h bs q)
+        ∙ ap (λ (x : Bool). after_steps src (cond x (walk h bs None) w) (steps_in more)) (eq-eqb n n refl)
 
 -- ---- the steps of a document
 
@@ -123,28 +129,37 @@ all-steps nodes some = by (length nodes) refl
 
 -- ---- how the nodes of a document stand
 
-pub own-of : (src : Source) (n : ℕ) (u : Style) → (role_of src n ≡ inline u) ⊎ (role_of src n ≡ block u) → style_at src.styles n pseudo.Element ≡ Some u
-own-of src n u h = by (text_at src.nodes n) (slice_get src.styles n) h
-  where
-    shows : (b : Bool) (o : Option Style) → (cond b (shown_role (n == 0) o) hidden ≡ inline u) ⊎ (cond b (shown_role (n == 0) o) hidden ≡ block u) → o ≡ Some u
-    shows false o (inl e) = cc
-    shows false o (inr e) = cc
-    shows true None (inl e) = cc
-    shows true None (inr e) = cc
-    shows true (Some s) q = has (is_block (n == 0) s) q
-      where
-        has : (b : Bool) → (cond b (block s) (inline s) ≡ inline u) ⊎ (cond b (block s) (inline s) ≡ block u) → Some s ≡ Some u
-        has true (inl e) = cc
-        has true (inr e) = cc
-        has false (inl e) = cc
-        has false (inr e) = cc
+abbrev role_style : Role → Option Style
+role_style hidden = None
+role_style (text t) = None
+role_style (inline u) = Some u
+role_style (block u) = Some u
+role_style (note u) = Some u
 
-    by : (t : Option (List ℕ)) (o : Option NodeStyles) → (role_by (n == 0) o t ≡ inline u) ⊎ (role_by (n == 0) o t ≡ block u) → style_of o pseudo.Element ≡ Some u
-    by (Some t) o (inl e) = cc
-    by (Some t) o (inr e) = cc
-    by None None (inl e) = cc
-    by None None (inr e) = cc
-    by None (Some r) q = shows r.shown r.own q
+own-by : (src : Source) (n : ℕ) (u : Style) → role_style (role_of src n) ≡ Some u → style_at src.styles n pseudo.Element ≡ Some u
+own-by src n u h = by (text_at src.nodes n) (slice_get src.styles n) h
+  where
+    has : (s : Style) (b : Bool) → role_style (cond b (block s) (inline s)) ≡ Some u → Some s ≡ Some u
+    has s true e = e
+    has s false e = e
+
+    shows : (f b : Bool) (o : Option Style) → role_style (cond b (shown_role f (n == 0) o) hidden) ≡ Some u → o ≡ Some u
+    shows f false o e = cc
+    shows f true None e = cc
+    shows true true (Some s) e = e
+    shows false true (Some s) e = has s (is_block (n == 0) s) e
+
+    by : (t : Option (List ℕ)) (o : Option NodeStyles) → role_style (role_by (is_note_element src n) (n == 0) o t) ≡ Some u → style_of o pseudo.Element ≡ Some u
+    by (Some t) o e = cc
+    by None None e = cc
+    by None (Some r) e = shows (is_note_element src n) r.shown r.own e
+
+pub own-of : (src : Source) (n : ℕ) (u : Style) → (role_of src n ≡ inline u) ⊎ (role_of src n ≡ block u) → style_at src.styles n pseudo.Element ≡ Some u
+own-of src n u (inl e) = own-by src n u (ap role_style e)
+own-of src n u (inr e) = own-by src n u (ap role_style e)
+
+pub own-note : (src : Source) (n : ℕ) (u : Style) → role_of src n ≡ note u → style_at src.styles n pseudo.Element ≡ Some u
+own-note src n u e = own-by src n u (ap role_style e)
 
 pub parent-child : (ps : List (Option ℕ)) (n p : ℕ) → parent_at ps n ≡ Some p → slice_get ps n ≡ Some (Some p)
 parent-child ps n p h = by (slice_get ps n) h
@@ -184,7 +199,7 @@ greater ps h (suc d) n falls l = all (λ c k. greater ps h d c falls k) (childre
     all k (c ∷ cs) u = let after = u.1 in let far : h < c = omega (arith, l, after) in (far, k c far, all k cs u.2)
 
 -- below a node stand greater numbers
-below-greater : (ps : List (Option ℕ)) (d n : ℕ) → AreFalling ps → Greater n (below ps d n)
+pub below-greater : (ps : List (Option ℕ)) (d n : ℕ) → AreFalling ps → Greater n (below ps d n)
 unfolding Greater Under
 below-greater ps zero n falls = tt
 below-greater ps (suc d) n falls = all (children_of ps n) (under ps n falls)
@@ -205,24 +220,28 @@ element-parent nodes t k p g = by (slice_get nodes k) refl (sym (slice_get-map (
 pub text-only : (src : Source) (n : ℕ) (x : List ℕ) → role_of src n ≡ text x → is_element_at src.nodes n ≡ false
 text-only src n x h = by (slice_get src.nodes n) h
   where
-    shows : (b : Bool) (o : Option Style) → cond b (shown_role (n == 0) o) hidden ≡ text x → ⊥
-    shows false o e = cc
-    shows true None e = cc
-    shows true (Some s) e = has (is_block (n == 0) s) e
-      where
-        has : (b : Bool) → cond b (block s) (inline s) ≡ text x → ⊥
-        has true q = cc
-        has false q = cc
+    f : Bool
+    f = is_note_element src n
 
-    never : (o : Option NodeStyles) → element_role (n == 0) o ≡ text x → ⊥
+    has : (s : Style) (b : Bool) → cond b (block s) (inline s) ≡ text x → ⊥
+    has s true q = cc
+    has s false q = cc
+
+    shows : (f b : Bool) (o : Option Style) → cond b (shown_role f (n == 0) o) hidden ≡ text x → ⊥
+    shows f false o e = cc
+    shows f true None e = cc
+    shows true true (Some s) e = cc
+    shows false true (Some s) e = has s (is_block (n == 0) s) e
+
+    never : (o : Option NodeStyles) → element_role f (n == 0) o ≡ text x → ⊥
     never None e = cc
-    never (Some r) e = shows r.shown r.own e
+    never (Some r) e = shows f r.shown r.own e
 
-    by : (o : Option Node) → role_by (n == 0) (slice_get src.styles n) (part_of text_in o) ≡ text x → is_element_node o ≡ false
+    by : (o : Option Node) → role_by f (n == 0) (slice_get src.styles n) (part_of text_in o) ≡ text x → is_element_node o ≡ false
     by None e = absurd (never (slice_get src.styles n) e)
     by (Some m) e = of m.what e
       where
-        of : (what : NodeData) → role_by (n == 0) (slice_get src.styles n) (text_in what) ≡ text x → is_element what ≡ false
+        of : (what : NodeData) → role_by f (n == 0) (slice_get src.styles n) (text_in what) ≡ text x → is_element what ≡ false
         of (Element name attrs) q = absurd (never (slice_get src.styles n) q)
         of (Text y) q = refl
 
@@ -236,6 +255,7 @@ placed-in src t zero n = by (role_of src n)
     by (text x) = refl
     by (inline u) = tt
     by (block u) = tt
+    by (note u) = tt
 placed-in src t (suc d) n = by (λ c. placed-in src t d c) (role_of src n) refl
   where
     ps : List (Option ℕ)
@@ -257,14 +277,28 @@ placed-in src t (suc d) n = by (λ c. placed-in src t d c) (role_of src n) refl
     by k (text x) e = no-kids (text-only src n x e) (children_of ps n) (under ps n (falling src.nodes t))
     by k (inline u) e = all k u (own-of src n u (inl e)) (children_of ps n) (under ps n (falling src.nodes t))
     by k (block u) e = all k u (own-of src n u (inr e)) (children_of ps n) (under ps n (falling src.nodes t))
+    by k (note u) e = below-greater ps (suc d) n (falling src.nodes t)
 
--- the walk over a document builds its flow
-pub walk-builds : WalkBuildsFlow
+-- the nodes below an element stand in its style
+pub placed-kids : (src : Source) → IsTree src.nodes → (d n : ℕ) (u : Style) → style_at src.styles n pseudo.Element ≡ Some u → Placed src u (below (parents_of src.nodes) d n)
+unfolding Placed Under
+placed-kids src t zero n u own = tt
+placed-kids src t (suc d) n u own = all (children_of ps n) (under ps n (falling src.nodes t))
+  where
+    ps : List (Option ℕ)
+    ps = parents_of src.nodes
+
+    all : (cs : List ℕ) → Under ps n cs → Placed src u (side_by_side (below ps d) cs)
+    all [] h = tt
+    all (c ∷ cs) h = (ap (element_style src) h.0 ∙ ap style_or_initial own, placed-in src t d c, all cs h.2)
+
+-- the walk over a document builds its main tree
+pub walk-main : (src : Source) → IsTree src.nodes → built_of src ≡ with_run src initial_style true (walked src).gathered.built (walked src).gathered.run
 unfolding Placed
-walk-builds src t =
+walk-main src t =
     let kids : Forest = below (parents_of src.nodes) (length src.nodes - 1) 0 in
     let f : Forest = node 0 kids none in
     let place : Placed src initial_style f = (ap (element_style src) (root-parent src.nodes t), placed-in src t (length src.nodes - 1) 0, tt) in
     let g : Gathered = gathered src initial_style initial_style f (make nothing []) in
-    let all : after_steps src (walk (make nothing []) [] None) (steps_of src.nodes) ≡ walk g [] None = ap (after_steps src (walk (make nothing []) [] None)) (all-steps src.nodes t.some) ∙ walks src initial_style f (make nothing []) [] place in
+    let all : after_steps src (walk (make nothing []) [] None) (steps_of src.nodes) ≡ walk g [] None = ap (after_steps src (walk (make nothing []) [] None)) (all-steps src.nodes t.some) ∙ walks-in src initial_style f (make nothing []) [] place in
     grows src initial_style initial_style f true nothing [] end (λ e. refl) ∙ grown-end src initial_style true g.built g.run ∙ sym (ap (λ (w : Walk). with_run src initial_style true w.gathered.built w.gathered.run) all)

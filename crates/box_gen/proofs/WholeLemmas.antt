@@ -1,5 +1,5 @@
 -- The tree of a document whose root is shown is whole.
-use Rattle.std.proofs.Common.{◌≡◌, ◌∙◌, ℕ, ◌-◌, Bool, true, cond, not, IsTrue, List, [], ◌∷◌, Option, None, Some, length, slice_get, refl, sym, ap, subst, arith}
+use Rattle.std.proofs.Common.{◌≡◌, ◌∙◌, ℕ, ◌-◌, Bool, true, false, cond, not, IsTrue, List, [], ◌∷◌, Option, None, Some, length, slice_get, refl, sym, ap, subst, arith}
 use Rattle.std.proofs.lemmas.Option.{slice_get_within}
 use Rattle.bk_num.specs.declared.values.Pseudo.TheVariants as pseudo
 use Rattle.boxes.specs.declared.place.Event.TheVariants.{Closes}
@@ -19,7 +19,7 @@ use Rattle.box_gen.proofs.TreeLemmas.{opens, opens-opened, opens-run, opens-shut
 
 -- a root that is shown is a block
 root-block : (src : Source) → IsTree src.nodes → (r : IsRootShown src.styles) → role_of src 0 ≡ block r.style
-root-block src t r = ap (role_by true (slice_get src.styles 0)) (no-text (slice_get src.nodes 0) (root-element src.nodes t)) ∙ by (slice_get src.styles 0) r.own r.shown
+root-block src t r = ap (role_by false true (slice_get src.styles 0)) (no-text (slice_get src.nodes 0) (root-element src.nodes t)) ∙ by (slice_get src.styles 0) r.own r.shown
   where
     no-text : (o : Option Node) → is_element_node o ≡ true → part_of text_in o ≡ None
     no-text None e = cc
@@ -29,9 +29,9 @@ root-block src t r = ap (role_by true (slice_get src.styles 0)) (no-text (slice_
         of (Element name attrs) h = refl
         of (Text y) h = cc
 
-    by : (o : Option NodeStyles) → style_of o pseudo.Element ≡ Some r.style → IsTrue (is_shown_in o) → element_role true o ≡ block r.style
+    by : (o : Option NodeStyles) → style_of o pseudo.Element ≡ Some r.style → IsTrue (is_shown_in o) → element_role false true o ≡ block r.style
     by None own shown = cc
-    by (Some x) own shown = ap (λ (b : Bool). cond b (shown_role true x.own) hidden) shown ∙ ap (shown_role true) own
+    by (Some x) own shown = ap (λ (b : Bool). cond b (shown_role false true x.own) hidden) shown ∙ ap (shown_role false true) own
 
 pub whole : (src : Source) → IsTree src.nodes → IsRootShown src.styles → IsWhole (built_of src).tree.events
 unfolding gathered

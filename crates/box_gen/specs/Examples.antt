@@ -33,6 +33,7 @@ plain nodes styles = record {
   items = λ n. [];
   face = λ s. record { 0 = 0 };
   generated = λ n p. [];
+  is_note = λ n. false;
   assigned = λ n. [];
 }
 

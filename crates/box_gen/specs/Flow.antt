@@ -6,6 +6,7 @@ use Rattle.bk_num.specs.declared.values.Pseudo.{Pseudo}
 use Rattle.bk_num.specs.declared.values.Pseudo.TheVariants as pseudo
 use Rattle.boxes.specs.declared.flow.Assign.{Assign}
 use Rattle.boxes.specs.declared.flow.Flow.{Flow}
+use Rattle.boxes.specs.declared.flow.Note.{Note}
 use Rattle.boxes.specs.declared.flow.Reset.{Reset}
 use Rattle.boxes.specs.declared.flow.Start.{Start}
 use Rattle.boxes.specs.declared.leaf.Lead.{Lead}
@@ -26,7 +27,7 @@ use Rattle.box_gen.specs.Represented.{represented_text}
 use Rattle.box_gen.specs.Props.{anonymous_props, props_of}
 use Rattle.box_gen.specs.Runs.{spans_of, starts_of, text_of}
 use Rattle.box_gen.specs.TextStyles.{text_style_of}
-use Rattle.box_gen.specs.Trees.{Source, Forest, none, node, forest_of, Role, text, hidden, inline, block, role_of}
+use Rattle.box_gen.specs.Trees.{Source, Forest, none, node, forest_of, in_note, is_note_element, Role, text, hidden, inline, block, note, role_of}
 
 -- ---- what is in a block
 
@@ -74,13 +75,15 @@ with_items [] c = c
 with_items (i ∷ items) c = with_item i (with_items items c)
 
 -- what a node puts into the content of the block around it, where its children put theirs by `inside`: a text in the style of the element
--- around it; an inline element the place where it begins, and what is in it, blocks too; a block itself
+-- around it; an inline element the place where it begins, and what is in it, blocks too; a block itself; a note element its call, at the
+-- place where an inline element would begin (css-gcpm-3, 2.4)
 abbrev pub with_node : Source → Style → ℕ → Role → (Style → Content → Content) → Content → Content
 with_node src s n hidden inside rest = rest
 with_node src s n (text t) inside rest = with_item (text_item src s t) rest
 with_node src s n (inline u) inside rest =
     with_item (item.Start (record { 0 = n })) (with_items (first_items src u n) (inside u (with_items (last_items src n) rest)))
 with_node src s n (block u) inside rest = box n u (with_items (first_items src u n) (inside u (with_items (last_items src n) end))) rest
+with_node src s n (note u) inside rest = with_item (item.Start (record { 0 = n })) (with_items (generated_items src n pseudo.Call) rest)
 
 -- what nodes in an element of a style put into the content of the block around them
 abbrev pub content_of : Source → Style → Forest → Content → Content
@@ -94,7 +97,7 @@ has_block (box n s inside rest) = true
 
 -- ---- the tree
 
--- what is built: the tree, where elements begin, and the markers that have no line yet
+-- what is built: the tree, where elements begin and note elements are called, and the markers that have no line yet
 pub record Built : Type 0 where
   pub tree : Tree
   pub starts : List Start
@@ -168,7 +171,41 @@ grown src s wrap b end = b
 grown src s wrap b (run items rest) = grown src s wrap (with_run src s wrap b items) rest
 grown src s wrap b (box n u inside rest) = grown src s wrap (closed (grown src u (has_block inside) (opened src n u b) inside)) rest
 
+-- ---- notes
+
+-- the body of a note before its content: the box of the note element, which begins there and hangs no marker
+abbrev pub note_root : ℕ → Style → Built
+note_root n s = built (with_box no_tree (props_of s n)) (start_at n 0 0 ∷ []) []
+
+-- what stands in a note before the children of its element: `::footnote-marker`, `::before`, and the text that the element represents
+-- (css-gcpm-3, 2.5)
+abbrev pub note_first_items : Source → Style → ℕ → List InlineItem
+note_first_items src s n = generated_items src n pseudo.Marker ++ first_items src s n
+
+abbrev pub note_content : Source → Style → ℕ → Forest → Content
+note_content src s n kids = with_items (note_first_items src s n) (content_of src s kids (with_items (last_items src n) end))
+
+-- what a note element of a style builds
+abbrev pub body_in : Source → Style → ℕ → Forest → Built
+body_in src s n kids = closed (grown src s (has_block (note_content src s n kids)) (note_root n s) (note_content src s n kids))
+
+abbrev pub node_bodies : Source → ℕ → Role → Forest → List Built → List Built
+node_bodies src n hidden kids inside = []
+node_bodies src n (text t) kids inside = []
+node_bodies src n (inline u) kids inside = inside
+node_bodies src n (block u) kids inside = inside
+node_bodies src n (note u) kids inside = body_in (in_note src) u n kids ∷ []
+
+-- what the note elements among nodes build, in tree order: one in a note is none
+unfoldable pub bodies_in : Source → Forest → List Built
+bodies_in src none = []
+bodies_in src (node n kids more) = node_bodies src n (role_of src n) kids (bodies_in src kids) ++ bodies_in src more
+
 -- ---- the flow
+
+-- what the notes of a document build
+abbrev pub bodies_of : Source → List Built
+bodies_of src = bodies_in src (forest_of src.nodes)
 
 -- what a document builds
 abbrev pub built_of : Source → Built
@@ -198,12 +235,33 @@ resets_at at values = map (λ v. record { value = v; at = at }) values
 abbrev pub resets_of : Source → List Start → List Reset
 resets_of src starts = flat_map (λ a. resets_at a.at (page_resets (style_at src.styles a.node.0 pseudo.Element))) starts
 
--- the flow of a document without notes
+-- where note elements are called, and where other elements begin
+abbrev pub calls_of : Source → List Start → List Position
+calls_of src starts = map (λ a. a.at) (filter (λ a. is_note_element src a.node.0) starts)
+
+abbrev pub own_starts : Source → List Start → List Start
+own_starts src starts = filter (λ a. not (is_note_element src a.node.0)) starts
+
+-- each call with its body
+abbrev pub notes_by : List Position → List Built → List Note
+notes_by [] bodies = []
+notes_by (c ∷ calls) [] = []
+notes_by (c ∷ calls) (b ∷ bodies) = record { call = c; body = b.tree } ∷ notes_by calls bodies
+
+-- where elements begin in a note with a number, and in notes that are numbered from a number on
+abbrev pub starts_in_note : ℕ → List Start → List Start
+starts_in_note k starts = map (λ (a : Start). record a { note = Some k }) starts
+
+abbrev pub note_starts : ℕ → List Built → List Start
+note_starts k [] = []
+note_starts k (b ∷ bodies) = starts_in_note k b.starts ++ note_starts (suc k) bodies
+
+-- the flow of a document: strings and page resets count outside notes alone
 abbrev pub flow_of : Source → Flow
 flow_of src = record {
   main = (built_of src).tree;
-  notes = [];
-  starts = (built_of src).starts;
-  strings = strings_of src (built_of src).starts;
-  resets = resets_of src (built_of src).starts;
+  notes = notes_by (calls_of src (built_of src).starts) (bodies_of src);
+  starts = own_starts src (built_of src).starts ++ note_starts 0 (bodies_of src);
+  strings = strings_of src (own_starts src (built_of src).starts);
+  resets = resets_of src (own_starts src (built_of src).starts);
 }

@@ -1,11 +1,12 @@
 -- What a walk over the nodes gathers: what is built, and the run that isn't put yet.
 use Rattle.std.specs.Prelude.{ℕ, true, not, List, [], ◌∷◌, ◌++◌}
 use Rattle.boxes.specs.Tree.{takes_leaf}
+use Rattle.bk_num.specs.declared.values.Pseudo.TheVariants as pseudo
 use Rattle.style.specs.declared.style.Style.{Style}
 use Rattle.box_gen.specs.declared.inline.InlineItem.{InlineItem}
 use Rattle.box_gen.specs.declared.inline.InlineItem.TheVariants as item
-use Rattle.box_gen.specs.Trees.{Source, Forest, none, node, Role, text, hidden, inline, block, role_of}
-use Rattle.box_gen.specs.Flow.{Built, closed, first_items, last_items, opened, text_item, with_run}
+use Rattle.box_gen.specs.Trees.{Source, Forest, none, node, Role, text, hidden, inline, block, note, role_of}
+use Rattle.box_gen.specs.Flow.{Built, closed, first_items, generated_items, last_items, opened, text_item, with_run}
 
 pub record Gathered : Type 0 where
   pub built : Built
@@ -25,6 +26,10 @@ ended src s g = make (closed (with_run src s (not (takes_leaf g.built.tree.event
 abbrev pub begun : Source → Style → ℕ → Style → Gathered → Gathered
 begun src b n u g = make (opened src n u (with_run src b true g.built g.run)) (first_items src u n)
 
+-- a note element is called
+abbrev pub called : Source → ℕ → Gathered → Gathered
+called src n g = adds (generated_items src n pseudo.Call) (adds (item.Start (record { 0 = n }) ∷ []) g)
+
 -- what a node in an element of one style and a block of another gathers, where its children do so by `inside`
 abbrev pub gather_node : Source → Style → Style → ℕ → Role → (Style → Style → Gathered → Gathered) → Gathered → Gathered
 gather_node src s b n hidden inside g = g
@@ -32,6 +37,7 @@ gather_node src s b n (text t) inside g = adds (text_item src s t ∷ []) g
 gather_node src s b n (inline u) inside g =
     adds (last_items src n) (inside u b (adds (first_items src u n) (adds (item.Start (record { 0 = n }) ∷ []) g)))
 gather_node src s b n (block u) inside g = ended src u (adds (last_items src n) (inside u u (begun src b n u g)))
+gather_node src s b n (note u) inside g = called src n g
 
 unfoldable pub gathered : Source → Style → Style → Forest → Gathered → Gathered
 gathered src s b none g = g

@@ -13,5 +13,9 @@ pub mod Sources
 pub mod Kinds
 pub mod Sites
 pub mod Steps
+pub mod Bodies
+pub mod Walkers
 pub mod Examples
 pub mod Order
+pub mod Elements
+pub mod Notes

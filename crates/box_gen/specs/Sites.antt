@@ -1,6 +1,6 @@
 -- What is built so far, as the code keeps it.
 use Rattle.std.specs.Prelude.{◌≡◌, ◌≤◌, ℕ, suc, ◌+◌, ◌==◌, Bool, true, false, List, [], ◌∷◌, ◌++◌, length, if◌then◌else◌}
-use Rattle.bk_num.specs.Limits.{most_text_bytes}
+use Rattle.bk_num.specs.Limits.{most_events, most_text_bytes}
 use Rattle.boxes.specs.declared.leaf.Leaf.{Leaf}
 use Rattle.boxes.specs.declared.leaf.Span.{Span}
 use Rattle.boxes.specs.declared.props.BoxProps.{BoxProps}
@@ -22,7 +22,14 @@ leaf_bytes (l ∷ ls) = length l.text + leaf_bytes ls
 -- the bytes of the leaves are counted, and not too many
 pub record IsCounted (site : Site) : Type 0 where
   pub count : site.bytes ≡ leaf_bytes site.tree.leaves
-  pub few : site.bytes ≤ most_text_bytes
+  pub few : site.bytes ≤ site.room.bytes
+  pub most : site.room.bytes ≤ most_text_bytes
+
+-- a tree is within its room
+pub record IsWithin (site : Site) : Type 0 where
+  pub bytes : IsCounted site
+  pub events : length site.tree.events ≤ site.room.events
+  pub most : site.room.events ≤ most_events
 
 -- a leaf of a text with its spans is put, in an anonymous box or not, in which elements begin
 abbrev pub with_text : Bool → LeafStyle → BoxProps → Built → List ℕ → List Span → List InlineStart → Built

@@ -1,5 +1,5 @@
 -- What a flow is made from, as the arguments have it.
-use Rattle.std.specs.Prelude.{◌≡◌, ◌≤ℤ◌, ℕ, pos, IsTrue, List, Some, slice_get}
+use Rattle.std.specs.Prelude.{◌≡◌, ◌≤ℤ◌, ◌&&◌, not, ℕ, pos, IsTrue, List, Some, slice_get}
 use Rattle.bk_num.specs.declared.values.Pseudo.{Pseudo}
 use Rattle.bk_num.specs.declared.values.Pseudo.TheVariants as pseudo
 use Rattle.boxes.specs.Contents.{IsNotAuto, IsNotNegative}
@@ -11,7 +11,7 @@ use Rattle.metrics.specs.Face.{FontFace}
 use Rattle.style.specs.declared.style.Style.{Style}
 use Rattle.style.specs.declared.values.LineHeight.{LineHeight}
 use Rattle.style.specs.declared.values.LineHeight.TheVariants as height
-use Rattle.style.specs.Nodes.{NodeStyles, is_shown_in, style_at}
+use Rattle.style.specs.Nodes.{NodeStyles, is_note_in, is_shown_in, style_at}
 use Rattle.style.specs.Styles.{initial_style}
 use Rattle.box_gen.specs.declared.input.Input.{Input}
 use Rattle.box_gen.specs.Faces.{face_of}
@@ -28,11 +28,14 @@ source_of nodes styles counters faces texts = record {
   items = λ n. list_values counters n;
   face = λ s. face_of faces s;
   generated = λ n p. generated_text texts n p;
+  is_note = λ n. is_note_in (slice_get styles n);
   assigned = λ n. assigned_strings texts n;
 }
 
 abbrev pub source_in : Input → Source
-source_in i = source_of i.dom.now i.styles.now i.counters.now i.faces.now i.texts.now
+source_in i = record (source_of i.dom.now i.styles.now i.counters.now i.faces.now i.texts.now) {
+  is_note = λ n. not i.in_note && is_note_in (slice_get i.styles.now n);
+}
 
 -- ---- the root
 

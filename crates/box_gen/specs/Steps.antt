@@ -14,7 +14,7 @@ use Rattle.box_gen.specs.Flow.{last_items, with_run}
 use Rattle.box_gen.specs.Gather.{Gathered, adds, make}
 use Rattle.box_gen.specs.Runs.{AreGoodTexts}
 use Rattle.box_gen.specs.Sites.{built_in}
-use Rattle.box_gen.specs.Trees.{Source, Role, text, hidden, inline, block, role_of}
+use Rattle.box_gen.specs.Trees.{Source, Role, text, hidden, inline, block, note, role_of}
 use Rattle.box_gen.specs.Walk.{Walk, after_step, innermost, style_or_initial, walk}
 
 -- the styles of open blocks, the outermost first, from the innermost on
@@ -47,12 +47,14 @@ CanEnterNode src hidden w = Unit {0}
 CanEnterNode src (text t) w = Unit {0}
 CanEnterNode src (inline u) w = Unit {0}
 CanEnterNode src (block u) w = CanBegin src (innermost w.blocks) w.gathered
+CanEnterNode src (note u) w = Unit {0}
 
 abbrev pub CanLeaveNode : Source → ℕ → Role → Walk → Type 0
 CanLeaveNode src n hidden w = Unit {0}
 CanLeaveNode src n (text t) w = Unit {0}
 CanLeaveNode src n (inline u) w = Unit {0}
 CanLeaveNode src n (block u) w = CanEnd src u (adds (last_items src n) w.gathered)
+CanLeaveNode src n (note u) w = Unit {0}
 
 abbrev pub CanEnter : Source → ℕ → Option ℕ → Walk → Type 0
 CanEnter src n None w = CanEnterNode src (role_of src n) w
@@ -66,7 +68,14 @@ abbrev pub CanStep : Source → Walk → Step → Type 0
 CanStep src w (Enter n) = CanEnter src n.0 w.unshown w
 CanStep src w (Leave n) = CanLeave src n.0 w.unshown w
 
+-- each step may be taken, and something holds after the last one
+abbrev pub CanTo : Source → (Walk → Type 0) → Walk → List Step → Type 0
+CanTo src End w [] = End w
+CanTo src End w (s ∷ steps) = CanStep src w s × CanTo src End (after_step src w s) steps
+
+abbrev pub EndsPut : Walk → Type 0
+EndsPut w = w.gathered.run ≡ []
+
 -- each step may be taken, and after the last one no run waits
 abbrev pub CanWalk : Source → Walk → List Step → Type 0
-CanWalk src w [] = w.gathered.run ≡ []
-CanWalk src w (s ∷ steps) = CanStep src w s × CanWalk src (after_step src w s) steps
+CanWalk src w steps = CanTo src EndsPut w steps

@@ -28,13 +28,15 @@ abbrev pub forest_of : List Node → Forest
 forest_of nodes = node 0 (below (parents_of nodes) (length nodes - 1) 0) none
 
 -- what a flow is made from: nodes with their styles, the values of the counter of list items at each element (the outermost scope
--- first), the face of each style, what each pseudo-element's content prints, and the running strings that each element assigns
+-- first), the face of each style, what each pseudo-element's content prints, which elements float to the notes, and the running strings
+-- that each element assigns
 pub record Source : Type 0 where
   pub nodes : List Node
   pub styles : List NodeStyles
   pub items : ℕ → List ℤ
   pub face : Style → FaceId
   pub generated : ℕ → Pseudo → List ℕ
+  pub is_note : ℕ → Bool
   pub assigned : ℕ → List (List ℕ × List ℕ)
 
 abbrev pub is_block_level : Display → Bool
@@ -47,24 +49,33 @@ is_block_level display.Hidden = false
 abbrev pub is_block : Bool → Style → Bool
 is_block root s = root || (not s.float && is_block_level s.display)
 
--- what a node is to the flow: a text, an element that isn't shown, an inline element or a block
+-- whether an element is one that floats to the notes (css-gcpm-3, 2.1). The root never does
+abbrev pub is_note_element : Source → ℕ → Bool
+is_note_element src n = not (n == 0) && src.is_note n
+
+-- what is in a note: an element there that floats to the notes is none, but an inline element
+abbrev pub in_note : Source → Source
+in_note src = record src { is_note = λ n. false }
+
+-- what a node is to the flow: a text, an element that isn't shown, an inline element, a block or a note
 pub data Role : Type 0 where
   text : List ℕ → Role
   hidden : Role
   inline : Style → Role
   block : Style → Role
+  note : Style → Role
 
-abbrev pub shown_role : Bool → Option Style → Role
-shown_role root None = hidden
-shown_role root (Some s) = if is_block root s then block s else inline s
+abbrev pub shown_role : Bool → Bool → Option Style → Role
+shown_role float root None = hidden
+shown_role float root (Some s) = if float then note s else (if is_block root s then block s else inline s)
 
-abbrev pub element_role : Bool → Option NodeStyles → Role
-element_role root None = hidden
-element_role root (Some r) = if r.shown then shown_role root r.own else hidden
+abbrev pub element_role : Bool → Bool → Option NodeStyles → Role
+element_role float root None = hidden
+element_role float root (Some r) = if r.shown then shown_role float root r.own else hidden
 
-abbrev pub role_by : Bool → Option NodeStyles → Option (List ℕ) → Role
-role_by root r None = element_role root r
-role_by root r (Some t) = text t
+abbrev pub role_by : Bool → Bool → Option NodeStyles → Option (List ℕ) → Role
+role_by float root r None = element_role float root r
+role_by float root r (Some t) = text t
 
 abbrev pub role_of : Source → ℕ → Role
-role_of src n = role_by (n == 0) (slice_get src.styles n) (text_at src.nodes n)
+role_of src n = role_by (is_note_element src n) (n == 0) (slice_get src.styles n) (text_at src.nodes n)

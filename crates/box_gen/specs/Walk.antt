@@ -1,7 +1,7 @@
 -- A walk over the nodes of a document, step by step.
-use Rattle.std.specs.Prelude.{◌≡◌, ℕ, ◌==◌, true, List, [], ◌∷◌, Option, None, Some, if◌then◌else◌}
+use Rattle.std.specs.Prelude.{ℕ, ◌==◌, List, [], ◌∷◌, Option, None, Some, if◌then◌else◌}
 use Rattle.bk_num.specs.declared.values.Pseudo.TheVariants as pseudo
-use Rattle.dom.specs.Nodes.{IsTree, parents_of, parent_at}
+use Rattle.dom.specs.Nodes.{parents_of, parent_at}
 use Rattle.dom.specs.Walk.{steps_of}
 use Rattle.dom.specs.declared.walk.Step.{Step}
 use Rattle.dom.specs.declared.walk.Step.TheVariants.{Enter, Leave}
@@ -9,12 +9,12 @@ use Rattle.style.specs.declared.style.Style.{Style}
 use Rattle.style.specs.Nodes.{style_at}
 use Rattle.style.specs.Styles.{initial_style}
 use Rattle.box_gen.specs.declared.inline.InlineItem.TheVariants as item
-use Rattle.box_gen.specs.Trees.{Source, Role, text, hidden, inline, block, role_of}
-use Rattle.box_gen.specs.Flow.{built_of, first_items, last_items, nothing, text_item, with_run}
-use Rattle.box_gen.specs.Gather.{Gathered, adds, begun, ended, make}
+use Rattle.box_gen.specs.Trees.{Source, Role, text, hidden, inline, block, note, role_of}
+use Rattle.box_gen.specs.Flow.{first_items, last_items, nothing, text_item}
+use Rattle.box_gen.specs.Gather.{Gathered, adds, begun, called, ended, make}
 
--- what the walk keeps: what is gathered, the styles of the open blocks, the innermost first, and the element that isn't shown in which it
--- is
+-- what the walk keeps: what is gathered, the styles of the open blocks, the innermost first, and the element that it passes over, which
+-- isn't shown or is a note
 pub record Walk : Type 0 where
   pub gathered : Gathered
   pub blocks : List Style
@@ -48,14 +48,16 @@ enter_node src n hidden w = walk w.gathered w.blocks (Some n)
 enter_node src n (text t) w = walk (adds (text_item src (style_around src n) t ∷ []) w.gathered) w.blocks None
 enter_node src n (inline u) w = walk (adds (first_items src u n) (adds (item.Start (record { 0 = n }) ∷ []) w.gathered)) w.blocks None
 enter_node src n (block u) w = walk (begun src (innermost w.blocks) n u w.gathered) (u ∷ w.blocks) None
+enter_node src n (note u) w = walk (called src n w.gathered) w.blocks (Some n)
 
 abbrev pub leave_node : Source → ℕ → Role → Walk → Walk
 leave_node src n hidden w = walk w.gathered w.blocks None
 leave_node src n (text t) w = walk w.gathered w.blocks None
 leave_node src n (inline u) w = walk (adds (last_items src n) w.gathered) w.blocks None
 leave_node src n (block u) w = walk (ended src u (adds (last_items src n) w.gathered)) (outer w.blocks) None
+leave_node src n (note u) w = walk w.gathered w.blocks None
 
--- nothing is gathered in an element that isn't shown, up to the step out of it
+-- nothing is gathered in an element that is passed over, up to the step out of it
 abbrev pub enter_by : Source → ℕ → Option ℕ → Walk → Walk
 enter_by src n None w = enter_node src n (role_of src n) w
 enter_by src n (Some h) w = w
@@ -75,10 +77,3 @@ after_steps src w (s ∷ steps) = after_steps src (after_step src w s) steps
 -- the walk over a whole document
 abbrev pub walked : Source → Walk
 walked src = after_steps src (walk (make nothing []) [] None) (steps_of src.nodes)
-
--- ---- law
-
--- a walk over a document, with a stack of open blocks and no look ahead, builds its flow
-abbrev pub WalkBuildsFlow : Type 0
-WalkBuildsFlow = (src : Source) → IsTree src.nodes →
-    built_of src ≡ with_run src initial_style true (walked src).gathered.built (walked src).gathered.run

@@ -1,27 +1,42 @@
 //! The flow of a document.
 
-ghost use Rattle.std.specs.Prelude.{◌≡◌, ◌<◌, ◌≤◌, ◌++◌, [], ◌∷◌, map, IfErr, IfOk, OnOk};
+ghost use Rattle.std.specs.Prelude.{◌≡◌, ◌<◌, ◌≤◌, ◌++◌, [], ◌∷◌, length, map, IfErr, IfOk, OnOk};
 ghost use Rattle.std.specs.List.{All};
-ghost use Rattle.bk_num.specs.Limits.{most_open, most_text_bytes};
+ghost use Rattle.bk_num.specs.Limits.{most_entries, most_events, most_open, most_text_bytes};
 ghost use Rattle.boxes.specs.Tree.{IsWhole, depth_of};
 ghost use Rattle.box_gen.specs.Flow as spec;
 ghost use Rattle.bk_num.specs.declared.values.Pseudo.TheVariants as pseudo;
-ghost use Rattle.box_gen.specs.Flow.{assigns_at, built_of, flow_of, page_resets, page_values, resets_at};
+ghost use Rattle.box_gen.specs.Flow.{
+  assigns_at,
+  bodies_of,
+  built_of,
+  calls_of,
+  flow_of,
+  note_starts,
+  notes_by,
+  own_starts,
+  page_resets,
+  page_values,
+  resets_at,
+  starts_in_note,
+};
 ghost use Rattle.page_seq.specs.Numbers.{IsSmallReset};
 ghost use Rattle.page_seq.specs.Places.{NeverFall};
 ghost use Rattle.style.specs.Nodes.{style_at};
 ghost use Rattle.box_gen.specs.Faces.{AreFaced};
-ghost use Rattle.box_gen.specs.Sites.{built_in, leaf_bytes};
+ghost use Rattle.box_gen.specs.Notes.{IsGoodBody, bytes_in, events_in};
+ghost use Rattle.box_gen.specs.Sites.{built_in};
 ghost use Rattle.box_gen.specs.Sources.{AreInRange, IsRootShown, source_in, source_of};
 
-use crate::builder::{Builder, new_builder, walk_through};
+use crate::builder::Builder;
 use crate::inline::BuildErr;
-use crate::input::Input;
+use crate::input::{Input, is_note_element};
+use crate::notes::{Walker, walk_through};
 use crate::put::Site;
 use bk_num::items::Items;
 use bk_num::name::{Name, NoMem};
 use bk_num::values::Pseudo;
-use boxes::flow::{Assign, Flow, Reset, Start};
+use boxes::flow::{Assign, Flow, Note, Reset, Start};
 use boxes::place::Position;
 use counters::at::CounterAt;
 use dom::Dom;
@@ -111,18 +126,114 @@ fn resets_of(alloc: Global, input: &Input, starts: &[Start]) -> Result<Vec<Reset
     Ok(resets)
 }
 
+/// Adds the place of an element to those at which notes are called, or else to those at which elements begin.
+fn part_place(
+    input: &Input,
+    place: Start,
+    calls: &mut Vec<Position>,
+    starts: &mut Vec<Start>,
+) -> Result<(), NoMem>
+    ensures calls { OnOk result (calls.new.items ≡ calls.old.items ++ calls_of (source_in input.now) (place ∷ [])) }
+    ensures starts { OnOk result (starts.new.items ≡ starts.old.items ++ own_starts (source_in input.now) (place ∷ [])) }
+{
+    if is_note_element(input, place.node) {
+        calls.push(place.at)?;
+    } else {
+        starts.push(place)?;
+    }
+    Ok(())
+}
+
+/// Parts the places of elements: where note elements are called, and where the others begin.
+fn parted(
+    alloc: Global,
+    input: &Input,
+    places: Vec<Start>,
+) -> Result<(Vec<Position>, Vec<Start>), NoMem>
+    ensures calls { IfOk result (λ r. r.0.items ≡ calls_of (source_in input.now) places.items) }
+    ensures starts { IfOk result (λ r. r.1.items ≡ own_starts (source_in input.now) places.items) }
+{
+    let mut calls = Vec::new(alloc);
+    let mut starts = Vec::new(alloc);
+    for place in places {
+        part_place(input, place, &mut calls, &mut starts)?;
+    }
+    Ok((calls, starts))
+}
+
+/// Adds where elements begin in a note with a number.
+fn push_note_starts(number: u32, of: &[Start], starts: &mut Vec<Start>) -> Result<(), NoMem>
+    ensures { OnOk result (starts.new.items ≡ starts.old.items ++ starts_in_note number of.now) }
+{
+    for start in of {
+        starts.push(Start {
+            node: start.node,
+            note: Some(number),
+            at: start.at,
+        })?;
+    }
+    Ok(())
+}
+
+/// Adds a note with a number, and where elements begin in it.
+fn push_note(
+    number: u32,
+    call: Position,
+    body: Site,
+    notes: &mut Vec<Note>,
+    starts: &mut Vec<Start>,
+) -> Result<(), NoMem>
+    ensures notes { OnOk result (notes.new.items ≡ notes.old.items ++ notes_by (call ∷ []) (built_in body ∷ [])) }
+    ensures starts { OnOk result (starts.new.items ≡ starts.old.items ++ starts_in_note number body.starts.items) }
+{
+    push_note_starts(number, &body.starts, starts)?;
+    notes.push(Note {
+        call,
+        body: body.tree,
+    })?;
+    Ok(())
+}
+
+/// Takes the notes of calls and their bodies, and adds where elements begin in them.
+fn notes_of(
+    alloc: Global,
+    calls: &[Position],
+    bodies: Vec<Site>,
+    starts: &mut Vec<Start>,
+) -> Result<Vec<Note>, NoMem>
+    requires each { length bodies.items ≡ length calls.now }
+    requires few { length bodies.items ≤ most_events }
+    ensures notes { IfOk result (λ v. v.items ≡ notes_by calls.now (map built_in bodies.items)) }
+    ensures starts { OnOk result (starts.new.items ≡ starts.old.items ++ note_starts 0 (map built_in bodies.items)) }
+{
+    let mut notes = Vec::new(alloc);
+    let mut number = 0;
+    for body in bodies {
+        push_note(number, calls[number as usize], body, &mut notes, starts)?;
+        number += 1;
+    }
+    Ok(notes)
+}
+
 /// The flow of what is built.
-fn finish(alloc: Global, input: &Input, site: Site) -> Result<Flow, NoMem>
-    requires { built_of (source_in input.now) ≡ built_in site }
+fn finish(alloc: Global, input: &Input, walker: Walker) -> Result<Flow, NoMem>
+    requires main { built_of (source_in input.now) ≡ built_in walker.main.site }
+    requires bodies { map built_in walker.bodies.items ≡ bodies_of (source_in input.now) }
+    requires few { length walker.bodies.items ≤ most_events }
     ensures flow { IfOk result (λ flow. flow ≡ flow_of (source_in input.now)) }
     ensures small { IfOk result (λ flow. All IsSmallReset flow.resets) }
 {
+    let Walker { main, bodies, .. } = walker;
+    let Builder { site, .. } = main;
     let Site { tree, starts, .. } = site;
+    let (calls, starts) = parted(alloc, input, starts)?;
     let strings = strings_of(alloc, input, &starts)?;
     let resets = resets_of(alloc, input, &starts)?;
+    let mut starts = starts;
+    let notes = notes_of(alloc, &calls, bodies, &mut starts)?;
     Ok(Flow {
         main: tree,
-        notes: Items::new(alloc),
+        notes: Items::of(notes),
         starts: Items::of(starts),
         strings: Items::of(strings),
         resets: Items::of(resets),
@@ -130,13 +241,15 @@ fn finish(alloc: Global, input: &Input, site: Site) -> Result<Flow, NoMem>
 }
 
 /// The flow of a document by its styles, its counters and its generated texts, set in some faces. Its main tree is whole
-/// where the root is shown, has at most 2,048 boxes open at once, and its faces are there.
+/// where the root is shown, and so are the bodies of its notes; each has at most 2,048 boxes open at once, and its faces
+/// are there.
 ///
 /// A document of `n` nodes is walked once; each character of it is passed once, and what is left of it is copied once.
 ///
 /// # Errors
 ///
-/// `Text` exactly where the leaves have more than 33,554,432 bytes, before the leaf that passes this number is made.
+/// `Text` exactly where the leaves, those of notes among them, have more than 33,554,432 bytes, before the leaf that
+/// passes this number is made.
 pub fn build(
     alloc: Global,
     dom: &Dom,
@@ -150,11 +263,15 @@ pub fn build(
     ensures whole { IsRootShown styles.now → IfOk result (λ flow. IsWhole flow.main.events) }
     ensures depth { IfOk result (λ flow. depth_of flow.main.events ≤ most_open) }
     ensures faced { IfOk result (λ flow. AreFaced faces.now flow.main.leaves) }
-    ensures few { IfOk result (λ flow. leaf_bytes flow.main.leaves ≤ most_text_bytes) }
+    ensures bodies { IfOk result (λ flow. All (IsGoodBody faces.now) flow.notes) }
+    ensures calls { IfOk result (λ flow. NeverFall (map (λ n. n.call) flow.notes)) }
+    ensures few { IfOk result (λ flow. bytes_in flow ≤ most_text_bytes) }
+    ensures events { IfOk result (λ flow. events_in flow ≤ most_events) }
+    ensures count { IfOk result (λ flow. length flow.notes ≤ most_entries) }
     ensures strings { IfOk result (λ flow. NeverFall (map (λ a. a.at) flow.strings)) }
     ensures resets { IfOk result (λ flow. NeverFall (map (λ r. r.at) flow.resets)) }
     ensures small { IfOk result (λ flow. All IsSmallReset flow.resets) }
-    ensures cause { IfErr result (λ e. e ≡ BuildErr.Text → most_text_bytes < leaf_bytes (flow_of (source_of dom.now styles.now counters.now faces.now texts.now)).main.leaves) }
+    ensures cause { IfErr result (λ e. e ≡ BuildErr.Text → most_text_bytes < bytes_in (flow_of (source_of dom.now styles.now counters.now faces.now texts.now))) }
 {
     prove!(dom.len() > 0);
     prove!(faces.len() > 0);
@@ -168,11 +285,10 @@ pub fn build(
         faces,
         texts,
         initial: &initial,
+        in_note: false,
     };
-    let mut builder = new_builder(alloc);
-    walk_through(alloc, &input, &mut builder)?;
-    let Builder { site, .. } = builder;
-    match finish(alloc, &input, site) {
+    let walker = walk_through(alloc, &input)?;
+    match finish(alloc, &input, walker) {
         Ok(flow) => Ok(flow),
         Err(_) => Err(BuildErr::NoMemory),
     }

@@ -1,15 +1,17 @@
 //! The walk over the nodes of a document, step by step.
 
-ghost use Rattle.std.specs.Prelude.{◌≡◌, ◌<◌, ◌++◌, ◌∷◌, ◌==◌, [], None, filter, length, not, IfErr, OnOk, IsSome, IsTrue};
-ghost use Rattle.bk_num.specs.Limits.{most_text_bytes};
+ghost use Rattle.std.specs.Prelude.{◌≡◌, ◌<◌, ◌≤◌, ◌++◌, ◌∷◌, ◌==◌, List, [], None, filter, length, not, IfErr, OnOk, IsSome, IsTrue};
+ghost use Rattle.bk_num.specs.Limits.{most_events, most_text_bytes};
 ghost use Rattle.boxes.specs.Tree.{innermost_of, takes_box};
+ghost use Rattle.bk_num.specs.declared.values.Pseudo.TheVariants as pseudo;
 ghost use Rattle.dom.specs.Walk.{node_of};
+ghost use Rattle.style.specs.Nodes.{NodeStyles};
 ghost use Rattle.box_gen.specs.Flow as spec;
-ghost use Rattle.box_gen.specs.Flow.{built_of, closed, leads_of, opened};
+ghost use Rattle.box_gen.specs.Flow.{closed, leads_of, opened};
 ghost use Rattle.box_gen.specs.declared.inline.InlineItem.TheVariants as item;
 ghost use Rattle.box_gen.specs.Gather.{adds, begun, ended, make};
 ghost use Rattle.box_gen.specs.Kinds.{HasRange, role_in};
-ghost use Rattle.box_gen.specs.Sites.{IsCounted, built_in, leaf_bytes};
+ghost use Rattle.box_gen.specs.Sites.{IsWithin, built_in, leaf_bytes};
 ghost use Rattle.box_gen.specs.Sources.{IsInput, IsInRange, source_in};
 ghost use Rattle.box_gen.specs.Steps.{CanBegin, CanEnd, CanEnterNode, CanLeaveNode, CanStep, styles_of, walk_in};
 ghost use Rattle.box_gen.specs.Trees.{role_of};
@@ -19,20 +21,20 @@ ghost use Rattle.box_gen.specs.Walk.{after_step, enter_node, leave_node};
 use crate::inline::{BuildErr, InlineItem};
 use crate::input::{Input, Kind, kind_of, style_around, style_of};
 use crate::marker::{has_marker, lead_of, marker_text};
-use crate::pieces::{push_first, push_last, push_text};
+use crate::pieces::{push_call, push_first, push_last, push_text};
 use crate::props::props_of;
-use crate::put::{Site, has_room, put_run, start_at};
+use crate::put::{Room, Site, has_room, put_run, start_at};
 use crate::text_style::text_style;
 use bk_num::ids::NodeId;
 use bk_num::name::NoMem;
 use boxes::leaf::Lead;
 use boxes::tree::BoxTree;
-use dom::{Step, Walk};
+use dom::Step;
 use std::alloc::Global;
 use style::style::Style;
 
-/// What the walk keeps: what is built, the run that isn't put yet, the open blocks, and the element that isn't shown
-/// in which it is.
+/// What the walk over a tree keeps: what is built, the run that isn't put yet, the open blocks, and the element that it
+/// passes over, which isn't shown or is a note.
 #[derive(Drop)]
 pub(crate) struct Builder {
     pub(crate) site: Site,
@@ -41,19 +43,34 @@ pub(crate) struct Builder {
     pub(crate) unshown: Option<NodeId>,
 }
 
+/// A tree without events, which has this room.
+pub(crate) fn new_site(alloc: Global, room: Room) -> Site
+    requires bytes { room.bytes ≤ most_text_bytes }
+    requires events { room.events ≤ most_events }
+    ensures built { built_in result ≡ spec.nothing }
+    ensures within { IsWithin result }
+    ensures room { result.room ≡ room }
+    ensures bytes { result.bytes ≡ 0 }
+{
+    Site {
+        tree: BoxTree::new(alloc),
+        starts: Vec::new(alloc),
+        pending: Vec::new(alloc),
+        bytes: 0,
+        room,
+    }
+}
+
 /// The builder before the first step.
-pub(crate) fn new_builder(alloc: Global) -> Builder
-    ensures walk { walk_in [] result ≡ walk.walk (make spec.nothing []) [] None }
-    ensures blocks { result.blocks.items ≡ [] }
-    ensures count { IsCounted result.site }
+pub(crate) fn new_builder(alloc: Global, room: Room) -> Builder
+    requires bytes { room.bytes ≤ most_text_bytes }
+    requires events { room.events ≤ most_events }
+    ensures walk { (styles : List NodeStyles) → walk_in styles result ≡ walk.walk (make spec.nothing []) [] None }
+    ensures within { IsWithin result.site }
+    ensures room { result.site.room ≡ room }
 {
     Builder {
-        site: Site {
-            tree: BoxTree::new(alloc),
-            starts: Vec::new(alloc),
-            pending: Vec::new(alloc),
-            bytes: 0,
-        },
+        site: new_site(alloc, room),
         run: Vec::new(alloc),
         blocks: Vec::new(alloc),
         unshown: None,
@@ -61,7 +78,7 @@ pub(crate) fn new_builder(alloc: Global) -> Builder
 }
 
 /// The style of the innermost open block.
-fn innermost<'a>(input: &Input<'a>, blocks: &[NodeId]) -> &'a Style
+pub(crate) fn innermost<'a>(input: &Input<'a>, blocks: &[NodeId]) -> &'a Style
     requires { IsInput input.now }
     ensures value { result.now ≡ walk.innermost (styles_of input.now.styles.now blocks.now) }
     ensures range { IsInRange result.now }
@@ -109,6 +126,7 @@ fn open_box(
     requires place { IsTrue (takes_box site.old.tree.events) }
     ensures built { OnOk result (built_in site.new ≡ opened (source_in input.now) node.0 style.now (built_in site.old)) }
     ensures bytes { OnOk result (site.new.bytes ≡ site.old.bytes) }
+    ensures room { OnOk result (site.new.room ≡ site.old.room) }
 {
     let event = site.tree.count();
     let owner = site.tree.add_box(props_of(style, node))?;
@@ -139,6 +157,7 @@ fn close_box(site: &mut Site) -> Result<(), NoMem>
     requires open { IsSome (innermost_of site.old.tree.events) }
     ensures built { OnOk result (built_in site.new ≡ closed (built_in site.old)) }
     ensures bytes { OnOk result (site.new.bytes ≡ site.old.bytes) }
+    ensures room { OnOk result (site.new.room ≡ site.old.room) }
 {
     let inner = site.tree.around(site.tree.count());
     site.tree.close_box()?;
@@ -162,6 +181,22 @@ fn enter_inline(
     Ok(())
 }
 
+/// Enters a note element: its call stands where it would begin.
+fn enter_note(
+    alloc: Global,
+    input: &Input,
+    node: NodeId,
+    run: &mut Vec<InlineItem>,
+) -> Result<(), NoMem>
+    ensures { OnOk result (run.new.items ≡
+        (run.old.items ++ item.Start node ∷ []) ++ spec.generated_items (source_in input.now) node.0 pseudo.Call) }
+{
+    let call = InlineItem::Start(node);
+    run.push(call)?;
+    push_call(alloc, input, node, run)?;
+    Ok(())
+}
+
 /// Enters a block: the run before it is put, and its box opened.
 fn enter_block(
     alloc: Global,
@@ -173,15 +208,16 @@ fn enter_block(
     requires input { IsInput input.now }
     requires node { node.0 < length input.now.dom.now }
     requires range { IsInRange style.now }
-    requires count { IsCounted builder.old.site }
+    requires within { IsWithin builder.old.site }
     requires can { CanBegin (source_in input.now) (walk.innermost (styles_of input.now.styles.now builder.old.blocks.items)) (make (built_in builder.old.site) builder.old.run.items) }
     ensures gathered { OnOk result (make (built_in builder.new.site) builder.new.run.items ≡ begun (source_in input.now) (walk.innermost (styles_of input.now.styles.now builder.old.blocks.items)) node.0 style.now (make (built_in builder.old.site) builder.old.run.items)) }
     ensures blocks { OnOk result (builder.new.blocks.items ≡ builder.old.blocks.items ++ node ∷ []) }
     ensures unshown { OnOk result (builder.new.unshown ≡ builder.old.unshown) }
-    ensures count { OnOk result (IsCounted builder.new.site) }
-    ensures cause { IfErr result (λ e. e ≡ BuildErr.Text → most_text_bytes < leaf_bytes (begun (source_in input.now) (walk.innermost (styles_of input.now.styles.now builder.old.blocks.items)) node.0 style.now (make (built_in builder.old.site) builder.old.run.items)).built.tree.leaves) }
+    ensures within { OnOk result (IsWithin builder.new.site) }
+    ensures room { OnOk result (builder.new.site.room ≡ builder.old.site.room) }
+    ensures cause { IfErr result (λ e. e ≡ BuildErr.Text → builder.old.site.room.bytes < leaf_bytes (begun (source_in input.now) (walk.innermost (styles_of input.now.styles.now builder.old.blocks.items)) node.0 style.now (make (built_in builder.old.site) builder.old.run.items)).built.tree.leaves) }
 {
-    if !has_room(&builder.site.tree) {
+    if !has_room(&builder.site) {
         return Err(BuildErr::NoMemory);
     }
     let around = innermost(input, &builder.blocks);
@@ -200,7 +236,7 @@ fn enter_block(
 }
 
 /// Leaves a block of a style: the run at its end is put, and its box closed.
-fn leave_block(
+pub(crate) fn leave_block(
     alloc: Global,
     input: &Input,
     node: NodeId,
@@ -208,15 +244,16 @@ fn leave_block(
     builder: &mut Builder,
 ) -> Result<(), BuildErr>
     requires range { IsInRange style.now }
-    requires count { IsCounted builder.old.site }
+    requires within { IsWithin builder.old.site }
     requires can { CanEnd (source_in input.now) style.now (adds (spec.last_items (source_in input.now) node.0) (make (built_in builder.old.site) builder.old.run.items)) }
     ensures gathered { OnOk result (make (built_in builder.new.site) builder.new.run.items ≡ ended (source_in input.now) style.now (adds (spec.last_items (source_in input.now) node.0) (make (built_in builder.old.site) builder.old.run.items))) }
     ensures blocks { OnOk result (builder.new.blocks ≡ builder.old.blocks) }
     ensures unshown { OnOk result (builder.new.unshown ≡ builder.old.unshown) }
-    ensures count { OnOk result (IsCounted builder.new.site) }
-    ensures cause { IfErr result (λ e. e ≡ BuildErr.Text → most_text_bytes < leaf_bytes (ended (source_in input.now) style.now (adds (spec.last_items (source_in input.now) node.0) (make (built_in builder.old.site) builder.old.run.items))).built.tree.leaves) }
+    ensures within { OnOk result (IsWithin builder.new.site) }
+    ensures room { OnOk result (builder.new.site.room ≡ builder.old.site.room) }
+    ensures cause { IfErr result (λ e. e ≡ BuildErr.Text → builder.old.site.room.bytes < leaf_bytes (ended (source_in input.now) style.now (adds (spec.last_items (source_in input.now) node.0) (make (built_in builder.old.site) builder.old.run.items))).built.tree.leaves) }
 {
-    if !has_room(&builder.site.tree) {
+    if !has_room(&builder.site) {
         return Err(BuildErr::NoMemory);
     }
     let Ok(()) = push_last(alloc, input, node, &mut builder.run) else {
@@ -244,11 +281,12 @@ fn enter(
     requires role { role_in kind ≡ role_of (source_in input.now) node.0 }
     requires range { HasRange kind }
     requires shown { builder.old.unshown ≡ None }
-    requires count { IsCounted builder.old.site }
+    requires within { IsWithin builder.old.site }
     requires can { CanEnterNode (source_in input.now) (role_in kind) (walk_in input.now.styles.now builder.old) }
     ensures walk { OnOk result (walk_in input.now.styles.now builder.new ≡ enter_node (source_in input.now) node.0 (role_in kind.entry) (walk_in input.now.styles.now builder.old)) }
-    ensures count { OnOk result (IsCounted builder.new.site) }
-    ensures cause { IfErr result (λ e. e ≡ BuildErr.Text → most_text_bytes < leaf_bytes (enter_node (source_in input.now) node.0 (role_in kind.entry) (walk_in input.now.styles.now builder.old)).gathered.built.tree.leaves) }
+    ensures within { OnOk result (IsWithin builder.new.site) }
+    ensures room { OnOk result (builder.new.site.room ≡ builder.old.site.room) }
+    ensures cause { IfErr result (λ e. e ≡ BuildErr.Text → builder.old.site.room.bytes < leaf_bytes (enter_node (source_in input.now) node.0 (role_in kind.entry) (walk_in input.now.styles.now builder.old)).gathered.built.tree.leaves) }
 {
     match kind {
         Kind::Hidden => builder.unshown = Some(node),
@@ -264,6 +302,12 @@ fn enter(
             };
         }
         Kind::Block(style) => enter_block(alloc, input, node, style, builder)?,
+        Kind::Note(_) => {
+            let Ok(()) = enter_note(alloc, input, node, &mut builder.run) else {
+                return Err(BuildErr::NoMemory);
+            };
+            builder.unshown = Some(node);
+        }
     }
     Ok(())
 }
@@ -278,14 +322,15 @@ fn leave(
 ) -> Result<(), BuildErr>
     requires range { HasRange kind }
     requires shown { builder.old.unshown ≡ None }
-    requires count { IsCounted builder.old.site }
+    requires within { IsWithin builder.old.site }
     requires can { CanLeaveNode (source_in input.now) node.0 (role_in kind) (walk_in input.now.styles.now builder.old) }
     ensures walk { OnOk result (walk_in input.now.styles.now builder.new ≡ leave_node (source_in input.now) node.0 (role_in kind.entry) (walk_in input.now.styles.now builder.old)) }
-    ensures count { OnOk result (IsCounted builder.new.site) }
-    ensures cause { IfErr result (λ e. e ≡ BuildErr.Text → most_text_bytes < leaf_bytes (leave_node (source_in input.now) node.0 (role_in kind.entry) (walk_in input.now.styles.now builder.old)).gathered.built.tree.leaves) }
+    ensures within { OnOk result (IsWithin builder.new.site) }
+    ensures room { OnOk result (builder.new.site.room ≡ builder.old.site.room) }
+    ensures cause { IfErr result (λ e. e ≡ BuildErr.Text → builder.old.site.room.bytes < leaf_bytes (leave_node (source_in input.now) node.0 (role_in kind.entry) (walk_in input.now.styles.now builder.old)).gathered.built.tree.leaves) }
 {
     match kind {
-        Kind::Hidden | Kind::Text(_) => {}
+        Kind::Hidden | Kind::Text(_) | Kind::Note(_) => {}
         Kind::Inline(_) => {
             let Ok(()) = push_last(alloc, input, node, &mut builder.run) else {
                 return Err(BuildErr::NoMemory);
@@ -299,15 +344,21 @@ fn leave(
     Ok(())
 }
 
-/// A step of the walk. Nothing is gathered in an element that isn't shown, up to the step out of it.
-fn pass(alloc: Global, input: &Input, step: Step, builder: &mut Builder) -> Result<(), BuildErr>
+/// A step of the walk. Nothing is gathered in an element that is passed over, up to the step out of it.
+pub(crate) fn pass(
+    alloc: Global,
+    input: &Input,
+    step: Step,
+    builder: &mut Builder,
+) -> Result<(), BuildErr>
     requires input { IsInput input.now }
     requires node { node_of step < length input.now.dom.now }
-    requires count { IsCounted builder.old.site }
+    requires within { IsWithin builder.old.site }
     requires can { CanStep (source_in input.now) (walk_in input.now.styles.now builder.old) step }
     ensures walk { OnOk result (walk_in input.now.styles.now builder.new ≡ after_step (source_in input.now) (walk_in input.now.styles.now builder.old) step) }
-    ensures count { OnOk result (IsCounted builder.new.site) }
-    ensures cause { IfErr result (λ e. e ≡ BuildErr.Text → most_text_bytes < leaf_bytes (after_step (source_in input.now) (walk_in input.now.styles.now builder.old) step).gathered.built.tree.leaves) }
+    ensures within { OnOk result (IsWithin builder.new.site) }
+    ensures room { OnOk result (builder.new.site.room ≡ builder.old.site.room) }
+    ensures cause { IfErr result (λ e. e ≡ BuildErr.Text → builder.old.site.room.bytes < leaf_bytes (after_step (source_in input.now) (walk_in input.now.styles.now builder.old) step).gathered.built.tree.leaves) }
 {
     match (step, builder.unshown) {
         (Step::Enter(node), None) => enter(alloc, input, node, kind_of(input, node), builder),
@@ -320,28 +371,4 @@ fn pass(alloc: Global, input: &Input, step: Step, builder: &mut Builder) -> Resu
             Ok(())
         }
     }
-}
-
-/// The whole walk.
-pub(crate) fn walk_through(
-    alloc: Global,
-    input: &Input,
-    builder: &mut Builder,
-) -> Result<(), BuildErr>
-    requires input { IsInput input.now }
-    requires count { IsCounted builder.old.site }
-    requires start { walk_in input.now.styles.now builder.old ≡ walk.walk (make spec.nothing []) [] None }
-    ensures walk { OnOk result (built_of (source_in input.now) ≡ built_in builder.new.site) }
-    ensures count { OnOk result (IsCounted builder.new.site) }
-    ensures cause { IfErr result (λ e. e ≡ BuildErr.Text → most_text_bytes < leaf_bytes (built_of (source_in input.now)).tree.leaves) }
-{
-    prove!(input.dom.len() > 0);
-    let mut steps = Walk::new(input.dom);
-    while let Some(step) = steps.next() {
-        match pass(alloc, input, step, builder) {
-            Ok(()) => {}
-            Err(e) => return Err(e),
-        }
-    }
-    Ok(())
 }

@@ -1,6 +1,6 @@
 //! What a flow is made from.
 
-ghost use Rattle.std.specs.Prelude.{◌≡◌, ◌<◌, IfSome, Some, length, option_map};
+ghost use Rattle.std.specs.Prelude.{◌≡◌, ◌<◌, true, IfSome, Some, length, option_map};
 ghost use Rattle.bk_num.specs.declared.values.Pseudo.TheVariants as pseudo;
 ghost use Rattle.style.specs.Nodes.{style_at};
 ghost use Rattle.box_gen.specs.Kinds.{HasRange, role_in, shown_in};
@@ -18,7 +18,8 @@ use style::style::Style;
 use style::styles::Styles;
 use style::values::Display;
 
-/// A document with its styles, its counters and its generated texts, the faces that set it, and the initial style.
+/// A document with its styles, its counters and its generated texts, the faces that set it, the initial style, and
+/// whether what is meant stands in a note.
 #[derive(Clone, Copy)]
 pub(crate) struct Input<'a> {
     pub(crate) dom: &'a Dom,
@@ -27,6 +28,7 @@ pub(crate) struct Input<'a> {
     pub(crate) faces: &'a Faces,
     pub(crate) texts: &'a Generated,
     pub(crate) initial: &'a Style,
+    pub(crate) in_note: bool,
 }
 
 /// What a node is to the flow.
@@ -36,6 +38,17 @@ pub(crate) enum Kind<'a> {
     Hidden,
     Inline(&'a Style),
     Block(&'a Style),
+    Note(&'a Style),
+}
+
+/// The same in a note.
+pub(crate) fn within_note<'a>(input: &Input<'a>) -> Input<'a>
+    ensures same { result ≡ record input.now { in_note = true } }
+{
+    Input {
+        in_note: true,
+        ..*input
+    }
 }
 
 fn is_block_level(display: Display) -> bool
@@ -52,6 +65,13 @@ fn is_block(root: bool, style: &Style) -> bool
     ensures { result ≡ spec.is_block root style.now }
 {
     root || !style.float && is_block_level(style.display)
+}
+
+/// Whether an element is one that floats to the notes, unless it is in one.
+pub(crate) fn is_note_element(input: &Input, node: NodeId) -> bool
+    ensures { result ≡ spec.is_note_element (source_in input.now) node.0 }
+{
+    node.0 != 0 && !input.in_note && input.styles.is_note(node)
 }
 
 /// The style of an element.
@@ -92,7 +112,9 @@ pub(crate) fn kind_of<'a>(input: &Input<'a>, node: NodeId) -> Kind<'a>
     match shown_style(input.styles, node) {
         None => Kind::Hidden,
         Some(style) => {
-            if is_block(node.0 == 0, style) {
+            if is_note_element(input, node) {
+                Kind::Note(style)
+            } else if is_block(node.0 == 0, style) {
                 Kind::Block(style)
             } else {
                 Kind::Inline(style)

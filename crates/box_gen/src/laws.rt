@@ -1,8 +1,9 @@
 //! A law of flows, and the flows of small documents, which show what the definitions say. Each function is empty and carries one.
 
+ghost use Rattle.box_gen.specs.Elements.{ElementsHaveStarts};
 ghost use Rattle.box_gen.specs.Examples.{Collapses, PartsText};
 ghost use Rattle.box_gen.specs.Order.{StartsNeverFall};
-ghost use Rattle.box_gen.specs.Walk.{WalkBuildsFlow};
+ghost use Rattle.box_gen.specs.Bodies.{WalkBuildsFlow};
 
 /// `<div>a<p>b</p>c</div>` has three leaves, the first and the last of them in anonymous boxes.
 pub fn blocks_part_text()
@@ -14,7 +15,8 @@ pub fn white_space_collapses()
     ensures { Collapses }
 {}
 
-/// Law: a walk over the nodes, with a stack of the open blocks and no look ahead, builds the flow.
+/// Law: two walks over the nodes, one of them in notes, with a stack of the open blocks each and no look ahead, build the
+/// main tree and the bodies of notes.
 pub fn a_walk_builds_the_flow()
     ensures { WalkBuildsFlow }
 {}
@@ -22,4 +24,9 @@ pub fn a_walk_builds_the_flow()
 /// Law: the places at which elements begin never fall along their list.
 pub fn starts_never_fall()
     ensures { StartsNeverFall }
+{}
+
+/// Law: each shown element has exactly one start, in the main tree or in a note, and nothing else has one.
+pub fn elements_have_starts()
+    ensures { ElementsHaveStarts }
 {}

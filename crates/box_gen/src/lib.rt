@@ -8,10 +8,9 @@ mod input;
 pub mod laws;
 pub mod leaf;
 pub mod marker;
+mod notes;
 mod pieces;
 pub mod props;
 mod put;
 pub mod represented;
-#[cfg(test)]
-mod tests;
 pub mod text_style;

@@ -1,6 +1,7 @@
 //! The pieces of runs: texts, generated texts, and the texts that elements represent.
 
 ghost use Rattle.std.specs.Prelude.{◌≡◌, ◌<◌, ◌++◌, ◌∷◌, [], length, OnOk};
+ghost use Rattle.bk_num.specs.declared.values.Pseudo.TheVariants as pseudo;
 ghost use Rattle.box_gen.specs.Flow as spec;
 ghost use Rattle.box_gen.specs.Flow.{styled, text_item, generated_items};
 ghost use Rattle.box_gen.specs.Represented as represented;
@@ -101,6 +102,35 @@ pub(crate) fn push_first(
 {
     push_generated(alloc, input, node, Pseudo::Before, run)?;
     push_represented(alloc, input, node, style, run)?;
+    Ok(())
+}
+
+/// Adds the text of the call of a note.
+pub(crate) fn push_call(
+    alloc: Global,
+    input: &Input,
+    node: NodeId,
+    run: &mut Vec<InlineItem>,
+) -> Result<(), NoMem>
+    ensures { OnOk result (run.new.items ≡ run.old.items ++ generated_items (source_in input.now) node.0 pseudo.Call) }
+{
+    push_generated(alloc, input, node, Pseudo::Call, run)?;
+    Ok(())
+}
+
+/// Adds what stands in a note before its children: its marker first.
+pub(crate) fn push_note_first(
+    alloc: Global,
+    input: &Input,
+    node: NodeId,
+    style: &Style,
+    run: &mut Vec<InlineItem>,
+) -> Result<(), NoMem>
+    requires { node.0 < length input.now.dom.now }
+    ensures { OnOk result (run.new.items ≡ run.old.items ++ spec.note_first_items (source_in input.now) style.now node.0) }
+{
+    push_generated(alloc, input, node, Pseudo::Marker, run)?;
+    push_first(alloc, input, node, style, run)?;
     Ok(())
 }
 

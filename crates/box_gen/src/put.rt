@@ -11,7 +11,7 @@ ghost use Rattle.box_gen.specs.Flow.{put, shut, starts_by};
 ghost use Rattle.box_gen.specs.Leaves.{IsGoodRun, leaf_style_of};
 ghost use Rattle.box_gen.specs.Props as props;
 ghost use Rattle.box_gen.specs.Runs.{AreGoodTexts};
-ghost use Rattle.box_gen.specs.Sites.{IsCounted, built_in, leaf_bytes, with_any, with_text};
+ghost use Rattle.box_gen.specs.Sites.{IsCounted, IsWithin, built_in, leaf_bytes, with_any, with_text};
 ghost use Rattle.box_gen.specs.Sources.{IsInRange};
 ghost use Rattle.box_gen.specs.TextStyles.{IsGoodTextStyle};
 
@@ -20,7 +20,6 @@ use crate::leaf::{LeafStyle, RunText, leaf_of, leaf_style, run_text};
 use crate::props::anonymous_props;
 use bk_num::ids::NodeId;
 use bk_num::items::Items;
-use bk_num::limits::{MOST_EVENTS, MOST_TEXT_BYTES};
 use bk_num::name::NoMem;
 use boxes::flow::Start;
 use boxes::leaf::{Lead, Leaf};
@@ -31,21 +30,32 @@ use metrics::Faces;
 use std::alloc::Global;
 use style::style::Style;
 
-/// The tree so far, where elements begin, the markers that have no line yet, and how many bytes the leaves have.
+/// How many bytes the leaves of a tree may have, and how many events the tree: what the other trees of the flow leave.
+#[derive(Clone, Copy, Debug)]
+pub(crate) struct Room {
+    pub(crate) bytes: u32,
+    pub(crate) events: u32,
+}
+
+/// The tree so far, where elements begin, the markers that have no line yet, how many bytes the leaves have, and the
+/// tree's room.
 #[derive(Drop)]
 pub(crate) struct Site {
     pub(crate) tree: BoxTree,
     pub(crate) starts: Vec<Start>,
     pub(crate) pending: Vec<Lead>,
     pub(crate) bytes: u32,
+    pub(crate) room: Room,
 }
 
 /// Whether a step may add its events, of which there are four at most. It always may: a document of 400,000 nodes
 /// has fewer than 800,000 steps.
-pub(crate) fn has_room(tree: &BoxTree) -> bool
-    ensures { IsTrue result → length tree.now.events < 7999990 }
+pub(crate) fn has_room(site: &Site) -> bool
+    requires { IsWithin site.now }
+    ensures few { IsTrue result → length site.now.tree.events < 7999990 }
+    ensures room { IsTrue result → length site.now.tree.events + 10 < site.now.room.events }
 {
-    tree.count() < MOST_EVENTS - 10
+    site.tree.count() + 10 < site.room.events
 }
 
 /// Where an element begins.
@@ -129,6 +139,7 @@ fn put_some(
     requires leads { All (λ lead. IsGoodSpan lead.span) site.old.pending.items }
     ensures built { OnOk result (built_in site.new ≡ with_text wrap look.now anonymous (built_in site.old) run.text run.spans run.starts) }
     ensures bytes { OnOk result (site.new.bytes ≡ site.old.bytes) }
+    ensures room { OnOk result (site.new.room ≡ site.old.room) }
 {
     let event = leaf_event(&site.tree, wrap);
     push_starts(&mut site.starts, event, run.starts.as_slice())?;
@@ -158,6 +169,7 @@ fn put_any(
     requires leads { All (λ lead. IsGoodSpan lead.span) site.old.pending.items }
     ensures built { OnOk result (built_in site.new ≡ with_any wrap look.now anonymous (built_in site.old) run.text run.spans run.starts) }
     ensures bytes { OnOk result (site.new.bytes ≡ site.old.bytes) }
+    ensures room { OnOk result (site.new.room ≡ site.old.room) }
 {
     if run.text.as_str().is_empty() {
         let event = site.tree.count();
@@ -188,7 +200,7 @@ fn put_text(
     requires range { IsInRange style.now }
     requires good { IsGoodRun run }
     requires sizes { All IsGoodSpan run.spans }
-    requires room { site.old.bytes + length run.text ≤ most_text_bytes }
+    requires room { site.old.bytes + length run.text ≤ site.old.room.bytes }
     requires few { length site.old.tree.events < 7999990 }
     requires place { IsTrue (if wrap then takes_box site.old.tree.events else takes_leaf site.old.tree.events) }
     requires owners { HaveOwners site.old.tree.events site.old.pending.items }
@@ -196,6 +208,7 @@ fn put_text(
     requires count { IsCounted site.old }
     ensures built { OnOk result (built_in site.new ≡ with_any wrap (leaf_style_of style.now (face_of faces.now style.now)) (props.anonymous_props style.now) (built_in site.old) run.text run.spans run.starts) }
     ensures count { OnOk result (IsCounted site.new) }
+    ensures room { OnOk result (site.new.room ≡ site.old.room) }
 {
     let bytes = bytes_of(&run);
     let look = leaf_style(faces, style);
@@ -208,7 +221,7 @@ fn put_text(
 ///
 /// # Errors
 ///
-/// `Text` where the leaves with that of the run have more than 33,554,432 bytes.
+/// `Text` where the leaves with that of the run have more bytes than there is room for.
 pub(crate) fn put_run(
     alloc: Global,
     faces: &Faces,
@@ -226,9 +239,10 @@ pub(crate) fn put_run(
     requires count { IsCounted site.old }
     ensures built { OnOk result (built_in site.new ≡ put (leaf_style_of style.now (face_of faces.now style.now)) (props.anonymous_props style.now) wrap (built_in site.old) items.items) }
     ensures count { OnOk result (IsCounted site.new) }
-    ensures cause { IfErr result (λ e. e ≡ BuildErr.Text → most_text_bytes < leaf_bytes (put (leaf_style_of style.now (face_of faces.now style.now)) (props.anonymous_props style.now) wrap (built_in site.old) items.items).tree.leaves) }
+    ensures room { OnOk result (site.new.room ≡ site.old.room) }
+    ensures cause { IfErr result (λ e. e ≡ BuildErr.Text → site.old.room.bytes < leaf_bytes (put (leaf_style_of style.now (face_of faces.now style.now)) (props.anonymous_props style.now) wrap (built_in site.old) items.items).tree.leaves) }
 {
-    match run_text(alloc, items, MOST_TEXT_BYTES as u32 - site.bytes) {
+    match run_text(alloc, items, site.room.bytes - site.bytes) {
         Err(e) => Err(e),
         Ok(run) => match put_text(alloc, faces, style, wrap, site, run) {
             Ok(()) => Ok(()),

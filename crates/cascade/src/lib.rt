@@ -8,9 +8,5 @@ pub mod laws;
 mod selected;
 pub mod sheet;
 pub mod table;
-#[cfg(test)]
-mod tests;
-#[cfg(test)]
-mod tests_winners;
 pub mod weight;
 pub mod winners;

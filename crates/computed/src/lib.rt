@@ -7,9 +7,5 @@ pub mod context;
 pub mod document;
 pub mod laws;
 pub mod styled;
-#[cfg(test)]
-mod tests;
-#[cfg(test)]
-mod tests_names;
 mod values;
 pub mod walk;

@@ -10,5 +10,3 @@ pub mod numeral;
 pub mod scopes;
 pub mod spots;
 mod tally;
-#[cfg(test)]
-mod tests;

@@ -4,6 +4,4 @@
 pub mod content;
 pub mod counters;
 pub mod strings;
-#[cfg(test)]
-mod tests;
 pub mod words;

@@ -7,5 +7,3 @@ pub mod media;
 pub mod pages;
 pub mod parts;
 pub mod sheet;
-#[cfg(test)]
-mod tests;

@@ -7,8 +7,6 @@ pub mod lengths;
 pub mod marks;
 pub mod numbers;
 pub mod plain;
-#[cfg(test)]
-mod tests;
 pub mod tokens;
 pub mod value;
 pub mod words;

@@ -7,13 +7,7 @@ pub mod decls;
 pub mod fonts;
 pub mod keywords;
 pub mod measures;
-#[cfg(test)]
-mod printed;
 pub mod properties;
 pub mod shorthands;
 pub mod sides;
-#[cfg(test)]
-mod tests;
-#[cfg(test)]
-mod tests_rows;
 pub mod values;

@@ -7,8 +7,6 @@ pub mod laws;
 mod names;
 mod rows;
 mod store;
-#[cfg(test)]
-mod tests;
 mod texts;
 mod walk;
 

@@ -1,10 +1,2 @@
-pub mod BoundLemmas
-pub mod BreakLemmas
-pub mod ExistLemmas
-pub mod FlowLemmas
-pub mod InsideLemmas
 pub mod NearLemmas
-pub mod PageLemmas
-pub mod PartLemmas
-pub mod SizeLemmas
-pub mod TextLemmas
+pub mod RunLemmas

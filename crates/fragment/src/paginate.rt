@@ -1,26 +1,35 @@
 //! The pages of a flow.
 
-ghost use Rattle.std.specs.Prelude.{◌≡◌, ℕ, ◌+◌, ◌<◌, ◌≤◌, length, true, false, IfOk, IfErr};
+ghost use Rattle.std.specs.Prelude.{◌≡◌, ℕ, ◌+◌, ◌<◌, ◌≤◌, All, length, true, false, IfOk, IfErr};
 ghost use Rattle.bk_num.specs.Limits.{most_pages};
-ghost use Rattle.fragment.specs.Bounds.{HasText, HaveTexts, most_pages_of};
-ghost use Rattle.fragment.specs.Conditions.{CanBePaged};
-ghost use Rattle.fragment.specs.Inside.{EndInside};
-ghost use Rattle.fragment.specs.Pages.{HasOnePageList, HasSomePageList, HaveNearTops, IsPaged, LeavesNothing, LeavesSome, flow_page_of, blank_of, meets_at, AddsBlanks};
-ghost use Rattle.fragment.specs.Parted.{HoldsAll, HoldsBreaks, HoldsEdges, HoldsText, solids_of};
+ghost use Rattle.fragment.specs.Runs.{EndsFlow};
+ghost use Rattle.note_list.specs.Conditions.{CanBePaged};
+ghost use Rattle.page_list.specs.Bounds.{HasText, HasTexts, HaveTexts, most_pages_of};
+ghost use Rattle.page_list.specs.Inside.{EndInside};
+ghost use Rattle.page_list.specs.Laws.{HoldsMain};
+ghost use Rattle.page_list.specs.Noted.{BeginInTime, HoldsNotes};
+ghost use Rattle.page_list.specs.Pages.{AddsBlanks, HaveNearTops, IsPaged, LeavesSome, blank_of, flow_page_of, meets_at, notes_page_of};
+ghost use Rattle.page_list.specs.Parted.{HoldsBreaks};
 
-use crate::next_cut::{Cut, CutFrom, cut_tree};
 use bk_num::ids::NameId;
 use bk_num::items::Items;
 use bk_num::limits::MOST_PAGES;
 use bk_num::steps::Steps;
-use boxes::flow::Flow;
+use boxes::flow::{Flow, Note};
 use boxes::frames::{Demand, Frame, Frames, PageKind};
-use boxes::page::{Page, PageList};
+use boxes::page::{Page, PageList, PlacedNote};
 use boxes::place::{Event, Position};
 use boxes::tree::BoxTree;
-use cursor::laws::remainder_is_one;
-use cuts::laws::one_cut;
 use metrics::Faces;
+use note_list::carried::Carried;
+use note_list::list::PlacedList;
+use page_cut::next_cut::next_cut;
+use page_cut::next_notes::next_notes;
+use page_list::cut::{Cut, CutFrom};
+use page_list::laws::{
+    breaks_hold, main_stands_once, notes_begin_in_time, notes_stand_once, pages_are_few,
+    pages_end_inside,
+};
 use seams::seam::seam;
 use std::alloc::Global;
 use std::sync::ledger::Ledger;
@@ -32,17 +41,27 @@ pub enum PageErr {
     NoMemory,
 }
 
-/// A flow page, from its cut.
-fn page_of(index: u32, name: NameId, frame: Frame, cut: Cut) -> Page
-    ensures { result ≡ flow_page_of index name frame cut }
+/// The pages up to the flow's end, the name of the last one, and what it carries on.
+#[derive(Drop)]
+pub(crate) struct FlowPages {
+    pub(crate) pages: Vec<Page>,
+    pub(crate) name: NameId,
+    pub(crate) carried: Items<Carried>,
+}
+
+/// A flow page, from its cut, and what is carried on.
+fn page_of(index: u32, name: NameId, frame: Frame, cut: Cut) -> (Page, Items<Carried>)
+    ensures page { result.0 ≡ flow_page_of index name frame cut }
+    ensures carried { result.1 ≡ cut.carried }
 {
     let Cut {
         level,
         solids,
         notes,
+        carried,
         ..
     } = cut;
-    Page {
+    let page = Page {
         index,
         kind: PageKind::Flow,
         name,
@@ -50,7 +69,8 @@ fn page_of(index: u32, name: NameId, frame: Frame, cut: Cut) -> Page
         solids,
         notes,
         level,
-    }
+    };
+    (page, carried)
 }
 
 /// A blank page.
@@ -64,6 +84,27 @@ fn blank_of(alloc: Global, index: u32, name: NameId, frame: Frame) -> Page
         frame,
         solids: Items::of(Vec::new(alloc)),
         notes: Items::of(Vec::new(alloc)),
+        level: 0,
+    }
+}
+
+/// A page of notes after the flow.
+fn notes_page_of(
+    alloc: Global,
+    index: u32,
+    name: NameId,
+    frame: Frame,
+    notes: Items<PlacedNote>,
+) -> Page
+    ensures { result ≡ notes_page_of index name frame notes }
+{
+    Page {
+        index,
+        kind: PageKind::Notes,
+        name,
+        frame,
+        solids: Items::of(Vec::new(alloc)),
+        notes,
         level: 0,
     }
 }
@@ -142,57 +183,38 @@ fn have_texts(tree: &BoxTree)
     }
 }
 
-/// Two page lists of one flow are equal.
-pub fn one_page_list()
-    ensures { HasOnePageList }
+/// So has each leaf of the bodies of notes.
+fn have_note_texts(notes: &[Note])
+    ensures { All (λ n. HaveTexts n.body) notes.now }
 {
-    remainder_is_one();
-    one_cut();
+    for at in 0..notes.len() {
+        have_texts(&notes[at].body);
+    }
 }
 
-/// A flow has a page list, however long it is, over frames that meet each demand. By
-/// `one_page_list` it has no other.
-pub fn page_list_is_there()
-    ensures { HasSomePageList }
-{}
-
-/// A flow with a page list has nothing unplaced after as many pages, or after more. So `paginate` answers `Pages` for no
-/// flow that has a page list of at most 100,000 pages.
-pub fn a_page_list_leaves_nothing()
-    ensures { LeavesNothing }
+/// And each leaf of a flow.
+fn has_texts(flow: &Flow)
+    ensures { HasTexts flow.now }
 {
-    remainder_is_one();
-    one_cut();
+    have_texts(&flow.main);
+    have_note_texts(flow.notes.as_slice());
 }
 
-/// The pages of a flow without notes, each ended by its best cut, with blank pages where a side is asked. Each edge
-/// stands once and in order, and the lines part the text of each leaf in order. Tops are
-/// within 2^60 units, and heights from 0 to 2^32. `Pages` comes exactly where 100,000 pages leave something unplaced.
-pub fn paginate<Fr: Frames, L: Ledger>(
+/// The pages up to the flow's end, each ended by its best cut, with blank pages where a side is asked.
+fn flow_pages<Fr: Frames, L: Ledger>(
     alloc: Global,
     flow: &Flow,
     faces: &Faces,
     frames: &Fr,
     steps: &mut Steps<L>,
-) -> Result<PageList, PageErr>
+) -> Result<FlowPages, PageErr>
     requires flow { CanBePaged faces.now flow.now }
-    ensures pages { IfOk result
-        (λ list. IsPaged faces.now flow.now.main (record { meets = Fr.meets frames.now; frame_of = Fr.frame_of frames.now }) list.pages) }
-    ensures whole { IfOk result (λ list. HoldsAll flow.now.main (solids_of list.pages)) }
-    ensures text { IfOk result (λ list. HoldsText flow.now.main (solids_of list.pages)) }
-    ensures edges { IfOk result (λ list. HoldsEdges flow.now.main (solids_of list.pages)) }
-    ensures breaks { IfOk result
-        (λ list. HoldsBreaks flow.now.main (record { meets = Fr.meets frames.now; frame_of = Fr.frame_of frames.now }) list.pages) }
-    ensures inside { IfOk result (λ list. EndInside list.pages) }
-    ensures bound { IfOk result (λ list. length list.pages ≤ most_pages_of (Fr.is_free frames.now) (Fr.bound frames.now) flow.now.main) }
-    ensures tops { IfOk result (λ list. HaveNearTops list.pages) }
-    ensures few { IfOk result (λ list. length list.pages ≤ most_pages) }
-    ensures many { IfErr result (λ err. err ≡ PageErr.Pages →
-        LeavesSome faces.now flow.now.main (record { meets = Fr.meets frames.now; frame_of = Fr.frame_of frames.now }) most_pages) }
+    ensures pages { IfOk result (λ p. EndsFlow faces.now flow.now (record { meets = Fr.meets frames.now; frame_of = Fr.frame_of frames.now }) p) }
+    ensures tops { IfOk result (λ p. HaveNearTops p.pages.items) }
+    ensures many { IfErr result (λ err. err ≡ PageErr.Pages → LeavesSome faces.now flow.now (record { meets = Fr.meets frames.now; frame_of = Fr.frame_of frames.now }) most_pages) }
 {
     let tree = &flow.main;
     let _count = tree.count();
-    have_texts(tree);
     let mut pages = Vec::new(alloc);
     let mut from = CutFrom {
         at: Position {
@@ -203,6 +225,7 @@ pub fn paginate<Fr: Frames, L: Ledger>(
     };
     let mut index = 1;
     let mut demand = seam(tree, from.at, 0).forced;
+    let mut carried = Items::new(alloc);
     for turn in 0..MOST_PAGES {
         let _turn = turn;
         let name = seam(tree, from.at, 0).name;
@@ -211,7 +234,7 @@ pub fn paginate<Fr: Frames, L: Ledger>(
             Err(err) => return Err(err),
         };
         let frame = frames.frame(index, name, PageKind::Flow);
-        let Ok(cut) = cut_tree(alloc, tree, faces, from, frame, steps) else {
+        let Ok(cut) = next_cut(alloc, flow, faces, from, carried.as_slice(), frame, steps) else {
             return Err(PageErr::NoMemory);
         };
         let ended = cut.ended;
@@ -220,16 +243,120 @@ pub fn paginate<Fr: Frames, L: Ledger>(
             kept: cut.forced.is_some(),
         };
         demand = cut.forced;
-        if pages.push(page_of(index, name, frame, cut)).is_err() {
+        let (page, left) = page_of(index, name, frame, cut);
+        if pages.push(page).is_err() {
             return Err(PageErr::NoMemory);
         }
         if ended {
-            return Ok(PageList {
-                pages: Items::of(pages),
+            return Ok(FlowPages {
+                pages,
+                name,
+                carried: left,
             });
         }
+        carried = left;
         from = next;
         index += 1;
     }
     Err(PageErr::Pages)
+}
+
+/// Adds pages of notes after the flow, until nothing is carried.
+fn with_notes<Fr: Frames, L: Ledger>(
+    alloc: Global,
+    flow: &Flow,
+    faces: &Faces,
+    frames: &Fr,
+    made: FlowPages,
+    steps: &mut Steps<L>,
+) -> Result<PageList, PageErr>
+    requires flow { CanBePaged faces.now flow.now }
+    requires pages { EndsFlow faces.now flow.now (record { meets = Fr.meets frames.now; frame_of = Fr.frame_of frames.now }) made }
+    requires tops { HaveNearTops made.pages.items }
+    ensures pages { IfOk result (λ list. IsPaged faces.now flow.now (record { meets = Fr.meets frames.now; frame_of = Fr.frame_of frames.now }) list.pages) }
+    ensures tops { IfOk result (λ list. HaveNearTops list.pages) }
+    ensures few { IfOk result (λ list. length list.pages ≤ most_pages) }
+    ensures many { IfErr result (λ err. err ≡ PageErr.Pages → LeavesSome faces.now flow.now (record { meets = Fr.meets frames.now; frame_of = Fr.frame_of frames.now }) most_pages) }
+{
+    let FlowPages {
+        mut pages,
+        name,
+        mut carried,
+    } = made;
+    for turn in 0..=MOST_PAGES {
+        let _turn = turn;
+        if carried.as_slice().is_empty() {
+            return Ok(PageList {
+                pages: Items::of(pages),
+            });
+        }
+        if pages.len() >= MOST_PAGES as usize {
+            return Err(PageErr::Pages);
+        }
+        let index = pages.len() as u32 + 1;
+        let frame = frames.frame(index, name, PageKind::Notes);
+        let Ok(placed) = next_notes(alloc, flow, faces, carried.as_slice(), frame, steps) else {
+            return Err(PageErr::NoMemory);
+        };
+        let PlacedList { notes, left } = placed;
+        if pages
+            .push(notes_page_of(alloc, index, name, frame, notes))
+            .is_err()
+        {
+            return Err(PageErr::NoMemory);
+        }
+        carried = left;
+    }
+    Err(PageErr::Pages)
+}
+
+/// The page list of a flow.
+fn pages_of<Fr: Frames, L: Ledger>(
+    alloc: Global,
+    flow: &Flow,
+    faces: &Faces,
+    frames: &Fr,
+    steps: &mut Steps<L>,
+) -> Result<PageList, PageErr>
+    requires flow { CanBePaged faces.now flow.now }
+    ensures pages { IfOk result (λ list. IsPaged faces.now flow.now (record { meets = Fr.meets frames.now; frame_of = Fr.frame_of frames.now }) list.pages) }
+    ensures tops { IfOk result (λ list. HaveNearTops list.pages) }
+    ensures few { IfOk result (λ list. length list.pages ≤ most_pages) }
+    ensures many { IfErr result (λ err. err ≡ PageErr.Pages → LeavesSome faces.now flow.now (record { meets = Fr.meets frames.now; frame_of = Fr.frame_of frames.now }) most_pages) }
+{
+    let made = flow_pages(alloc, flow, faces, frames, steps)?;
+    with_notes(alloc, flow, faces, frames, made, steps)
+}
+
+/// The pages of a flow with its notes, each ended by its best cut, with blank pages where a side is asked, and pages of
+/// notes after its end. Each edge stands once and in order, and the lines part the text of each leaf in order, in the main
+/// tree and, note after note, in the notes; no note begins before its call. Tops are within 2^60 units, and heights from 0
+/// to 2^32. `Pages` comes exactly where 100,000 pages leave something unplaced.
+pub fn paginate<Fr: Frames, L: Ledger>(
+    alloc: Global,
+    flow: &Flow,
+    faces: &Faces,
+    frames: &Fr,
+    steps: &mut Steps<L>,
+) -> Result<PageList, PageErr>
+    requires flow { CanBePaged faces.now flow.now }
+    ensures pages { IfOk result (λ list. IsPaged faces.now flow.now (record { meets = Fr.meets frames.now; frame_of = Fr.frame_of frames.now }) list.pages) }
+    ensures main { IfOk result (λ list. HoldsMain flow.now list.pages) }
+    ensures notes { IfOk result (λ list. HoldsNotes flow.now list.pages) }
+    ensures begins { IfOk result (λ list. BeginInTime flow.now list.pages) }
+    ensures breaks { IfOk result (λ list. HoldsBreaks flow.now.main (record { meets = Fr.meets frames.now; frame_of = Fr.frame_of frames.now }) list.pages) }
+    ensures inside { IfOk result (λ list. EndInside list.pages) }
+    ensures bound { IfOk result (λ list. length list.pages ≤ most_pages_of (Fr.is_free frames.now) (Fr.bound frames.now) flow.now) }
+    ensures tops { IfOk result (λ list. HaveNearTops list.pages) }
+    ensures few { IfOk result (λ list. length list.pages ≤ most_pages) }
+    ensures many { IfErr result (λ err. err ≡ PageErr.Pages → LeavesSome faces.now flow.now (record { meets = Fr.meets frames.now; frame_of = Fr.frame_of frames.now }) most_pages) }
+{
+    main_stands_once();
+    notes_stand_once();
+    notes_begin_in_time();
+    breaks_hold();
+    pages_end_inside();
+    pages_are_few();
+    has_texts(flow);
+    pages_of(alloc, flow, faces, frames, steps)
 }

@@ -1,7 +1,7 @@
 //! The generated texts of a document (CSS 2.1, 12.1 and 12.2; css-gcpm-3, "string-set").
 
 ghost use Rattle.std.specs.Prelude.{◌≡◌, ◌<◌, ◌≤◌, ℕ, Some, option_map, slice_get};
-ghost use Rattle.gen_text.specs.Generated.{Ascend, assigned_strings, entry_of, generated_text, strings_in, text_by, text_in};
+ghost use Rattle.gen_text.specs.Generated.{Ascend, assigned_strings, entry_of, generated_text, text_by};
 ghost use Rattle.gen_text.specs.declared.generated.NodeTexts.{NodeTexts};
 
 use bk_num::ids::NodeId;

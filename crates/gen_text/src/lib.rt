@@ -10,5 +10,3 @@ pub mod parts;
 pub mod references;
 pub mod table;
 pub mod target;
-#[cfg(test)]
-mod tests;

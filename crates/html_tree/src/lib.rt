@@ -6,8 +6,6 @@ mod opened;
 mod references;
 mod rules;
 mod scopes;
-#[cfg(test)]
-mod tests;
 mod text;
 mod tree;
 

@@ -3,5 +3,3 @@
 
 pub mod places;
 pub mod space;
-#[cfg(test)]
-mod tests;

@@ -1,1 +1,4 @@
+pub mod Buffers
+pub mod Fields
+pub mod Pages
 pub mod Records

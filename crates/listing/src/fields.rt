@@ -1,84 +1,48 @@
-//! Appends the fields of a record.
+//! Fields of records, and records of fields.
 
-ghost use Rattle.std.specs.Prelude.{◌≡◌, ◌++◌, OnOk, ◌<◌};
+ghost use Rattle.std.specs.Prelude.{◌≡◌, ◌∷◌, ◌<◌, [], true};
 ghost use Rattle.std.specs.Char.{digit_char};
-ghost use Rattle.listing.specs.Records.{escape, quoted, field, word, string_field, hex_pair, color_field, style_name, face_field};
+ghost use Rattle.std.specs.List.{flat_map};
+ghost use Rattle.bk_io.specs.Sink.{HasCause};
+ghost use Rattle.listing.specs.Buffers.{Gives};
+ghost use Rattle.listing.specs.Fields.{field_bytes, record_bytes};
+ghost use Rattle.listing.specs.Records.{color_field, escape, face_field, field, string_field, style_name, word};
 
-use crate::records::FaceLabel;
+use crate::buffer::Buffer;
+use bk_io::sink::{Failed, Sink};
 use bk_num::values::Color;
-use itoa::Buffer;
-use std::alloc::AllocError;
+use itoa::Buffer as Digits;
 
-/// Appends a space and a number.
-#[tactic(auto, unfolding(crate::specs::Records::field))]
-pub(crate) fn push_field(out: &mut Vec<u8>, n: i64) -> Result<(), AllocError>
-    ensures { OnOk result (out.new.items ≡ out.old.items ++ field n) }
+/// A face by its name, style and weight.
+#[derive(Clone, Copy, Debug)]
+pub(crate) struct FaceLabel<'a> {
+    pub(crate) name: &'a str,
+    pub(crate) italic: bool,
+    pub(crate) weight: u16,
+}
+
+/// A field of a record.
+#[derive(Clone, Copy)]
+pub(crate) enum Field<'a> {
+    Number(i64),
+    Word(&'a str),
+    Quoted(&'a str),
+    Color(Color),
+    Face(FaceLabel<'a>),
+}
+
+/// Adds some texts one after the other.
+fn add_texts<S: Sink>(buffer: &mut Buffer, sink: &mut S, texts: &[&str]) -> Result<(), Failed>
+    ensures bytes { Gives (S.taken sink.old) buffer.old (S.taken sink.new) buffer.new (flat_map (λ t. t.now) texts.now) result }
+    ensures cause { HasCause (S.faults sink.old) (S.faults sink.new) result }
 {
-    let mut buffer = Buffer::new();
-    out.push(b' ')?;
-    out.extend_from_slice(buffer.format(n).as_bytes())?;
+    for text in texts {
+        buffer.add_text(sink, text)?;
+    }
     Ok(())
 }
 
-/// Appends a space and a word.
-#[tactic(auto, unfolding(crate::specs::Records::word))]
-pub(crate) fn push_word(out: &mut Vec<u8>, text: &str) -> Result<(), AllocError>
-    ensures { OnOk result (out.new.items ≡ out.old.items ++ word text.now) }
-{
-    out.push(b' ')?;
-    out.extend_from_slice(text.as_bytes())?;
-    Ok(())
-}
-
-/// Appends a space and a string.
-#[tactic(auto, unfolding(crate::specs::Records::string_field))]
-pub(crate) fn push_string(out: &mut Vec<u8>, text: &str) -> Result<(), AllocError>
-    ensures { OnOk result (out.new.items ≡ out.old.items ++ string_field text.now) }
-{
-    out.push(b' ')?;
-    push_quoted(out, text)?;
-    Ok(())
-}
-
-/// Appends a space and a face's name, style and weight.
-#[tactic(auto, unfolding(crate::specs::Records::face_field))]
-pub(crate) fn push_face(out: &mut Vec<u8>, face: &FaceLabel<'_>) -> Result<(), AllocError>
-    ensures { OnOk result (out.new.items ≡ out.old.items ++ face_field face.now.name.now face.now.italic face.now.weight) }
-{
-    let mut buffer = Buffer::new();
-    out.push(b' ')?;
-    out.extend_from_slice(face.name.as_bytes())?;
-    out.extend_from_slice(style_name(face.italic).as_bytes())?;
-    out.extend_from_slice(buffer.format(face.weight).as_bytes())?;
-    Ok(())
-}
-
-#[tactic(auto, unfolding(crate::specs::Records::style_name))]
-fn style_name(italic: bool) -> &'static str
-    ensures { result.now ≡ style_name italic }
-{
-    if italic { "/italic/" } else { "/normal/" }
-}
-
-/// Appends a space and a colour.
-#[tactic(auto, unfolding(crate::specs::Records::color_field))]
-pub(crate) fn push_color(out: &mut Vec<u8>, color: Color) -> Result<(), AllocError>
-    ensures { OnOk result (out.new.items ≡ out.old.items ++ color_field color) }
-{
-    out.extend_from_slice(b" #")?;
-    push_hex_pair(out, color.red)?;
-    push_hex_pair(out, color.green)?;
-    push_hex_pair(out, color.blue)?;
-    Ok(())
-}
-
-#[tactic(auto, unfolding(crate::specs::Records::hex_pair))]
-fn push_hex_pair(out: &mut Vec<u8>, b: u8) -> Result<(), AllocError>
-    ensures { OnOk result (out.new.items ≡ out.old.items ++ hex_pair b) }
-{
-    out.extend_from_slice(&[hex_digit(b / 16), hex_digit(b % 16)])
-}
-
+/// A hexadecimal digit in lower case.
 fn hex_digit(n: u8) -> u8
     requires { n < 16 }
     ensures { result ≡ digit_char n }
@@ -86,36 +50,182 @@ fn hex_digit(n: u8) -> u8
     if n < 10 { b'0' + n } else { b'a' + (n - 10) }
 }
 
-/// Appends a string in its quotes.
-#[tactic(auto, unfolding(crate::specs::Records::quoted))]
-fn push_quoted(out: &mut Vec<u8>, text: &str) -> Result<(), AllocError>
-    ensures { OnOk result (out.new.items ≡ out.old.items ++ quoted text.now) }
+/// Whether a byte of a string stands as it is. Those of characters that aren't ASCII do.
+#[tactic(auto, unfolding(crate::specs::Records::escape))]
+fn stands(b: u8) -> bool
+    ensures { result ≡ true → escape b ≡ b ∷ [] }
 {
-    out.push(b'"')?;
-    for b in text.as_bytes() {
-        push_escaped(out, *b)?;
+    b >= 32 && b != b'"' && b != b'\\' && b != 127
+}
+
+/// Adds a byte of a string.
+#[tactic(auto, unfolding(crate::specs::Records::escape))]
+fn add_escaped<S: Sink>(buffer: &mut Buffer, sink: &mut S, b: u8) -> Result<(), Failed>
+    ensures bytes { Gives (S.taken sink.old) buffer.old (S.taken sink.new) buffer.new (escape b) result }
+    ensures cause { HasCause (S.faults sink.old) (S.faults sink.new) result }
+{
+    if b == b'"' || b == b'\\' {
+        return buffer.add(sink, &[b'\\', b]);
     }
-    out.push(b'"')?;
+    if b == b'\n' {
+        return buffer.add(sink, b"\\n");
+    }
+    if b < 32 || b == 127 {
+        return buffer.add(sink, &[b'\\', b'x', hex_digit(b / 16), hex_digit(b % 16)]);
+    }
+    buffer.add(sink, &[b])
+}
+
+/// Adds the bytes of a string one by one.
+fn add_all_escaped<S: Sink>(buffer: &mut Buffer, sink: &mut S, text: &str) -> Result<(), Failed>
+    ensures bytes { Gives (S.taken sink.old) buffer.old (S.taken sink.new) buffer.new (flat_map escape text.now) result }
+    ensures cause { HasCause (S.faults sink.old) (S.faults sink.new) result }
+{
+    for b in text.as_bytes() {
+        add_escaped(buffer, sink, *b)?;
+    }
     Ok(())
 }
 
-/// Appends a byte of a string. Bytes of characters that aren't ASCII stand as they are.
-#[tactic(auto, unfolding(crate::specs::Records::escape))]
-fn push_escaped(out: &mut Vec<u8>, b: u8) -> Result<(), AllocError>
-    ensures { OnOk result (out.new.items ≡ out.old.items ++ escape b) }
+/// Whether each byte of a string stands as it is.
+fn all_stand(text: &str) -> bool
+    ensures { result ≡ true → flat_map escape text.now ≡ text.now }
 {
-    if b == b'"' || b == b'\\' {
-        out.extend_from_slice(&[b'\\', b])?;
-        return Ok(());
+    for b in text.as_bytes() {
+        if !stands(*b) {
+            return false;
+        }
     }
-    if b == b'\n' {
-        out.extend_from_slice(b"\\n")?;
-        return Ok(());
+    true
+}
+
+/// Adds the bytes of a string, at once where each stands as it is, as in most texts.
+fn add_bytes<S: Sink>(buffer: &mut Buffer, sink: &mut S, text: &str) -> Result<(), Failed>
+    ensures bytes { Gives (S.taken sink.old) buffer.old (S.taken sink.new) buffer.new (flat_map escape text.now) result }
+    ensures cause { HasCause (S.faults sink.old) (S.faults sink.new) result }
+{
+    if all_stand(text) {
+        buffer.add_text(sink, text)
+    } else {
+        add_all_escaped(buffer, sink, text)
     }
-    if b < 32 || b == 127 {
-        out.extend_from_slice(&[b'\\', b'x', hex_digit(b / 16), hex_digit(b % 16)])?;
-        return Ok(());
+}
+
+/// Adds a space and a string in its quotes.
+fn add_string<S: Sink>(buffer: &mut Buffer, sink: &mut S, text: &str) -> Result<(), Failed>
+    ensures bytes { Gives (S.taken sink.old) buffer.old (S.taken sink.new) buffer.new (string_field text.now) result }
+    ensures cause { HasCause (S.faults sink.old) (S.faults sink.new) result }
+{
+    buffer.add_text(sink, " \"")?;
+    add_bytes(buffer, sink, text)?;
+    buffer.add_text(sink, "\"")
+}
+
+/// The style of a face, between its name and its weight.
+#[tactic(auto, unfolding(crate::specs::Records::style_name))]
+fn style_name(italic: bool) -> &'static str
+    ensures { result.now ≡ style_name italic }
+{
+    if italic { "/italic/" } else { "/normal/" }
+}
+
+/// A space and a colour.
+#[tactic(auto, unfolding(crate::specs::Records::color_field, crate::specs::Records::hex_pair))]
+fn color_bytes(color: Color) -> [u8; 8]
+    ensures { result ≡ color_field color }
+{
+    [
+        b' ',
+        b'#',
+        hex_digit(color.red / 16),
+        hex_digit(color.red % 16),
+        hex_digit(color.green / 16),
+        hex_digit(color.green % 16),
+        hex_digit(color.blue / 16),
+        hex_digit(color.blue % 16),
+    ]
+}
+
+/// Adds a space and a colour.
+fn add_color<S: Sink>(buffer: &mut Buffer, sink: &mut S, color: Color) -> Result<(), Failed>
+    ensures bytes { Gives (S.taken sink.old) buffer.old (S.taken sink.new) buffer.new (color_field color) result }
+    ensures cause { HasCause (S.faults sink.old) (S.faults sink.new) result }
+{
+    buffer.add(sink, &color_bytes(color))
+}
+
+/// Adds a space and a face's name, style and weight.
+fn add_face<S: Sink>(buffer: &mut Buffer, sink: &mut S, face: &FaceLabel<'_>) -> Result<(), Failed>
+    ensures bytes { Gives (S.taken sink.old) buffer.old (S.taken sink.new) buffer.new
+        (face_field face.now.name.now face.now.italic face.now.weight) result }
+    ensures cause { HasCause (S.faults sink.old) (S.faults sink.new) result }
+{
+    let mut digits = Digits::new();
+    add_texts(buffer, sink, &[" ", face.name])?;
+    add_texts(
+        buffer,
+        sink,
+        &[style_name(face.italic), digits.format(face.weight)],
+    )
+}
+
+/// Adds a space and a number.
+fn add_number<S: Sink>(buffer: &mut Buffer, sink: &mut S, n: i64) -> Result<(), Failed>
+    ensures bytes { Gives (S.taken sink.old) buffer.old (S.taken sink.new) buffer.new (field n) result }
+    ensures cause { HasCause (S.faults sink.old) (S.faults sink.new) result }
+{
+    let mut digits = Digits::new();
+    add_texts(buffer, sink, &[" ", digits.format(n)])
+}
+
+/// Adds a space and a word.
+fn add_word<S: Sink>(buffer: &mut Buffer, sink: &mut S, text: &str) -> Result<(), Failed>
+    ensures bytes { Gives (S.taken sink.old) buffer.old (S.taken sink.new) buffer.new (word text.now) result }
+    ensures cause { HasCause (S.faults sink.old) (S.faults sink.new) result }
+{
+    add_texts(buffer, sink, &[" ", text])
+}
+
+/// Adds a field after a space.
+fn add_field<S: Sink>(buffer: &mut Buffer, sink: &mut S, part: &Field<'_>) -> Result<(), Failed>
+    ensures bytes { Gives (S.taken sink.old) buffer.old (S.taken sink.new) buffer.new (field_bytes part.now) result }
+    ensures cause { HasCause (S.faults sink.old) (S.faults sink.new) result }
+{
+    match part {
+        Field::Number(n) => add_number(buffer, sink, *n),
+        Field::Word(text) => add_word(buffer, sink, text),
+        Field::Quoted(text) => add_string(buffer, sink, text),
+        Field::Color(color) => add_color(buffer, sink, *color),
+        Field::Face(face) => add_face(buffer, sink, face),
     }
-    out.push(b)?;
+}
+
+/// Adds fields, each after a space.
+fn add_fields<S: Sink>(
+    buffer: &mut Buffer,
+    sink: &mut S,
+    fields: &[Field<'_>],
+) -> Result<(), Failed>
+    ensures bytes { Gives (S.taken sink.old) buffer.old (S.taken sink.new) buffer.new (flat_map field_bytes fields.now) result }
+    ensures cause { HasCause (S.faults sink.old) (S.faults sink.new) result }
+{
+    for part in fields {
+        add_field(buffer, sink, part)?;
+    }
     Ok(())
+}
+
+/// Adds a record: its name and its fields in a line.
+pub(crate) fn add_record<S: Sink>(
+    buffer: &mut Buffer,
+    sink: &mut S,
+    name: &str,
+    fields: &[Field<'_>],
+) -> Result<(), Failed>
+    ensures bytes { Gives (S.taken sink.old) buffer.old (S.taken sink.new) buffer.new (record_bytes name.now fields.now) result }
+    ensures cause { HasCause (S.faults sink.old) (S.faults sink.new) result }
+{
+    buffer.add_text(sink, name)?;
+    add_fields(buffer, sink, fields)?;
+    buffer.add_text(sink, "\n")
 }

@@ -1,7 +1,9 @@
-//! The records of a listing, as bytes.
+//! Writes the records of a listing to a sink, through a buffer of fixed size.
 #![tactic(auto)]
 
+mod buffer;
 mod fields;
 pub mod records;
 #[cfg(test)]
 mod tests;
+pub mod write;

@@ -5,6 +5,4 @@ pub mod areas;
 pub mod items;
 mod line;
 pub mod place;
-#[cfg(test)]
-mod tests;
 mod text;

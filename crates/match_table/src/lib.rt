@@ -4,6 +4,4 @@
 pub mod all;
 mod columns;
 mod index;
-#[cfg(test)]
-mod tests;
 mod types;

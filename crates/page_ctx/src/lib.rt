@@ -10,9 +10,5 @@ pub mod margins;
 pub mod property;
 pub mod resolve;
 mod settings;
-#[cfg(test)]
-mod tests;
-#[cfg(test)]
-mod tests_margins;
 pub mod weight;
 pub mod winner;

@@ -1,3 +1,4 @@
+pub mod FinderLemmas
 pub mod NumberLemmas
 pub mod OwnerLemmas
 pub mod PlaceLemmas

@@ -1,6 +1,7 @@
 -- The first and the last place that pass, the order of places, and the page of a place.
 use Rattle.std.proofs.Common.{◌≡◌, ◌<◌, ◌≤◌, ℕ, zero, suc, ◌+◌, ◌==◌, ◌||◌, nat_le, Bool, true, false, not, cond, List, [], ◌∷◌, ◌++◌, Option, None, Some, option_map, unwrap_or, length, map, take, slice_get, get_or, pos, refl, sym, ◌∙◌, ap, subst, inl, inr, ◌⊎◌, add-one, arith}
 use Rattle.std.specs.List.{list_any}
+use Rattle.std.specs.Option.{option_or}
 use Rattle.std.proofs.lemmas.Bool.{cases_lt}
 use Rattle.std.proofs.lemmas.List.{get_or_default, take_more, map-append, length-take-le}
 use Rattle.std.proofs.lemmas.Option.{slice_get-get_or}
@@ -63,6 +64,27 @@ first_place_is p (x ∷ xs) zero d h is before = rw is refl
 first_place_is p (x ∷ xs) (suc k) d h is before =
     let isnt : p x ≡ false = before 0 (omega arith) in
     rw isnt (ap (λ (o : Option ℕ). option_map suc o) (first_place_is p xs k d (omega arith) is (λ j l. before (suc j) (omega arith))))
+
+-- the first place of a list with one more element at its end
+first_step : (b here : Bool) (n : ℕ) (o : Option ℕ) → first_with b (option_or o (cond here (Some n) None)) ≡ option_or (first_with b o) (cond here (Some (suc n)) None)
+first_step true here n o = refl
+first_step false here n (Some i) = refl
+first_step false true n None = refl
+first_step false false n None = refl
+
+pub first_place-push : {X : Type 0} (p : X → Bool) (xs : List X) (x : X) → first_place p (xs ++ x ∷ []) ≡ option_or (first_place p xs) (cond (p x) (Some (length xs)) None)
+first_place-push p [] x = refl
+first_place-push p (y ∷ ys) x = ap (first_with (p y)) (first_place-push p ys x) ∙ first_step (p y) (p x) (length ys) (first_place p ys)
+
+pub first_place_more : {X : Type 0} (p : X → Bool) (xs : List X) (i : ℕ) (d : X) → i < length xs → first_place p (take (i + 1) xs) ≡ option_or (first_place p (take i xs)) (cond (p (get_or xs i d)) (Some i) None)
+first_place_more p xs i d h =
+    ap (first_place p) (take_more xs i d h)
+    ∙ (first_place-push p (take i xs) (get_or xs i d)
+    ∙ ap (λ n. option_or (first_place p (take i xs)) (cond (p (get_or xs i d)) (Some n) None)) (length-take-le i xs (omega arith)))
+
+pub first_place_absent : {X : Type 0} (p : X → Bool) (xs : List X) → ((j : ℕ) (d : X) → j < length xs → p (get_or xs j d) ≡ false) → first_place p xs ≡ None
+first_place_absent p [] f = refl
+first_place_absent p (x ∷ xs) f = rw (f 0 x (omega arith)) (ap (λ (o : Option ℕ). option_map suc o) (first_place_absent p xs (λ j d l. f (suc j) d (omega arith))))
 
 -- the last place of a list with one more element at its end
 last_step : (b here : Bool) (n : ℕ) (o : Option ℕ) → last_or_here here (cond b (Some n) o) ≡ cond b (Some (suc n)) (last_or_here here o)

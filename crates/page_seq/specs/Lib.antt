@@ -1,4 +1,6 @@
+pub mod Finder
 pub mod Frames
+pub mod Noted
 pub mod Numbers
 pub mod Owners
 pub mod Places

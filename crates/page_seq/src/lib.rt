@@ -1,6 +1,7 @@
 //! Pages in their order: frames by a table, the page that a place belongs to, and page numbers.
 #![tactic(auto)]
 
+pub mod finder;
 pub mod numbers;
 pub mod pages;
 pub mod places;

@@ -64,7 +64,7 @@ fn last_or(last: usize, number: usize, here: bool) -> usize
 }
 
 /// The last page that holds a solid, and the first page where none holds any.
-fn last_page(pages: &[Page]) -> usize
+pub(crate) fn last_page(pages: &[Page]) -> usize
     ensures last { result ≡ last_page pages.now }
     ensures within { result ≤ length pages.now }
 {

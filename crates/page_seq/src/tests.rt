@@ -4,6 +4,7 @@ ghost use Rattle.std.specs.Prelude.{◌≤◌, IfOk};
 ghost use Rattle.boxes.specs.Frames.{IsGoodFrame};
 ghost use Rattle.page_seq.specs.Frames.{HasGoodCells, IsGoodTable};
 
+use crate::finder::PageFinder;
 use crate::numbers::numbers;
 use crate::pages::{Pages, side};
 use crate::places::{anchor_of, pages_of};
@@ -157,6 +158,7 @@ fn a_place_belongs_to_its_line_else_to_the_next_solid_else_to_the_last(
 ) -> Result<(), Fail> {
     let tree = tree(rt.alloc())?;
     let list = list(rt.alloc())?;
+    let finder = PageFinder::new(rt.alloc(), &list)?;
     for (at, anchor, want) in [
         (place(0, 0), place(0, 0), 0),
         (place(2, 4), place(2, 4), 0),
@@ -170,6 +172,7 @@ fn a_place_belongs_to_its_line_else_to_the_next_solid_else_to_the_last(
         assert!(rt; anchor_of(&tree, at) == anchor);
         let pages = pages_of(rt.alloc(), &tree, &list, &[at])?;
         assert!(rt; pages.as_slice() == [want].as_slice());
+        assert_eq!(rt; finder.page_of(&tree, at), want);
     }
     Ok(())
 }

@@ -6,8 +6,8 @@ use Rattle.boxes.specs.Tree.{Tree, IsTree}
 use Rattle.boxes.specs.Tree.IsTree.{empty, opened, filled, closed}
 use Rattle.boxes.specs.declared.leaf.Leaf.{Leaf}
 use Rattle.line_place.specs.Conditions.{HasFaces}
-use Rattle.fragment.specs.Pages.{text_size}
-use Rattle.fragment.proofs.SizeLemmas.{bytes_opened, bytes_filled, bytes_closed}
+use Rattle.note_list.specs.Conditions.{text_size}
+use Rattle.note_list.proofs.SizeLemmas.{bytes_opened, bytes_filled, bytes_closed}
 use Rattle.tree_fixtures.specs.Leaves.{IsShortLeaf, bytes_of}
 
 of_all : {X : Type 0} (P : X → Type 0) (xs : List X) (k : ℕ) (x : X) → All P xs → slice_get xs k ≡ Some x → P x

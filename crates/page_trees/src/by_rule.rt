@@ -1,17 +1,18 @@
-//! The pages of random trees beside those that the rules in words give.
+//! The pages of random flows beside those that the rules in words give.
 
-use crate::flows::{METRICS, flow_of, paged};
-use crate::random::{Part, Random, Sketch, sketch_of};
+use crate::flows::{METRICS, NoteInShort, flow_with_notes, paged};
+use crate::random::{FlowSketch, Part, Random, Sketch, flow_sketch};
 use crate::rule_pages::{RulePage, rule_pages};
 use bk_num::name::NoMem;
 use boxes::page::Page;
+use boxes::place::Position;
 use metrics::read_metrics;
 use std::alloc::{AllocError, Global};
 use std::test::Fail;
 use tree_fixtures::tree::Step;
 
-/// How many trees are tried.
-const TREES: u32 = 5000;
+/// How many flows are tried.
+const FLOWS: u32 = 5000;
 
 /// A text of some lines, at most five.
 fn text_of(lines: u32) -> &'static str {
@@ -37,13 +38,34 @@ fn steps_of(alloc: Global, sketch: &Sketch) -> Result<Vec<Step<'static>>, NoMem>
     Ok(steps)
 }
 
+/// The notes of a flow in short.
+fn notes_in_short(alloc: Global, flow: &FlowSketch) -> Result<Vec<NoteInShort<'static>>, NoMem> {
+    let mut notes = Vec::new(alloc);
+    for note in &flow.notes {
+        notes.push(NoteInShort {
+            call: Position {
+                event: u32::try_from(note.call.part).unwrap_or(u32::MAX),
+                offset: note.call.offset,
+            },
+            body: steps_of(alloc, &note.body)?,
+        })?;
+    }
+    Ok(notes)
+}
+
 /// Whether a page is as the rules have it.
 fn is_same(page: &Page, rule: &RulePage) -> bool {
     page.index == rule.index
         && page.kind == rule.kind
         && page.name.0 == rule.name
         && page.level == rule.level
-        && page.notes.as_slice().is_empty()
+        && page.notes.as_slice().len() == rule.notes.len()
+        && page
+            .notes
+            .as_slice()
+            .iter()
+            .zip(rule.notes.iter())
+            .all(|(solid, wanted)| *solid == *wanted)
         && page.solids.as_slice().len() == rule.solids.len()
         && page
             .solids
@@ -80,22 +102,23 @@ fn height_of(random: &mut Random) -> u16 {
 }
 
 #[test]
-fn random_trees_have_the_pages_that_the_rules_give(rt: HostRuntime) -> Result<(), Fail> {
+fn random_flows_have_the_pages_that_the_rules_give(rt: HostRuntime) -> Result<(), Fail> {
     let faces = read_metrics(rt.alloc(), METRICS).map_err(|_| AllocError)?;
     assert!(rt; faces.len() > 0);
     let mut random = Random { state: 1 };
-    for number in 0..TREES {
-        let sketch = sketch_of(rt.alloc(), &mut random)?;
+    for number in 0..FLOWS {
+        let sketch = flow_sketch(rt.alloc(), &mut random)?;
         let (width, height) = (width_of(&mut random), height_of(&mut random));
         let rules = rule_pages(rt.alloc(), &sketch, i64::from(width), i64::from(height))?;
-        let steps = steps_of(rt.alloc(), &sketch)?;
-        let flow = flow_of(rt.alloc(), &faces, steps.as_slice())?;
+        let steps = steps_of(rt.alloc(), &sketch.main)?;
+        let notes = notes_in_short(rt.alloc(), &sketch)?;
+        let flow = flow_with_notes(rt.alloc(), &faces, steps.as_slice(), notes.as_slice())?;
         let list = paged(rt.alloc(), &flow, &faces, (width, height)).ok_or(AllocError)?;
         let other = first_other(list.pages.as_slice(), rules.as_slice());
         assert_eq!(rt;
             other,
             0,
-            "tree {number}, {width} by {height}: {sketch:?}: {rules:?}"
+            "flow {number}, {width} by {height}: {sketch:?}: {rules:?}"
         );
     }
     Ok(())

@@ -9,6 +9,8 @@ mod random;
 #[cfg(test)]
 mod rows;
 #[cfg(test)]
+mod rule_notes;
+#[cfg(test)]
 mod rule_pages;
 #[cfg(test)]
 mod rule_seams;

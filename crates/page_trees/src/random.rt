@@ -196,3 +196,50 @@ pub(crate) fn sketch_of(alloc: Global, random: &mut Random) -> Result<Sketch, No
     }
     Ok(sketch)
 }
+
+/// The place of a call: a part of a tree, and an offset in the text of its lines.
+#[derive(Clone, Copy, Debug)]
+pub(crate) struct Call {
+    pub part: usize,
+    pub offset: u32,
+}
+
+/// A note: its call, and its body.
+#[derive(Debug, Drop)]
+pub(crate) struct Sketched {
+    pub call: Call,
+    pub body: Sketch,
+}
+
+/// A flow: its main tree, and its notes in the order of their calls.
+#[derive(Debug, Drop)]
+pub(crate) struct FlowSketch {
+    pub main: Sketch,
+    pub notes: Vec<Sketched>,
+}
+
+/// A random place at a part: before it, or in the text of its lines, its end among them.
+fn call_at(random: &mut Random, part: usize, what: Part) -> Call {
+    let offset = match what {
+        Part::Lines(_, lines) => random
+            .below(lines.saturating_mul(2).saturating_add(1))
+            .min(lines.saturating_mul(2).saturating_sub(1)),
+        Part::Opens(_) | Part::Closes(_) => 0,
+    };
+    Call { part, offset }
+}
+
+/// A random flow, of which some have notes, one at a part at most.
+pub(crate) fn flow_sketch(alloc: Global, random: &mut Random) -> Result<FlowSketch, NoMem> {
+    let main = sketch_of(alloc, random)?;
+    let mut notes = Vec::new(alloc);
+    let often = random.below(3);
+    for (part, what) in main.parts.iter().enumerate() {
+        if random.below(12) < often.saturating_mul(2) {
+            let call = call_at(random, part, *what);
+            let body = sketch_of(alloc, random)?;
+            notes.push(Sketched { call, body })?;
+        }
+    }
+    Ok(FlowSketch { main, notes })
+}

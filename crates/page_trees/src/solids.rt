@@ -2,7 +2,7 @@
 
 ghost use Rattle.std.specs.Prelude.{◌≡◌, ◌<◌, []};
 ghost use Rattle.cursor.specs.Conditions.{CanBeLaidOut};
-ghost use Rattle.fragment.specs.Conditions.{CanBePaged};
+ghost use Rattle.note_list.specs.Conditions.{CanBePaged};
 
 use crate::flows::{METRICS, flow_of, frame};
 use bk_num::steps::Steps;
@@ -10,8 +10,9 @@ use boxes::flow::Flow;
 use boxes::place::Position;
 use boxes::tree::BoxTree;
 use cursor::{Solid, next_solid, remainder};
-use fragment::next_cut::{CutFrom, next_cut};
 use metrics::{Faces, read_metrics};
+use page_cut::next_cut::next_cut;
+use page_list::cut::CutFrom;
 use seams::seam::widths_at;
 use std::alloc::{AllocError, Global};
 use std::marker::Brand;

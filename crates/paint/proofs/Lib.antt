@@ -1,3 +1,9 @@
+pub mod GatherLemmas
 pub mod Lists
+pub mod NoteLemmas
 pub mod OpenLemmas
+pub mod PageLemmas
+pub mod PartLemmas
+pub mod ReachLemmas
+pub mod RectLemmas
 pub mod SolidLemmas

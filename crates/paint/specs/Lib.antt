@@ -1,7 +1,11 @@
 pub mod Areas
 pub mod Conditions
 pub mod Faces
+pub mod Fragments
+pub mod Groups
 pub mod Items
 pub mod Opens
 pub mod Pages
+pub mod Parts
+pub mod Rects
 pub mod Views

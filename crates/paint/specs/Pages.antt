@@ -1,24 +1,41 @@
 -- The items of a page, in the order of the listing.
-use Rattle.std.specs.Prelude.{ℕ, ℤ, pos, ◌+ℤ◌, ◌-ℤ◌, List, [], ◌∷◌, ◌++◌, slice_get}
+use Rattle.std.specs.Prelude.{ℕ, ℤ, pos, ◌+ℤ◌, ◌-ℤ◌, List, [], ◌∷◌, ◌++◌, Option, None, Some, ◌==◌, length, slice_get, if◌then◌else◌}
 use Rattle.std.specs.Int.{int_max}
-use Rattle.std.specs.List.{flat_map}
+use Rattle.std.specs.List.{flat_map, range_with_len}
 use Rattle.bk_num.specs.Units.{floor_div}
 use Rattle.bk_num.specs.declared.values.Color.{Color}
 use Rattle.metrics.specs.Face.{FontFace}
-use Rattle.boxes.specs.Tree.{Tree}
+use Rattle.boxes.specs.Tree.{Tree, open_before}
 use Rattle.boxes.specs.declared.flow.Flow.{Flow}
 use Rattle.boxes.specs.declared.flow.Note.{Note}
 use Rattle.boxes.specs.declared.frames.Frame.{Frame}
 use Rattle.boxes.specs.declared.item.Item.{Item}
 use Rattle.boxes.specs.declared.page.Page.{Page}
 use Rattle.boxes.specs.declared.page.Placed.{Placed}
+use Rattle.boxes.specs.declared.place.Event.{Event}
+use Rattle.boxes.specs.declared.place.Event.TheVariants.{Opens, Closes, Leaf}
+use Rattle.boxes.specs.declared.props.BoxProps.{BoxProps}
+use Rattle.paint.specs.Fragments.{is_lower, is_upper, reach_by, stands_in}
 use Rattle.paint.specs.Items.{for_some, solid_items}
+use Rattle.paint.specs.Opens.{content_along}
+use Rattle.paint.specs.Rects.{fragment_rects}
 use Rattle.paint.specs.declared.item.Origin.{Origin}
 use Rattle.paint.specs.Views.{rect_item}
 
--- the backgrounds and borders of the boxes that have one of some solids, in the order of Open: none is painted yet
-abbrev pub rects_of : Tree → Origin → List Placed → List Item
-rects_of t o solids = []
+-- the rectangles of the box that an event opens, over the solids of the page that stand in it
+abbrev pub opened_rects : Tree → Origin → List Placed → ℕ → Option Event → List Item
+opened_rects t o solids k None = []
+opened_rects t o solids k (Some (Opens b)) = for_some (λ (p : BoxProps). fragment_rects o p (content_along t o.width (open_before t.events k))
+    (reach_by (stands_in t.events b) solids) (reach_by (is_upper t.events b) solids) (reach_by (is_lower t.events b) solids)) (slice_get t.boxes b)
+opened_rects t o solids k (Some (Closes b)) = []
+opened_rects t o solids k (Some (Leaf l)) = []
+
+abbrev pub rects_at : Tree → Origin → List Placed → ℕ → List Item
+rects_at t o solids k = opened_rects t o solids k (slice_get t.events k)
+
+-- the backgrounds and borders of the boxes of a tree that have one of the page's solids, in the order of Open
+unfoldable pub rects_of : Tree → Origin → List Placed → List Item
+rects_of t o solids = flat_map (rects_at t o solids) (range_with_len 0 (length t.events))
 
 -- what is painted of a tree: the rectangles of its boxes, then its solids in order
 abbrev pub tree_items : List FontFace → Tree → Origin → List Placed → List Item
@@ -44,18 +61,19 @@ black = record { red = 0; green = 0; blue = 0 }
 abbrev pub separator_at : Origin → Item
 separator_at o = rect_item (record { x = o.left; y = o.top +ℤ pos 256; w = floor_div o.width 3; h = pos 64 }) black
 
--- the backgrounds and borders of a note, before the first of its solids on the page: none is painted yet
-abbrev pub note_rects : Tree → Origin → ℕ → Placed → List (ℕ × Placed) → List Item
-note_rects body o n s notes = []
+-- the solids of a note on the page
+abbrev pub solids_of : ℕ → List (ℕ × Placed) → List Placed
+solids_of n [] = []
+solids_of n ((m, s) ∷ notes) = if m == n then s ∷ solids_of n notes else solids_of n notes
 
--- a note's solid among those of the page
-abbrev pub note_items : List FontFace → List Note → Origin → List (ℕ × Placed) → ℕ × Placed → List Item
-note_items faces all o notes (n, s) = for_some (λ (note : Note). note_rects note.body o n s notes ++ solid_items faces note.body o s) (slice_get all n)
+-- what is painted of a note of the flow, by its number
+abbrev pub note_items : List FontFace → List Note → Origin → List (ℕ × Placed) → ℕ → List Item
+note_items faces all o notes n = for_some (λ (note : Note). tree_items faces note.body o (solids_of n notes)) (slice_get all n)
 
 -- the note area of a page: its separator, then note after note its rectangles and its solids
 abbrev pub area_items : List FontFace → List Note → Frame → List (ℕ × Placed) → List Item
 area_items faces all f [] = []
-area_items faces all f (n ∷ notes) = separator_at (area_origin f (n ∷ notes)) ∷ flat_map (note_items faces all (area_origin f (n ∷ notes)) (n ∷ notes)) (n ∷ notes)
+area_items faces all f (n ∷ notes) = separator_at (area_origin f (n ∷ notes)) ∷ flat_map (note_items faces all (area_origin f (n ∷ notes)) (n ∷ notes)) (range_with_len 0 (length all))
 
 -- the items of a page: the main tree's, then those of the note area
 abbrev pub items_of : List FontFace → Flow → Page → List Item

@@ -2,15 +2,18 @@
 #![tactic(auto)]
 
 mod edges;
+pub mod extent;
+mod gather;
 pub mod item;
 mod leads;
 mod lines;
 mod margin;
 mod notes;
 pub mod opens;
+pub mod parts;
 pub mod place;
+mod rects;
 mod runs;
 mod solids;
-#[cfg(test)]
-mod tests;
+mod trees;
 mod walk;

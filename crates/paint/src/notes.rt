@@ -1,21 +1,22 @@
 //! Items of the note area of a page.
 
 ghost use Rattle.std.specs.Prelude.{◌≡◌, ℕ, ◌+◌, ◌≤◌, ◌++◌, ◌∷◌, [], All, OnOk, IfSome, Some, length, slice_get, option_map};
-ghost use Rattle.std.specs.List.{flat_map};
-ghost use Rattle.std.specs.Option.{ForSome};
+ghost use Rattle.std.specs.List.{flat_map, range_with_len};
 ghost use Rattle.boxes.specs.declared.flow.Note.{Note};
 ghost use Rattle.paint.specs.Conditions.{CanBePainted};
-ghost use Rattle.paint.specs.Pages.{area_height, area_items, area_origin, note_items, separator_at};
+ghost use Rattle.paint.specs.Groups.{GoesOn};
+ghost use Rattle.paint.specs.Items.{for_some};
+ghost use Rattle.paint.specs.Pages.{area_height, area_items, area_origin, note_items, separator_at, tree_items};
 ghost use Rattle.paint.specs.Views.{HasItemFace, items_in};
 
 use crate::item::{Area, Canvas, ItemRef, Origin, sum};
-use crate::solids::push_next;
+use crate::trees::push_tree;
 use bk_num::name::NoMem;
 use bk_num::steps::Steps;
 use bk_num::values::Color;
 use boxes::flow::Note;
 use boxes::frames::Frame;
-use boxes::page::PlacedNote;
+use boxes::page::{Placed, PlacedNote};
 use metrics::Faces;
 use std::alloc::Global;
 use std::sync::ledger::Ledger;
@@ -82,21 +83,10 @@ fn push_separator<'a>(
     Ok(())
 }
 
-/// The event that was reached last, if it is one of a note.
-fn reached_in(last: Option<(u32, u32)>, number: u32) -> Option<u32>
-    ensures { ForSome result (λ at. last ≡ Some (number, at)) }
-{
-    match last {
-        Some((note, at)) if note == number => Some(at),
-        _ => None,
-    }
-}
-
 /// The note of a number.
-fn note_at(notes: &[Note], number: u32) -> Option<&Note>
+fn note_at(notes: &[Note], number: usize) -> Option<&Note>
     ensures { option_map (λ note. note.now) result ≡ slice_get notes.now number }
 {
-    let number = number as usize;
     if number < notes.len() {
         Some(&notes[number])
     } else {
@@ -104,7 +94,74 @@ fn note_at(notes: &[Note], number: u32) -> Option<&Note>
     }
 }
 
-/// Adds the solids of notes, in order, from an origin. It takes at most a step for each.
+/// A note, and those of its solids that were met.
+#[derive(Drop)]
+struct Group {
+    number: usize,
+    solids: Vec<Placed>,
+}
+
+/// Adds what is painted of a note. It takes at most a step for each of its solids.
+fn push_note<'a, L: Ledger>(
+    alloc: Global,
+    out: &mut Vec<ItemRef<'a>>,
+    faces: &'a Faces,
+    notes: &'a [Note],
+    origin: Origin,
+    group: &Group,
+    steps: &mut Steps<L>,
+) -> Result<(), NoMem>
+    requires bodies { (n : ℕ) (note : Note) → slice_get notes.now n ≡ Some note → CanBePainted faces.now note.body }
+    requires faces { All (HasItemFace faces.now) out.old.items }
+    ensures items { OnOk result (items_in faces.now out.new.items ≡ items_in faces.now out.old.items ++ for_some (λ (note : Note). tree_items faces.now note.body origin group.now.solids.items) (slice_get notes.now group.now.number)) }
+    ensures faces { OnOk result (All (HasItemFace faces.now) out.new.items) }
+    ensures steps { steps.new ≤ steps.old + length group.now.solids.items }
+{
+    let Some(note) = note_at(notes, group.number) else {
+        return Err(NoMem);
+    };
+    let canvas = Canvas {
+        faces,
+        tree: &note.body,
+        origin,
+    };
+    push_tree(alloc, out, &canvas, &group.solids, steps)?;
+    Ok(())
+}
+
+/// Turns to a later note, or stays: adds what is painted of the note that was met. Want of memory where it is an earlier
+/// one. It takes at most a step for each solid that goes.
+fn turn_to<'a, L: Ledger>(
+    alloc: Global,
+    out: &mut Vec<ItemRef<'a>>,
+    faces: &'a Faces,
+    notes: &'a [Note],
+    origin: Origin,
+    group: &mut Group,
+    next: usize,
+    steps: &mut Steps<L>,
+) -> Result<(), NoMem>
+    requires bodies { (n : ℕ) (note : Note) → slice_get notes.now n ≡ Some note → CanBePainted faces.now note.body }
+    requires faces { All (HasItemFace faces.now) out.old.items }
+    ensures items { OnOk result (GoesOn faces.now notes.now origin (items_in faces.now out.old.items) group.old.number group.old.solids.items (items_in faces.now out.new.items) group.new.number group.new.solids.items) }
+    ensures number { OnOk result (group.new.number ≡ next) }
+    ensures faces { OnOk result (All (HasItemFace faces.now) out.new.items) }
+    ensures steps { steps.new ≤ steps.old + length group.old.solids.items }
+    ensures rest { OnOk result (steps.new + length group.new.solids.items ≤ steps.old + length group.old.solids.items) }
+{
+    if next == group.number {
+        return Ok(());
+    }
+    if next < group.number {
+        return Err(NoMem);
+    }
+    push_note(alloc, out, faces, notes, origin, group, steps)?;
+    group.number = next;
+    group.solids.clear();
+    Ok(())
+}
+
+/// Adds what is painted of notes, in order, from an origin. It takes at most a step for each of their solids.
 fn push_notes<'a, L: Ledger>(
     alloc: Global,
     out: &mut Vec<ItemRef<'a>>,
@@ -116,25 +173,37 @@ fn push_notes<'a, L: Ledger>(
 ) -> Result<(), NoMem>
     requires bodies { (n : ℕ) (note : Note) → slice_get notes.now n ≡ Some note → CanBePainted faces.now note.body }
     requires faces { All (HasItemFace faces.now) out.old.items }
-    ensures items { OnOk result (items_in faces.now out.new.items ≡ items_in faces.now out.old.items ++ flat_map (note_items faces.now notes.now origin placed.now) placed.now) }
+    ensures items { OnOk result (items_in faces.now out.new.items ≡ items_in faces.now out.old.items ++ flat_map (note_items faces.now notes.now origin placed.now) (range_with_len 0 (length notes.now))) }
     ensures faces { OnOk result (All (HasItemFace faces.now) out.new.items) }
     ensures steps { steps.new ≤ steps.old + length placed.now }
 {
-    let mut opens = Vec::new(alloc);
-    let mut last = None;
+    let mut group = Group {
+        number: 0,
+        solids: Vec::new(alloc),
+    };
     for (number, s) in placed {
-        let Some(note) = note_at(notes, *number) else {
-            return Err(NoMem);
-        };
-        let canvas = Canvas {
+        turn_to(
+            alloc,
+            out,
             faces,
-            tree: &note.body,
+            notes,
             origin,
-        };
-        let reached = reached_in(last, *number);
-        push_next(alloc, out, &canvas, &mut opens, reached, s, steps)?;
-        last = Some((*number, s.at.event));
+            &mut group,
+            *number as usize,
+            steps,
+        )?;
+        group.solids.push(*s)?;
     }
+    turn_to(
+        alloc,
+        out,
+        faces,
+        notes,
+        origin,
+        &mut group,
+        notes.len(),
+        steps,
+    )?;
     Ok(())
 }
 

@@ -7,7 +7,7 @@ ghost use Rattle.paint.specs.Views.{HasItemFace, items_in};
 
 use crate::item::{Canvas, ItemRef, Origin};
 use crate::notes::push_area;
-use crate::solids::push_solids;
+use crate::trees::push_tree;
 use bk_num::name::NoMem;
 use bk_num::steps::Steps;
 use boxes::flow::Flow;
@@ -16,11 +16,12 @@ use metrics::Faces;
 use std::alloc::Global;
 use std::sync::ledger::Ledger;
 
-/// The items of a page of a flow, in the order of the listing: the main tree's edges and lines, each line with its
-/// markers, runs and hyphen, and then the note area with its separator. Places are sums of units from the page's top left.
-/// Want of memory is answered too for a page that isn't one of the flow's, whose lines its leaves don't have, and where a
-/// sum is past 64 bits. It takes at most a step for each solid; its time goes with the page's solids, the events between
-/// them and their text.
+/// The items of a page of a flow, in the order of the listing: the backgrounds and borders of the main tree's boxes, its
+/// edges and lines, each line with its markers, runs and hyphen, and then the note area: its separator, and note after note
+/// the like of its body. Places are sums of units from the page's top left. Want of memory is answered too for a page that
+/// isn't one of the flow's, whose solids aren't in order or whose lines its leaves don't have, and where a sum is past 64
+/// bits. It takes at most a step for each solid; its time goes with the page's solids, the events between them and their
+/// text.
 pub fn place<'a, L: Ledger>(
     alloc: Global,
     flow: &'a Flow,
@@ -44,7 +45,7 @@ pub fn place<'a, L: Ledger>(
         },
     };
     let mut out = Vec::new(alloc);
-    push_solids(alloc, &mut out, &canvas, page.solids.as_slice(), steps)?;
+    push_tree(alloc, &mut out, &canvas, page.solids.as_slice(), steps)?;
     let notes = flow.notes.as_slice();
     push_area(
         alloc,

@@ -10,7 +10,5 @@ pub mod sets;
 pub mod short;
 mod simple;
 pub mod specificity;
-#[cfg(test)]
-mod tests;
 pub mod types;
 pub mod walk;

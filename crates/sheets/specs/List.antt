@@ -1,7 +1,6 @@
 -- A listed sheet as contracts see it.
-use Rattle.std.specs.Prelude.{Some}
 use Rattle.sheets.specs.Sheets.{Sheet}
 use Rattle.sheets.specs.declared.list.ElementSheet.{ElementSheet}
 
 abbrev pub sheet_in : ElementSheet → Sheet
-sheet_in s = record { element = Some s.element.0; text = s.text }
+sheet_in s = record { element = s.element.0; text = s.text }

@@ -1,13 +1,13 @@
--- The style sheets of a document and of a file (HTML, 4.2.6; CSS 2.1, 6.4).
-use Rattle.std.specs.Prelude.{ℕ, zero, suc, ◌+◌, Bool, false, ◌&&◌, ◌==◌, if◌then◌else◌, List, [], ◌∷◌, ◌++◌, Option, None, Some, length, codes, unwrap_or}
+-- The style sheets of a document and of files (HTML, 4.2.6; CSS 2.1, 6.4).
+use Rattle.std.specs.Prelude.{ℕ, zero, suc, ◌+◌, Bool, false, ◌&&◌, ◌==◌, if◌then◌else◌, List, [], ◌∷◌, ◌++◌, Option, None, Some, length, map, codes, unwrap_or}
 use Rattle.std.specs.Str.{bytes_eq}
 use Rattle.dom.specs.Nodes.{Node, parents_of, parent_at, name_at, text_at, attribute_at}
 use Rattle.css_tok.specs.Tokens.{tokens_of}
 use Rattle.css_rules.specs.Media.{is_media_list}
 
--- a sheet: the number of its `style` element, or none for the file's, and its text
+-- a sheet: the number of its `style` element, and its text
 pub record Sheet : Type 0 where
-  pub element : Option ℕ
+  pub element : ℕ
   pub text : List ℕ
 
 abbrev pub is_style_name : Option (List ℕ) → Bool
@@ -39,7 +39,7 @@ abbrev pub child_text : List Node → ℕ → List ℕ
 child_text nodes element = text_from nodes element 0 (length nodes)
 
 abbrev pub sheet_at : List Node → ℕ → List Sheet
-sheet_at nodes k = if is_sheet_element nodes k then record { element = Some k; text = child_text nodes k } ∷ [] else []
+sheet_at nodes k = if is_sheet_element nodes k then record { element = k; text = child_text nodes k } ∷ [] else []
 
 -- the sheets among the n nodes from k on
 abbrev pub sheets_from : List Node → ℕ → ℕ → List Sheet
@@ -49,9 +49,7 @@ sheets_from nodes k (suc n) = sheet_at nodes k ++ sheets_from nodes (k + 1) n
 abbrev pub element_sheets : List Node → List Sheet
 element_sheets nodes = sheets_from nodes 0 (length nodes)
 
-abbrev pub file_sheet : List ℕ → List Sheet
-file_sheet file = record { element = None; text = file } ∷ []
-
--- the sheets of a document, and that of a file
-abbrev pub sheets_of : List Node → List ℕ → List Sheet
-sheets_of nodes file = element_sheets nodes ++ file_sheet file
+-- the texts of an author's sheets in the order of the cascade: those of files in the order that they are given, and those of elements in
+-- tree order
+abbrev pub author_texts : List Sheet → List (List ℕ) → List (List ℕ)
+author_texts elements files = files ++ map (λ s. s.text) elements

@@ -6,13 +6,9 @@ ghost use Rattle.sheets.specs.List.{sheet_in};
 use crate::elements::{child_text, count_of_elements, is_sheet_element};
 use bk_num::ids::NodeId;
 use bk_num::items::{Items, Text};
-use bk_num::limits::MOST_SHEETS;
 use bk_num::name::NoMem;
 use dom::Dom;
 use std::alloc::Global;
-
-/// The most sheets beside that of the file.
-const MOST_ELEMENTS: u32 = MOST_SHEETS - 1;
 
 /// A sheet of a document: its `style` element, and its text.
 #[derive(Drop)]
@@ -42,13 +38,17 @@ fn push_sheet(
 }
 
 /// The sheets of a document in tree order: its `style` elements whose `media` is read, each with its text
-/// (HTML, 4.2.6). None exactly where they are more than 15.
-pub fn list_sheets(alloc: Global, dom: &Dom) -> Result<Option<Items<ElementSheet>>, NoMem>
+/// (HTML, 4.2.6). None exactly where they are more than `most`.
+pub fn list_sheets(
+    alloc: Global,
+    dom: &Dom,
+    most: u32,
+) -> Result<Option<Items<ElementSheet>>, NoMem>
     ensures list { IfOk result
-        (λ found. MatchOption found (15 < length (element_sheets dom.now)) (λ sheets. map sheet_in sheets ≡ element_sheets dom.now)) }
-    ensures few { IfOk result (λ found. IfSome found (λ sheets. length sheets ≤ 15)) }
+        (λ found. MatchOption found (most < length (element_sheets dom.now)) (λ sheets. map sheet_in sheets ≡ element_sheets dom.now)) }
+    ensures few { IfOk result (λ found. IfSome found (λ sheets. length sheets ≤ most)) }
 {
-    if MOST_ELEMENTS < count_of_elements(dom) {
+    if most < count_of_elements(dom) {
         return Ok(None);
     }
     let mut sheets = Vec::new(alloc);

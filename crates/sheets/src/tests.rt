@@ -45,7 +45,7 @@ const ROWS: &str = "\
 
 /// Whether the listed sheets of a document are these.
 fn are_listed(alloc: Global, dom: &Dom, want: &str) -> Option<bool> {
-    let sheets = list_sheets(alloc, dom).ok()??;
+    let sheets = list_sheets(alloc, dom, 15).ok()??;
     let mut words = want.split(' ').filter(|word| !word.is_empty());
     for sheet in sheets.as_slice() {
         let number = words.next()?.parse::<u32>().ok()?;
@@ -72,18 +72,19 @@ fn sheets_are_listed_in_tree_order(rt: HostRuntime) {
     }
 }
 
-/// How many sheets a document of so many `style` elements lists.
-fn count_of(alloc: Global, elements: u32) -> Option<usize> {
+/// How many sheets a document of so many `style` elements lists, where at most so many are listed.
+fn count_of(alloc: Global, elements: u32, most: u32) -> Option<usize> {
     let mut dom = Dom::new(alloc).ok()?;
     for _ in 0..elements {
         grow(alloc, &mut dom, "0 e style")?;
     }
-    let sheets = list_sheets(alloc, &dom).ok()??;
+    let sheets = list_sheets(alloc, &dom, most).ok()??;
     Some(sheets.as_slice().len())
 }
 
 #[test]
-fn fifteen_elements_are_listed(rt: HostRuntime) {
-    assert_eq!(rt; count_of(rt.alloc(), 15), Some(15));
-    assert_eq!(rt; count_of(rt.alloc(), 16), None);
+fn as_many_as_may_be_are_listed(rt: HostRuntime) {
+    assert_eq!(rt; count_of(rt.alloc(), 15, 15), Some(15));
+    assert_eq!(rt; count_of(rt.alloc(), 16, 15), None);
+    assert_eq!(rt; count_of(rt.alloc(), 1, 0), None);
 }

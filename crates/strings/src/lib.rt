@@ -4,5 +4,3 @@
 pub mod assigned;
 mod named;
 pub mod shown;
-#[cfg(test)]
-mod tests;

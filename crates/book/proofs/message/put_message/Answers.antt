@@ -13,10 +13,6 @@ pub returns-in-NotUtf8-clause-bytes : goal.returns-in-NotUtf8-clause-bytes
 unfolding texts_of
 returns-in-NotUtf8-clause-bytes g c = rw c.in-NotUtf8.is c.put_place_line.ensures.bytes
 
-pub returns-in-NotBuilt-clause-bytes : goal.returns-in-NotBuilt-clause-bytes
-unfolding texts_of
-returns-in-NotBuilt-clause-bytes g c = rw c.in-NotBuilt.is c.put_place_line-in-NotBuilt.ensures.bytes
-
 pub returns-in-WriteFault-clause-bytes : goal.returns-in-WriteFault-clause-bytes
 unfolding texts_of
 returns-in-WriteFault-clause-bytes g c = rw c.in-WriteFault.is c.put_texts-in-WriteFault.ensures.bytes

@@ -1,4 +1,4 @@
-use Rattle.box_gen.proofs.WalkLemmas.{walk-builds}
+use Rattle.box_gen.proofs.BodyLemmas.{walk-builds}
 use Rattle.box_gen.proofs.laws.a_walk_builds_the_flow.Goals as goal
 
 pub returns : goal.returns

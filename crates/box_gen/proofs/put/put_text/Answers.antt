@@ -1,5 +1,6 @@
 use Rattle.std.proofs.Common.{ap, sym, subst, arith}
 use Rattle.box_gen.specs.declared.leaf.LeafStyle.{LeafStyle}
+use Rattle.box_gen.specs.declared.put.Room.{Room}
 use Rattle.box_gen.specs.Faces.{face_of}
 use Rattle.box_gen.specs.Flow.{Built}
 use Rattle.box_gen.specs.Sites.{built_in, leaf_bytes}
@@ -22,4 +23,6 @@ returns-clause-count c =
     let bytes = c.bytes_of-bytes.ensures in
     let n = c.requires.count.count in
     let room = c.requires.room in
-    record { count = omega (arith, all, any, kept, bytes, n); few = omega (arith, kept, bytes, room) }
+    let same = ap (λ (r : Room). r.bytes) c.in_ok-put_any.ensures.room in
+    let most = c.requires.count.most in
+    record { count = omega (arith, all, any, kept, bytes, n); few = omega (arith, kept, bytes, room, same); most = omega (arith, same, most) }

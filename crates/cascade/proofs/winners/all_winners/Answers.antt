@@ -1,4 +1,4 @@
-use Rattle.std.proofs.Common.{◌≡◌, ◌∙◌, List, length, map, ap, subst, arith}
+use Rattle.std.proofs.Common.{◌≡◌, ◌∙◌, List, map, ap, subst, arith}
 use Rattle.match_table.specs.All.{AreMatchLists}
 use Rattle.cascade.specs.Document.{rules_of}
 use Rattle.cascade.specs.Selected.{SelectedOf, ruled_in, selected_in, selected_from, selectors_of, AreChosen}

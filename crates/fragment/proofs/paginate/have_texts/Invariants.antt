@@ -1,5 +1,5 @@
 use Rattle.std.proofs.Common.{ℕ, ◌<◌}
-use Rattle.fragment.specs.Bounds.{HasText}
+use Rattle.page_list.specs.Bounds.{HasText}
 use Rattle.fragment.proofs.paginate.have_texts.Given as goal
 
 abbrev pub invariant-loop-event : goal.invariant-loop-event

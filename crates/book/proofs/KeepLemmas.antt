@@ -1,0 +1,34 @@
+-- A book keeps what the laws of page lists promise.
+use Rattle.std.proofs.Common.{ℕ, List}
+use Rattle.boxes.specs.declared.flow.Flow.{Flow}
+use Rattle.boxes.specs.declared.page.Page.{Page}
+use Rattle.gen_text.specs.declared.table.Entry.{Entry}
+use Rattle.note_list.specs.Conditions.{CanBePaged}
+use Rattle.passes.specs.Passes.{End, EndsIn, IsLast, settled, unsettled, long, many, settles, differs, too_long, too_many}
+use Rattle.passes.specs.Work.{Work}
+use Rattle.book.specs.Keeps.{Keeps}
+use Rattle.book.specs.Laws.{PageLaws}
+
+abbrev KeepsEnd : Work → End → Type 0
+KeepsEnd w (settled passes flow pages table) = CanBePaged w.faces flow → Keeps w flow pages table
+KeepsEnd w (unsettled target before after) = Unit {0}
+KeepsEnd w long = Unit {0}
+KeepsEnd w many = Unit {0}
+
+last_keeps : PageLaws → (w : Work) (limit k : ℕ) (table : List Entry) (end : End) → IsLast w limit k table end → KeepsEnd w end
+last_keeps laws w limit k table _ (settles flow pages pass) = λ can. record {
+  main = laws.main w.faces flow w.frames pages can pass.paged;
+  notes = laws.notes w.faces flow w.frames pages can pass.paged;
+  breaks = laws.breaks w.faces flow w.frames pages can pass.paged;
+  paged = pass.paged;
+  inside = laws.inside w.faces flow w.frames pages can pass.paged;
+  begins = laws.begins w.faces flow w.frames pages can pass.paged;
+  printed = pass.flow_is;
+  shown = pass.shown;
+}
+last_keeps laws w limit k table _ (differs a b u n s place d x y) = tt
+last_keeps laws w limit k table _ (too_long flow is much) = tt
+last_keeps laws w limit k table _ (too_many flow is fits left) = tt
+
+pub keeps : PageLaws → (w : Work) (limit passes : ℕ) (flow : Flow) (pages : List Page) (table : List Entry) → CanBePaged w.faces flow → EndsIn w limit (settled passes flow pages table) → Keeps w flow pages table
+keeps laws w limit passes flow pages table can (k, below, t, o, last) = last_keeps laws w limit k t (settled passes flow pages table) last can

@@ -1,0 +1,25 @@
+use Rattle.std.proofs.Common.{◌≡◌, ◌∙◌, ap}
+use Rattle.std.proofs.lemmas.Result.{err_from_is_err_and}
+use Rattle.boxes.specs.declared.table.PageTable.{PageTable}
+use Rattle.book.proofs.PassLemmas.{in_frames, stops_by}
+use Rattle.book.proofs.Tables.{frames_are, table_frames}
+use Rattle.book.specs.Flow.{page_frames}
+use Rattle.book.proofs.lay_out.settle_passes.Goals as goal
+
+pub returns-clause-settled : goal.returns-clause-settled
+returns-clause-settled g c =
+    let s = c.args.styled.now in
+    let rows = c.args.boxes.now.table.rows in
+    let same : c.new-frames.result.table.rows ≡ rows = ap (λ (t : PageTable). t.rows) (c.new-frames.ensures ∙ c.in_ok-copy.ensures) in
+    let frames : table_frames c.new-frames.result.table.rows ≡ page_frames s.rules s.names = ap table_frames same ∙ frames_are s.rules s.names rows c.requires.boxes.table in
+    let is = c.in_ok-settled.ensures.settles in
+    in_frames s (table_frames c.new-frames.result.table.rows) _ frames is.targets is.are is.ends
+
+pub returns-in_err-settled-clause-stops : goal.returns-in_err-settled-clause-stops
+returns-in_err-settled-clause-stops g c =
+    let s = c.args.styled.now in
+    let rows = c.args.boxes.now.table.rows in
+    let same : c.new-frames.result.table.rows ≡ rows = ap (λ (t : PageTable). t.rows) (c.new-frames.ensures ∙ c.in_ok-copy.ensures) in
+    let frames : table_frames c.new-frames.result.table.rows ≡ page_frames s.rules s.names = ap table_frames same ∙ frames_are s.rules s.names rows c.requires.boxes.table in
+    let p = err_from_is_err_and c.from_residual-in_err-settled.result c.from_residual-in_err-settled.ensures.1 in
+    rw (p.1, p.2) (stops_by s _ (table_frames c.new-frames.result.table.rows) (λ end is. in_frames s (table_frames c.new-frames.result.table.rows) end frames is.targets is.are is.ends) c.in_err-settled.field-0.0 c.in_err-settled.ensures.settles)

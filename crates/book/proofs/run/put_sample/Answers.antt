@@ -1,0 +1,18 @@
+use Rattle.std.proofs.Common.{◌≡◌, ◌∙◌, ◌∷◌, [], ap, subst}
+use Rattle.run_sheets.specs.Files.{file_texts}
+use Rattle.sample.specs.Texts.{css_text}
+use Rattle.book.specs.Document.{Texts, document_of}
+use Rattle.book.specs.Laid.{outcome_of}
+use Rattle.book.specs.Run.{Meets}
+use Rattle.book.proofs.Samples.{metrics_short, sheets_are, texts_are}
+use Rattle.book.proofs.run.put_sample.Goals as goal
+
+pub put_book-requires-clause-small : goal.put_book-requires-clause-small
+put_book-requires-clause-small g c = metrics_short c.as_str-2.result.now (c.as_str-2.ensures ∙ c.in_ok-book.ensures.2)
+
+pub returns-clause-answers : goal.returns-clause-answers
+returns-clause-answers g c = λ reading h.
+    let sheets : file_texts c.deref.result.now ≡ css_text ∷ [] = ap file_texts c.deref.ensures.value ∙ c.in_ok-sheets.ensures ∙ sheets_are c.as_str.result.now (c.as_str.ensures ∙ c.in_ok-book.ensures.1) in
+    subst (λ (t : Texts). Meets (document_of reading t) (g.O.Sink.taken c.args.out.now) (g.O.Sink.taken c.put_book.new.out) (outcome_of c.put_book.result))
+    (texts_are c.args.chapters c.as_str-2.result.now c.as_str-3.result.now (file_texts c.deref.result.now) (c.as_str-2.ensures ∙ c.in_ok-book.ensures.2) (c.as_str-3.ensures ∙ c.in_ok-book.ensures.0) sheets)
+    (c.put_book.ensures.answers reading h)

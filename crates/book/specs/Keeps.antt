@@ -1,0 +1,35 @@
+-- What a book keeps of its document: the promise of this program, clause by clause.
+use Rattle.std.specs.Prelude.{◌≡◌, List}
+use Rattle.boxes.specs.declared.flow.Flow.{Flow}
+use Rattle.boxes.specs.declared.page.Page.{Page}
+use Rattle.gen_text.specs.declared.table.Entry.{Entry}
+use Rattle.page_list.specs.Inside.{EndInside}
+use Rattle.page_list.specs.Laws.{HoldsMain}
+use Rattle.page_list.specs.Noted.{BeginInTime, HoldsNotes}
+use Rattle.page_list.specs.Pages.{IsPaged}
+use Rattle.page_list.specs.Parted.{HoldsBreaks}
+use Rattle.passes.specs.Work.{IsFlowUnder, Work}
+use Rattle.refs.specs.Tables.{table_of}
+use Rattle.book.specs.Answer.{Book, IsBookOf}
+use Rattle.book.specs.Document.{Document}
+
+pub record Keeps (w : Work) (flow : Flow) (pages : List Page) (table : List Entry) : Type 0 where
+  -- each edge and each character of the main text stands on the pages once and in order
+  pub main : HoldsMain flow pages
+  -- so does each note, whole and in the order of calls
+  pub notes : HoldsNotes flow pages
+  -- each forced break stands between two pages, of which the later one has the side that is asked
+  pub breaks : HoldsBreaks flow.main w.frames pages
+  -- each other page ends at the last fitting break of the least dropped level: they are the one page list of the flow
+  pub paged : IsPaged w.faces flow w.frames pages
+  -- where no page has to overflow, what stands on it ends inside its frame and above its notes
+  pub inside : EndInside pages
+  -- no note begins on a page before its call's
+  pub begins : BeginInTime flow pages
+  -- the texts of the flow print the numbers of a table, and it is the table that these very pages show
+  pub printed : IsFlowUnder w table flow
+  pub shown : table ≡ table_of flow pages w.targets
+
+-- the book of a document, which keeps all of this
+abbrev pub IsWholeBook : Document → Book → Type 0
+IsWholeBook d b = (is : IsBookOf d b) × Keeps is.work is.flow is.pages is.table

@@ -1,0 +1,69 @@
+//! A document in its styles.
+
+ghost use Rattle.std.specs.Prelude.{IfOk};
+ghost use Rattle.box_gen.specs.Sources.{AreInRange, IsRootShown};
+ghost use Rattle.computed.specs.Document.{AreDocumentStyles};
+ghost use Rattle.book.specs.DocumentView.{document_in, HasSheets};
+ghost use Rattle.book.specs.Laid.{AreGoodStyles, IsStyledOf};
+
+use crate::document::{Document, Output};
+use bk_num::items::Items;
+use bk_num::name::NoMem;
+use cascade::sheet::ReadSheet;
+use computed::document::styles;
+use computed::laws::{root_is_shown, styles_keep_ranges};
+use counters::at::CounterAt;
+use counters::number::number_all;
+use css_page::rules::PageRule;
+use dom::Dom;
+use metrics::Faces;
+use std::alloc::Global;
+use style::names::Names;
+use style::styles::Styles;
+
+/// A document's nodes in their styles, the values of its counters, the faces that set it, the rules of its pages, and
+/// their names: what all passes over it read, of which there are at most so many, and what is to be put of it.
+#[derive(Drop)]
+pub struct Styled {
+    pub passes: u32,
+    pub output: Output,
+    pub faces: Faces,
+    pub dom: Dom,
+    pub rules: Items<PageRule>,
+    pub names: Names,
+    pub styles: Styles,
+    pub counters: CounterAt,
+}
+
+/// The styles of a document's nodes, and the names of its pages.
+fn styles_of(alloc: Global, dom: &Dom, sheets: &[ReadSheet]) -> Result<(Styles, Names), NoMem>
+    ensures styles { IfOk result (λ r. AreDocumentStyles r.1 dom.now sheets.now r.0) }
+    ensures ranges { IfOk result (λ r. AreInRange r.0) }
+    ensures shown { IfOk result (λ r. IsRootShown r.0) }
+{
+    styles_keep_ranges();
+    root_is_shown();
+    // a document is a tree
+    let _count = dom.len();
+    styles(alloc, dom, sheets)
+}
+
+/// A document in its styles. Each is made once, for all passes.
+pub fn in_styles(alloc: Global, document: Document<'_>) -> Result<Styled, NoMem>
+    requires { HasSheets document }
+    ensures of { IfOk result (λ s. IsStyledOf (document_in document.entry) s) }
+    ensures good { IfOk result AreGoodStyles }
+{
+    let (styles, names) = styles_of(alloc, &document.dom, document.read.as_slice())?;
+    let counters = number_all(alloc, &document.dom, &styles)?;
+    Ok(Styled {
+        passes: document.passes,
+        output: document.output,
+        faces: document.faces,
+        dom: document.dom,
+        rules: document.pages,
+        names,
+        styles,
+        counters,
+    })
+}

@@ -1,0 +1,163 @@
+//! What the pages of a list print.
+
+ghost use Rattle.std.specs.Prelude.{◌≡◌, ◌<◌, Some, length, slice_get, unwrap_or, pos, All, IfOk};
+ghost use Rattle.boxes.specs.Frames.{side_of};
+ghost use Rattle.listing.specs.Pages.{head_record};
+ghost use Rattle.margin_box.specs.Conditions.{CanShowMargins};
+ghost use Rattle.margin_box.specs.Margins.{HasFace, items_of, margins_in};
+ghost use Rattle.margin_box.specs.Margins as spec;
+ghost use Rattle.book_print.specs.Printed.{head_at, margins_of, page_name, page_numbers};
+ghost use Rattle.book_print.specs.Printer.{ArePrinted, CanPrint, IsPrinted, view_of};
+
+use bk_num::name::NoMem;
+use bk_num::steps::Steps;
+use boxes::flow::Flow;
+use boxes::frames::side_of;
+use boxes::page::{Page, PageList};
+use listing::records::PageHead;
+use margin_box::items::{MarginText, Margins, margin_items};
+use metrics::Faces;
+use page_ctx::resolve::PageStyles;
+use paint::item::ItemRef;
+use paint::place::place as place_items;
+use std::alloc::Global;
+use std::sync::ledger::Ledger;
+use strings::assigned::Strings;
+use style::names::Names;
+
+/// What the pages of a book are printed with: in how many passes they settled, the faces, the flow that stands on them, the
+/// names of pages, the pages with their numbers and the running strings along them, and the page boxes with the styles of
+/// their margin boxes.
+#[derive(Clone, Copy)]
+pub struct Printer<'a> {
+    pub passes: u32,
+    pub faces: &'a Faces,
+    pub flow: &'a Flow,
+    pub names: &'a Names,
+    pub list: &'a PageList,
+    pub numbers: &'a [i64],
+    pub strings: &'a Strings,
+    pub styles: &'a PageStyles<'a>,
+}
+
+/// What a page prints: its record, the items on it, and the texts of its margin boxes.
+#[derive(Drop)]
+pub(crate) struct PrintedPage<'a> {
+    pub(crate) head: PageHead<'a>,
+    pub(crate) items: Vec<ItemRef<'a>>,
+    pub(crate) texts: Vec<MarginText>,
+}
+
+/// The text of a page's name, which is empty for no name.
+fn name_of<'a>(names: &'a Names, page: &Page) -> &'a str
+    ensures { result.now ≡ page_name names.now page.now.name }
+{
+    match names.text(page.name) {
+        Some(text) => text,
+        None => "",
+    }
+}
+
+/// The number of the page at a place of the list.
+fn number_of(printer: &Printer<'_>, place: usize) -> i64
+    requires { CanPrint printer.now }
+    ensures { result ≡ unwrap_or (slice_get (page_numbers (view_of printer.now) printer.now.list.now.pages) place) (pos 0) }
+{
+    printer.numbers.get(place).copied().unwrap_or(0)
+}
+
+/// The record of the page at a place of the list.
+fn head_of<'a>(printer: &Printer<'a>, page: &Page, place: usize) -> PageHead<'a>
+    requires { CanPrint printer.now }
+    ensures { head_record result ≡ head_at (view_of printer.now) printer.now.list.now.pages place page.now }
+{
+    let cell = printer.styles.cell(page.index, page.name, page.kind);
+    PageHead {
+        index: page.index,
+        number: number_of(printer, place),
+        side: side_of(page.index),
+        kind: page.kind,
+        name: name_of(printer.names, page),
+        width: cell.width,
+        height: cell.height,
+    }
+}
+
+/// What the margin boxes of the pages are printed with.
+fn margins_of<'a>(printer: &Printer<'a>) -> Margins<'a>
+    requires { CanPrint printer.now }
+    ensures view { margins_in result ≡ margins_of (view_of printer.now) printer.now.list.now.pages }
+    ensures can { CanShowMargins result }
+    ensures list { result.list.now ≡ printer.now.list.now }
+    ensures faces { result.faces.now ≡ printer.now.faces.now }
+{
+    Margins {
+        faces: printer.faces,
+        flow: printer.flow,
+        list: printer.list,
+        numbers: printer.numbers,
+        strings: printer.strings,
+        styles: printer.styles,
+    }
+}
+
+/// The texts in the margin boxes of the page at a place of the list.
+fn margin_texts(
+    alloc: Global,
+    printer: &Printer<'_>,
+    place: usize,
+) -> Result<Vec<MarginText>, NoMem>
+    requires printer { CanPrint printer.now }
+    requires place { place < length printer.now.list.now.pages }
+    ensures items { IfOk result (λ v. items_of printer.now.faces.now v.items ≡
+        spec.margin_items (margins_of (view_of printer.now) printer.now.list.now.pages) place) }
+    ensures faces { IfOk result (λ v. All (HasFace printer.now.faces.now) v.items) }
+{
+    margin_items(alloc, &margins_of(printer), place)
+}
+
+/// The page at a place of a list.
+fn page_at(pages: &[Page], place: usize) -> &Page
+    requires { place < length pages.now }
+    ensures { slice_get pages.now place ≡ Some result.now }
+{
+    &pages[place]
+}
+
+/// What the page at a place of the list prints.
+fn printed<'a, L: Ledger>(
+    alloc: Global,
+    printer: &Printer<'a>,
+    place: usize,
+    steps: &mut Steps<L>,
+) -> Result<PrintedPage<'a>, NoMem>
+    requires printer { CanPrint printer.now }
+    requires place { place < length printer.now.list.now.pages }
+    ensures { IfOk result (λ q. IsPrinted printer.now place q) }
+{
+    let page = page_at(printer.list.pages.as_slice(), place);
+    let items = place_items(alloc, printer.flow, printer.faces, page, steps)?;
+    let texts = margin_texts(alloc, printer, place)?;
+    Ok(PrintedPage {
+        head: head_of(printer, page, place),
+        items,
+        texts,
+    })
+}
+
+/// What the pages print, in order. It takes the steps of `paint::place::place` at each page.
+pub(crate) fn printed_pages<'a, L: Ledger>(
+    alloc: Global,
+    printer: &Printer<'a>,
+    steps: &mut Steps<L>,
+) -> Result<Vec<PrintedPage<'a>>, NoMem>
+    requires { CanPrint printer.now }
+    ensures { IfOk result (λ v. ArePrinted printer.now v.items) }
+{
+    let count = printer.list.pages.as_slice().len();
+    let mut pages = Vec::new(alloc);
+    for place in 0..count {
+        pages.push(printed(alloc, printer, place, steps)?)?;
+    }
+    Ok(pages)
+}

@@ -1,0 +1,215 @@
+-- The elements of a main tree begin in tree order, and as many note elements are called as there are bodies.
+use Rattle.std.proofs.Common.{◌≡◌, ◌∙◌, ℕ, suc, ◌+◌, ◌==◌, Bool, true, false, cond, not, List, [], ◌∷◌, ◌++◌, append-nil, append_assoc, Option, None, Some, filter, length, map, refl, sym, ap, arith, length-append}
+use Rattle.std.specs.Prelude.{slice_get}
+use Rattle.std.proofs.lemmas.List.{map-append}
+use Rattle.bk_num.specs.declared.values.Pseudo.{Pseudo}
+use Rattle.bk_num.specs.declared.values.Pseudo.TheVariants as pseudo
+use Rattle.boxes.specs.declared.flow.Start.{Start}
+use Rattle.boxes.specs.Tree.{takes_leaf}
+use Rattle.dom.specs.Nodes.{text_at}
+use Rattle.inline_text.specs.declared.space.TextPart.{TextPart}
+use Rattle.style.specs.declared.style.Style.{Style}
+use Rattle.style.specs.Nodes.{NodeStyles, style_at}
+use Rattle.style.specs.Styles.{initial_style}
+use Rattle.box_gen.specs.declared.inline.InlineItem.{InlineItem}
+use Rattle.box_gen.specs.declared.inline.InlineItem.TheVariants as item
+use Rattle.box_gen.specs.Flow.{Built, bodies_in, bodies_of, built_of, calls_of, first_items, generated_by, generated_items, last_items, node_bodies, nothing, put_by, represented_items, starts_by, text_item, with_run}
+use Rattle.box_gen.specs.Gather.{Gathered, adds, begun, called, ended, gather_node, gathered, make}
+use Rattle.box_gen.specs.Leaves.{leaf_style_of}
+use Rattle.box_gen.specs.Props.{anonymous_props}
+use Rattle.box_gen.specs.Represented.{represented_text}
+use Rattle.box_gen.specs.Runs.{marks_in, printed_in, starts_from, starts_of, text_of}
+use Rattle.box_gen.specs.Trees.{Source, Forest, none, node, forest_of, is_block, is_note_element, Role, text, hidden, inline, block, note, role_by, role_of, shown_role}
+use Rattle.box_gen.proofs.DepthLemmas.{built-gathered}
+
+-- ---- the elements that begin in a run
+
+abbrev pub run_nodes : List InlineItem → List ℕ
+run_nodes [] = []
+run_nodes (item.Text t ∷ items) = run_nodes items
+run_nodes (item.Start n ∷ items) = n.0 ∷ run_nodes items
+
+abbrev pub nodes_in : List Start → List ℕ
+nodes_in starts = map (λ (a : Start). a.node.0) starts
+
+pub nodes-append : (xs ys : List InlineItem) → run_nodes (xs ++ ys) ≡ run_nodes xs ++ run_nodes ys
+nodes-append [] ys = refl
+nodes-append (item.Text t ∷ xs) ys = nodes-append xs ys
+nodes-append (item.Start n ∷ xs) ys = ap (λ (l : List ℕ). n.0 ∷ l) (nodes-append xs ys)
+
+from-nodes : (event at : ℕ) (items : List InlineItem) (ts : List (List ℕ)) → nodes_in (starts_by event (starts_from at (marks_in items) ts)) ≡ run_nodes items
+from-nodes event at [] ts = refl
+from-nodes event at (item.Text t ∷ items) [] = from-nodes event at items []
+from-nodes event at (item.Text t ∷ items) (x ∷ ts) = from-nodes event (at + length x) items ts
+from-nodes event at (item.Start n ∷ items) ts = ap (λ (l : List ℕ). n.0 ∷ l) (from-nodes event at items ts)
+
+starts-nodes : (starts : List Start) (event : ℕ) (items : List InlineItem) → nodes_in (starts ++ starts_by event (starts_of items)) ≡ nodes_in starts ++ run_nodes items
+unfolding starts_of
+starts-nodes starts event items = map-append (λ (a : Start). a.node.0) starts (starts_by event (starts_of items)) ∙ ap (λ (l : List ℕ). nodes_in starts ++ l) (from-nodes event 0 items (printed_in items))
+
+pub run-nodes : (src : Source) (s : Style) (wrap : Bool) (b : Built) (items : List InlineItem) → nodes_in (with_run src s wrap b items).starts ≡ nodes_in b.starts ++ run_nodes items
+run-nodes src s wrap b items = by (length (text_of items) == 0) wrap
+  where
+    by : (e w : Bool) → nodes_in (put_by e w (leaf_style_of s (src.face s)) (anonymous_props s) b items).starts ≡ nodes_in b.starts ++ run_nodes items
+    by true w = starts-nodes b.starts (length b.tree.events) items
+    by false true = starts-nodes b.starts (suc (length b.tree.events)) items
+    by false false = starts-nodes b.starts (length b.tree.events) items
+
+-- generated texts hold no element
+pub no-generated : (src : Source) (n : ℕ) (p : Pseudo) → run_nodes (generated_items src n p) ≡ []
+no-generated src n p = by (style_at src.styles n p)
+  where
+    by : (o : Option Style) → run_nodes (generated_by src n p o) ≡ []
+    by None = refl
+    by (Some s) = refl
+
+pub no-first : (src : Source) (s : Style) (n : ℕ) → run_nodes (first_items src s n) ≡ []
+no-first src s n = nodes-append (generated_items src n pseudo.Before) (represented_items src s (represented_text src.nodes n s.white_space)) ∙ ap (λ (l : List ℕ). l ++ run_nodes (represented_items src s (represented_text src.nodes n s.white_space))) (no-generated src n pseudo.Before) ∙ by (represented_text src.nodes n s.white_space)
+  where
+    by : (o : Option TextPart) → run_nodes (represented_items src s o) ≡ []
+    by None = refl
+    by (Some p) = refl
+
+-- ---- what is gathered
+
+-- the elements that have begun
+abbrev pub known : Gathered → List ℕ
+known g = nodes_in g.built.starts ++ run_nodes g.run
+
+known-adds : (g : Gathered) (items : List InlineItem) → known (adds items g) ≡ known g ++ run_nodes items
+known-adds g items = ap (λ (l : List ℕ). nodes_in g.built.starts ++ l) (nodes-append g.run items) ∙ sym (append_assoc (nodes_in g.built.starts) (run_nodes g.run) (run_nodes items))
+
+-- texts without elements
+pub known-texts : (g : Gathered) (items : List InlineItem) → run_nodes items ≡ [] → known (adds items g) ≡ known g
+known-texts g items e = known-adds g items ∙ ap (λ (l : List ℕ). known g ++ l) e ∙ append-nil (known g)
+
+known-begun : (src : Source) (b : Style) (n : ℕ) (u : Style) (g : Gathered) → known (begun src b n u g) ≡ known g ++ n ∷ []
+known-begun src b n u g =
+    let before : Built = with_run src b true g.built g.run in
+    ap (λ (l : List ℕ). nodes_in (begun src b n u g).built.starts ++ l) (no-first src u n) ∙ append-nil (nodes_in (begun src b n u g).built.starts)
+    ∙ map-append (λ (a : Start). a.node.0) before.starts (record { node = record { 0 = n }; note = None; at = record { event = length before.tree.events; offset = 0 } } ∷ []) ∙ ap (λ (l : List ℕ). l ++ n ∷ []) (run-nodes src b true g.built g.run)
+
+known-ended : (src : Source) (u : Style) (g : Gathered) → known (ended src u g) ≡ known g
+known-ended src u g = append-nil (nodes_in (ended src u g).built.starts) ∙ run-nodes src u (not (takes_leaf g.built.tree.events)) g.built g.run
+
+known-called : (src : Source) (n : ℕ) (g : Gathered) → known (called src n g) ≡ known g ++ n ∷ []
+known-called src n g = known-texts (adds (item.Start (record { 0 = n }) ∷ []) g) (generated_items src n pseudo.Call) (no-generated src n pseudo.Call) ∙ known-adds g (item.Start (record { 0 = n }) ∷ [])
+
+abbrev pub node_elements : ℕ → Role → List ℕ → List ℕ
+node_elements n hidden inside = []
+node_elements n (text t) inside = []
+node_elements n (inline u) inside = n ∷ inside
+node_elements n (block u) inside = n ∷ inside
+node_elements n (note u) inside = n ∷ []
+
+-- the shown elements among nodes, but those in notes
+unfoldable pub elements_in : Source → Forest → List ℕ
+elements_in src none = []
+elements_in src (node n kids more) = node_elements n (role_of src n) (elements_in src kids) ++ elements_in src more
+
+pub known-gathered : (src : Source) (s b : Style) (f : Forest) (g : Gathered) → known (gathered src s b f g) ≡ known g ++ elements_in src f
+unfolding gathered elements_in
+known-gathered src s b none g = sym (append-nil (known g))
+known-gathered src s b (node n kids more) g =
+    let after : Gathered = gather_node src s b n (role_of src n) (λ u c h. gathered src u c kids h) g in
+    known-gathered src s b more after ∙ ap (λ (l : List ℕ). l ++ elements_in src more) (by (role_of src n) (λ u c h. known-gathered src u c kids h)) ∙ append_assoc (known g) (node_elements n (role_of src n) (elements_in src kids)) (elements_in src more)
+  where
+    by : (r : Role) → ((u c : Style) (h : Gathered) → known (gathered src u c kids h) ≡ known h ++ elements_in src kids) → known (gather_node src s b n r (λ u c h. gathered src u c kids h) g) ≡ known g ++ node_elements n r (elements_in src kids)
+    by hidden k = sym (append-nil (known g))
+    by (text t) k = known-adds g (text_item src s t ∷ [])
+    by (inline u) k =
+        let g1 : Gathered = adds (item.Start (record { 0 = n }) ∷ []) g in
+        let h : Gathered = adds (first_items src u n) g1 in
+        known-texts (gathered src u b kids h) (last_items src n) (no-generated src n pseudo.After) ∙ k u b h
+        ∙ ap (λ (l : List ℕ). l ++ elements_in src kids) (known-texts g1 (first_items src u n) (no-first src u n) ∙ known-adds g (item.Start (record { 0 = n }) ∷ [])) ∙ append_assoc (known g) (n ∷ []) (elements_in src kids)
+    by (block u) k =
+        let h : Gathered = begun src b n u g in
+        known-ended src u (adds (last_items src n) (gathered src u u kids h)) ∙ known-texts (gathered src u u kids h) (last_items src n) (no-generated src n pseudo.After) ∙ k u u h
+        ∙ ap (λ (l : List ℕ). l ++ elements_in src kids) (known-begun src b n u g) ∙ append_assoc (known g) (n ∷ []) (elements_in src kids)
+    by (note u) k = known-called src n g
+
+-- where elements begin in a main tree, in tree order
+pub main-elements : (src : Source) → nodes_in (built_of src).starts ≡ elements_in src (forest_of src.nodes)
+main-elements src =
+    let g : Gathered = gathered src initial_style initial_style (forest_of src.nodes) (make nothing []) in
+    ap (λ (b : Built). nodes_in b.starts) (built-gathered src) ∙ run-nodes src initial_style true g.built g.run ∙ known-gathered src initial_style initial_style (forest_of src.nodes) (make nothing [])
+
+-- ---- note elements
+
+-- a note is an element that floats to the notes, and inline elements and blocks aren't
+abbrev pub IsFloat : Bool → Role → Type 0
+IsFloat f hidden = Unit {0}
+IsFloat f (text t) = Unit {0}
+IsFloat f (inline u) = f ≡ false
+IsFloat f (block u) = f ≡ false
+IsFloat f (note u) = f ≡ true
+
+pub role-floats : (src : Source) (n : ℕ) → IsFloat (is_note_element src n) (role_of src n)
+role-floats src n = by (text_at src.nodes n) (slice_get src.styles n)
+  where
+    has : (s : Style) (b : Bool) → IsFloat false (cond b (block s) (inline s))
+    has s true = refl
+    has s false = refl
+
+    shows : (f b : Bool) (o : Option Style) → IsFloat f (cond b (shown_role f (n == 0) o) hidden)
+    shows f false o = tt
+    shows f true None = tt
+    shows true true (Some s) = refl
+    shows false true (Some s) = has s (is_block (n == 0) s)
+
+    by : (t : Option (List ℕ)) (o : Option NodeStyles) → IsFloat (is_note_element src n) (role_by (is_note_element src n) (n == 0) o t)
+    by (Some t) o = tt
+    by None None = tt
+    by None (Some r) = shows (is_note_element src n) r.shown r.own
+
+noted_in : Source → List ℕ → List ℕ
+noted_in src ns = filter (is_note_element src) ns
+
+noted-append : (src : Source) (xs ys : List ℕ) → noted_in src (xs ++ ys) ≡ noted_in src xs ++ noted_in src ys
+unfolding noted_in
+noted-append src [] ys = refl
+noted-append src (x ∷ xs) ys = by (is_note_element src x) (noted-append src xs ys)
+  where
+    by : (b : Bool) → noted_in src (xs ++ ys) ≡ noted_in src xs ++ noted_in src ys → cond b (x ∷ noted_in src (xs ++ ys)) (noted_in src (xs ++ ys)) ≡ cond b (x ∷ noted_in src xs) (noted_in src xs) ++ noted_in src ys
+    by true e = ap (λ (l : List ℕ). x ∷ l) e
+    by false e = e
+
+noted-bodies : (src : Source) (f : Forest) → length (noted_in src (elements_in src f)) ≡ length (bodies_in src f)
+unfolding elements_in bodies_in noted_in
+noted-bodies src none = refl
+noted-bodies src (node n kids more) =
+    let here : List ℕ = node_elements n (role_of src n) (elements_in src kids) in
+    let a = ap (λ (l : List ℕ). length l) (noted-append src here (elements_in src more)) in
+    let b = length-append (noted_in src here) (noted_in src (elements_in src more)) in
+    let c = length-append (node_bodies src n (role_of src n) kids (bodies_in src kids)) (bodies_in src more) in
+    let d = by (role_of src n) (role-floats src n) (noted-bodies src kids) in
+    let e = noted-bodies src more in
+    omega (arith, a, b, c, d, e)
+  where
+    passes : (b : Bool) (xs : List ℕ) → b ≡ false → length (cond b (n ∷ xs) xs) ≡ length xs
+    passes true xs e = cc
+    passes false xs e = refl
+
+    takes : (b : Bool) → b ≡ true → length (cond b (n ∷ []) []) ≡ 1
+    takes true e = refl
+    takes false e = cc
+
+    by : (r : Role) → IsFloat (is_note_element src n) r → length (noted_in src (elements_in src kids)) ≡ length (bodies_in src kids) → length (noted_in src (node_elements n r (elements_in src kids))) ≡ length (node_bodies src n r kids (bodies_in src kids))
+    by hidden f k = refl
+    by (text t) f k = refl
+    by (inline u) f k = passes (is_note_element src n) (noted_in src (elements_in src kids)) f ∙ k
+    by (block u) f k = passes (is_note_element src n) (noted_in src (elements_in src kids)) f ∙ k
+    by (note u) f k = takes (is_note_element src n) f
+
+calls-noted : (src : Source) (starts : List Start) → length (calls_of src starts) ≡ length (noted_in src (nodes_in starts))
+unfolding noted_in
+calls-noted src [] = refl
+calls-noted src (a ∷ starts) = by (is_note_element src a.node.0) (calls-noted src starts)
+  where
+    by : (b : Bool) → length (calls_of src starts) ≡ length (noted_in src (nodes_in starts)) → length (map (λ (x : Start). x.at) (cond b (a ∷ filter (λ x. is_note_element src x.node.0) starts) (filter (λ x. is_note_element src x.node.0) starts))) ≡ length (cond b (a.node.0 ∷ noted_in src (nodes_in starts)) (noted_in src (nodes_in starts)))
+    by true e = ap suc e
+    by false e = e
+
+-- each call has its body
+pub calls-bodies : (src : Source) → length (calls_of src (built_of src).starts) ≡ length (bodies_of src)
+calls-bodies src = calls-noted src (built_of src).starts ∙ ap (λ (l : List ℕ). length (noted_in src l)) (main-elements src) ∙ noted-bodies src (forest_of src.nodes)

@@ -1,0 +1,371 @@
+//! The walks over a document: that over the main tree, which passes over notes, and those over the bodies of notes.
+
+ghost use Rattle.std.specs.Prelude.{
+  ◌≡◌,
+  ◌<◌,
+  ◌≤◌,
+  ◌+◌,
+  ◌++◌,
+  ◌∷◌,
+  List,
+  [],
+  None,
+  Some,
+  false,
+  true,
+  length,
+  map,
+  option_map,
+  IfErr,
+  IfOk,
+  OnOk,
+};
+ghost use Rattle.std.specs.Option.{ForSome};
+ghost use Rattle.bk_num.specs.Limits.{most_events, most_text_bytes};
+ghost use Rattle.bk_num.specs.declared.values.Pseudo.TheVariants as pseudo;
+ghost use Rattle.dom.specs.Walk.{node_of};
+ghost use Rattle.style.specs.Nodes.{NodeStyles, style_at};
+ghost use Rattle.box_gen.specs.Bodies as bodies;
+ghost use Rattle.box_gen.specs.Bodies.{CanInNote, CanNotes, after_both, note_begun, note_ended, noted, notes_after, outside};
+ghost use Rattle.box_gen.specs.Flow.{bodies_of, built_of, last_items, note_root};
+ghost use Rattle.box_gen.specs.Gather.{adds};
+ghost use Rattle.box_gen.specs.Sites.{IsWithin, built_in, leaf_bytes};
+ghost use Rattle.box_gen.specs.Sources.{IsInput, IsInRange, source_in};
+ghost use Rattle.box_gen.specs.Steps.{CanEnd, CanStep, walk_in};
+ghost use Rattle.box_gen.specs.Trees.{in_note};
+ghost use Rattle.box_gen.specs.Walk as walk;
+ghost use Rattle.box_gen.specs.Walk.{after_step};
+ghost use Rattle.box_gen.specs.Walkers.{AreShared, IsBody, IsSound, all_bytes, bodies_bytes, body_bytes_after, body_in, over_in, walks_in};
+
+use crate::builder::{Builder, innermost, leave_block, new_builder, new_site, pass};
+use crate::inline::BuildErr;
+use crate::input::{Input, Kind, kind_of, within_note};
+use crate::pieces::push_note_first;
+use crate::props::props_of;
+use crate::put::{Room, Site, has_room, start_at};
+use bk_num::ids::NodeId;
+use bk_num::limits::{MOST_EVENTS, MOST_TEXT_BYTES};
+use bk_num::name::NoMem;
+use dom::{Step, Walk};
+use std::alloc::Global;
+use style::style::Style;
+
+/// The walk over the main tree, that in the body of the note it passes over, and the bodies of the notes before it.
+#[derive(Drop)]
+pub(crate) struct Walker {
+    pub(crate) main: Builder,
+    pub(crate) body: Option<Builder>,
+    pub(crate) bodies: Vec<Site>,
+}
+
+/// What a tree leaves of its room.
+fn room_after(site: &Site) -> Room
+    requires { IsWithin site.now }
+    ensures bytes { result.bytes + site.now.bytes ≡ site.now.room.bytes }
+    ensures events { result.events + length site.now.tree.events ≡ site.now.room.events }
+{
+    Room {
+        bytes: site.room.bytes - site.bytes,
+        events: site.room.events - site.tree.count(),
+    }
+}
+
+/// The root of a note: the box of its element, which hangs no marker.
+fn note_site(alloc: Global, node: NodeId, style: &Style, room: Room) -> Result<Site, NoMem>
+    requires range { IsInRange style.now }
+    requires bytes { room.bytes ≤ most_text_bytes }
+    requires events { room.events ≤ most_events }
+    requires some { 0 < room.events }
+    ensures built { IfOk result (λ site. built_in site ≡ note_root node.0 style.now) }
+    ensures within { IfOk result (λ site. IsWithin site) }
+    ensures room { IfOk result (λ site. site.room ≡ room) }
+{
+    let mut site = new_site(alloc, room);
+    site.tree.add_box(props_of(style, node))?;
+    site.starts.push(start_at(node, 0, 0))?;
+    Ok(site)
+}
+
+/// The walk in a note begins.
+fn note_builder(
+    alloc: Global,
+    input: &Input,
+    node: NodeId,
+    style: &Style,
+    room: Room,
+) -> Result<Builder, NoMem>
+    requires node { node.0 < length input.now.dom.now }
+    requires own { style_at input.now.styles.now node.0 pseudo.Element ≡ Some style.now }
+    requires range { IsInRange style.now }
+    requires bytes { room.bytes ≤ most_text_bytes }
+    requires events { room.events ≤ most_events }
+    requires some { 0 < room.events }
+    ensures walk { IfOk result (λ b. walk_in input.now.styles.now b ≡ note_begun (source_in input.now) node.0 style.now) }
+    ensures within { IfOk result (λ b. IsWithin b.site) }
+    ensures room { IfOk result (λ b. b.site.room ≡ room) }
+{
+    let site = note_site(alloc, node, style, room)?;
+    let mut run = Vec::new(alloc);
+    push_note_first(alloc, input, node, style, &mut run)?;
+    let mut blocks = Vec::new(alloc);
+    blocks.push(node)?;
+    Ok(Builder {
+        site,
+        run,
+        blocks,
+        unshown: None,
+    })
+}
+
+/// Begins a note, where the main tree leaves room.
+fn begin_note(
+    alloc: Global,
+    input: &Input,
+    node: NodeId,
+    style: &Style,
+    main: &Site,
+) -> Result<Builder, BuildErr>
+    requires input { IsInput input.now }
+    requires node { node.0 < length input.now.dom.now }
+    requires own { style_at input.now.styles.now node.0 pseudo.Element ≡ Some style.now }
+    requires range { IsInRange style.now }
+    requires within { IsWithin main.now }
+    ensures walk { IfOk result (λ b. walk_in input.now.styles.now b ≡ note_begun (in_note (source_in input.now)) node.0 style.now) }
+    ensures within { IfOk result (λ b. IsWithin b.site) }
+    ensures bytes { IfOk result (λ b. b.site.room.bytes + main.now.bytes ≡ main.now.room.bytes) }
+    ensures events { IfOk result (λ b. b.site.room.events + length main.now.tree.events ≡ main.now.room.events) }
+    ensures cause { IfErr result (λ e. e ≡ BuildErr.NoMemory) }
+{
+    if !has_room(main) {
+        return Err(BuildErr::NoMemory);
+    }
+    let room = room_after(main);
+    match note_builder(alloc, &within_note(input), node, style, room) {
+        Ok(body) => Ok(body),
+        Err(_) => Err(BuildErr::NoMemory),
+    }
+}
+
+/// A step outside notes, and the body of the note that it begins.
+fn pass_outside(
+    alloc: Global,
+    input: &Input,
+    step: Step,
+    main: &mut Builder,
+) -> Result<Option<Builder>, BuildErr>
+    requires input { IsInput input.now }
+    requires node { node_of step < length input.now.dom.now }
+    requires within { IsWithin main.old.site }
+    requires can { CanStep (source_in input.now) (walk_in input.now.styles.now main.old) step }
+    ensures walk { OnOk result (walk_in input.now.styles.now main.new ≡
+        after_step (source_in input.now) (walk_in input.now.styles.now main.old) step) }
+    ensures body { IfOk result (λ b. body_in input.now.styles.now b ≡ outside (source_in input.now) (over_in main.old) step) }
+    ensures within { OnOk result (IsWithin main.new.site) }
+    ensures room { OnOk result (main.new.site.room ≡ main.old.site.room) }
+    ensures sound { IfOk result (λ b. ForSome b (IsBody main.new)) }
+    ensures cause { IfErr result (λ e. e ≡ BuildErr.Text → main.old.site.room.bytes <
+        leaf_bytes (after_step (source_in input.now) (walk_in input.now.styles.now main.old) step).gathered.built.tree.leaves) }
+{
+    let over = main.unshown;
+    pass(alloc, input, step, main)?;
+    match (step, over) {
+        (Step::Enter(node), None) => match kind_of(input, node) {
+            Kind::Note(style) => Ok(Some(begin_note(alloc, input, node, style, &main.site)?)),
+            _ => Ok(None),
+        },
+        _ => Ok(None),
+    }
+}
+
+/// Whether a step leads out of the element that is passed over.
+fn is_end(step: Step, over: Option<NodeId>) -> bool
+    ensures { result ≡ bodies.is_end (option_map (λ n. n.0) over) step }
+{
+    match (step, over) {
+        (Step::Leave(node), Some(passed)) => passed == node,
+        _ => false,
+    }
+}
+
+/// Ends a note: its last run is put, and its root closed.
+fn end_note(alloc: Global, input: &Input, node: NodeId, body: Builder) -> Result<Site, BuildErr>
+    requires input { IsInput input.now }
+    requires within { IsWithin body.site }
+    requires can { CanEnd (in_note (source_in input.now)) (walk.innermost (walk_in input.now.styles.now body).blocks) (adds (last_items
+        (in_note (source_in input.now)) node.0) (walk_in input.now.styles.now body).gathered) }
+    ensures built { IfOk result (λ site. built_in site ≡
+        note_ended (in_note (source_in input.now)) node.0 (walk_in input.now.styles.now body)) }
+    ensures within { IfOk result (λ site. IsWithin site) }
+    ensures room { IfOk result (λ site. site.room ≡ body.site.room) }
+    ensures cause { IfErr result (λ e. e ≡ BuildErr.Text → body.site.room.bytes <
+        leaf_bytes (note_ended (in_note (source_in input.now)) node.0 (walk_in input.now.styles.now body)).tree.leaves) }
+{
+    let mut body = body;
+    let style = innermost(input, &body.blocks);
+    leave_block(alloc, input, node, style, &mut body)?;
+    Ok(body.site)
+}
+
+/// Keeps the body of a note that has ended: the main tree's room is less by it.
+fn keep_body(site: Site, main: &mut Builder, bodies: &mut Vec<Site>) -> Result<(), NoMem>
+    requires shared { AreShared main.old.site bodies.old.items }
+    requires within { IsWithin site }
+    requires bytes { site.room.bytes + main.old.site.bytes ≡ main.old.site.room.bytes }
+    requires events { site.room.events + length main.old.site.tree.events ≡ main.old.site.room.events }
+    ensures shared { OnOk result (AreShared main.new.site bodies.new.items) }
+    ensures bodies { OnOk result (bodies.new.items ≡ bodies.old.items ++ site ∷ []) }
+    ensures built { OnOk result (built_in main.new.site ≡ built_in main.old.site) }
+    ensures run { OnOk result (main.new.run ≡ main.old.run) }
+    ensures blocks { OnOk result (main.new.blocks ≡ main.old.blocks) }
+    ensures unshown { OnOk result (main.new.unshown ≡ None) }
+{
+    main.unshown = None;
+    main.site.room.bytes -= site.bytes;
+    main.site.room.events -= site.tree.count();
+    bodies.push(site)?;
+    Ok(())
+}
+
+/// The node of a step.
+fn node_in(step: Step) -> NodeId
+    ensures { result.0 ≡ node_of step }
+{
+    match step {
+        Step::Enter(node) | Step::Leave(node) => node,
+    }
+}
+
+/// The step out of a note: its body is kept, and the walk over the main tree goes on.
+fn end_inside(
+    alloc: Global,
+    input: &Input,
+    step: Step,
+    body: Builder,
+    main: &mut Builder,
+    bodies: &mut Vec<Site>,
+) -> Result<(), BuildErr>
+    requires input { IsInput input.now }
+    requires shared { AreShared main.old.site bodies.old.items }
+    requires body { IsBody main.old body }
+    requires can { CanInNote (in_note (source_in input.now)) (walk_in input.now.styles.now body) step true }
+    ensures main { OnOk result (walk_in input.now.styles.now main.new ≡
+        walk.walk (walk_in input.now.styles.now main.old).gathered (walk_in input.now.styles.now main.old).blocks None) }
+    ensures bodies { OnOk result (map built_in bodies.new.items ≡ map built_in bodies.old.items ++
+        note_ended (in_note (source_in input.now)) (node_of step) (walk_in input.now.styles.now body) ∷ []) }
+    ensures shared { OnOk result (AreShared main.new.site bodies.new.items) }
+    ensures cause { IfErr result (λ e. e ≡ BuildErr.Text → body.site.room.bytes <
+        leaf_bytes (note_ended (in_note (source_in input.now)) (node_of step) (walk_in input.now.styles.now body)).tree.leaves) }
+{
+    let site = end_note(alloc, input, node_in(step), body)?;
+    let Ok(()) = keep_body(site, main, bodies) else {
+        return Err(BuildErr::NoMemory);
+    };
+    Ok(())
+}
+
+/// A step in a note that doesn't end it.
+fn pass_body(alloc: Global, input: &Input, step: Step, body: &mut Builder) -> Result<(), BuildErr>
+    requires input { IsInput input.now }
+    requires node { node_of step < length input.now.dom.now }
+    requires within { IsWithin body.old.site }
+    requires can { CanInNote (in_note (source_in input.now)) (walk_in input.now.styles.now body.old) step false }
+    ensures walk { OnOk result (walk_in input.now.styles.now body.new ≡
+        after_step (in_note (source_in input.now)) (walk_in input.now.styles.now body.old) step) }
+    ensures within { OnOk result (IsWithin body.new.site) }
+    ensures room { OnOk result (body.new.site.room ≡ body.old.site.room) }
+    ensures cause { IfErr result (λ e. e ≡ BuildErr.Text → body.old.site.room.bytes <
+        leaf_bytes (after_step (in_note (source_in input.now)) (walk_in input.now.styles.now body.old) step).gathered.built.tree.leaves) }
+{
+    pass(alloc, &within_note(input), step, body)
+}
+
+/// A step in a note, and its body as long as it lasts.
+fn pass_inside(
+    alloc: Global,
+    input: &Input,
+    step: Step,
+    body: Builder,
+    main: &mut Builder,
+    bodies: &mut Vec<Site>,
+) -> Result<Option<Builder>, BuildErr>
+    requires input { IsInput input.now }
+    requires node { node_of step < length input.now.dom.now }
+    requires shared { AreShared main.old.site bodies.old.items }
+    requires body { IsBody main.old body }
+    requires can { CanNotes (source_in input.now) (over_in main.old) (Some (walk_in input.now.styles.now body)) step }
+    ensures main { OnOk result (walk_in input.now.styles.now main.new ≡
+        after_step (source_in input.now) (walk_in input.now.styles.now main.old) step) }
+    ensures notes { IfOk result (λ b. noted (body_in input.now.styles.now b) (map built_in bodies.new.items) ≡
+        notes_after (source_in input.now) (over_in main.old) (Some (walk_in input.now.styles.now body)) (map built_in bodies.old.items)
+        step) }
+    ensures shared { OnOk result (AreShared main.new.site bodies.new.items) }
+    ensures sound { IfOk result (λ b. ForSome b (IsBody main.new)) }
+    ensures cause { IfErr result (λ e. e ≡ BuildErr.Text → body.site.room.bytes <
+        body_bytes_after (source_in input.now) (over_in main.old) (walk_in input.now.styles.now body) step) }
+{
+    if is_end(step, main.unshown) {
+        end_inside(alloc, input, step, body, main, bodies)?;
+        return Ok(None);
+    }
+    let mut body = body;
+    pass_body(alloc, input, step, &mut body)?;
+    Ok(Some(body))
+}
+
+/// A step of the walks over a document.
+fn pass_all(alloc: Global, input: &Input, step: Step, walker: &mut Walker) -> Result<(), BuildErr>
+    requires input { IsInput input.now }
+    requires node { node_of step < length input.now.dom.now }
+    requires sound { IsSound walker.old }
+    requires can { CanStep (source_in input.now) (walk_in input.now.styles.now walker.old.main) step }
+    requires notes { CanNotes (source_in input.now) (over_in walker.old.main) (body_in input.now.styles.now walker.old.body) step }
+    ensures walks { OnOk result (walks_in input.now.styles.now walker.new ≡
+        after_both (source_in input.now) (walks_in input.now.styles.now walker.old) step) }
+    ensures sound { OnOk result (IsSound walker.new) }
+    ensures cause { IfErr result (λ e. e ≡ BuildErr.Text → most_text_bytes <
+        all_bytes (after_both (source_in input.now) (walks_in input.now.styles.now walker.old) step)) }
+{
+    let Walker { main, body, bodies } = walker;
+    match body.take() {
+        None => *body = pass_outside(alloc, input, step, main)?,
+        Some(inside) => *body = pass_inside(alloc, input, step, inside, main, bodies)?,
+    }
+    Ok(())
+}
+
+/// The walks before the first step.
+fn new_walker(alloc: Global) -> Walker
+    ensures walks { (styles : List NodeStyles) → walks_in styles result ≡ bodies.walks_start }
+    ensures sound { IsSound result }
+{
+    let room = Room {
+        bytes: MOST_TEXT_BYTES as u32,
+        events: MOST_EVENTS,
+    };
+    Walker {
+        main: new_builder(alloc, room),
+        body: None,
+        bodies: Vec::new(alloc),
+    }
+}
+
+/// The whole walk.
+pub(crate) fn walk_through(alloc: Global, input: &Input) -> Result<Walker, BuildErr>
+    requires input { IsInput input.now }
+    ensures main { IfOk result (λ w. built_of (source_in input.now) ≡ built_in w.main.site) }
+    ensures bodies { IfOk result (λ w. map built_in w.bodies.items ≡ bodies_of (source_in input.now)) }
+    ensures shared { IfOk result (λ w. AreShared w.main.site w.bodies.items) }
+    ensures cause { IfErr result (λ e. e ≡ BuildErr.Text → most_text_bytes <
+        leaf_bytes (built_of (source_in input.now)).tree.leaves + bodies_bytes (bodies_of (source_in input.now))) }
+{
+    prove!(input.dom.len() > 0);
+    let mut walker = new_walker(alloc);
+    let mut steps = Walk::new(input.dom);
+    while let Some(step) = steps.next() {
+        match pass_all(alloc, input, step, &mut walker) {
+            Ok(()) => {}
+            Err(e) => return Err(e),
+        }
+    }
+    Ok(walker)
+}

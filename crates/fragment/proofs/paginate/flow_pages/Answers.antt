@@ -1,0 +1,139 @@
+use Rattle.std.proofs.Common.{◌≡◌, ◌+◌, true, false, List, All, None, [], ◌∷◌, ◌++◌, length, length-append, refl, sym, ap, ◌∙◌, subst, arith}
+use Rattle.std.proofs.lemmas.Grind.{common_steps}
+use Rattle.boxes.specs.declared.flow.Flow.{Flow}
+use Rattle.boxes.specs.declared.frames.PageKind.TheVariants as kind
+use Rattle.boxes.specs.declared.page.Page.{Page}
+use Rattle.seams.specs.declared.seam_info.SeamInfo.{SeamInfo}
+use Rattle.page_list.specs.declared.cut.Cut.{Cut}
+use Rattle.note_list.specs.Conditions.{AreCarried}
+use Rattle.note_list.specs.declared.carried.Carried.{Carried}
+use Rattle.boxes.specs.declared.place.Position.{Position}
+use Rattle.page_list.specs.Cuts.{IsFlowCut, place_after}
+use Rattle.page_list.specs.Pages.{PageFrames, State, AreNear, HaveNearTops, IsStep, name_at, flow_page, after_flow, is_forced, start_of}
+use Rattle.page_list.specs.Pages.IsStep.{flows}
+use Rattle.note_list.specs.Calls.{start_place}
+use Rattle.fragment.specs.Runs.{Leads}
+use Rattle.std.proofs.lemmas.List.Elements.{All-nil}
+use Rattle.fragment.proofs.RunLemmas.{leaves_some, not_done, state_at, run_step, run_added, adds_size, adds_grow, page_is, forced_some, frame_cut, none_carried, start_holds, next_state, ended_at}
+use Rattle.fragment.proofs.NearLemmas.{near_more, near_added}
+use Rattle.fragment.proofs.paginate.flow_pages.Given as given
+use Rattle.fragment.proofs.paginate.flow_pages.Goals.{After-page_of-page}
+use Rattle.fragment.proofs.paginate.flow_pages.Goals as goal
+
+pub loop-turn-init : goal.loop-turn-init
+loop-turn-init g c = rw c.new-pages.ensures.items (rw c.new-carried.ensures (record {
+  holds = start_holds c.args.flow.now.main;
+  count = refl;
+  turns = omega arith;
+  few = omega arith;
+  carries = none_carried c.args.flow.now start_place;
+  run = (name_at c.args.flow.now.main start_place, ap (λ (i : SeamInfo). record (start_of c.args.flow.now.main) { demand = i.forced }) (sym c.seam-demand.ensures.value));
+  near = All-nil (λ (q : Page). AreNear q.solids q.notes);
+}))
+
+pub returns-in-Err-clause-many : goal.returns-in-Err-clause-many
+returns-in-Err-clause-many g c e =
+    let f : Flow = c.args.flow.now in
+    let frames : PageFrames = (record { meets = g.Fr.Frames.meets c.args.frames.now; frame_of = g.Fr.Frames.frame_of c.args.frames.now }) in
+    let added = c.in-Err.ensures.many e in
+    let run = c.loop-turn.invariant.run in
+    let size = adds_size frames c.seam.result.name c.loop-turn.demand c.loop-turn.index 100001 c.loop-turn.pages.items c.add_blanks.new.pages.items added c.loop-turn.invariant.count in
+    leaves_some c.args.faces.now f frames (state_at c.loop-turn.from.at c.loop-turn.from.kept 100001 c.loop-turn.demand c.loop-turn.carried run.0) c.add_blanks.new.pages.items 100000 (not_done (state_at c.loop-turn.from.at c.loop-turn.from.kept 100001 c.loop-turn.demand c.loop-turn.carried run.0) refl) (omega arith)
+    (run_added c.args.faces.now f frames c.loop-turn.from.at c.loop-turn.from.kept c.loop-turn.demand c.loop-turn.carried run.0 c.loop-turn.index 100001 c.seam.result.name c.loop-turn.pages.items c.add_blanks.new.pages.items (ap (λ (i : SeamInfo). i.name) c.seam.ensures.value) added run.1)
+
+-- the state of the page that a turn makes
+abbrev here : (g : given.Over) (c : After-page_of-page g) → State
+here g c = state_at c.loop-turn.from.at c.loop-turn.from.kept c.in-Ok.to c.loop-turn.demand c.loop-turn.carried c.loop-turn.invariant.run.0
+
+leads : (g : given.Over) (c : After-page_of-page g) → Leads c.args.faces.now c.args.flow.now (record { meets = g.Fr.Frames.meets c.args.frames.now; frame_of = g.Fr.Frames.frame_of c.args.frames.now }) (here g c) c.add_blanks.new.pages.items
+leads g c = run_added c.args.faces.now c.args.flow.now (record { meets = g.Fr.Frames.meets c.args.frames.now; frame_of = g.Fr.Frames.frame_of c.args.frames.now }) c.loop-turn.from.at c.loop-turn.from.kept c.loop-turn.demand c.loop-turn.carried c.loop-turn.invariant.run.0 c.loop-turn.index c.in-Ok.to c.seam.result.name c.loop-turn.pages.items c.add_blanks.new.pages.items
+    (ap (λ (i : SeamInfo). i.name) c.seam.ensures.value) c.in-Ok.ensures.blanks c.loop-turn.invariant.run.1
+
+nears : (g : given.Over) (c : After-page_of-page g) → HaveNearTops c.add_blanks.new.pages.items
+nears g c = near_added (record { meets = g.Fr.Frames.meets c.args.frames.now; frame_of = g.Fr.Frames.frame_of c.args.frames.now }) c.seam.result.name c.loop-turn.demand c.loop-turn.index c.in-Ok.to c.loop-turn.pages.items c.add_blanks.new.pages.items c.in-Ok.ensures.blanks c.loop-turn.invariant.near
+
+same_page : (g : given.Over) (c : After-page_of-page g) → (c.frame-frame.result ≡ g.Fr.Frames.frame_of c.args.frames.now c.in-Ok.to (name_at c.args.flow.now.main c.loop-turn.from.at) kind.Flow) × (c.page_of-page.result.0 ≡ flow_page (record { meets = g.Fr.Frames.meets c.args.frames.now; frame_of = g.Fr.Frames.frame_of c.args.frames.now }) c.args.flow.now.main (here g c) c.in-Ok-next_cut.cut)
+same_page g c =
+    let same = page_is c.args.faces.now c.args.flow.now (record { meets = g.Fr.Frames.meets c.args.frames.now; frame_of = g.Fr.Frames.frame_of c.args.frames.now }) c.loop-turn.from.at c.loop-turn.from.kept c.loop-turn.demand c.loop-turn.carried c.loop-turn.invariant.run.0 c.in-Ok.to c.in-Ok-next_cut.cut c.seam.result.name c.frame-frame.result (ap (λ (i : SeamInfo). i.name) c.seam.ensures.value) c.frame-frame.ensures.frame in
+    (same.0, c.page_of-page.ensures.page ∙ same.1)
+
+carried_cut : (g : given.Over) (c : After-page_of-page g) → IsFlowCut c.args.faces.now c.args.flow.now c.frame-frame.result c.loop-turn.from c.loop-turn.carried c.in-Ok-next_cut.cut
+carried_cut g c = subst (λ (cs : List Carried). IsFlowCut c.args.faces.now c.args.flow.now c.frame-frame.result c.loop-turn.from cs c.in-Ok-next_cut.cut) c.as_slice.ensures c.in-Ok-next_cut.ensures.cut
+
+step : (g : given.Over) (c : After-page_of-page g) → IsStep c.args.faces.now c.args.flow.now (record { meets = g.Fr.Frames.meets c.args.frames.now; frame_of = g.Fr.Frames.frame_of c.args.frames.now }) (here g c) (flow_page (record { meets = g.Fr.Frames.meets c.args.frames.now; frame_of = g.Fr.Frames.frame_of c.args.frames.now }) c.args.flow.now.main (here g c) c.in-Ok-next_cut.cut) (after_flow c.args.flow.now.main (here g c) c.in-Ok-next_cut.cut)
+step g c = flows refl c.in-Ok.ensures.meets c.in-Ok-next_cut.cut
+    (frame_cut c.args.faces.now c.args.flow.now c.loop-turn.from c.loop-turn.carried c.in-Ok-next_cut.cut c.frame-frame.result (g.Fr.Frames.frame_of c.args.frames.now c.in-Ok.to (name_at c.args.flow.now.main c.loop-turn.from.at) kind.Flow) (same_page g c).0 (carried_cut g c)) refl refl
+
+-- the pages with the last one
+more : (g : given.Over) (c : After-page_of-page g) (now : List Page) → now ≡ c.add_blanks.new.pages.items ++ c.page_of-page.result.0 ∷ [] → Leads c.args.faces.now c.args.flow.now (record { meets = g.Fr.Frames.meets c.args.frames.now; frame_of = g.Fr.Frames.frame_of c.args.frames.now }) (after_flow c.args.flow.now.main (here g c) c.in-Ok-next_cut.cut) now
+more g c now is =
+    let all : now ≡ c.add_blanks.new.pages.items ++ flow_page (record { meets = g.Fr.Frames.meets c.args.frames.now; frame_of = g.Fr.Frames.frame_of c.args.frames.now }) c.args.flow.now.main (here g c) c.in-Ok-next_cut.cut ∷ [] = is ∙ ap (λ (q : Page). c.add_blanks.new.pages.items ++ q ∷ []) (same_page g c).1 in
+    subst (Leads c.args.faces.now c.args.flow.now (record { meets = g.Fr.Frames.meets c.args.frames.now; frame_of = g.Fr.Frames.frame_of c.args.frames.now }) (after_flow c.args.flow.now.main (here g c) c.in-Ok-next_cut.cut)) (sym all)
+    (run_step c.args.faces.now c.args.flow.now (record { meets = g.Fr.Frames.meets c.args.frames.now; frame_of = g.Fr.Frames.frame_of c.args.frames.now }) (here g c) (after_flow c.args.flow.now.main (here g c) c.in-Ok-next_cut.cut) (flow_page (record { meets = g.Fr.Frames.meets c.args.frames.now; frame_of = g.Fr.Frames.frame_of c.args.frames.now }) c.args.flow.now.main (here g c) c.in-Ok-next_cut.cut) c.add_blanks.new.pages.items (step g c) (leads g c))
+
+near : (g : given.Over) (c : After-page_of-page g) (now : List Page) → now ≡ c.add_blanks.new.pages.items ++ c.page_of-page.result.0 ∷ [] → HaveNearTops now
+near g c now is = subst HaveNearTops (sym is) (near_more c.add_blanks.new.pages.items c.page_of-page.result.0 (nears g c) (subst (λ (q : Page). AreNear q.solids q.notes) (sym c.page_of-page.ensures.page) c.in-Ok-next_cut.ensures.near))
+
+pub returns-then-ended-clause-pages : goal.returns-then-ended-clause-pages
+returns-then-ended-clause-pages g c =
+    let p = (goal.at.returns-then-ended-clause-pages g c).After-page_of-page in
+    let cut : Cut = c.in-Ok-next_cut.cut in
+    let now : c.push.new.self.items ≡ c.add_blanks.new.pages.items ++ c.page_of-page.result.0 ∷ [] = grind (arith, common_steps) in
+    let size : length c.push.new.self.items ≡ length c.add_blanks.new.pages.items + 1 = ap length now ∙ length-append c.add_blanks.new.pages.items (c.page_of-page.result.0 ∷ []) in
+    let count = c.in-Ok.ensures.count in
+    let most = c.in-Ok.ensures.few in
+    let at : cut.to ≡ place_after c.args.flow.now.main None = ended_at c.args.faces.now c.args.flow.now c.frame-frame.result c.loop-turn.from c.loop-turn.carried cut (carried_cut g p) c.if-ended.true in
+    let left : c.page_of-page.result.1 ≡ cut.carried = c.page_of-page.ensures.carried in
+    record {
+      state = after_flow c.args.flow.now.main (here g p) cut;
+      leads = more g p c.push.new.self.items now;
+      done = c.if-ended.true;
+      index = omega arith;
+      few = omega arith;
+      name = sym (ap (λ (i : SeamInfo). i.name) c.seam.ensures.value);
+      carried_is = sym left;
+      carried = rw left (subst (λ (q : Position). AreCarried c.args.flow.now q cut.carried) at c.in-Ok-next_cut.ensures.carried);
+      stands = rw left c.in-Ok-next_cut.ensures.stands;
+    }
+
+pub returns-then-ended-clause-tops : goal.returns-then-ended-clause-tops
+returns-then-ended-clause-tops g c =
+    let now : c.push.new.self.items ≡ c.add_blanks.new.pages.items ++ c.page_of-page.result.0 ∷ [] = grind (arith, common_steps) in
+    near g (goal.at.returns-then-ended-clause-tops g c).After-page_of-page c.push.new.self.items now
+
+pub loop-turn-preserved : goal.loop-turn-preserved
+loop-turn-preserved g c =
+    let p = (goal.at.loop-turn-preserved g c).After-page_of-page in
+    let cut : Cut = c.in-Ok-next_cut.cut in
+    let now : c.push.new.self.items ≡ c.add_blanks.new.pages.items ++ c.page_of-page.result.0 ∷ [] = grind (arith, common_steps) in
+    let size : length c.push.new.self.items ≡ length c.add_blanks.new.pages.items + 1 = ap length now ∙ length-append c.add_blanks.new.pages.items (c.page_of-page.result.0 ∷ []) in
+    let count = c.in-Ok.ensures.count in
+    let most = c.in-Ok.ensures.few in
+    let old = c.loop-turn.invariant.turns in
+    let grows = adds_grow (record { meets = g.Fr.Frames.meets c.args.frames.now; frame_of = g.Fr.Frames.frame_of c.args.frames.now }) c.seam.result.name c.loop-turn.demand c.loop-turn.index c.in-Ok.to c.loop-turn.pages.items c.add_blanks.new.pages.items c.in-Ok.ensures.blanks in
+    let left : c.page_of-page.result.1 ≡ cut.carried = c.page_of-page.ensures.carried in
+    let kept : is_forced cut.forced ≡ c.is_some.result = forced_some cut.forced ∙ sym c.is_some.ensures in
+    record {
+      holds = c.in-Ok-next_cut.ensures.holds;
+      count = omega arith;
+      turns = omega arith;
+      few = omega arith;
+      carries = rw left c.in-Ok-next_cut.ensures.carried;
+      run = (
+        name_at c.args.flow.now.main c.loop-turn.from.at,
+        subst (λ (s : State). Leads c.args.faces.now c.args.flow.now (record { meets = g.Fr.Frames.meets c.args.frames.now; frame_of = g.Fr.Frames.frame_of c.args.frames.now }) s c.push.new.self.items)
+            (next_state c.args.flow.now.main (here g p) cut c.is_some.result c.page_of-page.result.1 (c.in-Ok.to + 1) c.if-ended.false kept left (omega arith))
+            (more g p c.push.new.self.items now),
+      );
+      near = near g p c.push.new.self.items now;
+    }
+
+pub returns-clause-many : goal.returns-clause-many
+returns-clause-many g c = λ e.
+    let frames : PageFrames = (record { meets = g.Fr.Frames.meets c.args.frames.now; frame_of = g.Fr.Frames.frame_of c.args.frames.now }) in
+    let last = c.loop-turn-test.false in
+    let turns = c.loop-turn.invariant.turns in
+    let few = c.loop-turn.invariant.few in
+    let run = c.loop-turn.invariant.run in
+    let at : State = state_at c.loop-turn.from.at c.loop-turn.from.kept c.loop-turn.index c.loop-turn.demand c.loop-turn.carried run.0 in
+    leaves_some c.args.faces.now c.args.flow.now frames at c.loop-turn.pages.items 100000 (not_done at refl) (omega arith) run.1

@@ -1,0 +1,19 @@
+use Rattle.std.proofs.Common.{◌≡◌, ◌+◌, ◌≤◌, length}
+use Rattle.boxes.specs.Tree.{Holds}
+use Rattle.bk_num.specs.declared.ids.NameId.{NameId}
+use Rattle.note_list.specs.Conditions.{AreCarried}
+use Rattle.page_list.specs.Pages.{HaveNearTops}
+use Rattle.fragment.specs.Runs.{Leads}
+use Rattle.fragment.proofs.RunLemmas.{state_at}
+use Rattle.fragment.proofs.paginate.flow_pages.Given as goal
+
+abbrev pub invariant-loop-turn : goal.invariant-loop-turn
+invariant-loop-turn g l = record {
+  holds : Holds l.flow.main l.from.at;
+  count : length l.pages.items + 1 ≡ l.index;
+  turns : l.turn ≤ length l.pages.items;
+  few : length l.pages.items ≤ 100000;
+  carries : AreCarried l.flow l.from.at l.carried;
+  run : (name : NameId) × Leads l.faces l.flow (record { meets = g.Fr.Frames.meets l.frames; frame_of = g.Fr.Frames.frame_of l.frames }) (state_at l.from.at l.from.kept l.index l.demand l.carried name) l.pages.items;
+  near : HaveNearTops l.pages.items;
+}

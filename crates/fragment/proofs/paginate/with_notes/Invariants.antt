@@ -1,0 +1,16 @@
+use Rattle.std.proofs.Common.{◌≡◌, ◌+◌, ◌≤◌, true, None, All, length}
+use Rattle.note_list.specs.Conditions.{AreCarried, IsAtSolid}
+use Rattle.page_list.specs.Cuts.{place_after}
+use Rattle.page_list.specs.Pages.{HaveNearTops, State}
+use Rattle.fragment.specs.Runs.{Leads}
+use Rattle.fragment.proofs.paginate.with_notes.Given as goal
+
+abbrev pub invariant-loop-turn : goal.invariant-loop-turn
+invariant-loop-turn g l = record {
+  turns : l.turn ≤ length l.pages.items;
+  few : length l.pages.items ≤ 100000;
+  carries : AreCarried l.flow (place_after l.flow.main None) l.carried;
+  stands : All (IsAtSolid l.flow.notes) l.carried;
+  run : (s : State) × Leads l.faces l.flow (record { meets = g.Fr.Frames.meets l.frames; frame_of = g.Fr.Frames.frame_of l.frames }) s l.pages.items × (s.done ≡ true) × (length l.pages.items + 1 ≡ s.index) × (s.name ≡ l.name) × (s.carried ≡ l.carried);
+  near : HaveNearTops l.pages.items;
+}

@@ -1,0 +1,7 @@
+use Rattle.std.proofs.Common.{refl, rules}
+use Rattle.listing.proofs.Passing.{same_gives}
+use Rattle.listing.proofs.RecordLemmas.{hyphen-is}
+use Rattle.listing.proofs.records.add_hyphen.Goals as goal
+
+pub returns-clause-bytes : goal.returns-clause-bytes
+returns-clause-bytes g c = same_gives _ _ _ _ _ _ c.add_record.result c.add_record.ensures.bytes (hyphen-is c.args.faces.now c.args.style.now c.label_of.result _ _ _ _ c.label_of.ensures (search rules) (search rules) (search rules) refl)

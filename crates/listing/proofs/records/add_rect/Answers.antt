@@ -1,0 +1,7 @@
+use Rattle.std.proofs.Common.{rules}
+use Rattle.listing.proofs.Passing.{same_gives}
+use Rattle.listing.proofs.RecordLemmas.{rect-is}
+use Rattle.listing.proofs.records.add_rect.Goals as goal
+
+pub returns-clause-bytes : goal.returns-clause-bytes
+returns-clause-bytes g c = same_gives _ _ _ _ _ _ c.add_record.result c.add_record.ensures.bytes (rect-is c.args.area.now c.args.color _ _ _ _ (search rules) (search rules) (search rules) (search rules))

@@ -1,0 +1,10 @@
+pub mod BeginLemmas
+pub mod BodyLemmas
+pub mod CallLemmas
+pub mod LeftLemmas
+pub mod NotedLemmas
+pub mod PartLemmas
+pub mod PlaceLemmas
+pub mod ReadLemmas
+pub mod RowLemmas
+pub mod SizeLemmas

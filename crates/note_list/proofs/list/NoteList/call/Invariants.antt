@@ -1,0 +1,15 @@
+use Rattle.std.proofs.Common.{◌≡◌, ◌≤◌, max}
+use Rattle.note_list.specs.Lists.{called_parts}
+use Rattle.note_list.specs.Reads.{EndInNotes, IsReady}
+use Rattle.note_list.proofs.BodyLemmas.{Calls}
+use Rattle.note_list.proofs.list.NoteList.call.Given as goal
+
+abbrev pub invariant-loop-note : goal.invariant-loop-note
+invariant-loop-note g l = record {
+  ready : IsReady l.self;
+  ends : EndInNotes l.flow.notes l.self;
+  own : l.self.own ≡ l.fn.self.own;
+  low : l.fn.from ≤ l.note;
+  high : l.note ≤ max l.fn.from l.fn.to;
+  calls : Calls l.faces l.flow.notes l.fn.frame.width l.fn.frame.height (called_parts l.fn.from l.note) l.fn.self l.self;
+}

@@ -1,0 +1,6 @@
+pub mod Calls
+pub mod Conditions
+pub mod Left
+pub mod Lists
+pub mod Places
+pub mod Reads

@@ -1,0 +1,11 @@
+//! The notes of a page: which are called on it, and the solids of those and of the carried ones.
+#![tactic(auto)]
+
+pub mod calls;
+pub mod carried;
+mod left;
+pub mod list;
+mod place;
+mod reach;
+mod read;
+pub mod solid;

@@ -1,0 +1,136 @@
+//! The list of a page's notes, read as far as the page can use it.
+
+ghost use Rattle.std.specs.Prelude.{◌≡◌, ℤ, List, ◌≤◌, ◌++◌, All, length, IfOk, OnOk};
+ghost use Rattle.boxes.specs.Frames.{IsGoodFrame};
+ghost use Rattle.cuts.specs.Areas.{IsArea, Tells};
+ghost use Rattle.note_list.specs.Conditions.{CanBePaged, IsHeld};
+ghost use Rattle.note_list.specs.Lists.{AreNoted, called_parts, rows_of};
+ghost use Rattle.note_list.specs.Reads.{EndInNotes, IsCarriedList, IsReadOf, IsReady};
+ghost use Rattle.note_list.specs.declared.solid.NotedSolid.{NotedSolid};
+ghost use Rattle.notes.specs.Notes.{area_of, must_of};
+
+use crate::carried::{Carried, whole};
+use crate::reach::Reach;
+use crate::solid::NotedSolid;
+use bk_num::items::Items;
+use bk_num::name::NoMem;
+use bk_num::steps::Steps;
+use boxes::flow::Flow;
+use boxes::frames::Frame;
+use boxes::page::PlacedNote;
+use metrics::Faces;
+use std::alloc::Global;
+use std::sync::ledger::Ledger;
+
+/// The solids of a page's notes, in order, read up to the first one with which their area is above the frame's height,
+/// and how far these reach. `own` carried solids have to stand on the page and take `own_area`, and `needed` is the area
+/// of the solids read that have to; `begun` tells whether a called note begins after those. Lengths are in units of
+/// 1/64 px.
+#[derive(Drop)]
+pub struct NoteList {
+    pub(crate) solids: Vec<NotedSolid>,
+    pub(crate) reach: Reach,
+    pub(crate) over: bool,
+    pub(crate) begun: bool,
+    pub(crate) own: usize,
+    pub(crate) own_area: i64,
+    pub(crate) needed: i64,
+}
+
+/// What a page places of its list of notes, and what is carried on.
+#[derive(Drop)]
+pub struct PlacedList {
+    pub notes: Items<PlacedNote>,
+    pub left: Items<Carried>,
+}
+
+/// How a page is cut, as far as its notes are concerned: its level, the number of the first note that is called after its
+/// cut, its frame's height, and the room for the note area, in units of 1/64 px.
+#[derive(Clone, Copy, Debug)]
+pub struct NoteRoom {
+    pub level: u8,
+    pub to: u32,
+    pub height: i64,
+    pub room: i64,
+}
+
+impl NoteList {
+    /// The list of the notes that are carried to a page of a frame.
+    pub fn carried<L: Ledger>(
+        alloc: Global,
+        flow: &Flow,
+        faces: &Faces,
+        carried: &[Carried],
+        frame: Frame,
+        steps: &mut Steps<L>,
+    ) -> Result<NoteList, NoMem>
+        requires flow { CanBePaged faces.now flow.now }
+        requires frame { IsGoodFrame frame }
+        requires carried { All (IsHeld flow.now.notes) carried.now }
+        ensures ready { IfOk result IsReady }
+        ensures ends { IfOk result (EndInNotes flow.now.notes) }
+        ensures list { IfOk result (λ l. IsCarriedList faces.now flow.now.notes frame carried.now l) }
+    {
+        let mut list = NoteList::new(alloc);
+        for part in carried {
+            list.read(flow, faces, *part, false, frame, steps)?;
+        }
+        list.hold(alloc, frame.height)?;
+        Ok(list)
+    }
+
+    /// Adds the notes from a number up to another, which are called on the page.
+    pub fn call<L: Ledger>(
+        &mut self,
+        flow: &Flow,
+        faces: &Faces,
+        from: u32,
+        to: u32,
+        frame: Frame,
+        steps: &mut Steps<L>,
+    ) -> Result<(), NoMem>
+        requires flow { CanBePaged faces.now flow.now }
+        requires frame { IsGoodFrame frame }
+        requires within { to ≤ length flow.now.notes }
+        requires ready { IsReady self.old }
+        requires ends { EndInNotes flow.now.notes self.old }
+        ensures ready { OnOk result (IsReady self.new) }
+        ensures ends { OnOk result (EndInNotes flow.now.notes self.new) }
+        ensures own { OnOk result (self.new.own ≡ self.old.own) }
+        ensures list { OnOk result ((list : List NotedSolid) → IsReadOf frame.height list self.old → (more : List NotedSolid) ×
+            AreNoted faces.now flow.now.notes frame.width (called_parts from to) more × IsReadOf frame.height (list ++ more) self.new) }
+    {
+        for note in from..to {
+            self.read(flow, faces, whole(note), true, frame, steps)?;
+        }
+        Ok(())
+    }
+
+    /// How many of the carried solids have to stand on the page.
+    pub fn own(&self) -> usize
+        ensures { result ≡ self.now.own }
+    {
+        self.own
+    }
+
+    /// The area of the carried solids that have to stand on the page, in units of 1/64 px.
+    pub fn own_area(&self) -> i64
+        requires ready { IsReady self.now }
+        ensures area { (height : ℤ) (list : List NotedSolid) → IsReadOf height list self.now →
+            result ≡ area_of (rows_of list) self.now.own }
+        ensures small { IsArea result }
+    {
+        self.own_area
+    }
+
+    /// The area of all solids that have to stand on the page, in units of 1/64 px, or any number above the frame's height
+    /// where that area is.
+    pub fn needed(&self) -> i64
+        requires ready { IsReady self.now }
+        ensures told { (height : ℤ) (list : List NotedSolid) → IsReadOf height list self.now →
+            Tells height result (area_of (rows_of list) (must_of (rows_of list) self.now.own)) }
+        ensures small { IsArea result }
+    {
+        if self.begun { self.area() } else { self.needed }
+    }
+}

@@ -1,0 +1,3 @@
+pub mod CutsAt
+pub mod Reads
+pub mod Solids

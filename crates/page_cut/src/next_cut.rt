@@ -1,0 +1,66 @@
+//! The cut of the next page.
+
+ghost use Rattle.std.specs.Prelude.{IfOk, All};
+ghost use Rattle.boxes.specs.Frames.{IsGoodFrame};
+ghost use Rattle.boxes.specs.Tree.{Holds};
+ghost use Rattle.note_list.specs.Conditions.{AreCarried, CanBePaged, IsAtSolid};
+ghost use Rattle.page_list.specs.Cuts.{IsFlowCut};
+ghost use Rattle.page_list.specs.Pages.{AreNear};
+
+use crate::cut_solids::{cut_end, cut_solids};
+use crate::page_notes::PageNotes;
+use crate::prefix::prefix;
+use bk_num::name::NoMem;
+use bk_num::steps::Steps;
+use boxes::flow::Flow;
+use boxes::frames::Frame;
+use cuts::row::Room;
+use metrics::Faces;
+use note_list::carried::Carried;
+use page_list::cut::{Cut, CutFrom};
+use std::alloc::Global;
+use std::sync::ledger::Ledger;
+
+/// The cut of the next page of a flow, whose page has a frame and has to place what is carried to it: where it ends, at
+/// which level, what it places, with tops within 2^60 units and heights from 0 to 2^32, and what it carries on.
+pub fn next_cut<L: Ledger>(
+    alloc: Global,
+    flow: &Flow,
+    faces: &Faces,
+    from: CutFrom,
+    carried: &[Carried],
+    frame: Frame,
+    steps: &mut Steps<L>,
+) -> Result<Cut, NoMem>
+    requires flow { CanBePaged faces.now flow.now }
+    requires holds { Holds flow.now.main from.at }
+    requires carried { AreCarried flow.now from.at carried.now }
+    requires frame { IsGoodFrame frame }
+    ensures cut { IfOk result (λ cut. IsFlowCut faces.now flow.now frame from carried.now cut) }
+    ensures holds { IfOk result (λ cut. Holds flow.now.main cut.to) }
+    ensures carried { IfOk result (λ cut. AreCarried flow.now cut.to cut.carried) }
+    ensures stands { IfOk result (λ cut. All (IsAtSolid flow.now.notes) cut.carried) }
+    ensures near { IfOk result (λ cut. AreNear cut.solids cut.notes) }
+{
+    let mut notes = PageNotes::start(alloc, flow, faces, from.at, carried, frame, steps)?;
+    let called = notes.called;
+    let room = Room {
+        kept: from.kept,
+        height: frame.height,
+        carried: notes.list.own_area(),
+    };
+    let solids = prefix(alloc, flow, faces, from, frame, &room, &mut notes, steps)?;
+    if solids.is_empty() {
+        notes.take(flow, faces, from.at, frame, steps)?;
+        return cut_end(alloc, flow, carried, called, &notes, &room);
+    }
+    cut_solids(
+        alloc,
+        flow,
+        solids.as_slice(),
+        carried,
+        called,
+        &notes,
+        &room,
+    )
+}

@@ -1,0 +1,48 @@
+//! The notes of a page after the flow.
+
+ghost use Rattle.std.specs.Prelude.{◌<◌, IfOk, All, None, length, []};
+ghost use Rattle.boxes.specs.Frames.{IsGoodFrame};
+ghost use Rattle.note_list.specs.Conditions.{AreCarried, CanBePaged, IsAtSolid};
+ghost use Rattle.page_list.specs.Cuts.{IsNotesCut, place_after};
+ghost use Rattle.page_list.specs.Pages.{AreNear};
+
+use bk_num::name::NoMem;
+use bk_num::steps::Steps;
+use boxes::flow::Flow;
+use boxes::frames::Frame;
+use metrics::Faces;
+use note_list::carried::Carried;
+use note_list::list::{NoteList, NoteRoom, PlacedList};
+use std::alloc::Global;
+use std::sync::ledger::Ledger;
+
+/// What a page of notes after the flow places of what is carried to it, and what is left: the greatest number of solids
+/// that fits, at least one.
+pub fn next_notes<L: Ledger>(
+    alloc: Global,
+    flow: &Flow,
+    faces: &Faces,
+    carried: &[Carried],
+    frame: Frame,
+    steps: &mut Steps<L>,
+) -> Result<PlacedList, NoMem>
+    requires flow { CanBePaged faces.now flow.now }
+    requires carried { AreCarried flow.now (place_after flow.now.main None) carried.now }
+    requires stands { All (IsAtSolid flow.now.notes) carried.now }
+    requires some { 0 < length carried.now }
+    requires frame { IsGoodFrame frame }
+    ensures cut { IfOk result (λ p. IsNotesCut faces.now flow.now frame carried.now p.notes p.left) }
+    ensures carried { IfOk result (λ p. AreCarried flow.now (place_after flow.now.main None) p.left) }
+    ensures stands { IfOk result (λ p. All (IsAtSolid flow.now.notes) p.left) }
+    ensures near { IfOk result (λ p. AreNear [] p.notes) }
+{
+    let list = NoteList::carried(alloc, flow, faces, carried, frame, steps)?;
+    let all = flow.notes.as_slice().len() as u32;
+    let room = NoteRoom {
+        level: 4,
+        to: all,
+        height: frame.height,
+        room: frame.height,
+    };
+    list.place(alloc, flow, carried, all, &room)
+}

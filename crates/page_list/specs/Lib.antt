@@ -1,0 +1,7 @@
+pub mod Bounds
+pub mod Cuts
+pub mod Inside
+pub mod Laws
+pub mod Noted
+pub mod Pages
+pub mod Parted

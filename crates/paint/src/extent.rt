@@ -1,0 +1,38 @@
+//! How far solids reach down a page.
+
+ghost use Rattle.std.specs.Prelude.{◌≡◌, IfSome};
+ghost use Rattle.paint.specs.Fragments.{extent_of, join};
+
+use crate::item::sum;
+use boxes::page::Placed;
+
+/// From a least top to a greatest bottom, in units from the top that the solids count from.
+#[derive(Clone, Copy, Debug)]
+pub struct Extent {
+    pub top: i64,
+    pub bottom: i64,
+}
+
+/// The least top and the greatest bottom.
+pub(crate) fn join(a: Option<Extent>, b: Option<Extent>) -> Option<Extent>
+    ensures { result ≡ join a b }
+{
+    match (a, b) {
+        (None, _) => b,
+        (Some(_), None) => a,
+        (Some(a), Some(b)) => Some(Extent {
+            top: a.top.min(b.top),
+            bottom: a.bottom.max(b.bottom),
+        }),
+    }
+}
+
+/// The extent of a solid. None where it is past 64 bits.
+pub(crate) fn extent_of(s: &Placed) -> Option<Extent>
+    ensures { IfSome result (λ e. e ≡ extent_of s.now) }
+{
+    Some(Extent {
+        top: s.top,
+        bottom: sum(s.top, s.height)?,
+    })
+}

@@ -1,0 +1,238 @@
+//! Goes along a page's solids and writes down the boxes in which they stand.
+
+ghost use Rattle.std.specs.Prelude.{◌≡◌, ◌+◌, ◌<◌, ◌≤◌, ◌-◌, ◌^◌, Some, length, take, All, IfOk, IfSome, OnOk, IsTrue};
+ghost use Rattle.std.specs.List.{flat_map};
+ghost use Rattle.std.specs.Option.{ForSome};
+ghost use Rattle.bk_num.specs.Limits.{most_open};
+ghost use Rattle.boxes.specs.Tree.{depth_of, open_before};
+ghost use Rattle.paint.specs.Pages.{rects_of};
+ghost use Rattle.paint.specs.Parts.{AddsSolid, AreGathered, HaveNone, IsAt, IsGrown, LeavesTo, end_by, first_event, last_of, part_rects};
+
+use crate::extent::extent_of;
+use crate::item::Origin;
+use crate::parts::{Part, Reached, extend, merge, open_part};
+use bk_num::limits::MOST_OPEN;
+use bk_num::name::NoMem;
+use boxes::page::Placed;
+use boxes::place::Event;
+use boxes::span::write_chain;
+use boxes::tree::BoxTree;
+use std::alloc::Global;
+
+/// The last of so many places.
+fn last_of(count: usize) -> Option<usize>
+    ensures { result ≡ last_of count }
+{
+    if count == 0 { None } else { Some(count - 1) }
+}
+
+/// Appends open boxes, each inside the next one, the outermost first.
+fn open_all(
+    parts: &mut Vec<Part>,
+    tree: &BoxTree,
+    chain: &[u32],
+    event: u32,
+    origin: &Origin,
+) -> Result<(), NoMem>
+    requires none { length parts.old.items ≡ 0 }
+    requires within { event ≤ length tree.now.events }
+    requires chain { chain.now ≡ open_before tree.now.events event }
+    ensures at { OnOk result (IsAt tree.now origin.now.width parts.new.items (record { event = event; inner = last_of (length parts.new.items) })) }
+    ensures none { OnOk result (HaveNone parts.new.items) }
+{
+    let _count = tree.count();
+    let mut left = chain.len();
+    while left > 0 {
+        left -= 1;
+        let number = chain[left];
+        let inner = last_of(parts.len());
+        open_part(parts, tree, inner, tree.opens_at(number), number, origin)?;
+    }
+    Ok(())
+}
+
+/// Writes the numbers of the boxes that are open before an event, the innermost first, and answers how many they are.
+fn write_open(tree: &BoxTree, event: u32, chain: &mut [u32]) -> usize
+    requires within { event ≤ length tree.now.events }
+    requires room { length chain.old ≡ most_open }
+    requires depth { depth_of tree.now.events ≤ most_open }
+    ensures few { result ≤ most_open }
+    ensures chain { take result chain.new ≡ open_before tree.now.events event }
+{
+    let _count = tree.count();
+    match tree.around(event) {
+        None => 0,
+        Some(index) => write_chain(tree, index, chain),
+    }
+}
+
+/// Begins at an event: appends the boxes around it to an empty list.
+fn begin(
+    parts: &mut Vec<Part>,
+    tree: &BoxTree,
+    event: u32,
+    origin: &Origin,
+) -> Result<Reached, NoMem>
+    requires none { length parts.old.items ≡ 0 }
+    requires within { event ≤ length tree.now.events }
+    requires depth { depth_of tree.now.events ≤ most_open }
+    ensures at { IfOk result (λ now. IsAt tree.now origin.now.width parts.new.items now) }
+    ensures event { IfOk result (λ now. now.event ≡ event) }
+    ensures none { OnOk result (HaveNone parts.new.items) }
+{
+    let mut chain = [0; MOST_OPEN as usize];
+    let count = write_open(tree, event, &mut chain);
+    open_all(parts, tree, &chain[..count], event, origin)?;
+    Ok(Reached {
+        event,
+        inner: last_of(parts.len()),
+    })
+}
+
+/// The place of the box around the box at a place.
+fn outer_of(parts: &[Part], inner: Option<usize>) -> Option<usize>
+    requires { ForSome inner (λ i. i < length parts.now) }
+    ensures { LeavesTo parts.now inner result }
+{
+    match inner {
+        None => None,
+        Some(place) => parts[place].outer,
+    }
+}
+
+/// Goes past an event, and answers the place of the innermost box that is open after it.
+fn pass(
+    parts: &mut Vec<Part>,
+    tree: &BoxTree,
+    inner: Option<usize>,
+    at: u32,
+    origin: &Origin,
+) -> Result<Option<usize>, NoMem>
+    requires within { at < length tree.now.events }
+    requires at { IsAt tree.now origin.now.width parts.old.items (record { event = at; inner = inner }) }
+    ensures at { IfOk result (λ now. IsAt tree.now origin.now.width parts.new.items (record { event = at + 1; inner = now })) }
+    ensures grown { OnOk result (IsGrown parts.old.items parts.new.items) }
+{
+    let _count = tree.count();
+    match tree.event(at) {
+        Event::Opens(number) => {
+            let place = parts.len();
+            open_part(parts, tree, inner, at, number, origin)?;
+            Ok(Some(place))
+        }
+        Event::Closes(_) => Ok(outer_of(parts, inner)),
+        Event::Leaf(_) => Ok(inner),
+    }
+}
+
+/// Goes on to an event.
+fn pass_to(
+    parts: &mut Vec<Part>,
+    tree: &BoxTree,
+    reached: Reached,
+    to: u32,
+    origin: &Origin,
+) -> Result<Option<usize>, NoMem>
+    requires order { reached.event ≤ to }
+    requires within { to ≤ length tree.now.events }
+    requires at { IsAt tree.now origin.now.width parts.old.items reached }
+    ensures at { IfOk result (λ now. IsAt tree.now origin.now.width parts.new.items (record { event = to; inner = now })) }
+    ensures grown { OnOk result (IsGrown parts.old.items parts.new.items) }
+{
+    let mut inner = reached.inner;
+    for at in reached.event..to {
+        inner = pass(parts, tree, inner, at, origin)?;
+    }
+    Ok(inner)
+}
+
+/// After an event where it opens a box, else before it.
+fn end_at(event: Event, at: u32) -> u32
+    requires { at < 2 ^ 32 - 1 }
+    ensures { result ≡ end_by (Some event) at }
+{
+    match event {
+        Event::Opens(_) => at + 1,
+        _ => at,
+    }
+}
+
+/// Goes on to a solid, and writes it down. None of this where it isn't one of the tree's, or stands before the event.
+fn add_solid(
+    parts: &mut Vec<Part>,
+    tree: &BoxTree,
+    reached: Reached,
+    solid: &Placed,
+    origin: &Origin,
+) -> Result<Reached, NoMem>
+    requires at { IsAt tree.now origin.now.width parts.old.items reached }
+    ensures at { IfOk result (λ now. IsAt tree.now origin.now.width parts.new.items now) }
+    ensures within { IfOk result (λ now. now.event ≤ length tree.now.events) }
+    ensures solid { OnOk result (AddsSolid tree.now.events solid.now parts.old.items parts.new.items) }
+{
+    let at = solid.at.event;
+    if at >= tree.count() {
+        return Err(NoMem);
+    }
+    let event = tree.event(at);
+    let to = end_at(event, at);
+    let Some(extent) = extent_of(solid) else {
+        return Err(NoMem);
+    };
+    if to < reached.event {
+        return Err(NoMem);
+    }
+    let inner = pass_to(parts, tree, reached, to, origin)?;
+    extend(parts, inner, event, extent);
+    Ok(Reached { event: to, inner })
+}
+
+/// The event of the first solid.
+fn first_event(solids: &[Placed]) -> u32
+    ensures { result ≡ first_event solids.now }
+{
+    match solids {
+        [] => 0,
+        [first, ..] => first.at.event,
+    }
+}
+
+/// The boxes in which solids stand, in the order in which they open, each with the solids whose innermost box it is.
+fn gather(
+    alloc: Global,
+    tree: &BoxTree,
+    origin: &Origin,
+    solids: &[Placed],
+) -> Result<Vec<Part>, NoMem>
+    requires depth { depth_of tree.now.events ≤ most_open }
+    ensures { IfOk result (λ v. AreGathered tree.now origin.now.width solids.now v.items) }
+{
+    let first = first_event(solids);
+    if first > tree.count() {
+        return Err(NoMem);
+    }
+    let mut parts = Vec::new(alloc);
+    let mut reached = begin(&mut parts, tree, first, origin)?;
+    for solid in solids {
+        reached = add_solid(&mut parts, tree, reached, solid, origin)?;
+    }
+    Ok(parts)
+}
+
+/// The boxes in which solids stand, in the order in which they open, each with how far it reaches. Time goes with the
+/// solids, the boxes that are open at the first, and the events up to the last.
+pub(crate) fn parts_of(
+    alloc: Global,
+    tree: &BoxTree,
+    origin: &Origin,
+    solids: &[Placed],
+) -> Result<Vec<Part>, NoMem>
+    requires depth { depth_of tree.now.events ≤ most_open }
+    ensures rects { IfOk result (λ v. flat_map (part_rects tree.now origin.now) v.items ≡ rects_of tree.now origin.now solids.now) }
+    ensures there { IfOk result (λ v. All (λ p. p.number < length tree.now.boxes) v.items) }
+{
+    let _count = tree.count();
+    let mut parts = gather(alloc, tree, origin, solids)?;
+    merge(&mut parts);
+    Ok(parts)
+}

@@ -1,0 +1,133 @@
+//! The boxes in which a page's solids stand, each with the place of the box around it.
+
+ghost use Rattle.std.specs.Prelude.{◌≡◌, ◌<◌, ◌++◌, ◌∷◌, [], length, slice_get, Some, IfSome, OnOk};
+ghost use Rattle.std.specs.Option.{ForSome};
+ghost use Rattle.paint.specs.Parts.{AreMerged, Extends, HaveOuters, IsHandedOn, bare_of, content_at, part_in, with_solid};
+
+use crate::extent::{Extent, join};
+use crate::item::Origin;
+use crate::opens::{Content, content_in};
+use bk_num::name::NoMem;
+use boxes::place::Event;
+use boxes::tree::BoxTree;
+
+/// A box: the event that opens it, its number, the place of the box around it and that one's content, and its own
+/// content; then how far its solids reach, and its upper and its lower edge.
+#[derive(Clone, Copy, Debug)]
+pub struct Part {
+    pub event: u32,
+    pub number: u32,
+    pub outer: Option<usize>,
+    pub around: Content,
+    pub content: Content,
+    pub reach: Option<Extent>,
+    pub upper: Option<Extent>,
+    pub lower: Option<Extent>,
+}
+
+/// How far one has gone: the event before which one stands, and the place of the innermost box that is open there.
+#[derive(Clone, Copy, Debug)]
+pub struct Reached {
+    pub event: u32,
+    pub inner: Option<usize>,
+}
+
+/// The content of the box at a place, or the frame's.
+fn content_at(parts: &[Part], inner: Option<usize>, origin: &Origin) -> Content
+    requires { ForSome inner (λ i. i < length parts.now) }
+    ensures { result ≡ content_at origin.now.width parts.now inner }
+{
+    match inner {
+        None => Content {
+            left: 0,
+            width: origin.width,
+        },
+        Some(place) => parts[place].content,
+    }
+}
+
+/// Appends a box that an event opens inside the box at a place.
+pub(crate) fn open_part(
+    parts: &mut Vec<Part>,
+    tree: &BoxTree,
+    inner: Option<usize>,
+    event: u32,
+    number: u32,
+    origin: &Origin,
+) -> Result<(), NoMem>
+    requires number { number < length tree.now.boxes }
+    requires inner { ForSome inner (λ i. i < length parts.old.items) }
+    ensures { OnOk result (parts.new.items ≡ parts.old.items ++ part_in tree.now origin.now.width parts.old.items inner event number ∷ []) }
+{
+    let _count = tree.count();
+    let around = content_at(parts, inner, origin);
+    let Some(content) = content_in(tree.props(number), &around) else {
+        return Err(NoMem);
+    };
+    parts.push(Part {
+        event,
+        number,
+        outer: inner,
+        around,
+        content,
+        reach: None,
+        upper: None,
+        lower: None,
+    })?;
+    Ok(())
+}
+
+/// A box with a solid more whose innermost box it is.
+fn with_solid(part: Part, event: Event, extent: Extent) -> Part
+    ensures { result ≡ with_solid event extent part }
+{
+    let reach = join(part.reach, Some(extent));
+    match event {
+        Event::Opens(_) => Part {
+            reach,
+            upper: join(part.upper, Some(extent)),
+            ..part
+        },
+        Event::Closes(_) => Part {
+            reach,
+            lower: join(part.lower, Some(extent)),
+            ..part
+        },
+        Event::Leaf(_) => Part { reach, ..part },
+    }
+}
+
+/// Writes a solid down at its innermost box.
+pub(crate) fn extend(parts: &mut Vec<Part>, inner: Option<usize>, event: Event, extent: Extent)
+    requires { ForSome inner (λ i. i < length parts.old.items) }
+    ensures { Extends parts.old.items inner event extent parts.new.items }
+{
+    if let Some(place) = inner {
+        parts[place] = with_solid(parts[place], event, extent);
+    }
+}
+
+/// Hands a box's reach on to the box around it.
+fn hand_on(parts: &mut Vec<Part>, at: usize)
+    requires place { at < length parts.old.items }
+    requires outers { HaveOuters parts.old.items }
+    ensures { IsHandedOn parts.old.items at parts.new.items }
+{
+    let part = parts[at];
+    if let Some(outer) = part.outer {
+        parts[outer].reach = join(parts[outer].reach, part.reach);
+    }
+}
+
+/// Hands each box's reach on, from the last box to the first.
+pub(crate) fn merge(parts: &mut Vec<Part>)
+    requires outers { HaveOuters parts.old.items }
+    ensures rest { bare_of parts.new.items ≡ bare_of parts.old.items }
+    ensures merged { AreMerged parts.old.items parts.new.items }
+{
+    let mut at = parts.len();
+    while at > 0 {
+        at -= 1;
+        hand_on(parts, at);
+    }
+}

@@ -1,0 +1,349 @@
+//! Items of backgrounds and borders.
+
+ghost use Rattle.std.specs.Prelude.{◌≡◌, ◌<◌, ◌++◌, ◌∷◌, [], length, All, OnOk, IfOk, IfSome, Some, ◌+ℤ◌, ◌-ℤ◌, slice_get};
+ghost use Rattle.std.specs.List.{flat_map};
+ghost use Rattle.boxes.specs.Contents.{IsGoodBox};
+ghost use Rattle.boxes.specs.Spans.{units_at};
+ghost use Rattle.paint.specs.Conditions.{CanBePainted};
+ghost use Rattle.paint.specs.Opens as spec;
+ghost use Rattle.paint.specs.Pages.{rects_of};
+ghost use Rattle.paint.specs.Parts.{part_rects};
+ghost use Rattle.paint.specs.Rects.{background_rects, border_rects, box_rects, edge_rects, fragment_area, left_area, lower_top, right_area, side_rects, upper_top};
+ghost use Rattle.paint.specs.Views.{HasItemFace, items_in, rect_item};
+
+use crate::extent::Extent;
+use crate::gather::parts_of;
+use crate::item::{Area, Canvas, ItemRef, Origin, difference, sum};
+use crate::opens::{Content, border_in};
+use crate::parts::Part;
+use bk_num::name::NoMem;
+use bk_num::values::Color;
+use boxes::page::Placed;
+use boxes::props::BoxProps;
+use metrics::Faces;
+use std::alloc::Global;
+
+/// Adds a rectangle.
+fn push_rect<'a>(
+    out: &mut Vec<ItemRef<'a>>,
+    faces: &Faces,
+    area: Area,
+    color: Color,
+) -> Result<(), NoMem>
+    requires faces { All (HasItemFace faces.now) out.old.items }
+    ensures items { OnOk result (items_in faces.now out.new.items ≡ items_in faces.now out.old.items ++ rect_item area color ∷ []) }
+    ensures faces { OnOk result (All (HasItemFace faces.now) out.new.items) }
+{
+    let _faces = faces;
+    if out.push(ItemRef::Rect { area, color }).is_err() {
+        return Err(NoMem);
+    }
+    Ok(())
+}
+
+/// Adds the background of a fragment, unless it is transparent.
+#[tactic(auto, unfolding(crate::specs::Rects::background_rects))]
+fn push_background<'a>(
+    out: &mut Vec<ItemRef<'a>>,
+    faces: &Faces,
+    color: Option<Color>,
+    area: Area,
+) -> Result<(), NoMem>
+    requires faces { All (HasItemFace faces.now) out.old.items }
+    ensures items { OnOk result (items_in faces.now out.new.items ≡ items_in faces.now out.old.items ++ background_rects color area) }
+    ensures faces { OnOk result (All (HasItemFace faces.now) out.new.items) }
+{
+    match color {
+        None => Ok(()),
+        Some(color) => push_rect(out, faces, area, color),
+    }
+}
+
+/// Adds a border, unless it has no width.
+#[tactic(auto, unfolding(crate::specs::Rects::border_rects))]
+fn push_border<'a>(
+    out: &mut Vec<ItemRef<'a>>,
+    faces: &Faces,
+    width: i64,
+    color: Color,
+    area: Area,
+) -> Result<(), NoMem>
+    requires faces { All (HasItemFace faces.now) out.old.items }
+    ensures items { OnOk result (items_in faces.now out.new.items ≡ items_in faces.now out.old.items ++ border_rects width (Some color) area) }
+    ensures faces { OnOk result (All (HasItemFace faces.now) out.new.items) }
+{
+    if width == 0 {
+        Ok(())
+    } else {
+        push_rect(out, faces, area, color)
+    }
+}
+
+/// Adds an upper or a lower border of a fragment from its top on, if its edge stands on the page.
+#[tactic(auto, unfolding(crate::specs::Rects::edge_rects))]
+fn push_edge<'a>(
+    out: &mut Vec<ItemRef<'a>>,
+    faces: &Faces,
+    width: i64,
+    color: Color,
+    area: Area,
+    top: Option<i64>,
+) -> Result<(), NoMem>
+    requires faces { All (HasItemFace faces.now) out.old.items }
+    ensures items { OnOk result (items_in faces.now out.new.items ≡ items_in faces.now out.old.items ++ edge_rects width (Some color) area top) }
+    ensures faces { OnOk result (All (HasItemFace faces.now) out.new.items) }
+{
+    match top {
+        None => Ok(()),
+        Some(y) => push_border(
+            out,
+            faces,
+            width,
+            color,
+            Area {
+                x: area.x,
+                y,
+                w: area.w,
+                h: width,
+            },
+        ),
+    }
+}
+
+/// The width of a border, in units.
+fn border_at(props: &BoxProps, side: usize) -> i64
+    requires { side < 4 }
+    ensures { result ≡ units_at props.now.border side }
+{
+    i64::from(props.border[side].units())
+}
+
+fn color_at(colors: &[Color], side: usize) -> Color
+    requires { side < length colors.now }
+    ensures { slice_get colors.now side ≡ Some result }
+{
+    colors[side]
+}
+
+/// The area of a left border of a fragment.
+fn left_area(area: Area, width: i64) -> Area
+    ensures { result ≡ left_area area width }
+{
+    Area {
+        x: area.x,
+        y: area.y,
+        w: width,
+        h: area.h,
+    }
+}
+
+/// The area of a right border of a fragment. None where it is past 64 bits.
+fn right_area(area: Area, width: i64) -> Option<Area>
+    ensures { IfSome result (λ a. a ≡ right_area area width) }
+{
+    let right = sum(area.x, area.w)?;
+    Some(Area {
+        x: difference(right, width)?,
+        y: area.y,
+        w: width,
+        h: area.h,
+    })
+}
+
+/// Where the borders of a fragment stand: itself, the right border, and the tops of the upper and the lower one, each if its
+/// edge stands on the page.
+#[derive(Clone, Copy)]
+struct Sides {
+    area: Area,
+    right: Area,
+    upper: Option<i64>,
+    lower: Option<i64>,
+}
+
+/// Adds the borders of a box, top, right, bottom and left.
+fn push_sides<'a>(
+    out: &mut Vec<ItemRef<'a>>,
+    faces: &Faces,
+    props: &BoxProps,
+    sides: &Sides,
+) -> Result<(), NoMem>
+    requires faces { All (HasItemFace faces.now) out.old.items }
+    requires right { sides.now.right ≡ right_area sides.now.area (units_at props.now.border 1) }
+    ensures items { OnOk result (items_in faces.now out.new.items ≡ items_in faces.now out.old.items ++ side_rects props.now sides.now.area sides.now.upper sides.now.lower) }
+    ensures faces { OnOk result (All (HasItemFace faces.now) out.new.items) }
+{
+    let (top, bottom) = (border_at(props, 0), border_at(props, 2));
+    let (right, left) = (border_at(props, 1), border_at(props, 3));
+    let colors = &props.colors;
+    push_edge(
+        out,
+        faces,
+        top,
+        color_at(colors, 0),
+        sides.area,
+        sides.upper,
+    )?;
+    push_border(out, faces, right, color_at(colors, 1), sides.right)?;
+    push_edge(
+        out,
+        faces,
+        bottom,
+        color_at(colors, 2),
+        sides.area,
+        sides.lower,
+    )?;
+    push_border(
+        out,
+        faces,
+        left,
+        color_at(colors, 3),
+        left_area(sides.area, left),
+    )?;
+    Ok(())
+}
+
+/// The area of a fragment of a box. None where it is past 64 bits.
+fn fragment_area(origin: &Origin, border: &Content, extent: Extent) -> Option<Area>
+    ensures { IfSome result (λ a. a ≡ fragment_area origin.now border.now extent) }
+{
+    Some(Area {
+        x: sum(origin.left, border.left)?,
+        y: sum(origin.top, extent.top)?,
+        w: border.width,
+        h: difference(extent.bottom, extent.top)?,
+    })
+}
+
+/// The top of an upper border, if its edge stands on the page.
+fn upper_top(origin: &Origin, upper: Option<Extent>) -> Result<Option<i64>, NoMem>
+    ensures { IfOk result (λ y. y ≡ upper_top origin.now upper) }
+{
+    match upper {
+        None => Ok(None),
+        Some(edge) => match sum(origin.top, edge.top) {
+            None => Err(NoMem),
+            Some(top) => Ok(Some(top)),
+        },
+    }
+}
+
+/// Where a lower border begins, which ends at the bottom of its edge. None where it is past 64 bits.
+fn top_above(origin: &Origin, width: i64, edge: Extent) -> Option<i64>
+    ensures { IfSome result (λ y. y ≡ (origin.now.top +ℤ edge.bottom) -ℤ width) }
+{
+    let bottom = sum(origin.top, edge.bottom)?;
+    difference(bottom, width)
+}
+
+/// The top of a lower border, if its edge stands on the page.
+fn lower_top(origin: &Origin, width: i64, lower: Option<Extent>) -> Result<Option<i64>, NoMem>
+    ensures { IfOk result (λ y. y ≡ lower_top origin.now width lower) }
+{
+    match lower {
+        None => Ok(None),
+        Some(edge) => match top_above(origin, width, edge) {
+            None => Err(NoMem),
+            Some(top) => Ok(Some(top)),
+        },
+    }
+}
+
+/// Where the borders of a part of a box stand.
+fn sides_of(origin: &Origin, props: &BoxProps, part: &Part, area: Area) -> Result<Sides, NoMem>
+    ensures area { IfOk result (λ s. s.area ≡ area) }
+    ensures right { IfOk result (λ s. s.right ≡ right_area area (units_at props.now.border 1)) }
+    ensures upper { IfOk result (λ s. s.upper ≡ upper_top origin.now part.now.upper) }
+    ensures lower { IfOk result (λ s. s.lower ≡ lower_top origin.now (units_at props.now.border 2) part.now.lower) }
+{
+    let Some(right) = right_area(area, border_at(props, 1)) else {
+        return Err(NoMem);
+    };
+    Ok(Sides {
+        area,
+        right,
+        upper: upper_top(origin, part.upper)?,
+        lower: lower_top(origin, border_at(props, 2), part.lower)?,
+    })
+}
+
+/// The area of a part of a box that reaches so far. None where it is past 64 bits.
+fn area_of_part(origin: &Origin, props: &BoxProps, around: &Content, extent: Extent) -> Option<Area>
+    requires { IsGoodBox props.now }
+    ensures { IfSome result (λ a. a ≡ fragment_area origin.now (spec.border_in props.now around.now) extent) }
+{
+    let border = border_in(props, around)?;
+    fragment_area(origin, &border, extent)
+}
+
+/// Adds the rectangles of a box that reaches so far: its background, then its borders.
+#[tactic(auto, unfolding(crate::specs::Rects::box_rects))]
+fn push_fragment<'a>(
+    out: &mut Vec<ItemRef<'a>>,
+    canvas: &Canvas<'a>,
+    props: &BoxProps,
+    part: &Part,
+    extent: Extent,
+) -> Result<(), NoMem>
+    requires good { IsGoodBox props.now }
+    requires faces { All (HasItemFace canvas.now.faces.now) out.old.items }
+    ensures items { OnOk result (items_in canvas.now.faces.now out.new.items ≡ items_in canvas.now.faces.now out.old.items ++ box_rects props.now (fragment_area canvas.now.origin (spec.border_in props.now part.now.around) extent) (upper_top canvas.now.origin part.now.upper) (lower_top canvas.now.origin (units_at props.now.border 2) part.now.lower)) }
+    ensures faces { OnOk result (All (HasItemFace canvas.now.faces.now) out.new.items) }
+{
+    let Some(area) = area_of_part(&canvas.origin, props, &part.around, extent) else {
+        return Err(NoMem);
+    };
+    let sides = sides_of(&canvas.origin, props, part, area)?;
+    push_background(out, canvas.faces, props.background, area)?;
+    push_sides(out, canvas.faces, props, &sides)?;
+    Ok(())
+}
+
+/// Adds the rectangles of a box, if it has a solid.
+#[tactic(auto, unfolding(crate::specs::Rects::fragment_rects))]
+fn push_part<'a>(out: &mut Vec<ItemRef<'a>>, canvas: &Canvas<'a>, part: &Part) -> Result<(), NoMem>
+    requires there { part.now.number < length canvas.now.tree.now.boxes }
+    requires faces { All (HasItemFace canvas.now.faces.now) out.old.items }
+    ensures items { OnOk result (items_in canvas.now.faces.now out.new.items ≡ items_in canvas.now.faces.now out.old.items ++ part_rects canvas.now.tree.now canvas.now.origin part.now) }
+    ensures faces { OnOk result (All (HasItemFace canvas.now.faces.now) out.new.items) }
+{
+    let _count = canvas.tree.count();
+    let props = canvas.tree.props(part.number);
+    match part.reach {
+        None => Ok(()),
+        Some(extent) => push_fragment(out, canvas, props, part, extent),
+    }
+}
+
+/// Adds the rectangles of boxes, in order.
+fn push_parts<'a>(
+    out: &mut Vec<ItemRef<'a>>,
+    canvas: &Canvas<'a>,
+    parts: &[Part],
+) -> Result<(), NoMem>
+    requires there { All (λ p. p.number < length canvas.now.tree.now.boxes) parts.now }
+    requires faces { All (HasItemFace canvas.now.faces.now) out.old.items }
+    ensures items { OnOk result (items_in canvas.now.faces.now out.new.items ≡ items_in canvas.now.faces.now out.old.items ++ flat_map (part_rects canvas.now.tree.now canvas.now.origin) parts.now) }
+    ensures faces { OnOk result (All (HasItemFace canvas.now.faces.now) out.new.items) }
+{
+    for part in parts {
+        push_part(out, canvas, part)?;
+    }
+    Ok(())
+}
+
+/// Adds the backgrounds and borders of the boxes in which solids of a tree stand, in the order in which they open.
+pub(crate) fn push_rects<'a>(
+    alloc: Global,
+    out: &mut Vec<ItemRef<'a>>,
+    canvas: &Canvas<'a>,
+    solids: &[Placed],
+) -> Result<(), NoMem>
+    requires tree { CanBePainted canvas.now.faces.now canvas.now.tree.now }
+    requires faces { All (HasItemFace canvas.now.faces.now) out.old.items }
+    ensures items { OnOk result (items_in canvas.now.faces.now out.new.items ≡ items_in canvas.now.faces.now out.old.items ++ rects_of canvas.now.tree.now canvas.now.origin solids.now) }
+    ensures faces { OnOk result (All (HasItemFace canvas.now.faces.now) out.new.items) }
+{
+    let parts = parts_of(alloc, canvas.tree, &canvas.origin, solids)?;
+    push_parts(out, canvas, &parts)?;
+    Ok(())
+}

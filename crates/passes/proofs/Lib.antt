@@ -1,0 +1,4 @@
+pub mod Conditions
+pub mod EndLemmas
+pub mod PassLemmas
+pub mod TargetLemmas

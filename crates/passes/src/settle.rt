@@ -1,0 +1,173 @@
+//! Passes.
+
+ghost use Rattle.std.specs.Prelude.{◌≡◌, ◌<◌, ◌≤◌, length, IfOk};
+ghost use Rattle.bk_num.specs.Limits.{most_pages};
+ghost use Rattle.box_gen.specs.Sources.{AreInRange, IsRootShown};
+ghost use Rattle.page_list.specs.Pages.{HaveNearTops};
+ghost use Rattle.passes.specs.Conditions.{IsGoodFlow};
+ghost use Rattle.passes.specs.Passes.{id_of};
+ghost use Rattle.passes.specs.Settles.{Settles};
+ghost use Rattle.passes.specs.Stops.{IsNotSettled};
+
+use crate::pass::{Pass, pass_under};
+use bk_num::ids::NodeId;
+use bk_num::name::{Name, NoMem};
+use bk_num::steps::Steps;
+use box_gen::inline::BuildErr;
+use boxes::flow::Flow;
+use boxes::frames::Frames;
+use boxes::page::PageList;
+use counters::at::CounterAt;
+use dom::Dom;
+use fragment::paginate::PageErr;
+use gen_text::references::targets;
+use gen_text::table::{Entry, Table};
+use metrics::Faces;
+use refs::difference::first_difference;
+use refs::opening::opening;
+use std::alloc::Global;
+use std::sync::ledger::Ledger;
+use style::styles::Styles;
+
+/// A document with its styles and counters, and the faces that set it.
+#[derive(Clone, Copy)]
+pub struct Input<'a> {
+    pub dom: &'a Dom,
+    pub styles: &'a Styles,
+    pub counters: &'a CounterAt,
+    pub faces: &'a Faces,
+}
+
+/// A flow whose pages show the table under which its texts are made, and how many passes it took.
+#[derive(Drop)]
+pub struct Settled {
+    pub flow: Flow,
+    pub pages: PageList,
+    pub table: Table,
+    pub passes: u32,
+}
+
+/// Why passes don't settle: the last two give a target other numbers, the flow of a pass has more than 33,554,432 bytes of
+/// text, 100,000 pages leave something of it unplaced, or want of memory.
+#[derive(Drop)]
+pub enum PassErr {
+    NotSettled {
+        target: Name,
+        before: i64,
+        after: i64,
+    },
+    Text,
+    Pages,
+    NoMemory,
+}
+
+impl From<NoMem> for PassErr {
+    ghost use Rattle.std.specs.Prelude.{◌≡◌};
+    ghost use Rattle.passes.specs.declared.settle.PassErr.TheVariants.{NoMemory};
+
+    ghost from_gives = { λ _ e. e ≡ NoMemory };
+
+    fn from(_e: NoMem) -> PassErr {
+        PassErr::NoMemory
+    }
+}
+
+impl From<BuildErr> for PassErr {
+    ghost use Rattle.std.specs.Prelude.{◌≡◌};
+    ghost use Rattle.passes.specs.Stops.{of_build};
+
+    ghost from_gives = { λ e f. f ≡ of_build e };
+
+    fn from(e: BuildErr) -> PassErr {
+        match e {
+            BuildErr::Text => PassErr::Text,
+            BuildErr::NoMemory => PassErr::NoMemory,
+        }
+    }
+}
+
+impl From<PageErr> for PassErr {
+    ghost use Rattle.std.specs.Prelude.{◌≡◌};
+    ghost use Rattle.passes.specs.Stops.{of_pages};
+
+    ghost from_gives = { λ e f. f ≡ of_pages e };
+
+    fn from(e: PageErr) -> PassErr {
+        match e {
+            PageErr::Pages => PassErr::Pages,
+            PageErr::NoMemory => PassErr::NoMemory,
+        }
+    }
+}
+
+/// A copy of an element's id.
+fn id_of(alloc: Global, dom: &Dom, node: NodeId) -> Result<Name, NoMem>
+    requires { node.0 < length dom.now }
+    ensures { IfOk result (λ name. name ≡ id_of dom.now node.0) }
+{
+    Name::new(alloc, dom.attr(node, "id").unwrap_or(""))
+}
+
+/// The answer where the entries of a target in the last two tables differ.
+fn not_settled(alloc: Global, dom: &Dom, before: Entry, after: Entry) -> PassErr
+    requires { before.node.0 < length dom.now }
+    ensures { IsNotSettled dom.now before after result }
+{
+    match id_of(alloc, dom, before.node) {
+        Ok(target) => PassErr::NotSettled {
+            target,
+            before: before.number,
+            after: after.number,
+        },
+        Err(_) => PassErr::NoMemory,
+    }
+}
+
+/// Lays a document out in passes, each under the table that the pass before shows, the first under zeros, until a pass
+/// shows the table under which it is laid out: at most `limit` passes, which is at least 1. The flow and the pages of a
+/// pass that doesn't settle are let go before the next.
+///
+/// # Errors
+///
+/// `NotSettled` exactly where each of `limit` passes changes the table: the id of the first target whose numbers in the
+/// last two tables differ, with these numbers. `Text` exactly where the flow of a pass has more than 33,554,432 bytes of
+/// text, and `Pages` exactly where 100,000 pages of it leave something unplaced.
+pub fn settle<Fr: Frames, L: Ledger>(
+    alloc: Global,
+    input: &Input<'_>,
+    frames: &Fr,
+    limit: u32,
+    steps: &mut Steps<L>,
+) -> Result<Settled, PassErr>
+    requires limit { 0 < limit }
+    requires ranges { AreInRange input.now.styles.now }
+    requires shown { IsRootShown input.now.styles.now }
+    ensures settles { Settles input.now (record { meets = Fr.meets frames.now; frame_of = Fr.frame_of frames.now }) limit result }
+    ensures good { IfOk result (λ s. IsGoodFlow input.now.faces.now s.flow) }
+    ensures tops { IfOk result (λ s. HaveNearTops s.pages.pages) }
+    ensures few { IfOk result (λ s. length s.pages.pages ≤ most_pages) }
+{
+    let referenced = targets(alloc, input.dom, input.styles)?;
+    let targets = referenced.as_slice();
+    let mut table = opening(alloc, targets)?;
+    let mut passes = 1;
+    'passes: loop {
+        let pass = pass_under(alloc, input, frames, targets, &table, steps)?;
+        let Pass { flow, pages, shown } = pass;
+        let Some(place) = first_difference(&table, &shown) else {
+            return Ok(Settled {
+                flow,
+                pages,
+                table: shown,
+                passes,
+            });
+        };
+        if passes == limit {
+            let before = table.as_slice()[place];
+            let after = shown.as_slice()[place];
+            return Err(not_settled(alloc, input.dom, before, after));
+        }
+        passes += 1;
+        table = shown;
+    }
+}

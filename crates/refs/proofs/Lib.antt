@@ -1,0 +1,4 @@
+pub mod BeginLemmas
+pub mod LawLemmas
+pub mod StartLemmas
+pub mod TableLemmas

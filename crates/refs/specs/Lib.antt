@@ -1,0 +1,4 @@
+pub mod Begins
+pub mod Differences
+pub mod Kept
+pub mod Tables

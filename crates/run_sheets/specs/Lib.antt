@@ -1,0 +1,4 @@
+pub mod Files
+pub mod Readings
+pub mod Sources
+pub mod Laws

@@ -1,0 +1,4 @@
+pub mod Appended
+pub mod Repeats
+pub mod WordLemmas
+pub mod ChapterLemmas

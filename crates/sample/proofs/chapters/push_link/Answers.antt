@@ -1,0 +1,9 @@
+use Rattle.sample.specs.Html.{link}
+use Rattle.sample.proofs.Appended.{appended5}
+use Rattle.sample.proofs.chapters.push_link.Goals as goal
+
+pub returns : goal.returns
+unfolding link
+returns c =
+    appended5 _ _ _ _ _ _ _ _ _ _ _
+    c.in_ok-push_text.ensures c.in_ok-push_number.ensures c.in_ok-push_text-2.ensures c.in_ok-push_number-2.ensures c.in_ok-push_text-3.ensures

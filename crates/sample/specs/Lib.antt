@@ -1,0 +1,4 @@
+pub mod Draws
+pub mod Html
+pub mod Texts
+pub mod Words

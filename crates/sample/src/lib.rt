@@ -1,0 +1,10 @@
+//! The texts of the sample book: drawn words in chapters, with a note and a reference to each chapter's page.
+#![tactic(auto)]
+
+pub mod book;
+mod chapters;
+mod draws;
+mod fixed;
+#[cfg(test)]
+mod tests;
+mod words;

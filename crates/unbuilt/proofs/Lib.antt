@@ -1,4 +1,0 @@
-pub mod PlaceLemmas
-pub mod PageLemmas
-pub mod ReadLemmas
-pub mod LeastLemmas

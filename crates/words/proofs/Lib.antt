@@ -1,0 +1,4 @@
+pub mod ArgumentLemmas
+pub mod CommandLemmas
+pub mod NumberLemmas
+pub mod OneKind

@@ -1,0 +1,72 @@
+//! The commands as `clap` reads them.
+
+ghost use Rattle.std.specs.Prelude.{◌≡◌, IfOk, false, codes};
+ghost use Rattle.clap.specs.Words.{app_of, new_app, rule_of};
+ghost use Rattle.words.specs.Grammar.{format_app, sample_app, passes_rule, name_rule, names_rule, chapters_rule, without_name};
+
+use clap::{Arg, ArgAction, Command, value_parser};
+use std::alloc::{AllocError, Global};
+
+/// The option `--passes`.
+fn passes_option<'a>(alloc: Global) -> Arg<'a>
+    ensures rule { rule_of result ≡ passes_rule }
+    ensures local { result.global ≡ false }
+{
+    Arg::new(alloc, "passes")
+        .long("passes")
+        .action(ArgAction::Set)
+        .default_value("8")
+        .value_parser(value_parser!(u8).range(1..65))
+}
+
+/// A name that has to be given.
+fn name_argument<'a>(alloc: Global, id: &'a str) -> Arg<'a>
+    ensures rule { rule_of result ≡ name_rule id.entry.now }
+    ensures local { result.global ≡ false }
+{
+    Arg::new(alloc, id).action(ArgAction::Set).required(true)
+}
+
+/// Any number of names.
+fn names_argument<'a>(alloc: Global, id: &'a str) -> Arg<'a>
+    ensures rule { rule_of result ≡ names_rule id.entry.now }
+    ensures local { result.global ≡ false }
+{
+    Arg::new(alloc, id).action(ArgAction::Append).num_args(0..)
+}
+
+/// The number of chapters of a sample.
+fn chapters_argument<'a>(alloc: Global) -> Arg<'a>
+    ensures rule { rule_of result ≡ chapters_rule }
+    ensures local { result.global ≡ false }
+{
+    Arg::new(alloc, "n")
+        .action(ArgAction::Set)
+        .required(true)
+        .value_parser(value_parser!(u32).range(1..2001))
+}
+
+/// A command whose words begin after its name.
+fn nameless_command<'a>(alloc: Global, name: &'a str) -> Command<'a>
+    ensures { app_of result ≡ without_name (new_app name.entry.now) }
+{
+    Command::new(alloc, name).no_binary_name(true)
+}
+
+/// `format [--passes N] METRICS HTML [CSS ...]`.
+pub(crate) fn format_command<'a>(alloc: Global) -> Result<Command<'a>, AllocError>
+    ensures { IfOk result (λ c. app_of c ≡ format_app) }
+{
+    let plain = nameless_command(alloc, "format");
+    let passes = plain.arg(passes_option(alloc))?;
+    let metrics = passes.arg(name_argument(alloc, "metrics"))?;
+    let html = metrics.arg(name_argument(alloc, "html"))?;
+    html.arg(names_argument(alloc, "css"))
+}
+
+/// `sample N`.
+pub(crate) fn sample_command<'a>(alloc: Global) -> Result<Command<'a>, AllocError>
+    ensures { IfOk result (λ c. app_of c ≡ sample_app) }
+{
+    nameless_command(alloc, "sample").arg(chapters_argument(alloc))
+}

@@ -1,0 +1,14 @@
+//! What the words of the command line ask for, as `clap` reads them.
+#![tactic(auto)]
+
+mod commands;
+mod fault;
+mod read;
+mod request;
+#[cfg(test)]
+mod tests;
+mod values;
+
+pub use fault::{WordsErr, WordsFault};
+pub use read::read_words;
+pub use request::{Format, Request};

@@ -1,0 +1,67 @@
+//! What the matches of a parse ask for.
+
+ghost use Rattle.std.specs.Prelude.{◌≡◌, ◌≤◌, IfOk, IfErr, Some, codes, is_some, true, unwrap_or, map, []};
+ghost use Rattle.clap.specs.Words.{found_of, first_value, all_of, rows_of};
+ghost use Rattle.words.specs.Grammar.{format_app, sample_app};
+ghost use Rattle.words.specs.Asked.{format_view, format_in, number_in, text_in};
+ghost use Rattle.words.specs.Parsed.{IsParseBy};
+
+use crate::fault::WordsErr;
+use crate::request::Format;
+use clap::ArgMatches;
+use std::alloc::Global;
+
+/// The text of an argument that has one.
+fn text_in<'a>(matches: &ArgMatches<'a>, id: &str) -> &'a str
+    requires { is_some (first_value (found_of matches.now) id.now) ≡ true }
+    ensures { result.now ≡ text_in (rows_of (found_of matches.now)) id.now }
+{
+    matches.get_str(id).unwrap()
+}
+
+/// The names of the sheets.
+fn sheets_in<'a>(alloc: Global, matches: &ArgMatches<'a>) -> Result<Vec<&'a str>, WordsErr>
+    ensures sheets { IfOk result (λ v. map (λ s. s.now) v.items ≡ unwrap_or (all_of (codes "css") (rows_of (found_of matches.now))) []) }
+    ensures fault { IfErr result (λ e. e ≡ WordsErr.NoMemory) }
+{
+    let names = matches.get_strs("css").unwrap_or(&[]);
+    let mut sheets = Vec::new(alloc);
+    sheets.extend_from_slice(names)?;
+    Ok(sheets)
+}
+
+/// How many passes may be made.
+fn passes_in(matches: &ArgMatches<'_>) -> u8
+    requires { IsParseBy format_app matches.now }
+    ensures passes { result ≡ number_in (rows_of (found_of matches.now)) (codes "passes") }
+    ensures least { 1 ≤ result }
+    ensures most { result ≤ 64 }
+{
+    matches.get_one::<u8>("passes").unwrap()
+}
+
+/// How many chapters a sample has.
+pub(crate) fn chapters_in(matches: &ArgMatches<'_>) -> u32
+    requires { IsParseBy sample_app matches.now }
+    ensures chapters { result ≡ number_in (rows_of (found_of matches.now)) (codes "n") }
+    ensures least { 1 ≤ result }
+    ensures most { result ≤ 2000 }
+{
+    matches.get_one::<u32>("n").unwrap()
+}
+
+/// What the matches of `format` ask for.
+pub(crate) fn format_in<'a>(alloc: Global, matches: &ArgMatches<'a>) -> Result<Format<'a>, WordsErr>
+    requires { IsParseBy format_app matches.now }
+    ensures words { IfOk result (λ f. format_view f ≡ format_in (rows_of (found_of matches.now))) }
+    ensures passes { IfOk result (λ f. (1 ≤ f.passes) × (f.passes ≤ 64)) }
+    ensures fault { IfErr result (λ e. e ≡ WordsErr.NoMemory) }
+{
+    let sheets = sheets_in(alloc, matches)?;
+    Ok(Format {
+        passes: passes_in(matches),
+        metrics: text_in(matches, "metrics"),
+        html: text_in(matches, "html"),
+        sheets,
+    })
+}
