@@ -11,7 +11,7 @@ use Rattle.dom.specs.Walk.{children_of}
 use Rattle.metrics.specs.Face.{FontFace}
 use Rattle.style.specs.declared.style.Style.{Style}
 use Rattle.box_gen.specs.Faces.{AreFaced}
-use Rattle.box_gen.specs.Flow.{Built, bodies_in, bodies_of, body_in, closed, first_items, generated_items, last_items, node_bodies, shut, with_run}
+use Rattle.box_gen.specs.Flow.{Built, bodies_in, bodies_of, body_in, first_items, generated_items, last_items, node_bodies, shut, with_run}
 use Rattle.box_gen.specs.Gather.{Gathered, gathered}
 use Rattle.box_gen.specs.Trees.{Source, Forest, none, side_by_side, below, in_note, Role, text, hidden, inline, block, note, role_of}
 use Rattle.box_gen.specs.Walk.{Walk, walk}

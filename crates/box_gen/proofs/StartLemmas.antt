@@ -1,5 +1,5 @@
 -- Each shown element has exactly one start.
-use Rattle.std.proofs.Common.{◌≡◌, ◌∙◌, ◌≤◌, ◌<◌, ℕ, zero, suc, ◌+◌, ◌-◌, ◌==◌, ◌&&◌, Bool, true, false, cond, not, List, [], ◌∷◌, ◌++◌, append-nil, append_assoc, Option, None, Some, filter, length, map, refl, sym, ap, arith}
+use Rattle.std.proofs.Common.{◌≡◌, ◌∙◌, ◌≤◌, ◌<◌, ℕ, zero, suc, ◌+◌, ◌-◌, ◌==◌, ◌&&◌, Bool, true, false, cond, not, List, [], ◌∷◌, ◌++◌, append-nil, append_assoc, Option, None, Some, filter, length, refl, sym, ap, arith}
 use Rattle.std.specs.Prelude.{slice_get}
 use Rattle.std.proofs.lemmas.Bool.{eq-eqb}
 use Rattle.std.proofs.lemmas.Bool.Decides.{nat_tests}
@@ -18,7 +18,7 @@ use Rattle.box_gen.specs.Flow.{Built, bodies_in, bodies_of, body_in, built_of, f
 use Rattle.box_gen.specs.Gather.{Gathered, gathered}
 use Rattle.box_gen.specs.Trees.{Source, Forest, none, node, side_by_side, below, forest_of, in_note, is_block, is_note_element, Role, text, hidden, inline, block, note, role_by, role_of, shown_role}
 use Rattle.box_gen.proofs.BodyLemmas.{body-is, note_full, note_start}
-use Rattle.box_gen.proofs.ElementLemmas.{IsFloat, elements_in, known, known-gathered, known-texts, main-elements, no-first, no-generated, node_elements, nodes-append, nodes_in, role-floats, run-nodes, run_nodes}
+use Rattle.box_gen.proofs.ElementLemmas.{IsFloat, elements_in, known-gathered, known-texts, main-elements, no-first, no-generated, node_elements, nodes-append, nodes_in, role-floats, run-nodes, run_nodes}
 use Rattle.box_gen.proofs.WalkLemmas.{Greater, Under, below-greater, parent-child, under}
 
 abbrev one : Bool → ℕ

@@ -1,6 +1,6 @@
 //! The leaves of inline text.
 
-ghost use Rattle.std.specs.Prelude.{◌≡◌, ◌<◌, ◌≤◌, ◌+◌, ◌++◌, ◌∷◌, [], length, IfOk, IfErr, OnOk, MatchBool, true, string_bytes};
+ghost use Rattle.std.specs.Prelude.{◌≡◌, ◌<◌, ◌≤◌, ◌+◌, ◌++◌, ◌∷◌, [], length, IfOk, IfErr, OnOk, MatchOption, IfSome, string_bytes};
 ghost use Rattle.std.specs.List.{All};
 ghost use Rattle.bk_num.specs.Limits.{most_text_bytes};
 ghost use Rattle.boxes.specs.Contents.{IsGoodLeaf, IsGoodSpan, IsNotAuto};
@@ -86,20 +86,21 @@ fn split(alloc: Global, items: Vec<InlineItem>) -> Result<(Vec<TextPart>, Vec<Ma
     Ok((parts, marks))
 }
 
-/// Whether texts have no more bytes than a number.
-fn fits(texts: &[Name], most: u32) -> bool
-    ensures fits { MatchBool result (length (joined texts.now) ≤ most) (most < length (joined texts.now)) }
-    ensures utf8 { result ≡ true → AreTexts texts.now }
+/// How many bytes texts have together, unless they have more than a number.
+fn joined_len(texts: &[Name], most: u32) -> Option<usize>
+    ensures len { MatchOption result (most < length (joined texts.now)) (λ n. n ≡ length (joined texts.now)) }
+    ensures few { IfSome result (λ n. n ≤ most) }
+    ensures utf8 { IfSome result (λ n. AreTexts texts.now) }
 {
     let mut room = most as usize;
     for text in texts {
         let len = text.as_str().len();
         if len > room {
-            return false;
+            return None;
         }
         room -= len;
     }
-    true
+    Some(most as usize - room)
 }
 
 /// Adds a span, unless it is empty.
@@ -170,15 +171,15 @@ fn fill(
     Ok(())
 }
 
-/// The text of a run whose printed texts are given.
-fn joined_run(alloc: Global, marks: &[Mark], texts: &[Name]) -> Result<RunText, NoMem>
+/// The text of a run whose printed texts are given, with room for as many bytes from the start.
+fn joined_run(alloc: Global, marks: &[Mark], texts: &[Name], room: usize) -> Result<RunText, NoMem>
     requires each { length texts.now ≡ length (styles_in marks.now) }
     requires short { length (joined texts.now) ≤ most_text_bytes }
     ensures text { IfOk result (λ run. run.text ≡ joined texts.now) }
     ensures spans { IfOk result (λ run. run.spans ≡ spans_from 0 (styles_in marks.now) texts.now) }
     ensures starts { IfOk result (λ run. run.starts ≡ starts_from 0 marks.now texts.now) }
 {
-    let mut text = String::new(alloc);
+    let mut text = String::with_capacity(alloc, room)?;
     let mut spans = Vec::new(alloc);
     let mut starts = Vec::new(alloc);
     fill(marks, texts, &mut text, &mut spans, &mut starts)?;
@@ -213,10 +214,10 @@ pub fn run_text(alloc: Global, items: Vec<InlineItem>, most: u32) -> Result<RunT
     let Ok(texts) = collapse(alloc, &parts) else {
         return Err(BuildErr::NoMemory);
     };
-    if !fits(texts.as_slice(), most) {
+    let Some(len) = joined_len(texts.as_slice(), most) else {
         return Err(BuildErr::Text);
-    }
-    match joined_run(alloc, &marks, texts.as_slice()) {
+    };
+    match joined_run(alloc, &marks, texts.as_slice(), len) {
         Ok(run) => Ok(run),
         Err(_) => Err(BuildErr::NoMemory),
     }

@@ -30,7 +30,7 @@ use page_list::laws::{
     breaks_hold, main_stands_once, notes_begin_in_time, notes_stand_once, pages_are_few,
     pages_end_inside,
 };
-use seams::seam::seam;
+use seams::seam::asked_at;
 use std::alloc::Global;
 use std::sync::ledger::Ledger;
 
@@ -224,11 +224,11 @@ fn flow_pages<Fr: Frames, L: Ledger>(
         kept: true,
     };
     let mut index = 1;
-    let mut demand = seam(tree, from.at, 0).forced;
+    let mut demand = asked_at(tree, from.at).forced;
     let mut carried = Items::new(alloc);
     for turn in 0..MOST_PAGES {
         let _turn = turn;
-        let name = seam(tree, from.at, 0).name;
+        let name = asked_at(tree, from.at).name;
         index = match add_blanks(alloc, &mut pages, frames, index, name, demand) {
             Ok(to) => to,
             Err(err) => return Err(err),

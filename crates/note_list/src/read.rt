@@ -28,6 +28,7 @@ use metrics::Faces;
 use notes::area::{area, carry_count, must};
 use seams::run::solid_after;
 use seams::seam::widths_at;
+use seams::widths::Widths;
 use std::alloc::Global;
 use std::sync::ledger::Ledger;
 
@@ -130,7 +131,8 @@ impl NoteList {
             EndInNotes notes self.old → EndInNotes notes self.new) }
     {
         let first = solid_after(body, 0);
-        let mut widths = widths_at(body, part.at, frame.width);
+        let mut widths = Widths::none();
+        widths_at(body, part.at, frame.width, &mut widths);
         let mut at = part.at;
         while let Some(solid) = next_solid(body, faces, at, frame.width, &mut widths, steps) {
             at = solid.end;

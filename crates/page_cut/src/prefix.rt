@@ -23,6 +23,7 @@ use cuts::row::Room;
 use metrics::Faces;
 use page_list::cut::CutFrom;
 use seams::seam::widths_at;
+use seams::widths::Widths;
 use std::alloc::Global;
 use std::sync::ledger::Ledger;
 
@@ -66,7 +67,8 @@ pub(crate) fn prefix<'t, L: Ledger>(
     let _count = tree.count();
     let mut solids = Vec::new(alloc);
     let mut look = Look::start();
-    let mut widths = widths_at(tree, from.at, frame.width);
+    let mut widths = Widths::none();
+    widths_at(tree, from.at, frame.width, &mut widths);
     let mut at = from.at;
     while let Some(solid) = next_solid(tree, faces, at, frame.width, &mut widths, steps) {
         at = solid.end;

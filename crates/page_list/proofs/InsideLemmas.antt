@@ -1,5 +1,5 @@
 -- What a page places by a point that fits ends inside its frame, above its notes.
-use Rattle.std.proofs.Common.{◌≡◌, ◌≤◌, ◌+◌, ◌<◌, ℕ, zero, suc, Bool, true, false, ℤ, pos, ◌≤ℤ◌, ◌+ℤ◌, ◌-ℤ◌, All, List, [], ◌∷◌, Option, Some, length, take, slice_get, refl, sym, ap, ◌∙◌, subst, arith, add-zero, ◌⊎◌, ⊎_elim}
+use Rattle.std.proofs.Common.{◌≡◌, ◌≤◌, ◌+◌, ◌<◌, ℕ, zero, suc, Bool, true, false, ℤ, pos, ◌≤ℤ◌, ◌+ℤ◌, ◌-ℤ◌, All, List, [], ◌∷◌, Option, Some, length, take, slice_get, refl, sym, ap, ◌∙◌, subst, arith, add-zero, ⊎_elim}
 use Rattle.std.specs.Option.{option_map}
 use Rattle.std.proofs.lemmas.Bool.{cases_lt}
 use Rattle.std.proofs.lemmas.Int.{ints, clamps}

@@ -1,5 +1,5 @@
 -- The one page list of a flow, as steps from a state to the next (css-break-3, 4; css-page-3, 3; css-gcpm-3, 2).
-use Rattle.std.specs.Prelude.{◌≡◌, ℕ, suc, pos, ◌+◌, ◌≤◌, List, [], ◌∷◌, ◌++◌, Option, Some, None, Bool, true, false, length, map}
+use Rattle.std.specs.Prelude.{◌≡◌, ℕ, suc, pos, ◌+◌, ◌≤◌, List, [], ◌∷◌, ◌++◌, Option, Some, None, Bool, true, false, length}
 use Rattle.std.specs.List.{All}
 use Rattle.bk_num.specs.declared.ids.NameId.{NameId}
 use Rattle.metrics.specs.Face.{FontFace}

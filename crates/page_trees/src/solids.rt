@@ -14,6 +14,7 @@ use metrics::{Faces, read_metrics};
 use page_cut::next_cut::next_cut;
 use page_list::cut::CutFrom;
 use seams::seam::widths_at;
+use seams::widths::Widths;
 use std::alloc::{AllocError, Global};
 use std::marker::Brand;
 use std::sync::ledger::{Blank, Ledger};
@@ -70,7 +71,8 @@ fn are_rows<L: Ledger>(
     if !tree.holds(from) {
         return false;
     }
-    let mut widths = widths_at(tree, from, 5120);
+    let mut widths = Widths::none();
+    widths_at(tree, from, 5120, &mut widths);
     let head = match next_solid(tree, faces, from, 5120, &mut widths, &mut steps) {
         None => rows.is_empty(),
         Some(solid) => !rows.is_empty() && is_row(&solid, &rows[0]),

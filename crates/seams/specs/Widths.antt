@@ -1,5 +1,5 @@
 -- The content widths of the boxes that are open at a place (CSS 2.1, 10.3.3).
-use Rattle.std.specs.Prelude.{◌≡◌, ℕ, suc, ◌*◌, ◌+◌, ◌≤◌, ◌^◌, ◌==◌, ℤ, pos, ◌≤ℤ◌, List, [], ◌∷◌, ◌++◌, Some, slice_get, if◌then◌else◌}
+use Rattle.std.specs.Prelude.{◌≡◌, ℕ, suc, ◌*◌, ◌+◌, ◌^◌, ◌==◌, ℤ, pos, ◌≤ℤ◌, List, [], ◌∷◌, ◌++◌, Some, slice_get, if◌then◌else◌}
 use Rattle.boxes.specs.Tree.{Tree, open_before}
 use Rattle.boxes.specs.declared.place.Position.{Position}
 use Rattle.seams.specs.Runs.{width_in, solid_after, run_start, run_end}

@@ -34,7 +34,8 @@ impl Model for Widths {
 
 impl Widths {
     /// No box is open.
-    fn none() -> Widths
+    #[inline]
+    pub fn none() -> Widths
         ensures { result ≡ [] }
     {
         Widths {
@@ -126,6 +127,13 @@ impl Widths {
         }
     }
 
+    /// Closes all boxes.
+    fn close_all(&mut self)
+        ensures { self.new ≡ [] }
+    {
+        self.count = 0;
+    }
+
     /// Opens boxes, each inside the next one.
     fn open_all(&mut self, tree: &BoxTree, chain: &[u32], measure: i64)
         requires none { self.old ≡ [] }
@@ -142,21 +150,21 @@ impl Widths {
         }
     }
 
-    /// The widths of the boxes that are open before an event, or at the end: a walk over these boxes.
-    pub(crate) fn before(tree: &BoxTree, event: u32, measure: i64) -> Widths
+    /// Goes to an event, or to the end: the widths become those of the boxes that are open before it. It is a walk over
+    /// these boxes.
+    pub(crate) fn move_to(&mut self, tree: &BoxTree, event: u32, measure: i64)
         requires within { event ≤ length tree.now.events }
         requires depth { depth_of tree.now.events ≤ most_open }
         requires measure_low { pos 0 ≤ℤ measure }
         requires measure_high { measure ≤ℤ pos (2 ^ 30) }
-        ensures { result ≡ widths_of tree.now measure (open_before tree.now.events event) }
+        ensures { self.new ≡ widths_of tree.now measure (open_before tree.now.events event) }
     {
         let _count = tree.count();
-        let mut widths = Widths::none();
+        self.close_all();
         if let Some(index) = tree.around(event) {
             let mut chain = [0; MOST_OPEN as usize];
             let count = write_chain(tree, index, &mut chain);
-            widths.open_all(tree, &chain[..count], measure);
+            self.open_all(tree, &chain[..count], measure);
         }
-        widths
     }
 }

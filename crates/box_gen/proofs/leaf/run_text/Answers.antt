@@ -1,4 +1,4 @@
-use Rattle.std.proofs.Common.{◌≡◌, ◌∙◌, ℕ, List, length, refl, ap, sym, subst, arith}
+use Rattle.std.proofs.Common.{◌≡◌, ◌∙◌, ℕ, List, length, ap, sym, subst, arith}
 use Rattle.std.specs.List.{All}
 use Rattle.boxes.specs.Contents.{IsGoodSpan}
 use Rattle.inline_text.specs.Space.{collapsed}
@@ -20,7 +20,7 @@ returns-in-Ok-joined_run-clause-good c =
     let marks : c.deref-2.result.now ≡ marks_in c.args.items.items = c.deref-2.ensures.value ∙ c.in-Ok.ensures.marks in
     let text : c.in-Ok-joined_run.run'.text ≡ joined (printed_in c.args.items.items) = c.in-Ok-joined_run.ensures.text ∙ ap joined texts in
     let spans : c.in-Ok-joined_run.run'.spans ≡ spans_from 0 (styles_in (marks_in c.args.items.items)) (printed_in c.args.items.items) = c.in-Ok-joined_run.ensures.spans ∙ ap (λ l. spans_from 0 (styles_in l) c.as_slice-2.result.now) marks ∙ ap (spans_from 0 (styles_in (marks_in c.args.items.items))) texts in
-    good_run c.args.items.items c.in-Ok-joined_run.run' text spans (subst AreTexts one (c.if-not-fits.ensures.utf8 refl)) (let fit = c.if-not-fits.ensures.fits in let most = c.requires in let a = ap (λ (l : List (List ℕ)). length (joined l)) one in let b = ap (λ (l : List ℕ). length l) text in omega (arith, fit, most, a, b))
+    good_run c.args.items.items c.in-Ok-joined_run.run' text spans (subst AreTexts one c.in-Some.ensures.utf8) (let fit = c.in-Some.ensures.len in let few = c.in-Some.ensures.few in let most = c.requires in let a = ap (λ (l : List (List ℕ)). length (joined l)) one in let b = ap (λ (l : List ℕ). length l) text in omega (arith, fit, few, most, a, b))
 
 pub returns-in-Ok-joined_run-clause-sizes : goal.returns-in-Ok-joined_run-clause-sizes
 returns-in-Ok-joined_run-clause-sizes c = λ good.

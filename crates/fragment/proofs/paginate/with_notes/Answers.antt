@@ -6,12 +6,11 @@ use Rattle.boxes.specs.declared.frames.Frame.{Frame}
 use Rattle.boxes.specs.declared.frames.PageKind.TheVariants as kind
 use Rattle.note_list.specs.declared.carried.Carried.{Carried}
 use Rattle.page_list.specs.Cuts.{IsNotesCut}
-use Rattle.page_list.specs.Pages.{IsPaged, IsStep, HaveNearTops, notes_page, notes_page_of, after_notes, has_some}
+use Rattle.page_list.specs.Pages.{IsPaged, IsStep, HaveNearTops, notes_page, after_notes, has_some}
 use Rattle.page_list.specs.Pages.IsStep.{noted}
 use Rattle.fragment.specs.Runs.{Leads}
 use Rattle.fragment.proofs.RunLemmas.{leaves_some, run_ends, run_step, some_left, has_none, has_one, notes_frame}
 use Rattle.fragment.proofs.NearLemmas.{near_more}
-use Rattle.fragment.proofs.paginate.with_notes.Given as given
 use Rattle.fragment.proofs.paginate.with_notes.Goals as goal
 
 pub loop-turn-init : goal.loop-turn-init

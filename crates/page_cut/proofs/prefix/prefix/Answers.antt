@@ -114,7 +114,7 @@ loop-solid-init g c =
     let read = c.requires.read.1 in
     record {
       holds = c.requires.holds;
-      widths = c.widths_at-widths.ensures ∙ ap (λ (w : ℤ). widths_at c.args.flow.now.main w c.args.from.at) (let wide : SFits w64 c.args.frame.width = search rules in to_z-of_z w64 c.args.frame.width wide);
+      widths = c.widths_at.ensures ∙ ap (λ (w : ℤ). widths_at c.args.flow.now.main w c.args.from.at) (let wide : SFits w64 c.args.frame.width = search rules in to_z-of_z w64 c.args.frame.width wide);
       goes = λ rest r. rw none r;
       small = rw none (λ k d h. absurd (omega arith));
       placed = rw none (λ k d h. absurd (omega arith));

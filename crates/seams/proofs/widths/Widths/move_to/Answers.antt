@@ -5,7 +5,7 @@ use Rattle.boxes.specs.Tree.{Tree, open_before}
 use Rattle.boxes.proofs.SpanLemmas.{chain_boxes}
 use Rattle.boxes.proofs.TreeFacts.{around_there, around_opened, opens_once}
 use Rattle.seams.specs.Widths.{widths_of}
-use Rattle.seams.proofs.widths.Widths.before.Goals as goal
+use Rattle.seams.proofs.widths.Widths.move_to.Goals as goal
 
 pub write_chain-count-requires-clause-number : goal.write_chain-count-requires-clause-number
 write_chain-count-requires-clause-number c = around_there c.args.tree.now c.count-count.ensures.tree c.args.event c.in-Some.index c.requires.within (sym c.in-Some.ensures)

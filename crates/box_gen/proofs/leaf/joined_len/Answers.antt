@@ -3,7 +3,7 @@ use Rattle.std.specs.Str.{IsUtf8}
 use Rattle.box_gen.specs.Runs.{joined}
 use Rattle.box_gen.proofs.TextLemmas.{drop_step, text-is}
 use Rattle.box_gen.proofs.LeafLemmas.{are_texts}
-use Rattle.box_gen.proofs.leaf.fits.Goals as goal
+use Rattle.box_gen.proofs.leaf.joined_len.Goals as goal
 
 pub loop-text-preserved : goal.loop-text-preserved
 loop-text-preserved c =
@@ -24,4 +24,4 @@ loop-text-preserved c =
     }
 
 pub returns-clause-utf8 : goal.returns-clause-utf8
-returns-clause-utf8 c = λ e. are_texts c.args.texts.now (λ k h. c.loop-text.invariant.utf8 k (omega (arith, h)))
+returns-clause-utf8 c = are_texts c.args.texts.now (λ k h. c.loop-text.invariant.utf8 k (omega (arith, h)))

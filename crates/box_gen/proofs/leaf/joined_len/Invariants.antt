@@ -1,7 +1,7 @@
 use Rattle.std.proofs.Common.{◌≡◌, ◌≤◌, ◌<◌, ◌+◌, ℕ, [], drop, get_or, length}
 use Rattle.std.specs.Str.{IsUtf8}
 use Rattle.box_gen.specs.Runs.{joined}
-use Rattle.box_gen.proofs.leaf.fits.Given as goal
+use Rattle.box_gen.proofs.leaf.joined_len.Given as goal
 
 abbrev pub invariant-loop-text : goal.invariant-loop-text
 invariant-loop-text l = record {
