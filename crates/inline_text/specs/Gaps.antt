@@ -1,11 +1,15 @@
 -- What the pass over the characters keeps.
-use Rattle.std.specs.Prelude.{ℕ, ◌<◌, true, false, List, [], ◌∷◌, map, string_bytes, Vec, String}
+use Rattle.std.specs.Prelude.{ℕ, ◌<◌, ◌==◌, ◌||◌, Bool, true, false, List, [], ◌∷◌, map, string_bytes, Vec, String}
 use Rattle.std.specs.Global.{Global}
 use Rattle.inline_text.specs.Space.{Char, mark, trimmed, squeezed, appended, spelled}
 use Rattle.inline_text.specs.declared.space.Class.{Class}
 use Rattle.inline_text.specs.declared.space.Class.TheVariants.{Blank, SoftBreak, HardBreak, Tab, Plain}
 use Rattle.inline_text.specs.declared.space.Gap.{Gap}
 use Rattle.inline_text.specs.declared.space.Gap.TheVariants.{Spaced, Pending, Open}
+
+-- whether a byte is a space, a tab or a newline
+abbrev pub is_white : ℕ → Bool
+is_white b = b == 32 || b == 9 || b == 10
 
 abbrev pub texts_of : Vec (String Global) Global → List (List ℕ)
 texts_of v = map (λ t. string_bytes t) v.items

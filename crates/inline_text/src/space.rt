@@ -1,10 +1,10 @@
 //! White space over the parts of a leaf (CSS 2.1, 16.6.1).
 
-ghost use Rattle.std.specs.Prelude.{◌≡◌, ◌<◌, ◌++◌, [], List, length, map, IfOk, OnOk, vec_len};
+ghost use Rattle.std.specs.Prelude.{◌≡◌, ◌<◌, ◌≤◌, ◌++◌, [], ℕ, List, false, true, length, map, IfOk, OnOk, slice_index, vec_len};
 ghost use Rattle.std.specs.Char.{encode_utf8};
 ghost use Rattle.inline_text.specs.Space.{Char, class_of, chars_of_part, appended, placed, collapsed};
 ghost use Rattle.inline_text.specs.Space as spec;
-ghost use Rattle.inline_text.specs.Gaps.{IsWithin, left_from, next_gap, settled, put_of, texts_of};
+ghost use Rattle.inline_text.specs.Gaps.{IsWithin, is_white, left_from, next_gap, settled, put_of, texts_of};
 
 use bk_num::items::Items;
 use bk_num::name::{Name, NoMem};
@@ -149,6 +149,40 @@ fn put(texts: &mut Vec<String>, gap: Gap, class: Class, c: char, part: usize) ->
     }
 }
 
+/// Whether a byte is a space, a tab or a newline.
+fn is_white(byte: u8) -> bool
+    ensures { result ≡ is_white byte }
+{
+    byte == b' ' || byte == b'\t' || byte == b'\n'
+}
+
+/// Where the word ends that begins at an offset: at the next white space, or at the end.
+fn word_end(bytes: &[u8], from: usize) -> usize
+    requires { from < length bytes.now }
+    ensures start { from ≤ result }
+    ensures end { result ≤ length bytes.now }
+    ensures word { (k : ℕ) → from ≤ k → k < result → is_white (slice_index bytes.now k) ≡ false }
+    ensures white { result < length bytes.now → is_white (slice_index bytes.now result) ≡ true }
+{
+    for at in from..bytes.len() {
+        if is_white(bytes[at]) {
+            return at;
+        }
+    }
+    bytes.len()
+}
+
+/// Puts a word whole: none of its characters changes or goes.
+fn put_word(texts: &mut Vec<String>, gap: Gap, word: &str, part: usize) -> Result<(), NoMem>
+    requires gap { IsWithin gap (vec_len texts.old) }
+    requires part { part < vec_len texts.old }
+    ensures texts { OnOk result (texts_of texts.new ≡ appended (settled (texts_of texts.old) gap) part word.now) }
+    ensures len { vec_len texts.new ≡ vec_len texts.old }
+{
+    settle(texts, gap)?;
+    append_str(texts, part, word)
+}
+
 /// Passes a part, and answers what stands before the next one.
 fn pass_part(texts: &mut Vec<String>, gap: Gap, part: &TextPart, index: usize) -> Result<Gap, NoMem>
     requires gap { IsWithin gap (vec_len texts.old) }
@@ -159,23 +193,36 @@ fn pass_part(texts: &mut Vec<String>, gap: Gap, part: &TextPart, index: usize) -
     ensures within { IfOk result (λ g. IsWithin g (vec_len texts.new)) }
     ensures len { vec_len texts.new ≡ vec_len texts.old }
 {
+    let text = part.text.as_str();
+    let bytes = text.as_bytes();
     let mut gap = gap;
-    for c in part.text.as_str().chars() {
-        let class = class_of(c, part.space);
-        put(texts, gap, class, c, index)?;
-        gap = next_gap(gap, class, index);
+    let mut at = 0;
+    while at < bytes.len() {
+        let to = word_end(bytes, at);
+        if at < to {
+            put_word(texts, gap, &text[at..to], index)?;
+            gap = Gap::Open;
+            at = to;
+        } else {
+            let c = bytes[at] as char;
+            let class = class_of(c, part.space);
+            put(texts, gap, class, c, index)?;
+            gap = next_gap(gap, class, index);
+            at += 1;
+        }
     }
     Ok(gap)
 }
 
-/// As many empty texts as there are parts.
+/// As many empty texts as there are parts, each with room for its part.
 fn empty_texts(alloc: Global, parts: &[TextPart]) -> Result<Vec<String>, NoMem>
     ensures texts { IfOk result (λ v. texts_of v ≡ map (λ p. []) parts.now) }
     ensures len { IfOk result (λ v. vec_len v ≡ length parts.now) }
 {
     let mut texts = Vec::new(alloc);
-    for _part in parts {
-        texts.push(String::new(alloc))?;
+    for part in parts {
+        let room = part.text.as_str().len();
+        texts.push(String::with_capacity(alloc, room)?)?;
     }
     Ok(texts)
 }

@@ -18,7 +18,7 @@ loop-at-init c =
       finite = tt;
       utf8 = subst IsUtf8 (sym rest) c.utf8.text;
       end = omega (arith, size, offset);
-      goes = ap (λ (l : List ℕ). l ++ places_after c.args.spans.now 0 (char_indices_offset c.into_iter-at-iterator.result) (chars (char_indices_rest c.into_iter-at-iterator.result))) c.new-places.ensures
+      goes = ap (λ (l : List ℕ). l ++ places_after c.args.spans.now 0 (char_indices_offset c.into_iter-at-iterator.result) (chars (char_indices_rest c.into_iter-at-iterator.result))) (c.of-places.ensures ∙ c.in_ok-with_capacity.ensures.items)
           ∙ ap₂ (λ (n : ℕ) (l : List ℕ). places_after c.args.spans.now 0 n (chars l)) offset rest ∙ places_start c.args.text.now c.args.spans.now;
     }
 

@@ -1,43 +1,80 @@
-use Rattle.std.proofs.Common.{◌≡◌, ◌∙◌, ◌++◌, ◌∷◌, [], ◌<◌, List, ℕ, None, slice_get, refl, ap, sym, subst, arith, vec_len}
-use Rattle.std.specs.Str.{chars}
-use Rattle.std.specs.Char.{encode_utf8}
-use Rattle.std.specs.Str.Iter.{chars_rest}
-use Rattle.std.proofs.lemmas.Str.{IsUtf8-past_char, chars_past_char}
-use Rattle.inline_text.specs.Space.{Char, class_of, marked, placed}
-use Rattle.inline_text.specs.Gaps.{IsWithin, left_from, next_gap, put_of, texts_of}
+use Rattle.std.proofs.Common.{◌≡◌, ◌∙◌, ◌+◌, ◌++◌, ◌<◌, ◌≤◌, List, ℕ, true, false, get_or, length, drop, refl, ap, ap₂, sym, subst, arith, vec_len}
+use Rattle.std.specs.List.{slice_range}
+use Rattle.std.specs.Str.{chars, IsCharBoundary}
+use Rattle.std.proofs.lemmas.List.{drop_all}
+use Rattle.std.proofs.lemmas.Str.{IsCharBoundary-start, chars-nil}
+use Rattle.inline_text.specs.Space.{Char, appended, class_of, marked, placed}
+use Rattle.inline_text.specs.Gaps.{IsWithin, is_white, left_from, next_gap, put_of, settled, texts_of}
 use Rattle.inline_text.specs.declared.space.Class.{Class}
 use Rattle.inline_text.specs.declared.space.Gap.{Gap}
-use Rattle.inline_text.proofs.GapLemmas.{goes, within-next}
+use Rattle.inline_text.specs.declared.space.Gap.TheVariants.{Open}
+use Rattle.inline_text.proofs.GapLemmas.{within-next}
+use Rattle.inline_text.proofs.WordLemmas.{white_goes, past_white, word_boundary, word_goes}
 use Rattle.inline_text.proofs.space.pass_part.Goals as goal
 
-pub loop-c-preserved : goal.loop-c-preserved
-loop-c-preserved c =
-    let inv = c.loop-c.invariant in
-    let next : chars_rest c.loop-c.c-iterator ≡ encode_utf8 c.in-Some.c ++ chars_rest c.next.new.self = c.in-Some.ensures.steps.0 in
-    let spell : chars (chars_rest c.loop-c.c-iterator) ≡ c.in-Some.c ∷ chars (chars_rest c.next.new.self) = chars_past_char (chars_rest c.loop-c.c-iterator) (chars_rest c.next.new.self) c.in-Some.c inv.utf8 next in
+pub loop-at-init : goal.loop-at-init
+loop-at-init c = record {
+  boundary = IsCharBoundary-start c.as_str-text.result.now c.as_str-text.utf8;
+  within = c.requires.gap;
+  len = refl;
+  goes = λ rest. sym (ap (λ (t : List ℕ). placed (texts_of c.args.texts.now) (left_from c.args.gap (marked c.args.part.now.space c.args.index (chars t) ++ rest))) c.as_str-text.ensures);
+}
+
+pub loop-at-preserved-then-at-to : goal.loop-at-preserved-then-at-to
+loop-at-preserved-then-at-to c =
+    let inv = c.loop-at.invariant in
+    let text : List ℕ = c.as_str-text.result.now in
+    let same : c.as_bytes-bytes.result.now ≡ text = c.as_bytes-bytes.ensures.value in
+    let at : ℕ = c.loop-at.at in
+    let to : ℕ = c.word_end-to.result in
     let s = c.args.part.now.space in
-    let k = c.args.index in
-    let class : Class = class_of c.in-Some.c s in
-    let puts : texts_of c.put.new.texts ≡ put_of (texts_of c.loop-c.texts) c.loop-c.gap class c.in-Some.c k = c.in_ok-put.ensures.texts ∙ ap (λ (q : Class). put_of (texts_of c.loop-c.texts) c.loop-c.gap q c.in-Some.c k) c.class_of-class.ensures in
-    let gaps : c.next_gap-gap.result ≡ next_gap c.loop-c.gap class k = c.next_gap-gap.ensures ∙ ap (λ (q : Class). next_gap c.loop-c.gap q k) c.class_of-class.ensures in
-    let size : vec_len c.put.new.texts ≡ vec_len c.loop-c.texts = c.in_ok-put.ensures.len in
-    let index : k < vec_len c.put.new.texts = omega (arith, size, inv.len, c.requires.index) in
+    let k : ℕ = c.args.index in
+    let plain : (j : ℕ) → at ≤ j → j < to → is_white (get_or text j 0) ≡ false = subst (λ (l : List ℕ). (j : ℕ) → at ≤ j → j < to → is_white (get_or l j 0) ≡ false) same c.word_end-to.ensures.word in
+    let inside : to ≤ length text = subst (λ (l : List ℕ). to ≤ length l) same c.word_end-to.ensures.end in
+    let stop : to < length text → is_white (get_or text to 0) ≡ true = subst (λ (l : List ℕ). to < length l → is_white (get_or l to 0) ≡ true) same c.word_end-to.ensures.white in
+    let boundary : IsCharBoundary text to = word_boundary text to inside stop in
+    let puts : texts_of c.put_word.new.texts ≡ appended (settled (texts_of c.loop-at.texts) c.loop-at.gap) k (slice_range text at to) = c.in_ok-put_word.ensures.texts ∙ ap (λ (w : List ℕ). appended (settled (texts_of c.loop-at.texts) c.loop-at.gap) k w) c.range.ensures.value in
     record {
-      can = tt;
-      finite = tt;
-      utf8 = IsUtf8-past_char (chars_rest c.loop-c.c-iterator) (chars_rest c.next.new.self) c.in-Some.c inv.utf8 next;
-      within = subst (λ (g : Gap). IsWithin g (vec_len c.put.new.texts)) (sym gaps) (within-next c.loop-c.gap class k (vec_len c.put.new.texts) (subst (λ (n : ℕ). IsWithin c.loop-c.gap n) (sym size) inv.within) index);
-      len = size ∙ inv.len;
+      boundary = boundary;
+      within = tt;
+      len = c.in_ok-put_word.ensures.len ∙ inv.len;
       goes = λ rest.
-          let cs : List Char = marked s k (chars (chars_rest c.next.new.self)) ++ rest in
-          inv.goes rest ∙ ap (λ (l : List ℕ). placed (texts_of c.loop-c.texts) (left_from c.loop-c.gap (marked s k l ++ rest))) spell ∙ goes (texts_of c.loop-c.texts) c.loop-c.gap class c.in-Some.c k cs
-          ∙ ap (λ (t : List (List ℕ)). placed t (left_from (next_gap c.loop-c.gap class k) cs)) (sym puts) ∙ ap (λ (g : Gap). placed (texts_of c.put.new.texts) (left_from g cs)) (sym gaps);
+          inv.goes rest
+          ∙ word_goes (texts_of c.loop-at.texts) c.loop-at.gap s k text at to rest c.as_str-text.utf8 inv.boundary boundary c.if-at-to.true plain
+          ∙ ap (λ (t : List (List ℕ)). placed t (left_from Open (marked s k (chars (drop to text)) ++ rest))) (sym puts);
     }
 
-none_first : (xs : List ℕ) → None ≡ slice_get xs 0 → xs ≡ []
-none_first [] h = refl
-none_first (x ∷ xs) h = absurd (cc)
+pub loop-at-preserved : goal.loop-at-preserved
+loop-at-preserved c =
+    let inv = c.loop-at.invariant in
+    let text : List ℕ = c.as_str-text.result.now in
+    let same : c.as_bytes-bytes.result.now ≡ text = c.as_bytes-bytes.ensures.value in
+    let at : ℕ = c.loop-at.at in
+    let s = c.args.part.now.space in
+    let k : ℕ = c.args.index in
+    let x : ℕ = get_or text at 0 in
+    let inside : at < length text = subst (λ (l : List ℕ). at < length l) same c.loop-at-test.true in
+    let start = c.word_end-to.ensures.start in
+    let here : c.word_end-to.result ≡ at = omega (arith, start, c.if-at-to.false) in
+    let stop : at < length c.as_bytes-bytes.result.now → is_white (get_or c.as_bytes-bytes.result.now at 0) ≡ true = subst (λ (n : ℕ). n < length c.as_bytes-bytes.result.now → is_white (get_or c.as_bytes-bytes.result.now n 0) ≡ true) here c.word_end-to.ensures.white in
+    let white : is_white x ≡ true = subst (λ (l : List ℕ). is_white (get_or l at 0) ≡ true) same (stop c.loop-at-test.true) in
+    let byte : get_or c.as_bytes-bytes.result.now at 0 ≡ x = ap (λ (l : List ℕ). get_or l at 0) same in
+    let class : c.class_of-class.result ≡ class_of x s = c.class_of-class.ensures ∙ ap (λ (b : ℕ). class_of b s) byte in
+    let puts : texts_of c.put.new.texts ≡ put_of (texts_of c.loop-at.texts) c.loop-at.gap (class_of x s) x k = c.in_ok-put.ensures.texts ∙ ap₂ (λ (q : Class) (b : ℕ). put_of (texts_of c.loop-at.texts) c.loop-at.gap q b k) class byte in
+    let gaps : c.next_gap-gap.result ≡ next_gap c.loop-at.gap (class_of x s) k = c.next_gap-gap.ensures ∙ ap (λ (q : Class). next_gap c.loop-at.gap q k) class in
+    let size : vec_len c.put.new.texts ≡ vec_len c.loop-at.texts = c.in_ok-put.ensures.len in
+    let index : k < vec_len c.put.new.texts = omega (arith, size, inv.len, c.requires.index) in
+    record {
+      boundary = past_white text at c.as_str-text.utf8 inside white;
+      within = subst (λ (g : Gap). IsWithin g (vec_len c.put.new.texts)) (sym gaps) (within-next c.loop-at.gap (class_of x s) k (vec_len c.put.new.texts) (subst (λ (n : ℕ). IsWithin c.loop-at.gap n) (sym size) inv.within) index);
+      len = size ∙ inv.len;
+      goes = λ rest.
+          let cs : List Char = marked s k (chars (drop (at + 1) text)) ++ rest in
+          inv.goes rest ∙ white_goes (texts_of c.loop-at.texts) c.loop-at.gap s k text at rest c.as_str-text.utf8 inv.boundary inside white
+          ∙ ap₂ (λ (t : List (List ℕ)) (g : Gap). placed t (left_from g cs)) (sym puts) (sym gaps);
+    }
 
 pub returns-clause-goes : goal.returns-clause-goes
 returns-clause-goes c = λ rest.
-    c.loop-c.invariant.goes rest ∙ ap (λ (l : List ℕ). placed (texts_of c.loop-c.texts) (left_from c.loop-c.gap (marked c.args.part.now.space c.args.index l ++ rest))) (none_first (chars (chars_rest c.loop-c.c-iterator)) c.in-None.ensures.steps.2)
+    c.loop-at.invariant.goes rest ∙ ap (λ (l : List ℕ). placed (texts_of c.loop-at.texts) (left_from c.loop-at.gap (marked c.args.part.now.space c.args.index l ++ rest)))
+    (ap chars (drop_all c.loop-at.at c.as_str-text.result.now (omega (arith, c.loop-at-test.false, c.as_bytes-bytes.ensures.len))) ∙ chars-nil)
