@@ -1,10 +1,11 @@
 //! The cut of the next page.
 
-ghost use Rattle.std.specs.Prelude.{IfOk, All};
+ghost use Rattle.std.specs.Prelude.{IfOk, All, ◌≤◌};
 ghost use Rattle.boxes.specs.Frames.{IsGoodFrame};
 ghost use Rattle.boxes.specs.Tree.{Holds};
 ghost use Rattle.note_list.specs.Conditions.{AreCarried, CanBePaged, IsAtSolid};
 ghost use Rattle.page_list.specs.Cuts.{IsFlowCut};
+ghost use Rattle.page_list.specs.Inside.{AreInside};
 ghost use Rattle.page_list.specs.Pages.{AreNear};
 
 use crate::cut_solids::{cut_end, cut_solids};
@@ -22,7 +23,8 @@ use std::alloc::Global;
 use std::sync::ledger::Ledger;
 
 /// The cut of the next page of a flow, whose page has a frame and has to place what is carried to it: where it ends, at
-/// which level, what it places, with tops within 2^60 units and heights from 0 to 2^32, and what it carries on.
+/// which level, what it places, with tops within 2^60 units and heights from 0 to 2^32, and what it carries on. At levels 0
+/// to 2 each solid ends inside the frame, above the notes.
 pub fn next_cut<L: Ledger>(
     alloc: Global,
     flow: &Flow,
@@ -41,6 +43,7 @@ pub fn next_cut<L: Ledger>(
     ensures carried { IfOk result (λ cut. AreCarried flow.now cut.to cut.carried) }
     ensures stands { IfOk result (λ cut. All (IsAtSolid flow.now.notes) cut.carried) }
     ensures near { IfOk result (λ cut. AreNear cut.solids cut.notes) }
+    ensures inside { IfOk result (λ cut. cut.level ≤ 2 → AreInside frame.height cut.notes cut.solids) }
 {
     let mut notes = PageNotes::start(alloc, flow, faces, from.at, carried, frame, steps)?;
     let called = notes.called;

@@ -23,6 +23,7 @@ use Rattle.note_list.specs.Lists.{rows_of as note_rows}
 use Rattle.page_list.specs.Cuts.{place_after, rows_of}
 use Rattle.page_cut.specs.CutsAt.{CutsAt}
 use Rattle.page_cut.specs.Reads.{AreRead, IsPagePrefix, called_by, called_in}
+use Rattle.page_list.proofs.InsideLemmas.{flow_inside}
 use Rattle.page_cut.proofs.CutLemmas.{called_low, end_cut, flow_cut, none_left, room_is}
 use Rattle.page_cut.proofs.FlowLemmas.{prefix_between, prefix_few}
 use Rattle.page_cut.proofs.PlaceLemmas.{before_most, by_all}
@@ -121,6 +122,9 @@ returns-then-is_empty-clause-cut g c =
     (subst (λ (n : ℕ). CutsAt c.args.flow.now c.args.from.kept c.args.frame.height c.args.carried.now n (λ list. AreTold c.args.frame.height list c.take.new.self.list.own 0 (area_after c.take.new.self.areas.items (length c.take.new.self.areas.items)) (room g d)) c.take.new.self.list [] cut) first
     (subst (λ (z : ℤ). CutsAt c.args.flow.now c.args.from.kept z c.args.carried.now c.in_ok-notes.notes.called (λ list. AreTold z list c.take.new.self.list.own 0 (area_after c.take.new.self.areas.items (length c.take.new.self.areas.items)) (room g d)) c.take.new.self.list [] cut) (to_z-of_z w64 c.args.frame.height tall) is))) c.cut_end.ensures.cut
 
+pub returns-then-is_empty-clause-inside : goal.returns-then-is_empty-clause-inside
+returns-then-is_empty-clause-inside g c = if_ok _ _ c.cut_end.result (λ cut is. flow_inside c.args.faces.now c.args.flow.now c.args.frame c.args.from c.args.carried.now cut is) (returns-then-is_empty-clause-cut g c)
+
 -- ---- where some are read
 pub cut_solids-requires-clause-few : goal.cut_solids-requires-clause-few
 cut_solids-requires-clause-few g c =
@@ -178,3 +182,6 @@ returns-clause-cut g c =
     (subst (λ (n : ℕ). CutsAt c.args.flow.now c.args.from.kept c.args.frame.height c.args.carried.now c.in_ok-notes.notes.called (λ list. AreAreas c.args.frame.height list own n areas (room g d)) c.prefix.new.notes.list views cut) (sym size)
     (subst (λ (xs : List Solid). CutsAt c.args.flow.now c.args.from.kept c.args.frame.height c.args.carried.now c.in_ok-notes.notes.called (λ list. AreAreas c.args.frame.height list own (length xs) areas (room g d)) c.prefix.new.notes.list (map solid_view xs) cut) c.as_slice.ensures.value
     (subst (λ (z : ℤ). CutsAt c.args.flow.now c.args.from.kept z c.args.carried.now c.in_ok-notes.notes.called (λ list. AreAreas z list own (length c.as_slice.result.now) areas (room g d)) c.prefix.new.notes.list (map solid_view c.as_slice.result.now) cut) (to_z-of_z w64 c.args.frame.height tall) is))))) c.cut_solids.ensures.cut
+
+pub returns-clause-inside : goal.returns-clause-inside
+returns-clause-inside g c = if_ok _ _ c.cut_solids.result (λ cut is. flow_inside c.args.faces.now c.args.flow.now c.args.frame c.args.from c.args.carried.now cut is) (returns-clause-cut g c)
