@@ -1,10 +1,11 @@
 #!/usr/bin/env python3
-"""Prints how long the built programs take to read style sheets and selectors, per megabyte and as a ratio to a plain scan for
+"""Prints how long the built program takes to read style sheets and selectors, per megabyte and as a ratio to a plain scan for
 one byte, and to match selectors: milliseconds, and how many times those of a tenth of the document.
 
-Words: further sheets to read. Sheets are read by `bookfmt`, with an empty document; selectors by `match_bench`. Where the
-environment names a program of the same command line as `OTHER`, which prints how long its styles take, matching is compared with it
-(`BOOKFMT_TIMES=1` asks for the times)."""
+Words: further sheets to read. Sheets, and selectors as those of rules without declarations, are read by `bookfmt` with an empty
+document. Matching is the time of a whole run with such rules, less that of a run without them. Where the environment names a program of
+the same command line as `OTHER`, which prints how long its styles take, matching is compared with it (`BOOKFMT_TIMES=1` asks for the
+times)."""
 import os
 import re
 import subprocess
@@ -14,7 +15,6 @@ import time
 
 TOP = os.path.dirname(os.path.dirname(os.path.abspath(__file__)))
 BOOKFMT = f"{TOP}/crates/bookfmt/out/bookfmt"
-MATCH = f"{TOP}/crates/match_bench/out/match_bench"
 OTHER = os.environ.get("OTHER")
 SIZE = 4_000_000
 
@@ -44,12 +44,12 @@ SHEETS = {
 }
 
 SELECTORS = {
-    "lists of selectors": b"\n".join([b"div p.note > a:not(.b)[c=d], #e li:nth-child(2n+1)::before"] * 60_000),
-    "a name of 16 MB": b"a" * 16_000_000,
-    "a million commas": b"a," * 1_000_000 + b"a",
-    "a million compounds": b"a " * 1_000_000,
-    "a million open brackets": b"[" * 1_000_000,
-    "a million pseudo-classes": b"a" + b":root" * 1_000_000,
+    "lists of selectors": [b"div p.note > a:not(.b)[c=d], #e li:nth-child(2n+1)::before"] * 20_000,
+    "a name of 16 MB": [b"a" * 16_000_000],
+    "a million commas": [b"a," * 1_000_000 + b"a"],
+    "a million compounds": [b"a " * 1_000_000],
+    "a million brackets": [b"[" * 500_000 + b"]" * 500_000],
+    "a million pseudo-classes": [b"a" + b":root" * 1_000_000],
 }
 
 def items(count):
@@ -114,6 +114,11 @@ def told(name, text, run):
 
 with tempfile.TemporaryDirectory() as work:
     open(f"{work}/html", "w").close()
+
+    def run():
+        words = [BOOKFMT, "format", f"{TOP}/examples/plain/metrics.txt", f"{work}/html", f"{work}/sheet"]
+        subprocess.run(words, stdout=subprocess.DEVNULL, stderr=subprocess.DEVNULL)
+
     sheets = dict(SHEETS)
     for path in sys.argv[1:]:
         with open(path, "rb") as it:
@@ -122,21 +127,25 @@ with tempfile.TemporaryDirectory() as work:
     for name, text in sheets.items():
         with open(f"{work}/sheet", "wb") as it:
             it.write(text)
-        words = [BOOKFMT, "format", f"{TOP}/examples/plain/metrics.txt", f"{work}/html", f"{work}/sheet"]
-        told(name, text, lambda: subprocess.run(words, stdout=subprocess.DEVNULL, stderr=subprocess.DEVNULL))
+        told(name, text, run)
 
-    def matched(html, selectors):
-        with open(f"{work}/input", "wb") as it:
-            it.write(b"\n".join([html.encode(), *selectors]))
-        with open(f"{work}/input", "rb") as it:
-            subprocess.run([MATCH], stdin=it, stdout=subprocess.DEVNULL, check=True)
+    def ruled(html, selectors):
+        with open(f"{work}/html", "w") as it:
+            it.write(html)
+        sheet = b"".join(one + b"{}\n" for one in selectors)
+        with open(f"{work}/sheet", "wb") as it:
+            it.write(sheet)
+        return sheet
 
-    for name, text in SELECTORS.items():
-        told(name, text, lambda: matched("", [text]))
+    for name, selectors in SELECTORS.items():
+        told(name, ruled("", selectors), run)
 
     def spent(form, count, selectors):
         html, lines = form(count), [one.encode() for one in (selectors(count) if callable(selectors) else selectors)]
-        return seconds(lambda: matched(html, lines)) - seconds(lambda: matched(html, []))
+        ruled(html, lines)
+        matched = seconds(run)
+        ruled(html, [])
+        return matched - seconds(run)
 
     def styles_of_other(html, selectors):
         with open(f"{work}/html", "w") as it:

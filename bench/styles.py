@@ -1,18 +1,14 @@
 #!/usr/bin/env python3
-"""Prints how long the built `style_bench` takes for the styles of a document by its sheet, the reading of both left out: milliseconds,
-and how many times those of a tenth of the input. Where the environment names a program with the command line of `bookfmt` as `OTHER`,
-which prints how long its styles take, the ratio to it is printed too (`BOOKFMT_TIMES=1` asks for the times)."""
+"""Prints how long the built `style_rows` takes for a question of the styles of a document by its sheet, the reading of both among it:
+milliseconds, and how many times those of a tenth of the input."""
 import os
-import re
 import subprocess
 import sys
 import tempfile
 import time
 
 TOP = os.path.dirname(os.path.dirname(os.path.abspath(__file__)))
-STYLE = f"{TOP}/crates/style_bench/out/style_bench"
-OTHER = os.environ.get("OTHER")
-TURNS = 3
+ROWS = f"{TOP}/crates/style_rows/out/style_rows"
 
 
 def paragraphs(count, inside=""):
@@ -24,7 +20,7 @@ def nested(count):
 
 
 def rules(count, block="color:#123456;margin-left:1em"):
-    return "".join(f".a{n}{{{block}}}\n" for n in range(count))
+    return "".join(f".a{n}{{{block}}} " for n in range(count))
 
 
 COLORS = "color:#123456;"
@@ -45,36 +41,17 @@ INPUTS = {
 }
 
 
-def spent(turns, path):
+def spent(work, html, sheet):
+    path = f"{work}/rows"
+    with open(path, "w") as it:
+        it.write(f"computed|{html}|{sheet}|1|font-size => 0\n")
     best = None
     for _ in range(3):
         with open(path, "rb") as it:
             begun = time.perf_counter()
-            subprocess.run([STYLE, str(turns)], stdin=it, stdout=subprocess.DEVNULL, check=True)
+            subprocess.run([ROWS], stdin=it, stdout=subprocess.DEVNULL, check=True)
             took = time.perf_counter() - begun
         best = took if best is None else min(best, took)
-    return best
-
-
-def styles(work, html, sheet):
-    path = f"{work}/input"
-    with open(path, "w") as it:
-        it.write(f"{html}\n{sheet}")
-    return max(1e-6, (spent(TURNS, path) - spent(0, path)) / TURNS)
-
-
-def styles_of_other(work, html, sheet):
-    for name, text in (("html", html), ("sheet", sheet)):
-        with open(f"{work}/{name}", "w") as it:
-            it.write(text)
-    words = [OTHER, "format", f"{TOP}/examples/plain/metrics.txt", f"{work}/html", f"{work}/sheet"]
-    best = None
-    for _ in range(3):
-        told = subprocess.run(words, stdout=subprocess.DEVNULL, stderr=subprocess.PIPE, env={**os.environ, "BOOKFMT_TIMES": "1"})
-        found = re.search(rb"styles:\s*([0-9.]+) ms", told.stderr)
-        if found:
-            took = float(found[1]) / 1000
-            best = took if best is None else min(best, took)
     return best
 
 
@@ -82,9 +59,5 @@ with tempfile.TemporaryDirectory() as work:
     for name, (form, count) in INPUTS.items():
         if not all(word in name for word in sys.argv[1:]):
             continue
-        less, more = styles(work, *form(count // 10)), styles(work, *form(count))
-        line = f"{name}: {1000 * more:.1f} ms, {more / less:.1f} times those of a tenth"
-        other = styles_of_other(work, *form(count)) if OTHER else None
-        if other:
-            line += f", {more / other:.2f} times the other program's"
-        print(line, flush=True)
+        less, more = spent(work, *form(count // 10)), spent(work, *form(count))
+        print(f"{name}: {1000 * more:.1f} ms, {more / less:.1f} times those of a tenth", flush=True)

@@ -11,5 +11,3 @@ pub mod sink;
 pub mod std_sink;
 pub mod still_shelf;
 pub mod still_sink;
-#[cfg(test)]
-mod tests;

@@ -103,33 +103,3 @@ impl Text {
         text
     }
 }
-
-#[cfg(test)]
-mod tests {
-    use super::{Items, Text};
-    use crate::name::NoMem;
-
-    fn listed(alloc: std::alloc::Global) -> Result<Items<u8>, NoMem> {
-        let mut list = Items::new(alloc);
-        list.push(3)?;
-        list.push(5)?;
-        Ok(list)
-    }
-
-    #[test]
-    fn lists_and_texts_give_back_what_they_hold(rt: HostRuntime) {
-        let Ok(list) = listed(rt.alloc()) else {
-            assert!(rt; false);
-            return;
-        };
-        assert!(rt; list.as_slice() == [3, 5].as_slice());
-        assert!(rt; Items::of(list.into_vec()).as_slice() == [3, 5].as_slice());
-        let Ok(zoe) = String::from_str(rt.alloc(), "Zoë") else {
-            assert!(rt; false);
-            return;
-        };
-        let text = Text::of(zoe);
-        assert!(rt; text.as_str() == "Zoë");
-        assert!(rt; text.into_string().as_str() == "Zoë");
-    }
-}

@@ -82,18 +82,3 @@ impl PartialEq for Name {
         self.as_str() == other.as_str()
     }
 }
-
-#[cfg(test)]
-mod tests {
-    use super::Name;
-
-    #[test]
-    fn a_name_keeps_its_text(rt: HostRuntime) {
-        let Ok(name) = Name::new(rt.alloc(), "Zoë") else {
-            assert!(rt; false);
-            return;
-        };
-        assert!(rt; name.as_str() == "Zoë");
-        assert!(rt; name.copy().is_ok_and(|copy| copy == name));
-    }
-}

@@ -35,7 +35,6 @@ use std::alloc::Global;
 use std::sync::ledger::Ledger;
 use strings::assigned::Strings;
 use style::lists::Families;
-use style::style::Style;
 
 /// A document that was laid out, and what is put of it was: how many pages, and in how many passes it settled.
 #[derive(Clone, Copy, Debug, PartialEq, Eq)]
@@ -221,6 +220,23 @@ fn page_laws()
     notes_begin_in_time();
 }
 
+/// Lays out a document in its styles, in the pages that its page rules give, and puts what is asked for.
+fn put_on_pages<O: Sink, L: Ledger>(
+    alloc: Global,
+    styled: &Styled,
+    out: &mut O,
+    steps: &mut Steps<L>,
+) -> Result<Done, Outcome>
+    requires passes { 0 < styled.now.passes }
+    requires good { AreGoodStyles styled.now }
+    ensures writes { WritesBy styled.now (O.taken out.old) (O.taken out.new) (outcome_of result) }
+    ensures fault { outcome_of result ≡ Outcome.WriteFault → Rose (O.faults out.old) (O.faults out.new) }
+{
+    let initial = Families::serif(alloc)?;
+    let boxes = boxes_of(alloc, styled, &initial)?;
+    put_styled(alloc, styled, &boxes, out, steps)
+}
+
 /// Lays a document out, and puts what is asked for of its book. What that keeps is said by the laws of page lists.
 pub(crate) fn lay_out<O: Sink, L: Ledger>(
     alloc: Global,
@@ -237,7 +253,5 @@ pub(crate) fn lay_out<O: Sink, L: Ledger>(
 {
     page_laws();
     let styled = in_styles(alloc, document)?;
-    let initial = Style::initial(alloc)?;
-    let boxes = boxes_of(alloc, &styled, &initial.font_family)?;
-    put_styled(alloc, &styled, &boxes, out, steps)
+    put_on_pages(alloc, &styled, out, steps)
 }

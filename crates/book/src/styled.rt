@@ -1,8 +1,11 @@
 //! A document in its styles.
 
-ghost use Rattle.std.specs.Prelude.{IfOk};
+ghost use Rattle.std.specs.Prelude.{◌≡◌, ℕ, List, IfOk};
+ghost use Rattle.bk_num.specs.declared.values.Pseudo.{Pseudo};
 ghost use Rattle.box_gen.specs.Sources.{AreInRange, IsRootShown};
 ghost use Rattle.computed.specs.Document.{AreDocumentStyles};
+ghost use Rattle.counters.specs.At.{counter_values};
+ghost use Rattle.counters.specs.Document.{values_of};
 ghost use Rattle.book.specs.DocumentView.{document_in, HasSheets};
 ghost use Rattle.book.specs.Laid.{AreGoodStyles, IsStyledOf};
 
@@ -48,22 +51,45 @@ fn styles_of(alloc: Global, dom: &Dom, sheets: &[ReadSheet]) -> Result<(Styles, 
     styles(alloc, dom, sheets)
 }
 
+/// The styles of a document's nodes, the names of its pages, and the values of its counters.
+#[derive(Drop)]
+struct Computed {
+    names: Names,
+    styles: Styles,
+    counters: CounterAt,
+}
+
+/// What is computed of a document's nodes by its sheets.
+fn computed_of(alloc: Global, dom: &Dom, sheets: &[ReadSheet]) -> Result<Computed, NoMem>
+    ensures styles { IfOk result (λ c. AreDocumentStyles c.names dom.now sheets.now c.styles) }
+    ensures ranges { IfOk result (λ c. AreInRange c.styles) }
+    ensures shown { IfOk result (λ c. IsRootShown c.styles) }
+    ensures counters { IfOk result (λ c. (n : ℕ) (p : Pseudo) (x : List ℕ) → counter_values c.counters n p x ≡ values_of dom.now c.styles n p x) }
+{
+    let (styles, names) = styles_of(alloc, dom, sheets)?;
+    let counters = number_all(alloc, dom, &styles)?;
+    Ok(Computed {
+        names,
+        styles,
+        counters,
+    })
+}
+
 /// A document in its styles. Each is made once, for all passes.
 pub fn in_styles(alloc: Global, document: Document<'_>) -> Result<Styled, NoMem>
     requires { HasSheets document }
     ensures of { IfOk result (λ s. IsStyledOf (document_in document.entry) s) }
     ensures good { IfOk result AreGoodStyles }
 {
-    let (styles, names) = styles_of(alloc, &document.dom, document.read.as_slice())?;
-    let counters = number_all(alloc, &document.dom, &styles)?;
+    let computed = computed_of(alloc, &document.dom, document.read.as_slice())?;
     Ok(Styled {
         passes: document.passes,
         output: document.output,
         faces: document.faces,
         dom: document.dom,
         rules: document.pages,
-        names,
-        styles,
-        counters,
+        names: computed.names,
+        styles: computed.styles,
+        counters: computed.counters,
     })
 }

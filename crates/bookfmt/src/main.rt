@@ -1,6 +1,8 @@
 //! The program.
 #![tactic(auto)]
 
+mod command;
+
 use command::program;
 use std::process::ExitCode;
 

@@ -4,5 +4,3 @@
 pub mod fonts;
 pub mod given;
 pub mod lengths;
-#[cfg(test)]
-mod tests;

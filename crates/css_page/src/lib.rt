@@ -7,6 +7,4 @@ pub mod properties;
 pub mod rules;
 pub mod selectors;
 pub mod sizes;
-#[cfg(test)]
-mod tests;
 pub mod values;

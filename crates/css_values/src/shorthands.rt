@@ -39,10 +39,26 @@ pub enum Shorthand {
 fn add(longs: &mut Items<Long>, one: Long, two: Long, three: Long, four: Long) -> Result<(), NoMem>
     ensures { OnOk result (longs.new ≡ longs.old ++ one ∷ two ∷ three ∷ four ∷ []) }
 {
-    longs.push(one)?;
-    longs.push(two)?;
-    longs.push(three)?;
-    longs.push(four)
+    let first = longs.push(one);
+    let second = longs.push(two);
+    let third = longs.push(three);
+    let fourth = longs.push(four);
+    first?;
+    second?;
+    third?;
+    fourth
+}
+
+/// Adds three longhands at the end.
+fn add_three(longs: &mut Items<Long>, one: Long, two: Long, three: Long) -> Result<(), NoMem>
+    ensures { OnOk result (longs.new ≡ longs.old ++ one ∷ two ∷ three ∷ []) }
+{
+    let first = longs.push(one);
+    let second = longs.push(two);
+    let third = longs.push(three);
+    first?;
+    second?;
+    third
 }
 
 /// The list of three longhands.
@@ -50,9 +66,7 @@ fn three(alloc: Global, one: Long, two: Long, three: Long) -> Result<Items<Long>
     ensures { Owns (one ∷ two ∷ three ∷ []) result }
 {
     let mut longs = Items::new(alloc);
-    longs.push(one)?;
-    longs.push(two)?;
-    longs.push(three)?;
+    add_three(&mut longs, one, two, three)?;
     Ok(longs)
 }
 

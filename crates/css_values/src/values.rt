@@ -2,6 +2,7 @@
 
 ghost use Rattle.std.specs.Prelude.{◌≡◌};
 ghost use Rattle.css_words.specs.Parser.{Reads};
+ghost use Rattle.css_values.specs.Kinds as kinds;
 ghost use Rattle.css_values.specs.Values as spec;
 
 use crate::borders::{border_color, border_style, border_width};
@@ -10,6 +11,7 @@ use crate::fonts::{count, families, font_size, font_weight, line_height, page_na
 use crate::keywords::{
     break_at, break_inside, display, float, overflow_wrap, slope, text_align, white_space,
 };
+use crate::kinds::{Kind, Listed, Numbered, Side, Worded, kind_of};
 use crate::measures::{indents, margins, paddings, read_measure, widths};
 use css_content::content::content;
 use css_content::counters::counter_list;
@@ -28,8 +30,128 @@ pub enum Wide {
     Initial,
 }
 
-/// Reads a value of a longhand.
+/// A value that was read, as a declaration of a longhand.
+macro_rules! given {
+    ($longhand:ident, $value:expr) => {
+        match $value {
+            Ok(value) => Ok(Long::$longhand(Given::Value(value))),
+            Err(unread) => Err(unread),
+        }
+    };
+}
+
 #[tactic(auto, unfolding(crate::specs::Values::read_value))]
+fn read_margin(reader: &mut Reader<'_>, side: Side) -> Result<Long, Unread>
+    ensures { Reads (λ x. x) (spec.read_value (kinds.margin side) reader.old) result reader.new }
+{
+    match side {
+        Side::Top => given!(MarginTop, read_measure(reader, margins())),
+        Side::Right => given!(MarginRight, read_measure(reader, margins())),
+        Side::Bottom => given!(MarginBottom, read_measure(reader, margins())),
+        Side::Left => given!(MarginLeft, read_measure(reader, margins())),
+    }
+}
+
+#[tactic(auto, unfolding(crate::specs::Values::read_value))]
+fn read_padding(reader: &mut Reader<'_>, side: Side) -> Result<Long, Unread>
+    ensures { Reads (λ x. x) (spec.read_value (kinds.padding side) reader.old) result reader.new }
+{
+    match side {
+        Side::Top => given!(PaddingTop, read_measure(reader, paddings())),
+        Side::Right => given!(PaddingRight, read_measure(reader, paddings())),
+        Side::Bottom => given!(PaddingBottom, read_measure(reader, paddings())),
+        Side::Left => given!(PaddingLeft, read_measure(reader, paddings())),
+    }
+}
+
+#[tactic(auto, unfolding(crate::specs::Values::read_value))]
+fn read_border_width(reader: &mut Reader<'_>, side: Side) -> Result<Long, Unread>
+    ensures { Reads (λ x. x) (spec.read_value (kinds.border_width side) reader.old) result reader.new }
+{
+    match side {
+        Side::Top => given!(BorderTopWidth, border_width(reader)),
+        Side::Right => given!(BorderRightWidth, border_width(reader)),
+        Side::Bottom => given!(BorderBottomWidth, border_width(reader)),
+        Side::Left => given!(BorderLeftWidth, border_width(reader)),
+    }
+}
+
+#[tactic(auto, unfolding(crate::specs::Values::read_value))]
+fn read_border_style(reader: &mut Reader<'_>, side: Side) -> Result<Long, Unread>
+    ensures { Reads (λ x. x) (spec.read_value (kinds.border_style side) reader.old) result reader.new }
+{
+    match side {
+        Side::Top => given!(BorderTopStyle, border_style(reader)),
+        Side::Right => given!(BorderRightStyle, border_style(reader)),
+        Side::Bottom => given!(BorderBottomStyle, border_style(reader)),
+        Side::Left => given!(BorderLeftStyle, border_style(reader)),
+    }
+}
+
+#[tactic(auto, unfolding(crate::specs::Values::read_value))]
+fn read_border_color(alloc: Global, reader: &mut Reader<'_>, side: Side) -> Result<Long, Unread>
+    ensures { Reads (λ x. x) (spec.read_value (kinds.border_color side) reader.old) result reader.new }
+{
+    match side {
+        Side::Top => given!(BorderTopColor, border_color(alloc, reader)),
+        Side::Right => given!(BorderRightColor, border_color(alloc, reader)),
+        Side::Bottom => given!(BorderBottomColor, border_color(alloc, reader)),
+        Side::Left => given!(BorderLeftColor, border_color(alloc, reader)),
+    }
+}
+
+#[tactic(auto, unfolding(crate::specs::Values::read_value))]
+fn read_word(reader: &mut Reader<'_>, worded: Worded) -> Result<Long, Unread>
+    ensures { Reads (λ x. x) (spec.read_value (kinds.worded worded) reader.old) result reader.new }
+{
+    match worded {
+        Worded::Display => given!(Display, display(reader)),
+        Worded::Float => given!(Float, float(reader)),
+        Worded::FontStyle => given!(FontStyle, slope(reader)),
+        Worded::TextAlign => given!(TextAlign, text_align(reader)),
+        Worded::WhiteSpace => given!(WhiteSpace, white_space(reader)),
+        Worded::OverflowWrap => given!(OverflowWrap, overflow_wrap(reader)),
+        Worded::ListStyleType => given!(ListStyleType, num_style(reader)),
+        Worded::BreakBefore => given!(BreakBefore, break_at(reader)),
+        Worded::BreakAfter => given!(BreakAfter, break_at(reader)),
+        Worded::BreakInside => given!(BreakInside, break_inside(reader)),
+    }
+}
+
+#[tactic(auto, unfolding(crate::specs::Values::read_value))]
+fn read_number(alloc: Global, reader: &mut Reader<'_>, numbered: Numbered) -> Result<Long, Unread>
+    ensures { Reads (λ x. x) (spec.read_value (kinds.numbered numbered) reader.old) result reader.new }
+{
+    match numbered {
+        Numbered::Width => given!(Width, read_measure(reader, widths())),
+        Numbered::TextIndent => given!(TextIndent, read_measure(reader, indents())),
+        Numbered::FontSize => given!(FontSize, font_size(reader)),
+        Numbered::FontWeight => given!(FontWeight, font_weight(reader)),
+        Numbered::LineHeight => given!(LineHeight, line_height(reader)),
+        Numbered::Widows => given!(Widows, count(reader)),
+        Numbered::Orphans => given!(Orphans, count(reader)),
+        Numbered::Color => given!(Color, color(alloc, reader)),
+        Numbered::BackgroundColor => {
+            given!(BackgroundColor, color_or(alloc, reader, "transparent"))
+        }
+    }
+}
+
+#[tactic(auto, unfolding(crate::specs::Values::read_value))]
+fn read_list(alloc: Global, reader: &mut Reader<'_>, listed: Listed) -> Result<Long, Unread>
+    ensures { Reads (λ x. x) (spec.read_value (kinds.listed listed) reader.old) result reader.new }
+{
+    match listed {
+        Listed::FontFamily => given!(FontFamily, families(alloc, reader)),
+        Listed::Content => given!(Content, content(alloc, reader)),
+        Listed::CounterReset => given!(CounterReset, counter_list(alloc, reader, 0)),
+        Listed::CounterIncrement => given!(CounterIncrement, counter_list(alloc, reader, 1)),
+        Listed::StringSet => given!(StringSet, string_sets(alloc, reader)),
+        Listed::Page => given!(Page, page_name(alloc, reader)),
+    }
+}
+
+/// Reads a value of a longhand.
 pub(crate) fn read_value(
     alloc: Global,
     reader: &mut Reader<'_>,
@@ -37,100 +159,15 @@ pub(crate) fn read_value(
 ) -> Result<Long, Unread>
     ensures { Reads (λ x. x) (spec.read_value hand reader.old) result reader.new }
 {
-    match hand {
-        Longhand::Display => Ok(Long::Display(Given::Value(display(reader)?))),
-        Longhand::Float => Ok(Long::Float(Given::Value(float(reader)?))),
-        Longhand::MarginTop => Ok(Long::MarginTop(Given::Value(read_measure(reader, margins())?))),
-        Longhand::MarginRight => Ok(Long::MarginRight(Given::Value(read_measure(
-            reader,
-            margins(),
-        )?))),
-        Longhand::MarginBottom => Ok(Long::MarginBottom(Given::Value(read_measure(
-            reader,
-            margins(),
-        )?))),
-        Longhand::MarginLeft => Ok(Long::MarginLeft(Given::Value(read_measure(
-            reader,
-            margins(),
-        )?))),
-        Longhand::PaddingTop => Ok(Long::PaddingTop(Given::Value(read_measure(
-            reader,
-            paddings(),
-        )?))),
-        Longhand::PaddingRight => Ok(Long::PaddingRight(Given::Value(read_measure(
-            reader,
-            paddings(),
-        )?))),
-        Longhand::PaddingBottom => Ok(Long::PaddingBottom(Given::Value(read_measure(
-            reader,
-            paddings(),
-        )?))),
-        Longhand::PaddingLeft => Ok(Long::PaddingLeft(Given::Value(read_measure(
-            reader,
-            paddings(),
-        )?))),
-        Longhand::BorderTopWidth => Ok(Long::BorderTopWidth(Given::Value(border_width(reader)?))),
-        Longhand::BorderRightWidth => Ok(Long::BorderRightWidth(Given::Value(border_width(
-            reader,
-        )?))),
-        Longhand::BorderBottomWidth => Ok(Long::BorderBottomWidth(Given::Value(border_width(
-            reader,
-        )?))),
-        Longhand::BorderLeftWidth => Ok(Long::BorderLeftWidth(Given::Value(border_width(reader)?))),
-        Longhand::BorderTopStyle => Ok(Long::BorderTopStyle(Given::Value(border_style(reader)?))),
-        Longhand::BorderRightStyle => Ok(Long::BorderRightStyle(Given::Value(border_style(
-            reader,
-        )?))),
-        Longhand::BorderBottomStyle => Ok(Long::BorderBottomStyle(Given::Value(border_style(
-            reader,
-        )?))),
-        Longhand::BorderLeftStyle => Ok(Long::BorderLeftStyle(Given::Value(border_style(reader)?))),
-        Longhand::BorderTopColor => Ok(Long::BorderTopColor(Given::Value(border_color(
-            alloc, reader,
-        )?))),
-        Longhand::BorderRightColor => Ok(Long::BorderRightColor(Given::Value(border_color(
-            alloc, reader,
-        )?))),
-        Longhand::BorderBottomColor => Ok(Long::BorderBottomColor(Given::Value(border_color(
-            alloc, reader,
-        )?))),
-        Longhand::BorderLeftColor => Ok(Long::BorderLeftColor(Given::Value(border_color(
-            alloc, reader,
-        )?))),
-        Longhand::Width => Ok(Long::Width(Given::Value(read_measure(reader, widths())?))),
-        Longhand::Color => Ok(Long::Color(Given::Value(color(alloc, reader)?))),
-        Longhand::BackgroundColor => Ok(Long::BackgroundColor(Given::Value(color_or(
-            alloc,
-            reader,
-            "transparent",
-        )?))),
-        Longhand::FontFamily => Ok(Long::FontFamily(Given::Value(families(alloc, reader)?))),
-        Longhand::FontSize => Ok(Long::FontSize(Given::Value(font_size(reader)?))),
-        Longhand::FontStyle => Ok(Long::FontStyle(Given::Value(slope(reader)?))),
-        Longhand::FontWeight => Ok(Long::FontWeight(Given::Value(font_weight(reader)?))),
-        Longhand::LineHeight => Ok(Long::LineHeight(Given::Value(line_height(reader)?))),
-        Longhand::TextAlign => Ok(Long::TextAlign(Given::Value(text_align(reader)?))),
-        Longhand::TextIndent => Ok(Long::TextIndent(Given::Value(read_measure(
-            reader,
-            indents(),
-        )?))),
-        Longhand::WhiteSpace => Ok(Long::WhiteSpace(Given::Value(white_space(reader)?))),
-        Longhand::OverflowWrap => Ok(Long::OverflowWrap(Given::Value(overflow_wrap(reader)?))),
-        Longhand::ListStyleType => Ok(Long::ListStyleType(Given::Value(num_style(reader)?))),
-        Longhand::Content => Ok(Long::Content(Given::Value(content(alloc, reader)?))),
-        Longhand::CounterReset => Ok(Long::CounterReset(Given::Value(counter_list(
-            alloc, reader, 0,
-        )?))),
-        Longhand::CounterIncrement => Ok(Long::CounterIncrement(Given::Value(counter_list(
-            alloc, reader, 1,
-        )?))),
-        Longhand::StringSet => Ok(Long::StringSet(Given::Value(string_sets(alloc, reader)?))),
-        Longhand::BreakBefore => Ok(Long::BreakBefore(Given::Value(break_at(reader)?))),
-        Longhand::BreakAfter => Ok(Long::BreakAfter(Given::Value(break_at(reader)?))),
-        Longhand::BreakInside => Ok(Long::BreakInside(Given::Value(break_inside(reader)?))),
-        Longhand::Widows => Ok(Long::Widows(Given::Value(count(reader)?))),
-        Longhand::Orphans => Ok(Long::Orphans(Given::Value(count(reader)?))),
-        Longhand::Page => Ok(Long::Page(Given::Value(page_name(alloc, reader)?))),
+    match kind_of(hand) {
+        Kind::Margin(side) => read_margin(reader, side),
+        Kind::Padding(side) => read_padding(reader, side),
+        Kind::BorderWidth(side) => read_border_width(reader, side),
+        Kind::BorderStyle(side) => read_border_style(reader, side),
+        Kind::BorderColor(side) => read_border_color(alloc, reader, side),
+        Kind::Worded(worded) => read_word(reader, worded),
+        Kind::Numbered(numbered) => read_number(alloc, reader, numbered),
+        Kind::Listed(listed) => read_list(alloc, reader, listed),
     }
 }
 

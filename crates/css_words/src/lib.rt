@@ -3,7 +3,5 @@
 
 pub mod reader;
 pub mod table;
-#[cfg(test)]
-mod tests;
 pub mod unread;
 pub mod words;

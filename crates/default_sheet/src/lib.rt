@@ -2,6 +2,4 @@
 #![tactic(auto)]
 
 pub mod sheet;
-#[cfg(test)]
-mod tests;
 pub mod text;

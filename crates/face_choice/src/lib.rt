@@ -9,9 +9,6 @@ use bk_num::ids::FaceId;
 use bk_num::name::Name;
 use metrics::Faces;
 
-#[cfg(test)]
-mod tests;
-
 /// The face that families, a style and a weight choose; true is italic.
 pub fn choose(faces: &Faces, families: &[Name], italic: bool, weight: u16) -> FaceId
     ensures face { result ≡ face_by faces.now families.now italic weight }

@@ -1,2 +1,11 @@
+pub mod CallLemmas
+pub mod CutLemmas
+pub mod FlowLemmas
+pub mod FootLemmas
 pub mod NearLemmas
+pub mod NotesLemmas
+pub mod PlaceLemmas
+pub mod ReadLemmas
 pub mod RunLemmas
+pub mod SolidLemmas
+pub mod TopLemmas

@@ -11,6 +11,8 @@ ghost use Rattle.page_list.specs.Noted.{BeginInTime, HoldsNotes};
 ghost use Rattle.page_list.specs.Pages.{AddsBlanks, HaveNearTops, IsPaged, LeavesSome, blank_of, flow_page_of, meets_at, notes_page_of};
 ghost use Rattle.page_list.specs.Parted.{HoldsBreaks};
 
+use crate::next_cut::next_cut;
+use crate::next_notes::next_notes;
 use bk_num::ids::NameId;
 use bk_num::items::Items;
 use bk_num::limits::MOST_PAGES;
@@ -23,8 +25,6 @@ use boxes::tree::BoxTree;
 use metrics::Faces;
 use note_list::carried::Carried;
 use note_list::list::PlacedList;
-use page_cut::next_cut::next_cut;
-use page_cut::next_notes::next_notes;
 use page_list::cut::{Cut, CutFrom};
 use page_list::laws::{
     breaks_hold, main_stands_once, notes_begin_in_time, notes_stand_once, pages_are_few,

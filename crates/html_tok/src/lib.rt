@@ -5,8 +5,6 @@ mod attrs;
 mod classes;
 mod raw;
 mod scan;
-#[cfg(test)]
-mod tests;
 mod tokens;
 
 pub use attrs::Attrs;

@@ -238,6 +238,19 @@ fn names_of(alloc: Global, texts: Vec<String>) -> Result<Items<Name>, NoMem>
     Ok(names)
 }
 
+/// Passes all parts, whose texts are empty so far.
+fn pass_parts(texts: &mut Vec<String>, parts: &[TextPart]) -> Result<(), NoMem>
+    requires empty { texts_of texts.old ≡ map (λ p. []) parts.now }
+    requires len { vec_len texts.old ≡ length parts.now }
+    ensures { OnOk result (texts_of texts.new ≡ collapsed parts.now) }
+{
+    let mut gap = Gap::Spaced;
+    for index in 0..parts.len() {
+        gap = pass_part(texts, gap, &parts[index], index)?;
+    }
+    settle(texts, gap)
+}
+
 /// The texts of the parts of one leaf with their white space collapsed, one for each part (CSS 2.1, 16.6.1).
 ///
 /// Spaces and tabs that collapse go round newlines, and after a space that collapses, a newline or the leaf's start,
@@ -247,10 +260,6 @@ pub fn collapse(alloc: Global, parts: &[TextPart]) -> Result<Items<Name>, NoMem>
     ensures { IfOk result (λ names. names ≡ collapsed parts.now) }
 {
     let mut texts = empty_texts(alloc, parts)?;
-    let mut gap = Gap::Spaced;
-    for index in 0..parts.len() {
-        gap = pass_part(&mut texts, gap, &parts[index], index)?;
-    }
-    settle(&mut texts, gap)?;
+    pass_parts(&mut texts, parts)?;
     names_of(alloc, texts)
 }

@@ -4,6 +4,4 @@
 mod buffer;
 mod fields;
 pub mod records;
-#[cfg(test)]
-mod tests;
 pub mod write;

@@ -60,18 +60,3 @@ pub fn gap(list: &[Px]) -> i64
     }
     extremes.gap()
 }
-
-#[cfg(test)]
-mod tests {
-    use super::gap;
-    use bk_num::px::Px;
-
-    #[test]
-    fn margins_collapse_to_the_greatest_and_the_most_negative(rt: HostRuntime) {
-        let px = |n: i64| Px::from_units(n);
-        assert_eq!(rt; gap(&[]), 0);
-        assert_eq!(rt; gap(&[px(1280), px(-512), px(0), px(768)]), 768);
-        assert_eq!(rt; gap(&[px(-5), px(-30), px(-10)]), -30);
-        assert_eq!(rt; gap(&[px(64), px(64)]), 64);
-    }
-}

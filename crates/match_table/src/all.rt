@@ -175,6 +175,44 @@ fn mark(
     mark_column(alloc, rows, document, selector, place)
 }
 
+/// For each node the places of the selectors that match it, by the nodes that have the words of the selectors.
+fn rows_by_words(
+    alloc: Global,
+    document: &Document<'_>,
+    selectors: &[&Selector],
+    words: &Words<'_>,
+    lists: &[Items<u32>],
+) -> Result<Vec<Items<u32>>, NoMem>
+    requires lists { length lists.now ≡ length words.now }
+    requires noted { AreNoted document.now words.now lists.now (length document.now) }
+    ensures count { IfOk result (λ v. length v.items ≡ length document.now) }
+    ensures lists { IfOk result (λ v. AreMatchLists document.now (map (λ s. s.now) selectors.now) v.items) }
+{
+    let Ok(count) = u32::try_from(selectors.len()) else {
+        return Err(NoMem);
+    };
+    let mut rows = empty_lists(alloc, document.dom().len() as usize)?;
+    for place in 0..count {
+        let selector = selectors[place as usize];
+        mark(alloc, &mut rows, document, selector, place, words, lists)?;
+    }
+    Ok(rows)
+}
+
+/// For each node the places of the selectors that match it.
+fn rows_of(
+    alloc: Global,
+    document: &Document<'_>,
+    selectors: &[&Selector],
+) -> Result<Vec<Items<u32>>, NoMem>
+    ensures count { IfOk result (λ v. length v.items ≡ length document.now) }
+    ensures lists { IfOk result (λ v. AreMatchLists document.now (map (λ s. s.now) selectors.now) v.items) }
+{
+    let words = words_of_keys(alloc, selectors)?;
+    let lists = nodes_by_word(alloc, document.dom(), &words)?;
+    rows_by_words(alloc, document, selectors, &words, &lists)
+}
+
 /// For each node the places of the selectors that match it (Selectors 3, 8), each once and in ascending order. Selectors
 /// find the nodes that they may match by id, class or type, so that the work is in proportion to the nodes and
 /// to those candidates.
@@ -183,16 +221,6 @@ pub fn match_all(alloc: Global, dom: &Dom, selectors: &[&Selector]) -> Result<Ma
     ensures lists { IfOk result (λ t. AreMatchLists dom.now (map (λ s. s.now) selectors.now) t) }
 {
     let places = wanted_places(alloc, dom, selectors)?;
-    let document = Document::with_places(dom, &places);
-    let words = words_of_keys(alloc, selectors)?;
-    let lists = nodes_by_word(alloc, dom, &words)?;
-    let mut rows = empty_lists(alloc, dom.len() as usize)?;
-    let Ok(count) = u32::try_from(selectors.len()) else {
-        return Err(NoMem);
-    };
-    for place in 0..count {
-        let selector = selectors[place as usize];
-        mark(alloc, &mut rows, &document, selector, place, &words, &lists)?;
-    }
+    let rows = rows_of(alloc, &Document::with_places(dom, &places), selectors)?;
     Ok(MatchTable { rows })
 }

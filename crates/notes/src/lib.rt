@@ -4,5 +4,3 @@
 pub mod area;
 pub mod laws;
 pub mod solid;
-#[cfg(test)]
-mod tests;

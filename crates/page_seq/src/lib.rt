@@ -5,5 +5,3 @@ pub mod finder;
 pub mod numbers;
 pub mod pages;
 pub mod places;
-#[cfg(test)]
-mod tests;

@@ -8,5 +8,3 @@ mod numbers;
 pub mod opening;
 pub mod shown;
 mod starts;
-#[cfg(test)]
-mod tests;

@@ -5,6 +5,4 @@ pub mod book;
 mod chapters;
 mod draws;
 mod fixed;
-#[cfg(test)]
-mod tests;
 mod words;

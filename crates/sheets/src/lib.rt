@@ -3,7 +3,5 @@
 
 mod elements;
 mod list;
-#[cfg(test)]
-mod tests;
 
 pub use list::{ElementSheet, list_sheets};

@@ -5,8 +5,6 @@ mod commands;
 mod fault;
 mod read;
 mod request;
-#[cfg(test)]
-mod tests;
 mod values;
 
 pub use fault::{WordsErr, WordsFault};

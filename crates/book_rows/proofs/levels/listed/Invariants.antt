@@ -1,0 +1,4 @@
+use Rattle.book_rows.proofs.levels.listed.Given as goal
+
+abbrev pub ghosts-pages_of : goal.ghosts-pages_of
+ghosts-pages_of a = record { name = a.token.name; parts = a.token.parts }

@@ -1,4 +1,0 @@
-use Rattle.book_tests.proofs.runs.levels.listed.Given as goal
-
-abbrev pub ghosts-pages_of : goal.ghosts-pages_of
-ghosts-pages_of a = record { name = a.token.name; parts = a.token.parts }

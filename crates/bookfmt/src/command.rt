@@ -1,0 +1,95 @@
+//! The program as a function of a runtime: hands its words, the real files and the standard streams to `run`, and
+//! ends with the answer's status.
+
+ghost use Rattle.std.specs.Prelude.{◌≡◌, ◌<◌, drop};
+ghost use Rattle.book.specs.Message.{message};
+ghost use Rattle.book.specs.Run.{PutsLine};
+ghost use Rattle.bookfmt.specs.End.{EndsWith};
+
+use bk_io::dir_shelf::DirShelf;
+use bk_io::shelf::Shelf;
+use bk_io::sink::Sink;
+use bk_io::std_sink::StdSink;
+use bk_num::steps::Steps;
+use book::message::put_message;
+use book::outcome::{Outcome, WordsFault};
+use book::run::run;
+use std::alloc::Global;
+use std::env::{self, Env};
+use std::io::ErrorKind;
+use std::marker::Brand;
+use std::process::ExitCode;
+use std::sync::ledger::{Blank, Ledger};
+
+/// The words of the command line after the program's name, or the answer where they can't be had.
+fn words(alloc: Global, rt: &(impl Env + AllocGlobal)) -> Result<Vec<String>, Outcome> {
+    match env::args(rt) {
+        Ok(args) => match args.collect(alloc) {
+            Ok(words) => Ok(after_name(words)),
+            Err(_) => Err(Outcome::NoMemory),
+        },
+        Err(e) if e.kind() == ErrorKind::OutOfMemory => Err(Outcome::NoMemory),
+        Err(_) => Err(Outcome::NotRead {
+            kind: WordsFault::Refused,
+        }),
+    }
+}
+
+/// The words after the first one, which is the program's name.
+fn after_name(mut words: Vec<String>) -> Vec<String>
+    ensures { result.items ≡ drop 1 words.items }
+{
+    if !words.is_empty() {
+        let _name = words.remove(0);
+    }
+    words
+}
+
+/// Answers the words, and puts the line of the answer on `err`.
+fn answer<F: Shelf, O: Sink, E: Sink, L: Ledger>(
+    alloc: Global,
+    words: Result<Vec<String>, Outcome>,
+    shelf: &mut F,
+    out: &mut O,
+    err: &mut E,
+    steps: &mut Steps<L>,
+) -> Outcome
+    ensures { PutsLine (E.taken err.old) (E.taken err.new) (E.faults err.old) (E.faults err.new) (message result) }
+{
+    match words {
+        Ok(words) => run(alloc, &words, shelf, out, err, steps),
+        Err(outcome) => {
+            let _ = put_message(err, &outcome);
+            outcome
+        }
+    }
+}
+
+/// Answers the words with a counter of its own, and gives the status that the program ends with.
+fn end<F: Shelf, O: Sink, E: Sink, L: Ledger>(
+    alloc: Global,
+    words: Result<Vec<String>, Outcome>,
+    shelf: &mut F,
+    out: &mut O,
+    err: &mut E,
+    token: Blank,
+) -> ExitCode
+    requires name { token.name ≡ L.name }
+    requires parts { token.parts ≡ L.parts }
+    requires some { 0 < L.parts }
+    ensures { EndsWith (E.taken err.old) (E.taken err.new) (E.faults err.old) (E.faults err.new) result }
+{
+    let mut steps = Steps::<L>::zero(token);
+    ExitCode::from(answer(alloc, words, shelf, out, err, &mut steps).status())
+}
+
+/// Formats what the words of the command line ask for, with the real files and the standard streams, and gives the
+/// status that the program ends with.
+pub(crate) fn program(rt: &HostRuntime) -> ExitCode {
+    let alloc = rt.alloc();
+    let mut shelf = DirShelf::new(alloc, rt);
+    let mut out = StdSink::new(rt.stdout());
+    let mut err = StdSink::new(rt.stderr());
+    let words = words(alloc, rt);
+    end::<_, _, _, Brand>(alloc, words, &mut shelf, &mut out, &mut err, Blank::new(1))
+}

@@ -1,0 +1,37 @@
+use Rattle.std.proofs.Common.{◌≡◌, ℕ, ℤ, true, ◌-ℤ◌, [], None, length, refl, rules, sym, ap, ◌∙◌, subst, arith, to_z, of_z}
+use Rattle.std.proofs.lemmas.Int.{ints, to_z-of_z}
+use mir.Val.{SFits}
+use mir.Syntax.{w64}
+use Rattle.cuts.specs.Areas.{AreTold, area_after}
+use Rattle.cuts.specs.Rows.{extent_of}
+use Rattle.note_list.specs.Calls.{called_before}
+use Rattle.page_list.specs.Cuts.{place_after}
+use Rattle.page_list.specs.declared.cut.Cut.{Cut}
+use Rattle.fragment.specs.CutsAt.{PlacesNotes}
+use Rattle.fragment.proofs.CutLemmas.{end_best}
+use Rattle.fragment.proofs.PlaceLemmas.{before_end}
+use Rattle.fragment.proofs.cut_solids.cut_end.Goals as goal
+
+pub returns-clause-cut : goal.returns-clause-cut
+returns-clause-cut c =
+    let fits : SFits w64 c.area.result = search rules in
+    let tall : SFits w64 c.args.room.now.height = search rules in
+    let area_is : to_z w64 (of_z w64 c.area.result) ≡ area_after c.args.notes.now.areas.items (length c.args.notes.now.areas.items) = to_z-of_z w64 c.area.result fits ∙ c.area.ensures.area in
+    let end : record { event = c.count.result; offset = 0 } ≡ place_after c.args.flow.now.main None = ap (λ (n : ℕ). record { event = n; offset = 0 }) c.count.ensures.count in
+    let all : c.args.notes.now.called ≡ called_before c.args.flow.now.main c.args.flow.now.notes (record { event = c.count.result; offset = 0 }) =
+    c.requires.all ∙ sym (before_end c.args.flow.now.main c.args.flow.now.notes) ∙ ap (called_before c.args.flow.now.main c.args.flow.now.notes) (sym end) in
+    let room : c.args.room.now.height ≡ c.args.room.now.height -ℤ extent_of c.args.room.now.kept [] 0 = omega (arith, ints) in
+    let cut : Cut = record { to = record { event = c.count.result; offset = 0 }; ended = true; forced = None; level = c.end_level.result; solids = c.of.result; notes = c.in_ok-noted.noted.notes; carried = c.in_ok-noted.noted.left } in
+    record {
+      count = 0;
+      within = omega arith;
+      best = λ list told. end_best c.args.room.now.kept c.args.room.now.height list c.args.notes.now.list.own c.end_level.result (to_z w64 (of_z w64 c.area.result)) c.args.room.now.carried
+          (subst (λ (z : ℤ). AreTold c.args.room.now.height list c.args.notes.now.list.own 0 z c.args.room.now.carried) (sym area_is) told) c.end_level.ensures.one c.end_level.ensures.fits c.end_level.ensures.loose c.end_level.ensures.first;
+      to_is = end;
+      ended_is = refl;
+      forced_is = refl;
+      solids_is = c.of.ensures ∙ c.new.ensures.items;
+      places = subst (λ (z : ℤ). PlacesNotes c.args.flow.now c.args.carried.now c.args.called (called_before c.args.flow.now.main c.args.flow.now.notes (record { event = c.count.result; offset = 0 })) c.args.room.now.height z c.args.notes.now.list cut) room
+          (subst (λ (to : ℕ). PlacesNotes c.args.flow.now c.args.carried.now c.args.called to c.args.room.now.height c.args.room.now.height c.args.notes.now.list cut) all
+          (subst (λ (z : ℤ). PlacesNotes c.args.flow.now c.args.carried.now c.args.called c.args.notes.now.called z z c.args.notes.now.list cut) (to_z-of_z w64 c.args.room.now.height tall) c.in_ok-noted.ensures.placed));
+    }

@@ -1,0 +1,31 @@
+use Rattle.std.proofs.Common.{◌≡◌, ◌≤◌, ◌++◌, [], List, map, length}
+use Rattle.std.specs.List.{All}
+use Rattle.boxes.specs.Tree.{Holds}
+use Rattle.cursor.specs.Fields.{solid_view}
+use Rattle.cursor.specs.Remainder.{IsRemainder, IsSmallSolid, IsSolid, SolidView}
+use Rattle.cursor.proofs.RemLemmas.{left_from}
+use Rattle.seams.specs.Widths.{widths_at}
+use Rattle.cuts.specs.Prefixes.{AreFree, HasRead}
+use Rattle.note_list.specs.declared.carried.Carried.{Carried}
+use Rattle.page_list.specs.Cuts.{rows_of}
+use Rattle.fragment.specs.Reads.{AreRead, called_by}
+use Rattle.fragment.proofs.FlowLemmas.{LooksOn}
+use Rattle.fragment.proofs.prefix.prefix.Given as goal
+
+abbrev pub invariant-loop-solid : goal.invariant-loop-solid
+invariant-loop-solid g l = record {
+  holds : Holds l.flow.main l.at;
+  widths : l.widths ≡ widths_at l.flow.main l.fn.frame.width l.at;
+  goes : (rest : List SolidView) → IsRemainder l.faces l.flow.main l.fn.frame.width l.at rest → IsRemainder l.faces l.flow.main l.fn.frame.width l.fn.from.at (map solid_view l.solids.items ++ rest);
+  small : All IsSmallSolid (map solid_view l.solids.items);
+  placed : All (λ (v : SolidView). Holds l.flow.main v.placed_at) (map solid_view l.solids.items);
+  own : l.notes.list.own ≡ l.initial.notes.list.own;
+  are : (carried : List Carried) → AreRead l.faces l.flow l.fn.frame l.fn.from.at carried [] l.initial.notes → AreRead l.faces l.flow l.fn.frame l.fn.from.at carried (map (λ s. s.end) (map solid_view l.solids.items)) l.notes;
+  calls : (s : SolidView) → IsSolid l.faces l.flow.main l.fn.frame.width l.at s → l.notes.called ≤ called_by l.flow.main l.flow.notes s.end;
+  look : LooksOn l.fn.from.kept l.fn.frame.height l.initial.notes.list.own l.notes.areas.items l.room.carried l.flow.main (map solid_view l.solids.items) l.look;
+  free : AreFree (rows_of l.flow.main (map solid_view l.solids.items));
+  read : HasRead (length l.solids.items) l.look;
+}
+
+abbrev pub decreases-loop-solid : goal.decreases-loop-solid
+decreases-loop-solid g l = left_from l.flow.main l.at

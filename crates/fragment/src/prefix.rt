@@ -1,0 +1,90 @@
+//! The solids that tell a page's cut.
+
+ghost use Rattle.std.specs.Prelude.{◌≡◌, List, All, map, None, [], is_some, IfOk, true, false};
+ghost use Rattle.boxes.specs.Frames.{IsGoodFrame};
+ghost use Rattle.boxes.specs.Tree.{Holds};
+ghost use Rattle.cuts.specs.Areas.{IsArea};
+ghost use Rattle.cursor.specs.Fields.{solid_view};
+ghost use Rattle.cursor.specs.Remainder.{IsSmallSolid};
+ghost use Rattle.note_list.specs.Conditions.{CanBePaged};
+ghost use Rattle.note_list.specs.declared.carried.Carried.{Carried};
+ghost use Rattle.fragment.specs.Reads.{AreRead, IsPagePrefix};
+
+use crate::page_notes::PageNotes;
+use crate::rows::row_of;
+use bk_num::name::NoMem;
+use bk_num::steps::Steps;
+use boxes::flow::Flow;
+use boxes::frames::Frame;
+use cursor::next_solid;
+use cursor::solid::Solid;
+use cuts::look::Look;
+use cuts::row::Room;
+use metrics::Faces;
+use page_list::cut::CutFrom;
+use seams::seam::widths_at;
+use seams::widths::Widths;
+use std::alloc::Global;
+use std::sync::ledger::Ledger;
+
+/// Whether a page ends before a solid whatever fits: its seam is forced, and it isn't the page's first solid.
+fn ends_page(solid: &Solid<'_>, is_first: bool) -> bool
+    ensures forced { result ≡ true → (is_first ≡ false) × (is_some solid.now.seam.forced ≡ true) }
+    ensures free { result ≡ false → is_first ≡ false → solid.now.seam.forced ≡ None }
+{
+    !is_first && solid.seam.forced.is_some()
+}
+
+/// The solids of a flow that tell a page's cut: those up to the first forced seam after the first one, or up to the first
+/// point that misses, and as many lines after it as widows ask for; else all that are left. The notes called in them are
+/// read with them.
+pub(crate) fn prefix<'t, L: Ledger>(
+    alloc: Global,
+    flow: &'t Flow,
+    faces: &Faces,
+    from: CutFrom,
+    frame: Frame,
+    room: &Room,
+    notes: &mut PageNotes,
+    steps: &mut Steps<L>,
+) -> Result<Vec<Solid<'t>>, NoMem>
+    requires flow { CanBePaged faces.now flow.now }
+    requires holds { Holds flow.now.main from.at }
+    requires frame { IsGoodFrame frame }
+    requires kept { room.now.kept ≡ from.kept }
+    requires height { room.now.height ≡ frame.height }
+    requires carried { IsArea room.now.carried }
+    requires read { (carried : List Carried) × AreRead faces.now flow.now frame from.at carried [] notes.old }
+    ensures own { IfOk result (λ v. notes.new.list.own ≡ notes.old.list.own) }
+    ensures read { IfOk result (λ v. (carried : List Carried) → AreRead faces.now flow.now frame from.at carried [] notes.old →
+        AreRead faces.now flow.now frame from.at carried (map (λ s. s.end) (map solid_view v.items)) notes.new) }
+    ensures prefix { IfOk result (λ v. IsPagePrefix faces.now flow.now.main frame from.at from.kept notes.old.list.own
+        notes.new.areas.items room.now.carried (map solid_view v.items)) }
+    ensures small { IfOk result (λ v. All IsSmallSolid (map solid_view v.items)) }
+    ensures placed { IfOk result (λ v. All (λ s. Holds flow.now.main s.placed_at) (map solid_view v.items)) }
+{
+    let tree = &flow.main;
+    let _count = tree.count();
+    let mut solids = Vec::new(alloc);
+    let mut look = Look::start();
+    let mut widths = Widths::none();
+    widths_at(tree, from.at, frame.width, &mut widths);
+    let mut at = from.at;
+    while let Some(solid) = next_solid(tree, faces, at, frame.width, &mut widths, steps) {
+        at = solid.end;
+        let is_first = solids.is_empty();
+        let ends = ends_page(&solid, is_first);
+        look.take(&row_of(tree, &solid), notes.area(), room);
+        notes.take(flow, faces, at, frame, steps)?;
+        if solids.push(solid).is_err() {
+            return Err(NoMem);
+        }
+        if ends {
+            return Ok(solids);
+        }
+        if look.is_enough() {
+            return Ok(solids);
+        }
+    }
+    Ok(solids)
+}

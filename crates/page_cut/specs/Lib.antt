@@ -1,3 +1,0 @@
-pub mod CutsAt
-pub mod Reads
-pub mod Solids

@@ -1,0 +1,282 @@
+//! The pages of trees, their solids, and cuts of pages that begin inside them.
+
+ghost use Rattle.std.specs.Prelude.{◌≡◌, ◌<◌, length, IfOk};
+ghost use Rattle.cursor.specs.Conditions.{CanBeLaidOut};
+ghost use Rattle.note_list.specs.Conditions.{CanBePaged};
+
+use crate::flows::{METRICS, NoteInShort, flow_with_notes, frame, paged};
+use crate::notation::{position, steps_of, units};
+use bk_num::name::NoMem;
+use bk_num::steps::Steps;
+use boxes::flow::Flow;
+use boxes::frames::PageKind;
+use boxes::page::{Page, Placed, SolidKind};
+use boxes::place::Position;
+use boxes::tree::BoxTree;
+use cursor::{Solid, next_solid, remainder};
+use fragment::next_cut::next_cut;
+use metrics::{Faces, read_metrics};
+use page_list::cut::CutFrom;
+use rows::{escaped, unescaped};
+use seams::seam::widths_at;
+use seams::widths::Widths;
+use std::alloc::Global;
+use std::marker::Brand;
+use std::sync::ledger::{Blank, Ledger};
+
+/// A solid: where it begins and ends, its top and its height, and the box whose edge it is.
+fn push_solid(line: &mut String, solid: &Placed) -> Result<(), NoMem> {
+    let (at, end) = (solid.at, solid.end);
+    write!(
+        line,
+        " {}.{}-{}.{}@{}+{}",
+        at.event, at.offset, end.event, end.offset, solid.top, solid.height
+    )
+    .map_err(|_| NoMem)?;
+    match solid.kind {
+        SolidKind::OpenEdge(block) => write!(line, "<{block}").map_err(|_| NoMem),
+        SolidKind::CloseEdge(block) => write!(line, ">{block}").map_err(|_| NoMem),
+        SolidKind::Line => Ok(()),
+    }
+}
+
+/// The solids of a page, and those of its notes.
+fn push_solids(line: &mut String, page: &Page) -> Result<(), NoMem> {
+    for solid in page.solids.as_slice() {
+        push_solid(line, solid)?;
+    }
+    for (note, solid) in page.notes.as_slice() {
+        write!(line, " note{note}").map_err(|_| NoMem)?;
+        push_solid(line, solid)?;
+    }
+    Ok(())
+}
+
+/// Where the solids of a page begin, and their tops.
+fn push_tops(line: &mut String, page: &Page) -> Result<(), NoMem> {
+    for solid in page.solids.as_slice() {
+        let Position { event, offset } = solid.at;
+        write!(line, " {event}.{offset}@{}", solid.top).map_err(|_| NoMem)?;
+    }
+    Ok(())
+}
+
+fn kind_word(kind: PageKind) -> &'static str {
+    match kind {
+        PageKind::Flow => "flow",
+        PageKind::Blank => "blank",
+        PageKind::Notes => "notes",
+    }
+}
+
+/// A page whole: its index, kind, name and level, and its solids.
+fn push_page(line: &mut String, page: &Page) -> Result<(), NoMem> {
+    let kind = kind_word(page.kind);
+    write!(
+        line,
+        "{} {kind} {} {}:",
+        page.index, page.name.0, page.level
+    )
+    .map_err(|_| NoMem)?;
+    push_solids(line, page)
+}
+
+/// A page in short: its kind and level, and the tops of its solids.
+fn push_short(line: &mut String, page: &Page) -> Result<(), NoMem> {
+    let kind = kind_word(page.kind);
+    write!(line, "{kind} {}:", page.level).map_err(|_| NoMem)?;
+    push_tops(line, page)
+}
+
+/// The pages of a flow, whole or in short, with `/` between them.
+fn printed(alloc: Global, pages: &[Page], whole: bool) -> Result<String, NoMem> {
+    let mut line = String::new(alloc);
+    for page in pages {
+        if !line.is_empty() {
+            line.push_str(" / ")?;
+        }
+        if whole {
+            push_page(&mut line, page)?;
+        } else {
+            push_short(&mut line, page)?;
+        }
+    }
+    Ok(line)
+}
+
+/// The note of a part: the place of its call, a colon, and its tree.
+fn note<'a>(alloc: Global, part: &'a str) -> Result<NoteInShort<'a>, NoMem> {
+    let (call, tree) = part.split_once(':').unwrap_or(("0", part));
+    Ok(NoteInShort {
+        call: position(call),
+        body: steps_of(alloc, tree)?,
+    })
+}
+
+/// The notes of a part, with `&` between them; no text is no note.
+fn notes<'a>(alloc: Global, part: &'a str) -> Result<Vec<NoteInShort<'a>>, NoMem> {
+    let mut list = Vec::new(alloc);
+    if !part.is_empty() {
+        for part in part.split('&') {
+            list.push(note(alloc, part)?)?;
+        }
+    }
+    Ok(list)
+}
+
+/// The flow of a tree and of notes in short.
+fn flow_in(alloc: Global, faces: &Faces, tree: &str, body: &str) -> Result<Flow, NoMem>
+    requires some { 0 < length faces.now }
+    ensures paged { IfOk result (λ flow. CanBePaged faces.now flow) }
+{
+    let steps = steps_of(alloc, tree)?;
+    let notes = notes(alloc, body)?;
+    flow_with_notes(alloc, faces, steps.as_slice(), notes.as_slice())
+}
+
+/// The pages of a flow in frames of a width and a height.
+fn pages(
+    alloc: Global,
+    flow: &Flow,
+    faces: &Faces,
+    size: &str,
+    whole: bool,
+) -> Result<String, NoMem>
+    requires flow { CanBePaged faces.now flow.now }
+{
+    let (width, height) = size.split_once(' ').unwrap_or((size, "0"));
+    match paged(alloc, flow, faces, (units(width), units(height))) {
+        Some(list) => printed(alloc, list.pages.as_slice(), whole),
+        None => Err(NoMem),
+    }
+}
+
+/// A solid of a tree: what it is, where it begins, its height, and its text.
+fn push_of_tree(line: &mut String, solid: &Solid<'_>) -> Result<(), NoMem> {
+    let Position { event, offset } = solid.placed_at;
+    let kind = if solid.line.is_some() { "line" } else { "edge" };
+    write!(
+        line,
+        " {kind} {event}.{offset}+{} '{}'",
+        solid.height, solid.text
+    )
+    .map_err(|_| NoMem)
+}
+
+/// The solid that comes first from a place on, and after `:` all of them.
+fn solids_counted<L: Ledger>(
+    alloc: Global,
+    tree: &BoxTree,
+    faces: &Faces,
+    from: Position,
+    token: Blank,
+) -> Result<String, NoMem>
+    requires name { token.name ≡ L.name }
+    requires parts { token.parts ≡ L.parts }
+    requires some { 0 < L.parts }
+    requires tree { CanBeLaidOut faces.now tree.now }
+{
+    let mut steps = Steps::<L>::zero(token);
+    let mut line = String::from_str(alloc, "first")?;
+    if !tree.holds(from) {
+        return Ok(line);
+    }
+    let mut widths = Widths::none();
+    widths_at(tree, from, 5120, &mut widths);
+    if let Some(solid) = next_solid(tree, faces, from, 5120, &mut widths, &mut steps) {
+        push_of_tree(&mut line, &solid)?;
+    }
+    line.push_str(":")?;
+    let solids = remainder(alloc, tree, faces, from, 5120, &mut steps)?;
+    for solid in &solids {
+        push_of_tree(&mut line, solid)?;
+    }
+    Ok(line)
+}
+
+/// The same, with a counter of its own.
+fn solids(alloc: Global, tree: &BoxTree, faces: &Faces, from: Position) -> Result<String, NoMem>
+    requires tree { CanBeLaidOut faces.now tree.now }
+{
+    solids_counted::<Brand>(alloc, tree, faces, from, Blank::new(1))
+}
+
+/// Where a page of two lines ends, whether the flow ends there, its level, and how many solids it places.
+type CutRow = ((u32, u32), bool, u8, usize);
+
+/// The cut of a page of two lines from a place on.
+fn cut_of<L: Ledger>(
+    alloc: Global,
+    flow: &Flow,
+    faces: &Faces,
+    at: Position,
+    token: Blank,
+) -> Option<CutRow>
+    requires name { token.name ≡ L.name }
+    requires parts { token.parts ≡ L.parts }
+    requires counted { 0 < L.parts }
+    requires flow { CanBePaged faces.now flow.now }
+{
+    if !flow.main.holds(at) {
+        return None;
+    }
+    let mut steps = Steps::<L>::zero(token);
+    let from = CutFrom { at, kept: false };
+    let cut = next_cut(alloc, flow, faces, from, &[], frame(5120, 2560), &mut steps).ok()?;
+    let to = (cut.to.event, cut.to.offset);
+    Some((to, cut.ended, cut.level, cut.solids.as_slice().len()))
+}
+
+/// The same, with a counter of its own.
+fn cut_from(alloc: Global, flow: &Flow, faces: &Faces, at: Position) -> Option<CutRow>
+    requires flow { CanBePaged faces.now flow.now }
+{
+    cut_of::<Brand>(alloc, flow, faces, at, Blank::new(1))
+}
+
+fn cut(alloc: Global, flow: &Flow, faces: &Faces, at: Position) -> Result<String, NoMem>
+    requires flow { CanBePaged faces.now flow.now }
+{
+    match cut_from(alloc, flow, faces, at) {
+        Some(((event, offset), ended, level, count)) => {
+            Ok(format!(in alloc; "{event}.{offset} {ended} {level} {count}")?)
+        }
+        None => Ok(String::from_str(alloc, "?")?),
+    }
+}
+
+/// The answer to a question about a flow.
+fn of_flow(alloc: Global, faces: &Faces, flow: &Flow, parts: &[&str]) -> Result<String, NoMem>
+    requires flow { CanBePaged faces.now flow.now }
+{
+    match parts {
+        ["tops", _, size] => pages(alloc, flow, faces, size, false),
+        ["pages", _, _, size] => pages(alloc, flow, faces, size, true),
+        ["solids", _, from] => solids(alloc, &flow.main, faces, position(from)),
+        ["cut_at", _, at] => cut(alloc, flow, faces, position(at)),
+        _ => Ok(String::from_str(alloc, "?")?),
+    }
+}
+
+/// The answer to a question about a tree and notes in short.
+fn of_tree(alloc: Global, tree: &str, body: &str, parts: &[&str]) -> Result<String, NoMem> {
+    let faces = read_metrics(alloc, METRICS).map_err(|_| NoMem)?;
+    if faces.len() == 0 {
+        return Err(NoMem);
+    }
+    let flow = flow_in(alloc, &faces, tree, body)?;
+    of_flow(alloc, &faces, &flow, parts)
+}
+
+/// The answer to a question about a tree.
+pub(crate) fn answer(alloc: Global, parts: &[&str]) -> Result<String, NoMem> {
+    let tree = unescaped(alloc, parts.get(1).unwrap_or(&""))?;
+    let body = match parts {
+        ["pages", _, notes, _] => unescaped(alloc, notes)?,
+        _ => String::new(alloc),
+    };
+    Ok(escaped(
+        alloc,
+        of_tree(alloc, tree.as_str(), body.as_str(), parts)?.as_str(),
+    )?)
+}

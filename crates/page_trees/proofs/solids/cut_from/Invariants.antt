@@ -1,4 +1,0 @@
-use Rattle.page_trees.proofs.solids.cut_from.Given as goal
-
-abbrev pub ghosts-cut_of : goal.ghosts-cut_of
-ghosts-cut_of a = record { name = a.token.name; parts = a.token.parts }

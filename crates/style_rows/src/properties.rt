@@ -1,0 +1,158 @@
+//! Computed values of an element or a pseudo-element. Lengths are in units of 1/64 px.
+
+use crate::documents::{Styled, place_of};
+use bk_num::ids::NameId;
+use bk_num::length::Len;
+use bk_num::name::NoMem;
+use bk_num::px::Px;
+use bk_num::values::{BreakAt, NumStyle, WhiteSpace};
+use computed_values::fonts::used_line_height;
+use std::alloc::Global;
+use style::names::Names;
+use style::style::Style;
+use style::values::{Display, LineHeight};
+
+fn units(length: Px) -> i64 {
+    i64::from(length.units())
+}
+
+fn number(style: &Style, property: &str) -> Option<i64> {
+    match property {
+        "font-size" => Some(units(style.font_size)),
+        "line-height" => Some(units(used_line_height(style.font_size, &style.line_height))),
+        "font-weight" => Some(i64::from(style.font_weight)),
+        "border-top-width" => Some(units(style.border_top_width)),
+        "border-top-red" => Some(i64::from(style.border_top_color.red)),
+        "widows" => Some(i64::from(style.widows)),
+        "page-number" => Some(i64::from(style.page.0)),
+        _ => None,
+    }
+}
+
+fn length<'s>(style: &'s Style, property: &str) -> Option<&'s Len> {
+    match property {
+        "margin-top" => Some(&style.margin_top),
+        "margin-bottom" => Some(&style.margin_bottom),
+        "margin-left" => Some(&style.margin_left),
+        "padding-left" => Some(&style.padding_left),
+        _ => None,
+    }
+}
+
+fn display_word(display: Display) -> &'static str {
+    match display {
+        Display::Block => "block",
+        Display::ListItem => "list-item",
+        Display::Inline => "inline",
+        Display::Hidden => "none",
+    }
+}
+
+fn marker_word(style: NumStyle) -> &'static str {
+    match style {
+        NumStyle::Decimal => "decimal",
+        NumStyle::Disc => "disc",
+        _ => "another",
+    }
+}
+
+fn height_word(height: &LineHeight) -> &'static str {
+    match height {
+        LineHeight::Number(_) => "number",
+        LineHeight::Px(_) => "length",
+    }
+}
+
+fn first_family(style: &Style) -> &str {
+    match style.font_family.as_slice().first() {
+        Some(family) => family.as_str(),
+        None => "none",
+    }
+}
+
+/// A value that is a word. `line-height-as` is whether a number or a length is inherited.
+fn word<'s>(style: &'s Style, names: &'s Names, property: &str) -> &'s str {
+    match property {
+        "display" => display_word(style.display),
+        "list-style-type" => marker_word(style.list_style_type),
+        "line-height-as" => height_word(&style.line_height),
+        "break-after" if style.break_after == BreakAt::Avoid => "avoid",
+        "white-space" if style.white_space == WhiteSpace::Pre => "pre",
+        "font-style" if style.font_style => "italic",
+        "font-family" => first_family(style),
+        "page" => names.text(style.page).unwrap_or("another"),
+        _ => "another",
+    }
+}
+
+fn push_length(answer: &mut String, length: &Len) -> Result<(), NoMem> {
+    let pushed = match length {
+        Len::Px(length) => write!(answer, "{}", length.units()),
+        Len::Percent(part) => write!(answer, "{}%", part.units()),
+        Len::Auto => write!(answer, "auto"),
+    };
+    pushed.map_err(|_| NoMem)
+}
+
+fn push_value(
+    answer: &mut String,
+    style: &Style,
+    names: &Names,
+    property: &str,
+) -> Result<(), NoMem> {
+    if let Some(length) = length(style, property) {
+        return push_length(answer, length);
+    }
+    let pushed = match number(style, property) {
+        Some(number) => write!(answer, "{number}"),
+        None => answer.push_str(word(style, names, property)),
+    };
+    pushed.map_err(|_| NoMem)
+}
+
+/// A property at a place: whether the element is shown, or a computed value, `-` where there is no style.
+fn push_asked(
+    answer: &mut String,
+    styled: Styled<'_>,
+    at: &str,
+    property: &str,
+) -> Result<(), NoMem> {
+    let (node, pseudo) = place_of(at);
+    if property == "shown" {
+        let shown = styled.styles.is_shown(node);
+        return Ok(answer.push_str(if shown { "yes" } else { "no" })?);
+    }
+    match styled.styles.of(node, pseudo) {
+        Some(style) => push_value(answer, style, styled.names, property),
+        None => Ok(answer.push('-')?),
+    }
+}
+
+/// The values of some properties at a place, with a space between them.
+pub(crate) fn computed(
+    alloc: Global,
+    styled: Styled<'_>,
+    at: &str,
+    properties: &str,
+) -> Result<String, NoMem> {
+    let mut answer = String::new(alloc);
+    for (number, property) in properties.split(' ').enumerate() {
+        if number > 0 {
+            answer.push(' ')?;
+        }
+        push_asked(&mut answer, styled, at, property)?;
+    }
+    Ok(answer)
+}
+
+/// The names of pages in the order of their numbers, each in quotes and with a space after it, and how many they are.
+pub(crate) fn page_names(alloc: Global, names: &Names) -> Result<String, NoMem> {
+    let mut answer = String::new(alloc);
+    for number in 0..=names.len() {
+        match names.text(NameId(number)) {
+            Some(name) => write!(answer, "\"{name}\" ").map_err(|_| NoMem)?,
+            None => write!(answer, "{number}").map_err(|_| NoMem)?,
+        }
+    }
+    Ok(answer)
+}

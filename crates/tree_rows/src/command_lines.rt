@@ -1,0 +1,48 @@
+//! What the words of a command line ask for.
+
+use std::alloc::{AllocError, Global};
+use words::{Format, Request, WordsErr, read_words};
+
+/// Words with a space between them, so that two spaces stand round an empty word.
+fn words_of(alloc: Global, part: &str) -> Result<Vec<String>, AllocError> {
+    let mut words = Vec::new(alloc);
+    for word in part.split(' ') {
+        words.push(String::from_str(alloc, word)?)?;
+    }
+    Ok(words)
+}
+
+/// The passes, and the names in quotes: of the metrics, of the HTML, and of the sheets.
+fn format(alloc: Global, format: &Format<'_>) -> Result<String, AllocError> {
+    let Format {
+        passes,
+        metrics,
+        html,
+        ..
+    } = format;
+    let mut line = format!(in alloc; "format {passes} '{metrics}' '{html}'")?;
+    for sheet in &format.sheets {
+        write!(line, " '{sheet}'").map_err(|_| AllocError)?;
+    }
+    Ok(line)
+}
+
+fn asked(alloc: Global, words: &[String]) -> Result<String, AllocError> {
+    match read_words(alloc, words) {
+        Ok(Request::Format(asked)) => format(alloc, &asked),
+        Ok(Request::Sample { chapters }) => format!(in alloc; "sample {chapters}"),
+        Err(WordsErr::Fault(fault)) => format!(in alloc; "{fault:?}"),
+        Err(WordsErr::NoMemory) => Err(AllocError),
+    }
+}
+
+/// The answer to a question about words; without a part there are none.
+pub(crate) fn answer(alloc: Global, parts: &[&str]) -> Result<String, AllocError> {
+    match parts {
+        ["words", part] => {
+            let words = words_of(alloc, part)?;
+            asked(alloc, words.as_slice())
+        }
+        _ => asked(alloc, &[]),
+    }
+}
