@@ -1,4 +1,4 @@
-use Rattle.std.proofs.Common.{arith, ◌≤ℤ◌, ◌^◌, ℤ, pos, to_z, of_z, List, [], ◌∷◌}
+use Rattle.std.proofs.Common.{arith, ◌≤ℤ◌, ◌^◌, ℤ, pos, to_z, of_z, [], ◌∷◌}
 use Rattle.std.proofs.lemmas.Int.{ints}
 use Rattle.std.proofs.lemmas.List.Elements.{All-cons, All-nil}
 use Rattle.std.specs.List.{All}
