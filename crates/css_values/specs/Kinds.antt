@@ -12,36 +12,42 @@ use Rattle.css_values.specs.declared.kinds.Side.TheVariants as side
 use Rattle.css_values.specs.declared.kinds.Worded.{Worded}
 use Rattle.css_values.specs.declared.kinds.Worded.TheVariants as word
 
+-- the margin on a side (CSS 2.1, 8.3)
 abbrev pub margin : Side → Longhand
 margin side.Top = hand.MarginTop
 margin side.Right = hand.MarginRight
 margin side.Bottom = hand.MarginBottom
 margin side.Left = hand.MarginLeft
 
+-- the padding on a side (CSS 2.1, 8.4)
 abbrev pub padding : Side → Longhand
 padding side.Top = hand.PaddingTop
 padding side.Right = hand.PaddingRight
 padding side.Bottom = hand.PaddingBottom
 padding side.Left = hand.PaddingLeft
 
+-- the width of the border on a side (CSS 2.1, 8.5.1)
 abbrev pub border_width : Side → Longhand
 border_width side.Top = hand.BorderTopWidth
 border_width side.Right = hand.BorderRightWidth
 border_width side.Bottom = hand.BorderBottomWidth
 border_width side.Left = hand.BorderLeftWidth
 
+-- the style of the border on a side (CSS 2.1, 8.5.3)
 abbrev pub border_style : Side → Longhand
 border_style side.Top = hand.BorderTopStyle
 border_style side.Right = hand.BorderRightStyle
 border_style side.Bottom = hand.BorderBottomStyle
 border_style side.Left = hand.BorderLeftStyle
 
+-- the colour of the border on a side (CSS 2.1, 8.5.2)
 abbrev pub border_color : Side → Longhand
 border_color side.Top = hand.BorderTopColor
 border_color side.Right = hand.BorderRightColor
 border_color side.Bottom = hand.BorderBottomColor
 border_color side.Left = hand.BorderLeftColor
 
+-- the longhand whose value is a word
 abbrev pub worded : Worded → Longhand
 worded word.Display = hand.Display
 worded word.Float = hand.Float
@@ -54,6 +60,7 @@ worded word.BreakBefore = hand.BreakBefore
 worded word.BreakAfter = hand.BreakAfter
 worded word.BreakInside = hand.BreakInside
 
+-- the longhand whose value is a number, a length or a colour
 abbrev pub numbered : Numbered → Longhand
 numbered number.Width = hand.Width
 numbered number.TextIndent = hand.TextIndent
@@ -65,6 +72,7 @@ numbered number.Orphans = hand.Orphans
 numbered number.Color = hand.Color
 numbered number.BackgroundColor = hand.BackgroundColor
 
+-- the longhand whose value takes memory
 abbrev pub listed : Listed → Longhand
 listed list.FontFamily = hand.FontFamily
 listed list.Content = hand.Content
@@ -73,6 +81,7 @@ listed list.CounterIncrement = hand.CounterIncrement
 listed list.StringSet = hand.StringSet
 listed list.Page = hand.Page
 
+-- the longhand of a form
 abbrev pub hand_of : Kind → Longhand
 hand_of (kind.Margin s) = margin s
 hand_of (kind.Padding s) = padding s
