@@ -3,3 +3,4 @@ pub mod MemShelfFields
 pub mod Memory
 pub mod Shelf
 pub mod Sink
+pub mod Texts

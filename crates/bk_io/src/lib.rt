@@ -1,4 +1,4 @@
-//! Named files to read and streams to write, with a written meaning, and their real and in-memory forms.
+//! Named files to read and streams to write, with a written meaning, their real and in-memory forms, and texts of files.
 #![tactic(auto)]
 
 pub mod dir_shelf;
@@ -11,3 +11,4 @@ pub mod sink;
 pub mod std_sink;
 pub mod still_shelf;
 pub mod still_sink;
+pub mod texts;

@@ -1,10 +1,9 @@
 //! Texts of files: which bytes are one, and what is dropped before they are read.
-#![tactic(auto)]
 
 ghost use Rattle.std.specs.Prelude.{◌≡◌, ◌≤◌, length, MatchResult, string_bytes, is_ok};
 ghost use Rattle.std.specs.Str.{is_utf8};
 ghost use Rattle.std.specs.Str.Lossy.{utf8_valid_len};
-ghost use Rattle.bk_text.specs.Texts.{unmarked, LongestPrefixIs};
+ghost use Rattle.bk_io.specs.Texts.{unmarked, LongestPrefixIs};
 
 /// U+FEFF, which may stand before a text to tell its encoding.
 const MARK: &str = "\u{feff}";

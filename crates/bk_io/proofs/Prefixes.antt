@@ -4,7 +4,7 @@ use Rattle.std.specs.Str.{IsUtf8, is_utf8}
 use Rattle.std.specs.Str.Lossy.{utf8_valid_len, valid_len_up_to}
 use Rattle.std.proofs.Math.Nat.{le-suc_iff}
 use Rattle.std.proofs.lemmas.Str.{IsUtf8-nil, IsUtf8-from_is_utf8, is_utf8-from_IsUtf8}
-use Rattle.bk_text.specs.Texts.{IsLongestPrefix}
+use Rattle.bk_io.specs.Texts.{IsLongestPrefix}
 
 -- of the fronts of at most so many bytes, the longest that is UTF-8
 pub record IsLongestUpTo (bs : List ℕ) (n at : ℕ) : Type 0 where

@@ -2,7 +2,7 @@ use Rattle.std.proofs.Common.{rules, ◌≡◌, string_bytes, true, sym, refl}
 use Rattle.std.specs.Str.{is_utf8}
 use Rattle.std.proofs.lemmas.Str.{is_utf8-from_IsUtf8, IsUtf8-from_is_utf8, IsUtf8-had}
 use Rattle.std.proofs.lemmas.Bool.{false_from_ne_true, both_ways}
-use Rattle.bk_text.proofs.text_from.Goals as goal
+use Rattle.bk_io.proofs.texts.text_from.Goals as goal
 
 pub returns-in-Ok-clause-utf8 : goal.returns-in-Ok-clause-utf8
 returns-in-Ok-clause-utf8 c =
