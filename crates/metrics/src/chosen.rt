@@ -1,13 +1,12 @@
 //! The face that families, a style and a weight choose, as one value.
-#![tactic(auto)]
 
 ghost use Rattle.std.specs.Prelude.{◌≡◌, ◌<◌, length};
 ghost use Rattle.metrics.specs.Choice.{Chooses};
-ghost use Rattle.face_choice.specs.Choice.{FaceIsChosen, face_by};
+ghost use Rattle.metrics.specs.Chosen.{FaceIsChosen, face_by};
 
+use crate::lookup::Faces;
 use bk_num::ids::FaceId;
 use bk_num::name::Name;
-use metrics::Faces;
 
 /// The face that families, a style and a weight choose; true is italic.
 pub fn choose(faces: &Faces, families: &[Name], italic: bool, weight: u16) -> FaceId
@@ -19,7 +18,7 @@ pub fn choose(faces: &Faces, families: &[Name], italic: bool, weight: u16) -> Fa
     faces.choose(families, italic, weight)
 }
 
-/// Law: it is the face that `metrics` says is chosen.
+/// Law: it is the face that is chosen by the properties of faces.
 pub fn chosen_is_defined()
     ensures { FaceIsChosen }
 {}

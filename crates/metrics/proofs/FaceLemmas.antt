@@ -11,7 +11,7 @@ use Rattle.std.proofs.lemmas.Slice.Eq.{bytes_eq-Decides}
 use Rattle.metrics.specs.Face.{FontFace, no_face}
 use Rattle.metrics.specs.Choice.{IsNearer, closer, lesser, GoesBefore, by_style, by_weight, HasName, IsChosen, apart, is_named, name_of}
 use Rattle.metrics.proofs.ChoiceLemmas.{bytes_same, chosen, chosen_once, position-none, position-some}
-use Rattle.face_choice.specs.Choice.{FaceIsChosen, face_by, goes_before, is_first, is_nearer}
+use Rattle.metrics.specs.Chosen.{FaceIsChosen, face_by, goes_before, is_first, is_nearer}
 
 nearer-yes : (asked m n : ℕ) → IsNearer asked m n → is_nearer asked m n ≡ true
 nearer-yes asked m n (closer h) = grind (arith, nat_tests)
