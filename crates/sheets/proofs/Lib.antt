@@ -1,1 +1,3 @@
+pub mod PageLemmas
+pub mod ReadLemmas
 pub mod SheetLemmas

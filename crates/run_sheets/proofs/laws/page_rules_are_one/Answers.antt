@@ -1,5 +1,0 @@
-use Rattle.run_sheets.proofs.PageLemmas.{pages-one}
-use Rattle.run_sheets.proofs.laws.page_rules_are_one.Goals as goal
-
-pub returns : goal.returns
-returns c = pages-one c.one_reading.ensures

@@ -1,5 +1,0 @@
-use Rattle.run_sheets.proofs.ReadLemmas.{texts-read}
-use Rattle.run_sheets.proofs.laws.texts_are_read.Goals as goal
-
-pub returns : goal.returns
-returns c = texts-read c.one_reading.ensures

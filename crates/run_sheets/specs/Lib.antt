@@ -1,4 +1,0 @@
-pub mod Files
-pub mod Readings
-pub mod Sources
-pub mod Laws
