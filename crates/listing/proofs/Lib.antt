@@ -1,2 +1,4 @@
+pub mod Numbers
 pub mod Passing
+pub mod Printing
 pub mod RecordLemmas

@@ -3,9 +3,9 @@ use Rattle.std.proofs.lemmas.Result.{err_from_is_err_and}
 use Rattle.std.specs.List.{flat_map}
 use Rattle.listing.specs.Records.{book_record, end_record}
 use Rattle.listing.proofs.Passing.{first_of_three, given_put, put_given, second_of_three, three_given}
-use Rattle.book_print.specs.Printer.{page_in}
-use Rattle.book_print.proofs.Printing.{listing_parts}
-use Rattle.book_print.proofs.print.put_listing.Goals as goal
+use Rattle.listing.specs.Printer.{page_in}
+use Rattle.listing.proofs.Printing.{listing_parts}
+use Rattle.listing.proofs.print.put_listing.Goals as goal
 
 pub count_of-requires : goal.count_of-requires
 count_of-requires g c = subst (λ (n : ℕ). n < 2 ^ 31) (sym c.requires.pages.count) c.requires.printer.few

@@ -1,8 +1,8 @@
 use Rattle.std.proofs.Common.{◌≡◌, All, length}
 use Rattle.std.specs.List.{flat_map, range_with_len}
-use Rattle.book_print.specs.Printed.{page_bytes}
-use Rattle.book_print.specs.Printer.{IsGoodPage, page_in, view_of}
-use Rattle.book_print.proofs.pages.printed_pages.Given as goal
+use Rattle.listing.specs.Printed.{page_bytes}
+use Rattle.listing.specs.Printer.{IsGoodPage, page_in, view_of}
+use Rattle.listing.proofs.pages.printed_pages.Given as goal
 
 abbrev pub invariant-loop-place : goal.invariant-loop-place
 invariant-loop-place g l = record {

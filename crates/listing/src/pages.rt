@@ -6,15 +6,15 @@ ghost use Rattle.listing.specs.Pages.{head_record};
 ghost use Rattle.margin_box.specs.Conditions.{CanShowMargins};
 ghost use Rattle.margin_box.specs.Margins.{HasFace, items_of, margins_in};
 ghost use Rattle.margin_box.specs.Margins as spec;
-ghost use Rattle.book_print.specs.Printed.{head_at, margins_of, page_name, page_numbers};
-ghost use Rattle.book_print.specs.Printer.{ArePrinted, CanPrint, IsPrinted, view_of};
+ghost use Rattle.listing.specs.Printed.{head_at, margins_of, page_name, page_numbers};
+ghost use Rattle.listing.specs.Printer.{ArePrinted, CanPrint, IsPrinted, view_of};
 
+use crate::records::PageHead;
 use bk_num::name::NoMem;
 use bk_num::steps::Steps;
 use boxes::flow::Flow;
 use boxes::frames::side_of;
 use boxes::page::{Page, PageList};
-use listing::records::PageHead;
 use margin_box::items::{MarginText, Margins, margin_items};
 use metrics::Faces;
 use page_ctx::resolve::PageStyles;

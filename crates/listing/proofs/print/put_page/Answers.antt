@@ -1,4 +1,4 @@
-use Rattle.book_print.proofs.print.put_page.Goals as goal
+use Rattle.listing.proofs.print.put_page.Goals as goal
 
 pub write_page-requires-clause-items : goal.write_page-requires-clause-items
 write_page-requires-clause-items g c = rw c.as_slice.ensures.value c.requires.items

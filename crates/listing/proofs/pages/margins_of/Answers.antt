@@ -1,6 +1,6 @@
 use Rattle.std.proofs.Common.{◌∙◌, ap, length}
-use Rattle.book_print.proofs.Numbers.{numbers-many}
-use Rattle.book_print.proofs.pages.margins_of.Goals as goal
+use Rattle.listing.proofs.Numbers.{numbers-many}
+use Rattle.listing.proofs.pages.margins_of.Goals as goal
 
 pub returns-clause-can : goal.returns-clause-can
 returns-clause-can c = record {

@@ -3,15 +3,15 @@
 ghost use Rattle.std.specs.Prelude.{◌≡◌, ◌<◌, ◌^◌, All, length};
 ghost use Rattle.std.specs.List.{flat_map};
 ghost use Rattle.bk_io.specs.Sink.{AppendsAllOrPrefix, HasCause};
-ghost use Rattle.book_print.specs.Printed.{listing_of};
-ghost use Rattle.book_print.specs.Printer.{ArePrinted, CanPrint, IsGoodPage, page_in, view_of};
-ghost use Rattle.book_print.specs.Puts.{HasPutCause, Puts};
+ghost use Rattle.listing.specs.Printed.{listing_of};
+ghost use Rattle.listing.specs.Printer.{ArePrinted, CanPrint, IsGoodPage, page_in, view_of};
+ghost use Rattle.listing.specs.Puts.{HasPutCause, Puts};
 
 use crate::pages::{PrintedPage, Printer, printed_pages};
+use crate::write::{write_end, write_head, write_page};
 use bk_io::sink::{Failed, Sink};
 use bk_num::name::NoMem;
 use bk_num::steps::Steps;
-use listing::write::{write_end, write_head, write_page};
 use metrics::Faces;
 use std::alloc::Global;
 use std::sync::ledger::Ledger;
@@ -25,7 +25,7 @@ pub enum PrintErr {
 
 impl From<NoMem> for PrintErr {
     ghost use Rattle.std.specs.Prelude.{◌≡◌};
-    ghost use Rattle.book_print.specs.declared.print.PrintErr.TheVariants.{NoMemory};
+    ghost use Rattle.listing.specs.declared.print.PrintErr.TheVariants.{NoMemory};
 
     ghost from_gives = { λ _ e. e ≡ NoMemory };
 
@@ -36,7 +36,7 @@ impl From<NoMem> for PrintErr {
 
 impl From<Failed> for PrintErr {
     ghost use Rattle.std.specs.Prelude.{◌≡◌};
-    ghost use Rattle.book_print.specs.declared.print.PrintErr.TheVariants as err;
+    ghost use Rattle.listing.specs.declared.print.PrintErr.TheVariants as err;
 
     ghost from_gives = { λ _ e. e ≡ err.Failed };
 

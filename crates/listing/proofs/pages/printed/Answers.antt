@@ -1,8 +1,8 @@
 use Rattle.std.proofs.Common.{◌≡◌, ◌∙◌, List, Some, slice_get, sym, ap}
 use Rattle.boxes.specs.declared.page.Page.{Page}
-use Rattle.book_print.specs.Printer.{view_of}
-use Rattle.book_print.proofs.Printing.{printed_is}
-use Rattle.book_print.proofs.pages.printed.Goals as goal
+use Rattle.listing.specs.Printer.{view_of}
+use Rattle.listing.proofs.Printing.{printed_is}
+use Rattle.listing.proofs.pages.printed.Goals as goal
 
 pub returns : goal.returns
 returns g c =

@@ -2,8 +2,8 @@
 use Rattle.std.specs.Prelude.{ℕ, List, take, Option, Result, Ok, Err}
 use Rattle.std.specs.Io.KnownBytes.{Appends, Keeps}
 use Rattle.bk_io.specs.Causes.{Rose}
-use Rattle.book_print.specs.declared.print.PrintErr.{PrintErr}
-use Rattle.book_print.specs.declared.print.PrintErr.TheVariants as err
+use Rattle.listing.specs.declared.print.PrintErr.{PrintErr}
+use Rattle.listing.specs.declared.print.PrintErr.TheVariants as err
 
 -- the bytes were put; or a put failed, and a prefix of them was; or memory ran out, and nothing was
 abbrev pub Puts : Option (List ℕ) → Option (List ℕ) → List ℕ → Result Unit PrintErr → Type 0

@@ -14,11 +14,11 @@ use Rattle.margin_box.specs.declared.items.MarginText.{MarginText}
 use Rattle.paint.specs.Pages.{items_of}
 use Rattle.paint.specs.Views.{items_in}
 use Rattle.paint.specs.declared.item.ItemRef.{ItemRef}
-use Rattle.book_print.specs.Printed.{Print, head_at, listing_of, margins_of, page_bytes}
-use Rattle.book_print.specs.Printer.{ArePrinted, IsPrinted, page_in, view_of}
-use Rattle.book_print.specs.declared.pages.PrintedPage.{PrintedPage}
-use Rattle.book_print.specs.declared.pages.Printer.{Printer}
-use Rattle.book_print.proofs.Numbers.{flat-next, page_is}
+use Rattle.listing.specs.Printed.{Print, head_at, listing_of, margins_of, page_bytes}
+use Rattle.listing.specs.Printer.{ArePrinted, IsPrinted, page_in, view_of}
+use Rattle.listing.specs.declared.pages.PrintedPage.{PrintedPage}
+use Rattle.listing.specs.declared.pages.Printer.{Printer}
+use Rattle.listing.proofs.Numbers.{flat-next, page_is}
 
 pub printed_is : (p : Print) (pages : List Page) (place : ℕ) (page : Page) (head : PageHead) (items : List ItemRef) (texts : List MarginText) →
     slice_get pages place ≡ Some page → head_record head ≡ head_at p pages place page → items_in p.faces items ≡ items_of p.faces p.flow page →

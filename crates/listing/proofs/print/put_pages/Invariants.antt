@@ -1,8 +1,8 @@
 use Rattle.std.proofs.Common.{◌≤◌, [], take}
 use Rattle.std.specs.List.{flat_map}
 use Rattle.listing.specs.Buffers.{Passes}
-use Rattle.book_print.specs.Printer.{page_in}
-use Rattle.book_print.proofs.print.put_pages.Given as goal
+use Rattle.listing.specs.Printer.{page_in}
+use Rattle.listing.proofs.print.put_pages.Given as goal
 
 abbrev pub invariant-loop-page : goal.invariant-loop-page
 invariant-loop-page g l = record {

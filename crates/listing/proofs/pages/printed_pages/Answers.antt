@@ -1,9 +1,9 @@
 use Rattle.std.proofs.Common.{◌≡◌, ◌∙◌, ◌+◌, ◌++◌, ◌∷◌, ℕ, All, List, [], ap, length, sym, subst}
 use Rattle.std.specs.List.{flat_map}
-use Rattle.book_print.specs.Printer.{IsGoodPage, page_in}
-use Rattle.book_print.specs.declared.pages.PrintedPage.{PrintedPage}
-use Rattle.book_print.proofs.Printing.{all_more, length_more, printed_more}
-use Rattle.book_print.proofs.pages.printed_pages.Goals as goal
+use Rattle.listing.specs.Printer.{IsGoodPage, page_in}
+use Rattle.listing.specs.declared.pages.PrintedPage.{PrintedPage}
+use Rattle.listing.proofs.Printing.{all_more, length_more, printed_more}
+use Rattle.listing.proofs.pages.printed_pages.Goals as goal
 
 pub loop-place-preserved : goal.loop-place-preserved
 loop-place-preserved g c =

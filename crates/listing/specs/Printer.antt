@@ -12,9 +12,9 @@ use Rattle.page_seq.specs.Numbers.{numbers_of}
 use Rattle.paint.specs.Conditions.{CanFlowBePainted}
 use Rattle.paint.specs.Views.{HasItemFace}
 use Rattle.strings.specs.Assigned.{AreStrings}
-use Rattle.book_print.specs.Printed.{Print, page_bytes}
-use Rattle.book_print.specs.declared.pages.PrintedPage.{PrintedPage}
-use Rattle.book_print.specs.declared.pages.Printer.{Printer}
+use Rattle.listing.specs.Printed.{Print, page_bytes}
+use Rattle.listing.specs.declared.pages.PrintedPage.{PrintedPage}
+use Rattle.listing.specs.declared.pages.Printer.{Printer}
 
 -- the page boxes and the styles of margin boxes stand in a table
 abbrev pub view_of : Printer → Print

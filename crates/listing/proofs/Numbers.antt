@@ -5,7 +5,7 @@ use Rattle.std.proofs.lemmas.List.FromFn.{length-map-range_with_len}
 use Rattle.boxes.specs.Tree.{Tree}
 use Rattle.boxes.specs.declared.flow.Reset.{Reset}
 use Rattle.boxes.specs.declared.page.Page.{Page}
-use Rattle.book_print.specs.Printed.{Print, bytes_of, bytes_on, page_bytes}
+use Rattle.listing.specs.Printed.{Print, bytes_of, bytes_on, page_bytes}
 use Rattle.page_seq.specs.Numbers.{numbers_after, numbers_of, value_on, values_of}
 
 length-after : (values : List (Option ℤ)) (before : ℤ) → length (numbers_after before values) ≡ length values

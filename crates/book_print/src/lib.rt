@@ -1,5 +1,0 @@
-//! The listing of a page list.
-#![tactic(auto)]
-
-pub mod pages;
-pub mod print;
