@@ -1,24 +1,25 @@
 //! The runs of a line.
 
-ghost use Rattle.std.specs.Prelude.{◌≡◌, ◌<◌, ◌≤◌, ◌+◌, ◌-◌, ◌*◌, ◌^◌, pos, neg_ℤ, ◌≤ℤ◌, ◌+ℤ◌, ◌-ℤ◌, length, unsigned_abs, slice_index_or, Some, true, ◌∷◌, [], ◌++◌, OnOk, if◌then◌else◌, IfOk};
+ghost use Rattle.std.specs.Prelude.{◌≡◌, ◌<◌, ◌≤◌, ◌+◌, ◌-◌, ◌*◌, ◌^◌, pos, neg_ℤ, ◌≤ℤ◌, ◌+ℤ◌, ◌-ℤ◌, length, unsigned_abs, slice_index_or, Some, true, ◌∷◌, [], ◌++◌, map, OnOk, if◌then◌else◌, IfOk};
 ghost use Rattle.std.specs.Int.{int_max};
 ghost use Rattle.std.specs.List.{All};
+ghost use Rattle.bk_num.specs.declared.values.Align.TheVariants as align;
 ghost use Rattle.boxes.specs.Contents.{IsGoodLeaf};
 ghost use Rattle.boxes.specs.declared.leaf.Span.{Span};
 ghost use Rattle.line_fill.specs.LineEnd.{line_measure, shown_len};
 ghost use Rattle.line_fill.specs.Widths.{hyphen_at, span_at, sum_from, unit_at};
 ghost use Rattle.line_place.specs.Conditions.{HasFaces, IsInLeaf};
 ghost use Rattle.line_place.specs.Placing as spec;
-ghost use Rattle.line_place.specs.Placing.{free_end, indent_of, number_at, runs_of, setting_of, shift_of, slack_of};
-ghost use Rattle.line_place.specs.Runs.{Covers};
-ghost use Rattle.line_place.specs.Sums.{AreSums, IsInside, count_free};
+ghost use Rattle.line_place.specs.Placing.{free_end, hyphens_of, indent_of, number_at, runs_of, setting_of, shift_of, slack_of};
+ghost use Rattle.line_place.specs.Runs.{Covers, is_free, line_pieces};
+ghost use Rattle.line_place.specs.Sums.{AreSums, IsInside, count_free, run_of};
 
 use crate::pieces::{Ends, Piece, pieces_of};
 use crate::place::{Run, Setting, left, push_runs};
 use crate::shown::shown_end;
 use crate::spans::count_ended;
 use crate::sums::{Sums, add_piece};
-use crate::units::char_width;
+use crate::units::ascii_width;
 use bk_num::items::Items;
 use bk_num::name::NoMem;
 use bk_num::values::Align;
@@ -153,7 +154,7 @@ fn hyphen_span(leaf: &Leaf, to: u32) -> usize
 }
 
 /// The width of the hyphen that a line shows, in the style of its soft hyphen.
-#[tactic(auto, unfolding(line_fill::specs::Widths::hyphen_at, line_fill::specs::Widths::is_hyphened))]
+#[tactic(auto, unfolding(line_fill::specs::Widths::hyphen_at, line_fill::specs::Widths::is_hyphened, line_fill::specs::Widths::width_in, line_fill::specs::Fill::pen_width))]
 fn hyphen_width(faces: &Faces, leaf: &Leaf, line: Line) -> u32
     requires good { IsGoodLeaf leaf.now }
     requires faced { HasFaces faces.now leaf.now }
@@ -165,7 +166,8 @@ fn hyphen_width(faces: &Faces, leaf: &Leaf, line: Line) -> u32
         return 0;
     }
     let number = hyphen_span(leaf, line.to());
-    char_width(faces, &leaf.spans.as_slice()[number], '-')
+    let span = &leaf.spans.as_slice()[number];
+    ascii_width(&faces.pen(span.face, span.size), b'-')
 }
 
 /// What a line leaves of its measure, where its part without hanging spaces has a width.
@@ -270,6 +272,88 @@ fn push_hyphen(runs: &mut Items<Run>, leaf: &Leaf, line: Line, x: i64) -> Result
     Ok(())
 }
 
+/// The runs of a line that is set, where the end of the spaces that share its slack is known.
+fn set_runs(
+    alloc: Global,
+    faces: &Faces,
+    leaf: &Leaf,
+    line: Line,
+    free: u32,
+    setting: Setting,
+) -> Result<Items<Run>, NoMem>
+    requires good { IsGoodLeaf leaf.now }
+    requires faced { HasFaces faces.now leaf.now }
+    requires line { IsInLeaf leaf.now line }
+    requires count { setting.count ≡ count_free leaf.now.text free line.from (free - line.from) }
+    requires slack { setting.slack ≤ 2 ^ 42 }
+    requires low { neg_ℤ (pos (2 ^ 44)) ≤ℤ setting.start }
+    requires high { setting.start ≤ℤ pos (2 ^ 44) }
+    ensures { IfOk result (λ v. v ≡ map (run_of faces.now leaf.now free line.from setting)
+        (line_pieces (is_free leaf.now.text free) line.from line.to 0 leaf.now.spans) ++ hyphens_of faces.now leaf.now line free setting) }
+{
+    let ends = Ends {
+        from: line.from(),
+        to: line.to(),
+        free,
+    };
+    let pieces = pieces_of(alloc, leaf, ends)?;
+    let mut runs = Items::new(alloc);
+    let sums = push_runs(&mut runs, faces, leaf, ends, &pieces, setting)?;
+    push_hyphen(&mut runs, leaf, line, left(setting, sums))?;
+    Ok(runs)
+}
+
+/// The runs of a line that is aligned left: its slack moves nothing and isn't shared, so the line isn't measured.
+fn left_runs(
+    alloc: Global,
+    faces: &Faces,
+    leaf: &Leaf,
+    line: Line,
+    measure: i64,
+) -> Result<Items<Run>, NoMem>
+    requires good { IsGoodLeaf leaf.now }
+    requires faced { HasFaces faces.now leaf.now }
+    requires line { IsInLeaf leaf.now line }
+    requires measure { unsigned_abs measure ≤ 2 ^ 40 }
+    requires left { leaf.now.align ≡ align.Left }
+    ensures { IfOk result (λ v. v ≡ runs_of faces.now leaf.now line measure) }
+{
+    let setting = Setting {
+        start: start_at(leaf, line.from(), measure, 0),
+        slack: 0,
+        count: 0,
+    };
+    set_runs(alloc, faces, leaf, line, line.from(), setting)
+}
+
+/// The runs of a line, by its slack.
+fn measured_runs(
+    alloc: Global,
+    faces: &Faces,
+    leaf: &Leaf,
+    line: Line,
+    measure: i64,
+) -> Result<Items<Run>, NoMem>
+    requires good { IsGoodLeaf leaf.now }
+    requires faced { HasFaces faces.now leaf.now }
+    requires line { IsInLeaf leaf.now line }
+    requires measure { unsigned_abs measure ≤ 2 ^ 40 }
+    ensures { IfOk result (λ v. v ≡ runs_of faces.now leaf.now line measure) }
+{
+    let (from, to) = (line.from(), line.to());
+    let shown = shown_end(leaf.text.as_str().as_bytes(), from, to);
+    let sums = shown_sums(alloc, faces, leaf, from, shown)?;
+    let slack = slack_at(faces, leaf, line, measure, sums.width);
+    let free = free_at(leaf, line, shown, slack);
+    let ends = Ends {
+        from,
+        to: shown,
+        free,
+    };
+    let setting = setting_at(leaf, line, measure, ends, slack, sums.passed);
+    set_runs(alloc, faces, leaf, line, free, setting)
+}
+
 /// The runs of a line of a leaf at a measure in units, in order, with their places from the left of the measure.
 ///
 /// A run is the part of one span in the line. The line begins at the indent, if it is the leaf's first, and is moved by
@@ -289,27 +373,10 @@ pub fn runs(
     requires measure { unsigned_abs measure ≤ 2 ^ 40 }
     ensures { IfOk result (λ v. v ≡ runs_of faces.now leaf.now line measure) }
 {
-    let (from, to) = (line.from(), line.to());
-    let shown = shown_end(leaf.text.as_str().as_bytes(), from, to);
-    let sums = shown_sums(alloc, faces, leaf, from, shown)?;
-    let slack = slack_at(faces, leaf, line, measure, sums.width);
-    let free = free_at(leaf, line, shown, slack);
-    let setting = setting_at(
-        leaf,
-        line,
-        measure,
-        Ends {
-            from,
-            to: shown,
-            free,
-        },
-        slack,
-        sums.passed,
-    );
-    let ends = Ends { from, to, free };
-    let pieces = pieces_of(alloc, leaf, ends)?;
-    let mut runs = Items::new(alloc);
-    let sums = push_runs(&mut runs, faces, leaf, ends, &pieces, setting)?;
-    push_hyphen(&mut runs, leaf, line, left(setting, sums))?;
-    Ok(runs)
+    match leaf.align {
+        Align::Left => left_runs(alloc, faces, leaf, line, measure),
+        Align::Right | Align::Center | Align::Justify => {
+            measured_runs(alloc, faces, leaf, line, measure)
+        }
+    }
 }

@@ -11,7 +11,7 @@ use boxes::leaf::{Leaf, Span};
 use metrics::Faces;
 
 /// What a line has up to an offset: its width in units, and how many of its spaces take shares.
-#[derive(Clone, Copy, Debug)]
+#[derive(Clone, Copy)]
 pub(crate) struct Sums {
     pub width: u64,
     pub passed: u64,
@@ -52,9 +52,10 @@ pub(crate) fn add_piece(
 {
     let text = leaf.text.as_str();
     let bytes = text.as_bytes();
+    let pen = faces.pen(span.face, span.size);
     let mut sums = sums;
     for at in piece.from..piece.to {
-        let width = unit(faces, span, text, at as usize);
+        let width = unit(&pen, text, at as usize);
         sums = sums.with(width, is_free(bytes, ends.free, at));
     }
     sums
