@@ -1,5 +1,5 @@
 -- What the pass over the characters keeps.
-use Rattle.std.specs.Prelude.{ℕ, ◌<◌, ◌==◌, ◌||◌, Bool, true, false, List, [], ◌∷◌, map, string_bytes, Vec, String}
+use Rattle.std.specs.Prelude.{ℕ, ◌+◌, ◌<◌, ◌==◌, ◌||◌, ◌&&◌, not, nat_lt, Bool, true, false, List, [], ◌∷◌, length, map, slice_index, string_bytes, Vec, String}
 use Rattle.std.specs.Global.{Global}
 use Rattle.inline_text.specs.Space.{Char, mark, trimmed, squeezed, appended, spelled}
 use Rattle.inline_text.specs.declared.space.Class.{Class}
@@ -10,6 +10,14 @@ use Rattle.inline_text.specs.declared.space.Gap.TheVariants.{Spaced, Pending, Op
 -- whether a byte is a space, a tab or a newline
 abbrev pub is_white : ℕ → Bool
 is_white b = b == 32 || b == 9 || b == 10
+
+-- whether a byte of a text is a space that no white space follows, before the text's end
+abbrev pub is_joint : List ℕ → ℕ → Bool
+is_joint text k = slice_index text k == 32 && nat_lt (k + 1) (length text) && not (is_white (slice_index text (k + 1)))
+
+-- whether the words that begin at a place end before a byte: at white space that isn't one space between two words
+abbrev pub stops : List ℕ → ℕ → ℕ → Bool
+stops text from k = is_white (slice_index text k) && (k == from || not (is_joint text k))
 
 abbrev pub texts_of : Vec (String Global) Global → List (List ℕ)
 texts_of v = map (λ t. string_bytes t) v.items

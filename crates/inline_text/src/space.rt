@@ -4,7 +4,7 @@ ghost use Rattle.std.specs.Prelude.{◌≡◌, ◌<◌, ◌≤◌, ◌++◌, [],
 ghost use Rattle.std.specs.Char.{encode_utf8};
 ghost use Rattle.inline_text.specs.Space.{Char, class_of, chars_of_part, appended, placed, collapsed};
 ghost use Rattle.inline_text.specs.Space as spec;
-ghost use Rattle.inline_text.specs.Gaps.{IsWithin, is_white, left_from, next_gap, settled, put_of, texts_of};
+ghost use Rattle.inline_text.specs.Gaps.{IsWithin, is_joint, is_white, stops, left_from, next_gap, settled, put_of, texts_of};
 
 use bk_num::items::Items;
 use bk_num::name::{Name, NoMem};
@@ -22,7 +22,7 @@ pub struct TextPart {
 }
 
 /// What a character is to the collapsing of white space.
-#[derive(Clone, Copy, Debug, PartialEq, Eq)]
+#[derive(Clone, Copy, PartialEq, Eq)]
 pub(crate) enum Class {
     /// A space or a tab that collapses.
     Blank,
@@ -37,7 +37,7 @@ pub(crate) enum Class {
 }
 
 /// What stands before the next character.
-#[derive(Clone, Copy, Debug)]
+#[derive(Clone, Copy)]
 pub(crate) enum Gap {
     /// A space that collapses, a newline, or the leaf's start.
     Spaced,
@@ -156,23 +156,40 @@ fn is_white(byte: u8) -> bool
     byte == b' ' || byte == b'\t' || byte == b'\n'
 }
 
-/// Where the word ends that begins at an offset: at the next white space, or at the end.
+/// Whether a byte of a text is a space that no white space follows, before the text's end.
+fn is_joint(bytes: &[u8], at: usize) -> bool
+    requires { at < length bytes.now }
+    ensures { result ≡ is_joint bytes.now at }
+{
+    bytes[at] == b' ' && at + 1 < bytes.len() && !is_white(bytes[at + 1])
+}
+
+/// Whether the words that begin at an offset end before a byte: at white space that isn't one space between two words.
+#[inline]
+fn stops(bytes: &[u8], from: usize, at: usize) -> bool
+    requires { at < length bytes.now }
+    ensures { result ≡ stops bytes.now from at }
+{
+    is_white(bytes[at]) && (at == from || !is_joint(bytes, at))
+}
+
+/// Where the words end that begin at an offset, with one space between two: at other white space, or at the end.
 fn word_end(bytes: &[u8], from: usize) -> usize
     requires { from < length bytes.now }
     ensures start { from ≤ result }
     ensures end { result ≤ length bytes.now }
-    ensures word { (k : ℕ) → from ≤ k → k < result → is_white (slice_index bytes.now k) ≡ false }
+    ensures word { (k : ℕ) → from ≤ k → k < result → stops bytes.now from k ≡ false }
     ensures white { result < length bytes.now → is_white (slice_index bytes.now result) ≡ true }
 {
     for at in from..bytes.len() {
-        if is_white(bytes[at]) {
+        if stops(bytes, from, at) {
             return at;
         }
     }
     bytes.len()
 }
 
-/// Puts a word whole: none of its characters changes or goes.
+/// Puts words whole: none of their characters changes or goes.
 fn put_word(texts: &mut Vec<String>, gap: Gap, word: &str, part: usize) -> Result<(), NoMem>
     requires gap { IsWithin gap (vec_len texts.old) }
     requires part { part < vec_len texts.old }

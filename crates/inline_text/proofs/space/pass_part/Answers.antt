@@ -4,7 +4,7 @@ use Rattle.std.specs.Str.{chars, IsCharBoundary}
 use Rattle.std.proofs.lemmas.List.{drop_all}
 use Rattle.std.proofs.lemmas.Str.{IsCharBoundary-start, chars-nil}
 use Rattle.inline_text.specs.Space.{Char, appended, class_of, marked, placed}
-use Rattle.inline_text.specs.Gaps.{IsWithin, is_white, left_from, next_gap, put_of, settled, texts_of}
+use Rattle.inline_text.specs.Gaps.{IsWithin, is_white, left_from, next_gap, put_of, settled, stops, texts_of}
 use Rattle.inline_text.specs.declared.space.Class.{Class}
 use Rattle.inline_text.specs.declared.space.Gap.{Gap}
 use Rattle.inline_text.specs.declared.space.Gap.TheVariants.{Open}
@@ -29,7 +29,7 @@ loop-at-preserved-then-at-to c =
     let to : ℕ = c.word_end-to.result in
     let s = c.args.part.now.space in
     let k : ℕ = c.args.index in
-    let plain : (j : ℕ) → at ≤ j → j < to → is_white (get_or text j 0) ≡ false = subst (λ (l : List ℕ). (j : ℕ) → at ≤ j → j < to → is_white (get_or l j 0) ≡ false) same c.word_end-to.ensures.word in
+    let plain : (j : ℕ) → at ≤ j → j < to → stops text at j ≡ false = subst (λ (l : List ℕ). (j : ℕ) → at ≤ j → j < to → stops l at j ≡ false) same c.word_end-to.ensures.word in
     let inside : to ≤ length text = subst (λ (l : List ℕ). to ≤ length l) same c.word_end-to.ensures.end in
     let stop : to < length text → is_white (get_or text to 0) ≡ true = subst (λ (l : List ℕ). to < length l → is_white (get_or l to 0) ≡ true) same c.word_end-to.ensures.white in
     let boundary : IsCharBoundary text to = word_boundary text to inside stop in
@@ -40,7 +40,7 @@ loop-at-preserved-then-at-to c =
       len = c.in_ok-put_word.ensures.len ∙ inv.len;
       goes = λ rest.
           inv.goes rest
-          ∙ word_goes (texts_of c.loop-at.texts) c.loop-at.gap s k text at to rest c.as_str-text.utf8 inv.boundary boundary c.if-at-to.true plain
+          ∙ word_goes (texts_of c.loop-at.texts) c.loop-at.gap s k text at to rest c.as_str-text.utf8 inv.boundary boundary c.if-at-to.true plain stop
           ∙ ap (λ (t : List (List ℕ)). placed t (left_from Open (marked s k (chars (drop to text)) ++ rest))) (sym puts);
     }
 
