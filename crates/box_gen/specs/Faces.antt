@@ -3,7 +3,7 @@ use Rattle.std.specs.Prelude.{◌≡◌, ◌<◌, ℕ, List, Some, length, slice
 use Rattle.std.specs.List.{All}
 use Rattle.bk_num.specs.declared.ids.FaceId.{FaceId}
 use Rattle.boxes.specs.declared.leaf.Leaf.{Leaf}
-use Rattle.face_choice.specs.Choice.{face_by}
+use Rattle.metrics.specs.Chosen.{face_by}
 use Rattle.line_place.specs.Conditions.{HasFaces}
 use Rattle.metrics.specs.Face.{FontFace}
 use Rattle.style.specs.declared.style.Style.{Style}

@@ -19,7 +19,7 @@ pub enum InlineItem {
 }
 
 /// An item without the letters of its text.
-#[derive(Clone, Copy, Debug)]
+#[derive(Clone, Copy)]
 pub(crate) enum Mark {
     Text(TextStyle),
     Start(NodeId),

@@ -31,7 +31,7 @@ use std::alloc::Global;
 use style::style::Style;
 
 /// How many bytes the leaves of a tree may have, and how many events the tree: what the other trees of the flow leave.
-#[derive(Clone, Copy, Debug)]
+#[derive(Clone, Copy)]
 pub(crate) struct Room {
     pub(crate) bytes: u32,
     pub(crate) events: u32,
@@ -149,25 +149,48 @@ fn put_some(
     Ok(())
 }
 
-/// Puts a text, or only the places where elements begin in it.
-fn put_any(
+/// Puts a text that isn't empty into a block of a style.
+fn put_styled(
     alloc: Global,
-    site: &mut Site,
+    faces: &Faces,
+    style: &Style,
     wrap: bool,
-    look: &LeafStyle,
-    anonymous: BoxProps,
+    site: &mut Site,
     run: RunText,
 ) -> Result<(), NoMem>
+    requires some { 0 < length run.text }
+    requires range { IsInRange style.now }
     requires good { IsGoodRun run }
     requires sizes { All IsGoodSpan run.spans }
-    requires strut { IsGoodTextStyle look.now.strut }
-    requires indent { IsNotAuto look.now.indent }
-    requires boxed { IsGoodBox anonymous }
     requires few { length site.old.tree.events < 7999990 }
     requires place { IsTrue (if wrap then takes_box site.old.tree.events else takes_leaf site.old.tree.events) }
     requires owners { HaveOwners site.old.tree.events site.old.pending.items }
     requires leads { All (λ lead. IsGoodSpan lead.span) site.old.pending.items }
-    ensures built { OnOk result (built_in site.new ≡ with_any wrap look.now anonymous (built_in site.old) run.text run.spans run.starts) }
+    ensures built { OnOk result (built_in site.new ≡ with_text wrap (leaf_style_of style.now (face_of faces.now style.now)) (props.anonymous_props style.now) (built_in site.old) run.text run.spans run.starts) }
+    ensures bytes { OnOk result (site.new.bytes ≡ site.old.bytes) }
+    ensures room { OnOk result (site.new.room ≡ site.old.room) }
+{
+    let look = leaf_style(faces, style);
+    put_some(alloc, site, wrap, &look, anonymous_props(style), run)
+}
+
+/// Puts a text into a block of a style, or only the places where elements begin in it, which take no style.
+fn put_any(
+    alloc: Global,
+    faces: &Faces,
+    style: &Style,
+    wrap: bool,
+    site: &mut Site,
+    run: RunText,
+) -> Result<(), NoMem>
+    requires range { IsInRange style.now }
+    requires good { IsGoodRun run }
+    requires sizes { All IsGoodSpan run.spans }
+    requires few { length site.old.tree.events < 7999990 }
+    requires place { IsTrue (if wrap then takes_box site.old.tree.events else takes_leaf site.old.tree.events) }
+    requires owners { HaveOwners site.old.tree.events site.old.pending.items }
+    requires leads { All (λ lead. IsGoodSpan lead.span) site.old.pending.items }
+    ensures built { OnOk result (built_in site.new ≡ with_any wrap (leaf_style_of style.now (face_of faces.now style.now)) (props.anonymous_props style.now) (built_in site.old) run.text run.spans run.starts) }
     ensures bytes { OnOk result (site.new.bytes ≡ site.old.bytes) }
     ensures room { OnOk result (site.new.room ≡ site.old.room) }
 {
@@ -176,7 +199,7 @@ fn put_any(
         push_starts(&mut site.starts, event, run.starts.as_slice())?;
         Ok(())
     } else {
-        put_some(alloc, site, wrap, look, anonymous, run)
+        put_styled(alloc, faces, style, wrap, site, run)
     }
 }
 
@@ -211,8 +234,7 @@ fn put_text(
     ensures room { OnOk result (site.new.room ≡ site.old.room) }
 {
     let bytes = bytes_of(&run);
-    let look = leaf_style(faces, style);
-    put_any(alloc, site, wrap, &look, anonymous_props(style), run)?;
+    put_any(alloc, faces, style, wrap, site, run)?;
     site.bytes += bytes;
     Ok(())
 }

@@ -11,8 +11,8 @@ use bk_num::length::part_of;
 use bk_num::px::Px;
 use bk_num::values::{Color, WhiteSpace};
 use boxes::leaf::Span;
-use face_choice::choose;
 use metrics::Faces;
+use metrics::chosen::choose;
 use style::style::Style;
 use style::values::LineHeight;
 

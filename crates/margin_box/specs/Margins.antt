@@ -7,7 +7,7 @@ use Rattle.boxes.specs.declared.item.Item.{Item}
 use Rattle.boxes.specs.declared.leaf.Span.{Span}
 use Rattle.boxes.specs.declared.page.Page.{Page}
 use Rattle.boxes.specs.declared.table.PageCell.{PageCell}
-use Rattle.face_choice.specs.Choice.{face_by}
+use Rattle.metrics.specs.Chosen.{face_by}
 use Rattle.line_place.specs.Extents.{part_of}
 use Rattle.page_ctx.specs.Margins.{MarginStyleOf, style_of}
 use Rattle.page_ctx.specs.Tables.{cell_in}

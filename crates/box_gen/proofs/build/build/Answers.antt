@@ -9,7 +9,7 @@ use Rattle.boxes.specs.declared.flow.Note.{Note}
 use Rattle.boxes.specs.declared.flow.Reset.{Reset}
 use Rattle.page_seq.specs.Places.{NeverFall}
 use Rattle.style.specs.declared.style.Style.{Style}
-use Rattle.face_choice.proofs.FaceLemmas.{face-within}
+use Rattle.metrics.proofs.FaceLemmas.{face-within}
 use Rattle.box_gen.specs.Faces.{AreFaced}
 use Rattle.box_gen.specs.Flow.{bodies_of}
 use Rattle.box_gen.specs.Notes.{IsGoodBody, bytes_in, events_in}
