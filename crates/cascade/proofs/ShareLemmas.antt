@@ -1,5 +1,5 @@
 -- What wins for nodes to which the same rules apply.
-use Rattle.std.proofs.Common.{◌≡◌, ℕ, ◌+◌, List, [], ◌∷◌, ◌++◌, Some, length, length-append, slice_get, refl, sym, ◌∙◌, ap, subst, arith, ◌⊎◌, inl, inr}
+use Rattle.std.proofs.Common.{◌≡◌, ℕ, ◌+◌, List, [], ◌∷◌, ◌++◌, Some, Result, Ok, Err, OnOk, length, length-append, slice_get, refl, sym, ◌∙◌, ap, subst, arith, ◌⊎◌, inl, inr}
 use Rattle.std.proofs.lemmas.Option.{slice_get_within}
 use Rattle.bk_num.proofs.ListLemmas.{get-push, slice_get_at}
 use Rattle.selectors.specs.Match.{Tree}
@@ -9,23 +9,18 @@ use Rattle.cascade.specs.declared.sheet.ReadSheet.{ReadSheet}
 use Rattle.cascade.specs.declared.table.NodeWinners.{NodeWinners}
 use Rattle.cascade.specs.Document.{rules_of, decls_in, style_decls, AreNodeWinners, AreAllWinners}
 use Rattle.cascade.specs.Selected.{SelectedOf, selected_from, selectors_of, AreChosen}
-use Rattle.cascade.specs.Sharing.{IsLike}
+use Rattle.cascade.specs.Sharing.{IsLike, IsChosenAt, AreChosenAt, AddsChosen}
 use Rattle.cascade.specs.Table.{AddsLike}
 use Rattle.cascade.proofs.AppliesLemmas.{some_is}
 use Rattle.cascade.proofs.PlaceLemmas.{listed_places, of_chosen}
 
--- what wins at a node by the selectors that match it and by its style attribute
-abbrev pub IsChosenAt : Tree → List SelectedOf → List (List ℕ) → ℕ → NodeWinners → Type 0
-IsChosenAt dom ss matched n w = (places : List ℕ) → slice_get matched n ≡ Some places → AreChosen ss places (style_decls dom n) w
+pub on-ok : {A E P : Type 0} (res : Result A E) → P → OnOk res P
+on-ok (Ok a) p = p
+on-ok (Err a) p = tt
 
-abbrev pub AreChosenAt : Tree → List SelectedOf → List (List ℕ) → List NodeWinners → Type 0
-AreChosenAt dom ss matched all = (k : ℕ) (w : NodeWinners) → slice_get all k ≡ Some w → IsChosenAt dom ss matched k w
-
--- a node is added with what wins at it, where that holds for those before it
-pub record AddsChosen (dom : Tree) (ss : List SelectedOf) (matched : List (List ℕ)) (n : ℕ) (all more : List NodeWinners) : Type 0 where
-  pub winners : NodeWinners
-  pub added : more ≡ all ++ winners ∷ []
-  pub chosen : AreChosenAt dom ss matched all → IsChosenAt dom ss matched n winners
+pub then-ok : {A E P Q : Type 0} (res : Result A E) → (P → Q) → OnOk res P → OnOk res Q
+then-ok (Ok a) f p = f p
+then-ok (Err a) f p = tt
 
 like-chosen : (dom : Tree) (ss : List SelectedOf) (matched : List (List ℕ)) (e n : ℕ) (w : NodeWinners) → IsLike dom matched e n → IsChosenAt dom ss matched e w → IsChosenAt dom ss matched n w
 like-chosen dom ss matched e n w like c places at = subst (λ d. AreChosen ss places d w) (ap decls_in like.style) (c places (like.places ∙ at))

@@ -136,8 +136,8 @@ fn is_same(mine: Pseudo, other: Pseudo) -> bool
 }
 
 /// Appends what a selector makes apply, if it has the pseudo-element.
-fn push_named<'s>(
-    rules: &mut Vec<Applied<'s>>,
+fn push_named<'s: 't, 't>(
+    rules: &mut Vec<Applied<'t>>,
     selected: Option<&Selected<'s>>,
     wanted: Pseudo,
 ) -> Result<(), NoMem>
@@ -146,19 +146,22 @@ fn push_named<'s>(
 {
     if let Some(selected) = selected {
         if is_same(pseudo(selected.selector), wanted) {
-            rules.push(selected.rule)?;
+            rules.push(Applied {
+                weight: selected.rule.weight,
+                decls: selected.rule.decls,
+            })?;
         }
     }
     Ok(())
 }
 
 /// What the selectors at some places make apply to a pseudo-element.
-fn named<'s>(
+fn named<'s: 't, 't>(
     alloc: Global,
     selected: &[Selected<'s>],
     places: &[u32],
     wanted: Pseudo,
-) -> Result<Vec<Applied<'s>>, NoMem>
+) -> Result<Vec<Applied<'t>>, NoMem>
     ensures { IfOk result (λ v. map applied_in v.items ≡ filter_map (spec.named_at (map spec.selected_in selected.now) wanted) places.now) }
 {
     let mut rules = Vec::new(alloc);
@@ -168,13 +171,24 @@ fn named<'s>(
     Ok(rules)
 }
 
+/// The selectors of the rules of all sheets.
+pub(crate) fn selected_in<'s>(
+    alloc: Global,
+    sheets: &'s [ReadSheet],
+) -> Result<Vec<Selected<'s>>, NoMem>
+    ensures { IfOk result (λ v. map spec.selected_in v.items ≡ spec.selected_from 0 (rules_of sheets.entry.now)) }
+{
+    let rules = rules_of(alloc, sheets)?;
+    selected_of(alloc, &rules)
+}
+
 /// What wins for a pseudo-element of a node, or for the node, that the selectors at some places match and whose
 /// style attribute has these declarations.
-pub(crate) fn winners_by<'s>(
+pub(crate) fn winners_by<'s: 't, 't>(
     alloc: Global,
     selected: &[Selected<'s>],
     places: &[u32],
-    styled: &'s [ReadDecl],
+    styled: &'t [ReadDecl],
     wanted: Pseudo,
 ) -> Result<Items<Long>, NoMem>
     ensures { IfOk result

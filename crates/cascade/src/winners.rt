@@ -1,13 +1,15 @@
 //! The winning declarations of nodes and of their pseudo-elements.
 
 ghost use Rattle.std.specs.Prelude.{◌≡◌, ◌<◌, length, map, IfOk, OnOk};
+ghost use Rattle.match_table.specs.All.{AreMatchLists};
 ghost use Rattle.cascade.specs.Document.{style_decls, IsDeclaredAt, AreAllWinners};
 ghost use Rattle.cascade.specs.Winners.{AreWinners};
+ghost use Rattle.cascade.specs.Sharing.{AddsChosen, AreChosenAt};
 ghost use Rattle.cascade.specs.Selected as spec;
 
 use crate::alike::Alike;
 use crate::decl::ReadDecl;
-use crate::selected::{Selected, rules_of, selected_of, winners_by};
+use crate::selected::{Selected, selected_in, winners_by};
 use crate::sheet::{ReadSheet, read_all};
 use crate::table::{NodeWinners, WinnerTable};
 use bk_num::ids::NodeId;
@@ -16,7 +18,7 @@ use bk_num::name::NoMem;
 use bk_num::values::Pseudo;
 use css_rules::decls::read_decls;
 use dom::Dom;
-use match_table::all::match_all;
+use match_table::all::{MatchTable, match_all};
 use selectors::matching::matches;
 use selectors::types::Selector;
 use std::alloc::Global;
@@ -88,20 +90,19 @@ pub fn winners(
     requires { node.0 < length dom.now }
     ensures { IfOk result (λ w. AreWinners (IsDeclaredAt dom.now sheets.now node.0 pseudo) w.longs) }
 {
-    let rules = rules_of(alloc, sheets)?;
-    let selected = selected_of(alloc, &rules)?;
+    let selected = selected_in(alloc, sheets)?;
     let places = places_at(alloc, dom, node, &selected)?;
     let styled = style_decls(alloc, dom, node)?;
     let longs = winners_by(alloc, &selected, &places, styled.as_slice(), pseudo)?;
     Ok(WinnerMap { longs })
 }
 
-/// What wins for a node and for each of its pseudo-elements.
-fn node_winners<'s>(
+/// What wins for a node and for each of its pseudo-elements, where some selectors match the node.
+fn node_winners<'s: 't, 't>(
     alloc: Global,
     selected: &[Selected<'s>],
     places: &[u32],
-    styled: &'s [ReadDecl],
+    styled: &'t [ReadDecl],
 ) -> Result<NodeWinners, NoMem>
     ensures { IfOk result (λ w. spec.AreChosen (map spec.selected_in selected.now) places.now styled.now w) }
 {
@@ -119,6 +120,44 @@ fn node_winners<'s>(
     })
 }
 
+/// What wins for a node that some selectors match, and for each of its pseudo-elements.
+fn winners_at(
+    alloc: Global,
+    dom: &Dom,
+    selected: &[Selected<'_>],
+    places: &[u32],
+    node: NodeId,
+) -> Result<NodeWinners, NoMem>
+    requires { node.0 < length dom.now }
+    ensures { IfOk result (λ w. spec.AreChosen (map spec.selected_in selected.now) places.now (style_decls dom.now node.0) w) }
+{
+    let styled = style_decls(alloc, dom, node)?;
+    node_winners(alloc, selected, places, styled.as_slice())
+}
+
+/// Adds what wins for a node, which is kept once for nodes that are alike.
+fn add_winners<'a>(
+    alloc: Global,
+    dom: &'a Dom,
+    selected: &[Selected<'_>],
+    matched: &'a MatchTable,
+    alike: &mut Alike<'a>,
+    all: &mut WinnerTable,
+    node: NodeId,
+) -> Result<(), NoMem>
+    requires node { node.0 < length dom.now }
+    requires count { length matched.now ≡ length dom.now }
+    requires rows { length all.old ≡ node.0 }
+    ensures { OnOk result (AddsChosen dom.now (map spec.selected_in selected.now) matched.now node.0 all.old all.new) }
+{
+    if let Some(earlier) = alike.earlier(dom, matched, node) {
+        return all.push_like(earlier);
+    }
+    let places = matched.of(node);
+    all.push(winners_at(alloc, dom, selected, places, node)?)?;
+    alike.note(dom, matched, node)
+}
+
 fn selectors_of<'s>(alloc: Global, selected: &[Selected<'s>]) -> Result<Vec<&'s Selector>, NoMem>
     ensures { IfOk result (λ v. map (λ s. s.now) v.items ≡ spec.selectors_of (map spec.selected_in selected.now)) }
 {
@@ -129,30 +168,43 @@ fn selectors_of<'s>(alloc: Global, selected: &[Selected<'s>]) -> Result<Vec<&'s 
     Ok(selectors)
 }
 
+/// For each node the places of the selectors that match it.
+fn matches_of(alloc: Global, dom: &Dom, selected: &[Selected<'_>]) -> Result<MatchTable, NoMem>
+    ensures count { IfOk result (λ t. length t ≡ length dom.now) }
+    ensures lists { IfOk result (λ t. AreMatchLists dom.now (spec.selectors_of (map spec.selected_in selected.now)) t) }
+{
+    let selectors = selectors_of(alloc, selected)?;
+    match_all(alloc, dom, &selectors)
+}
+
+/// What wins for each node by the selectors that match it.
+fn winners_by_matches(
+    alloc: Global,
+    dom: &Dom,
+    selected: &[Selected<'_>],
+    matched: &MatchTable,
+) -> Result<WinnerTable, NoMem>
+    requires { length matched.now ≡ length dom.now }
+    ensures count { IfOk result (λ t. length t ≡ length dom.now) }
+    ensures chosen { IfOk result (λ t. AreChosenAt dom.now (map spec.selected_in selected.now) matched.now t) }
+{
+    let mut alike = Alike::new(alloc);
+    let mut all = WinnerTable::new(alloc);
+    for index in 0..dom.len() {
+        let node = NodeId(index);
+        add_winners(alloc, dom, selected, matched, &mut alike, &mut all, node)?;
+    }
+    Ok(all)
+}
+
 /// What wins for each node of a document and for each of its pseudo-elements: at each the same as `winners` gives. All
 /// selectors are matched in one call. What wins is chosen once, and a style attribute read once, for all nodes with the
 /// same style attribute that the same selectors match. No value is read again.
 pub fn all_winners(alloc: Global, dom: &Dom, sheets: &[ReadSheet]) -> Result<WinnerTable, NoMem>
     ensures { IfOk result (λ t. AreAllWinners dom.now sheets.now t) }
 {
-    let rules = rules_of(alloc, sheets)?;
-    let selected = selected_of(alloc, &rules)?;
-    let selectors = selectors_of(alloc, &selected)?;
-    let table = match_all(alloc, dom, &selectors)?;
-    let matched = &table;
-    let mut alike = Alike::new(alloc);
-    let mut all = WinnerTable::new(alloc);
-    for index in 0..dom.len() {
-        let node = NodeId(index);
-        match alike.earlier(dom, matched, node) {
-            Some(earlier) => all.push_like(earlier)?,
-            None => {
-                let styled = style_decls(alloc, dom, node)?;
-                let winners = node_winners(alloc, &selected, matched.of(node), styled.as_slice())?;
-                alike.note(dom, matched, node)?;
-                all.push(winners)?;
-            }
-        }
-    }
+    let selected = selected_in(alloc, sheets)?;
+    let matched = matches_of(alloc, dom, &selected)?;
+    let all = winners_by_matches(alloc, dom, &selected, &matched)?;
     Ok(all)
 }

@@ -1,4 +1,4 @@
-use Rattle.std.proofs.Common.{◌↔◌, length, map, sym, subst, arith}
+use Rattle.std.proofs.Common.{◌↔◌, map, sym, subst, arith}
 use Rattle.std.specs.Prelude.{IsTrue}
 use Rattle.selectors.specs.Match.{Matches}
 use Rattle.cascade.specs.declared.selected.Selected.{Selected}
