@@ -8,11 +8,10 @@ use Rattle.dom.specs.Nodes.{Node, IsTree, HasPlace, parents_of, parent_at, name_
 use Rattle.style.specs.Nodes.{NodeStyles, change_last, own_style}
 use Rattle.style.specs.declared.style.Style.{Style}
 use Rattle.style.specs.declared.long.Long.{Long}
-use Rattle.computed.specs.declared.walk.Generated.{Generated}
 use Rattle.cascade.specs.declared.table.NodeWinners.{NodeWinners}
 use Rattle.computed.specs.Names.{page_in, with_names}
 use Rattle.computed.specs.Walk.{IsPage, IsStyle, HasPseudo, IsElement, IsNode, AreNodes, Adds, AddsElement, Extends, style_above, root_above, is_shown_below, is_note_below, is_in_note_below}
-use Rattle.computed.specs.Rows.{all_put, AreGenerated, generated_names}
+use Rattle.computed.specs.Rows.{PseudoStyles, all_put, AreGenerated, generated_names}
 use Rattle.computed.proofs.NameLemmas.{then-names}
 
 pub then-extends : (a b c : List (List ℕ)) → Extends a b → Extends b c → Extends a c
@@ -44,7 +43,7 @@ change-some f [] h = h
 change-some f (x ∷ []) h = omega arith
 change-some f (x ∷ (y ∷ ys)) h = omega arith
 
-abbrev whole : Style → Bool → Bool → Bool → Generated → NodeStyles
+abbrev whole : Style → Bool → Bool → Bool → PseudoStyles → NodeStyles
 whole s shown note in_note g = record { own = Some s; before = g.before; after = g.after; call = g.call; marker = g.marker; shown = shown; note = note; in_note = in_note }
 
 ends : {A : Type 0} (rows : List A) (r : A) (f g h k : A → A) → change_last f (change_last g (change_last h (change_last k (rows ++ r ∷ [])))) ≡ rows ++ f (g (h (k r))) ∷ []
@@ -69,7 +68,7 @@ put-end rows s shown note in_note (Some b) (Some a) (Some c) None = ends rows (o
 put-end rows s shown note in_note (Some b) (Some a) (Some c) (Some m) = ends rows (own_style s shown note in_note) _ _ _ _
 
 -- an element's row is there
-pub element-added : {A E : Type 0} (res : Result A E) (old names more : List (List ℕ)) → Extends names more → (parent : Option ℕ) (w : NodeWinners) (rows mid new : List NodeStyles) (s : Style) (shown note in_note : Bool) (g : Generated) → IsStyle names (style_above (value_of rows parent)) (root_above rows parent) w.own s → shown ≡ is_shown_below parent rows s → note ≡ is_note_below parent rows s → in_note ≡ is_in_note_below parent rows note → AreGenerated more s (unwrap_or (root_above rows parent) s.font_size) shown note w g → names ≡ with_names old (option_to_list (page_in w.own)) → more ≡ with_names names (generated_names w g) → mid ≡ rows ++ own_style s shown note in_note ∷ [] → OnOk res (new ≡ all_put g mid) → OnOk res (AddsElement old more parent w rows new)
+pub element-added : {A E : Type 0} (res : Result A E) (old names more : List (List ℕ)) → Extends names more → (parent : Option ℕ) (w : NodeWinners) (rows mid new : List NodeStyles) (s : Style) (shown note in_note : Bool) (g : PseudoStyles) → IsStyle names (style_above (value_of rows parent)) (root_above rows parent) w.own s → shown ≡ is_shown_below parent rows s → note ≡ is_note_below parent rows s → in_note ≡ is_in_note_below parent rows note → AreGenerated more s (unwrap_or (root_above rows parent) s.font_size) shown note w g → names ≡ with_names old (option_to_list (page_in w.own)) → more ≡ with_names names (generated_names w g) → mid ≡ rows ++ own_style s shown note in_note ∷ [] → OnOk res (new ≡ all_put g mid) → OnOk res (AddsElement old more parent w rows new)
 element-added (Ok a) old names more e parent w rows mid new s shown note in_note g v h1 h2 h3 gs n1 n2 m ok = record {
   row = whole s shown note in_note g;
   added = ok ∙ ap (all_put g) m ∙ put-end rows s shown note in_note g.before g.after g.call g.marker;

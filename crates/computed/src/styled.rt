@@ -4,7 +4,7 @@ ghost use Rattle.std.specs.Prelude.{◌≡◌, None, Some, false, IfOk, OnOk, op
 ghost use Rattle.std.specs.Option.{option_to_list};
 ghost use Rattle.computed.specs.Names.{named, page_in, given_names, with_names};
 ghost use Rattle.computed.specs.Walk.{IsPage, IsStyle, HasPseudo, Extends, is_displayed, is_generated};
-ghost use Rattle.computed.specs.Applied.{inline_display};
+ghost use Rattle.computed.specs.Applied.{computed_style, inline_display};
 
 use crate::apply::computed_style;
 use bk_num::ids::NameId;
@@ -16,6 +16,25 @@ use style::names::Names;
 use style::style::Style;
 use style::values::Display;
 
+/// A style in a box, which is cheap to hold.
+pub(crate) fn boxed(alloc: Global, style: Style) -> Result<Box<Style>, NoMem>
+    ensures { IfOk result (λ b. b.value ≡ style) }
+{
+    Ok(Box::new(alloc, style)?)
+}
+
+/// The computed style of an element below a parent, but for its page name.
+fn boxed_style(
+    alloc: Global,
+    parent: &Style,
+    root: Option<Px>,
+    winners: &[Long],
+) -> Result<Box<Style>, NoMem>
+    ensures { IfOk result (λ b. b.value ≡ computed_style parent.now root winners.now) }
+{
+    boxed(alloc, computed_style(alloc, parent, root, winners)?)
+}
+
 /// The style of an element below a parent, by its winners. Names may be added also where memory fails.
 pub(crate) fn style_of(
     alloc: Global,
@@ -23,13 +42,14 @@ pub(crate) fn style_of(
     parent: &Style,
     root: Option<Px>,
     winners: &[Long],
-) -> Result<Style, NoMem>
-    ensures style { IfOk result (λ s. IsStyle names.new parent.now root winners.now s) }
+) -> Result<Box<Style>, NoMem>
+    ensures style { IfOk result (λ b. IsStyle names.new parent.now root winners.now b.value) }
     ensures numbered { OnOk result (names.new ≡ with_names names.old (option_to_list (page_in winners.now))) }
     ensures names { Extends names.old names.new }
 {
-    let mut style = computed_style(alloc, parent, root, winners)?;
-    style.page = page_number(alloc, names, parent.page, winners)?;
+    let page = page_number(alloc, names, parent.page, winners)?;
+    let mut style = boxed_style(alloc, parent, root, winners)?;
+    style.page = page;
     Ok(style)
 }
 
@@ -41,15 +61,15 @@ pub(crate) fn pseudo_style(
     root: &Px,
     allowed: bool,
     winners: &[Long],
-) -> Result<Option<Style>, NoMem>
-    ensures style { IfOk result (λ s. HasPseudo names.new own.now root.now allowed winners.now s) }
-    ensures numbered { IfOk result (λ s. names.new ≡ with_names names.old (given_names winners.now s)) }
+) -> Result<Option<Box<Style>>, NoMem>
+    ensures style { IfOk result (λ o. HasPseudo names.new own.now root.now allowed winners.now (option_map (λ b. b.value) o)) }
+    ensures numbered { IfOk result (λ o. names.new ≡ with_names names.old (given_names winners.now (option_map (λ b. b.value) o))) }
     ensures names { Extends names.old names.new }
 {
     if !allowed || winners.is_empty() {
         return Ok(None);
     }
-    let mut style = computed_style(alloc, own, Some(*root), winners)?;
+    let mut style = boxed_style(alloc, own, Some(*root), winners)?;
     if !is_generated(&style) {
         return Ok(None);
     }

@@ -1,16 +1,16 @@
 //! The styles of a document's nodes, in one pass over the list of nodes.
 
-ghost use Rattle.std.specs.Prelude.{◌≡◌, ◌<◌, None, Some, true, IfOk, OnOk, option_map, unwrap_or, length};
+ghost use Rattle.std.specs.Prelude.{◌≡◌, ◌<◌, [], ◌∷◌, None, Some, true, IfOk, OnOk, option_map, unwrap_or, length};
 ghost use Rattle.bk_num.specs.Tables.{value_of};
 ghost use Rattle.style.specs.Nodes.{change_last};
 ghost use Rattle.style.specs.Styles.{initial_style};
 ghost use Rattle.computed.specs.Names.{with_names};
 ghost use Rattle.computed.specs.Walk.{style_above, root_above, is_shown_below, is_note_below, is_in_note_below, font_of, AreStyles, Extends, Adds, AddsElement};
 ghost use Rattle.computed.specs.Alike.{AddsNext};
-ghost use Rattle.computed.specs.Rows.{with_option, all_put, AreGenerated, generated_names};
+ghost use Rattle.computed.specs.Rows.{with_option, styles_in, all_put, AreGenerated, generated_names};
 
 use crate::alike::Alike;
-use crate::styled::{is_displayed, pseudo_style, style_of};
+use crate::styled::{boxed, is_displayed, pseudo_style, style_of};
 use bk_num::ids::NodeId;
 use bk_num::name::NoMem;
 use bk_num::px::Px;
@@ -28,24 +28,36 @@ pub fn styles_of(alloc: Global, dom: &Dom, winners: &WinnerTable) -> Result<(Sty
     requires { length winners.now ≡ length dom.now }
     ensures { IfOk result (λ r. AreStyles r.1 dom.now winners.now r.0) }
 {
-    let above_root = Style::initial(alloc)?;
+    let above_root = boxed(alloc, Style::initial(alloc)?)?;
     let mut styles = Styles::new(alloc);
     let mut names = Names::new(alloc);
+    add_all(alloc, dom, winners, &above_root, &mut styles, &mut names)?;
+    Ok((styles, names))
+}
+
+/// Adds the styles of all nodes.
+fn add_all(
+    alloc: Global,
+    dom: &Dom,
+    winners: &WinnerTable,
+    initial: &Style,
+    styles: &mut Styles,
+    names: &mut Names,
+) -> Result<(), NoMem>
+    requires count { length winners.now ≡ length dom.now }
+    requires styles { styles.old ≡ [] }
+    requires names { names.old ≡ [] ∷ [] }
+    requires initial { initial.now ≡ initial_style }
+    ensures { OnOk result (AreStyles names.new dom.now winners.now styles.new) }
+{
     let mut alike = Alike::new(alloc);
     for index in 0..dom.len() {
         let node = NodeId(index);
         add_next(
-            alloc,
-            dom,
-            winners,
-            &above_root,
-            &mut styles,
-            &mut names,
-            &mut alike,
-            node,
+            alloc, dom, winners, initial, styles, names, &mut alike, node,
         )?;
     }
-    Ok((styles, names))
+    Ok(())
 }
 
 /// Adds the styles of a node, which are shared with an earlier one that must have the same.
@@ -110,23 +122,24 @@ fn add_element(
 {
     let root = root_above(styles, &parent);
     let above = style_above(styles, initial, &parent);
-    let style = style_of(alloc, names, above, root, winners.own.as_slice())?;
-    let size = size_for(&root, &style);
-    let shown = is_shown_below(styles, &parent, &style);
-    let note = is_note_below(styles, &parent, &style);
+    let own = style_of(alloc, names, above, root, winners.own.as_slice())?;
+    let style: &Style = &own;
+    let size = size_for(&root, style);
+    let shown = is_shown_below(styles, &parent, style);
+    let note = is_note_below(styles, &parent, style);
     let in_note = is_in_note_below(styles, &parent, note);
-    let generated = generate(alloc, names, &style, &size, shown, note, winners)?;
-    styles.add_element(style, shown, note, in_note)?;
+    let generated = generate(alloc, names, style, &size, shown, note, winners)?;
+    styles.add_element(Box::into_inner(own), shown, note, in_note)?;
     put_all(styles, generated)
 }
 
 /// The styles of an element's pseudo-elements.
 #[derive(Drop)]
 pub(crate) struct Generated {
-    before: Option<Style>,
-    after: Option<Style>,
-    call: Option<Style>,
-    marker: Option<Style>,
+    before: Option<Box<Style>>,
+    after: Option<Box<Style>>,
+    call: Option<Box<Style>>,
+    marker: Option<Box<Style>>,
 }
 
 fn generate(
@@ -138,8 +151,8 @@ fn generate(
     note: bool,
     winners: &NodeWinners,
 ) -> Result<Generated, NoMem>
-    ensures styles { IfOk result (λ g. AreGenerated names.new own.now root.now shown note winners.now g) }
-    ensures numbered { IfOk result (λ g. names.new ≡ with_names names.old (generated_names winners.now g)) }
+    ensures styles { IfOk result (λ g. AreGenerated names.new own.now root.now shown note winners.now (styles_in g)) }
+    ensures numbered { IfOk result (λ g. names.new ≡ with_names names.old (generated_names winners.now (styles_in g))) }
     ensures names { Extends names.old names.new }
 {
     let before = pseudo_style(alloc, names, own, root, shown, winners.before.as_slice())?;
@@ -157,7 +170,7 @@ fn generate(
 /// Gives the last node the styles of its pseudo-elements.
 fn put_all(styles: &mut Styles, generated: Generated) -> Result<(), NoMem>
     requires { 0 < length styles.old }
-    ensures { OnOk result (styles.new ≡ all_put generated styles.old) }
+    ensures { OnOk result (styles.new ≡ all_put (styles_in generated) styles.old) }
 {
     let Generated {
         before,
@@ -172,13 +185,13 @@ fn put_all(styles: &mut Styles, generated: Generated) -> Result<(), NoMem>
 }
 
 /// Gives the last node the style of a pseudo-element, where there is one.
-fn put_some(styles: &mut Styles, pseudo: Pseudo, style: Option<Style>) -> Result<(), NoMem>
+fn put_some(styles: &mut Styles, pseudo: Pseudo, style: Option<Box<Style>>) -> Result<(), NoMem>
     requires { 0 < length styles.old }
-    ensures put { OnOk result (styles.new ≡ change_last (with_option pseudo style) styles.old) }
+    ensures put { OnOk result (styles.new ≡ change_last (with_option pseudo (option_map (λ b. b.value) style)) styles.old) }
     ensures some { OnOk result (0 < length styles.new) }
 {
     match style {
-        Some(style) => styles.put(pseudo, style),
+        Some(style) => styles.put(pseudo, Box::into_inner(style)),
         None => Ok(()),
     }
 }

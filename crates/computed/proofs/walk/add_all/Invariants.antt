@@ -1,16 +1,14 @@
 use Rattle.std.proofs.Common.{◌≡◌, length}
-use Rattle.style.specs.Styles.{initial_style}
 use Rattle.computed.specs.Names.{names_of}
 use Rattle.computed.specs.Walk.{AreNodes}
 use Rattle.computed.specs.Alike.{AreFirsts}
-use Rattle.computed.proofs.walk.styles_of.Given as goal
+use Rattle.computed.proofs.walk.add_all.Given as goal
 
 abbrev pub invariant-loop-index : goal.invariant-loop-index
 invariant-loop-index l = record {
   numbered : l.names ≡ names_of l.winners l.styles;
   nodes : AreNodes l.names l.dom l.winners l.styles;
   count : length l.styles ≡ l.index;
-  initial : l.above_root ≡ initial_style;
   firsts : AreFirsts l.styles l.alike;
   noted : length l.alike ≡ l.index;
 }
