@@ -96,3 +96,14 @@ six_good a b c d e f ga gb gc gd ge gf (suc (suc (suc zero))) x l = gd
 six_good a b c d e f ga gb gc gd ge gf (suc (suc (suc (suc zero)))) x l = ge
 six_good a b c d e f ga gb gc gd ge gf (suc (suc (suc (suc (suc zero))))) x l = gf
 six_good a b c d e f ga gb gc gd ge gf (suc (suc (suc (suc (suc (suc k)))))) x l = absurd (omega (arith, l))
+
+-- a list that six are pushed to
+pub six_pushed : {A : Type 0} (none one two three four five six : List A) (a b c d e f : A) → none ≡ [] → one ≡ none ++ a ∷ [] → two ≡ one ++ b ∷ [] → three ≡ two ++ c ∷ [] → four ≡ three ++ d ∷ []
+    → five ≡ four ++ e ∷ [] → six ≡ five ++ f ∷ [] → six ≡ a ∷ b ∷ c ∷ d ∷ e ∷ f ∷ []
+six_pushed none one two three four five six a b c d e f empty first second third fourth fifth last =
+    let at_1 : one ≡ a ∷ [] = first ∙ ap (λ z. z ++ a ∷ []) empty in
+    let at_2 : two ≡ a ∷ b ∷ [] = second ∙ ap (λ z. z ++ b ∷ []) at_1 in
+    let at_3 : three ≡ a ∷ b ∷ c ∷ [] = third ∙ ap (λ z. z ++ c ∷ []) at_2 in
+    let at_4 : four ≡ a ∷ b ∷ c ∷ d ∷ [] = fourth ∙ ap (λ z. z ++ d ∷ []) at_3 in
+    let at_5 : five ≡ a ∷ b ∷ c ∷ d ∷ e ∷ [] = fifth ∙ ap (λ z. z ++ e ∷ []) at_4 in
+    last ∙ ap (λ z. z ++ f ∷ []) at_5

@@ -1,18 +1,17 @@
 //! The pages that the page rules of all sheets make: their table, and the styles of their margin boxes.
 
-ghost use Rattle.std.specs.Prelude.{◌≡◌, ◌<◌, Some, IfOk, length, map, slice_get};
+ghost use Rattle.std.specs.Prelude.{◌≡◌, ◌<◌, ◌++◌, ◌∷◌, [], Some, IfOk, OnOk, length, map, slice_get};
 ghost use Rattle.std.specs.List.{All};
 ghost use Rattle.style.specs.Styles.{initial_style};
 ghost use Rattle.boxes.specs.Frames.{IsGoodFrame};
 ghost use Rattle.boxes.specs.Table.{cell_of, row_of};
 ghost use Rattle.page_seq.specs.Frames.{HasGoodCells, IsGoodTable};
-ghost use Rattle.page_ctx.specs.Margins.{AreMarginStyles, box_in, boxes_by, boxes_of_name, cells_in, margin_style};
+ghost use Rattle.page_ctx.specs.Margins.{AreMarginStyles, boxes_by, boxes_of_name, cells_in, margin_style};
 ghost use Rattle.page_ctx.specs.Tables as spec;
 
 use crate::applied::{applied_to, page_declared};
 use crate::cells::cell_by;
 use crate::classes::PageClasses;
-use crate::margin_style::MarginBox;
 use crate::margins::{BoxCells, MarginStyles, boxes_by};
 use crate::settings::page_setting;
 use bk_num::ids::NameId;
@@ -26,34 +25,26 @@ use std::alloc::Global;
 use style::lists::Families;
 use style::names::Names;
 
-/// The pages of a cell: their page box, and their margin boxes that have content.
-#[derive(Drop)]
-struct PageStyle<'s> {
-    cell: PageCell,
-    boxes: Items<MarginBox<'s>>,
-}
-
-/// The pages of a name that have these pseudo-classes.
-fn page_style<'s>(
+/// Appends the margin boxes that have content on the pages of a name that have these pseudo-classes, and answers their page box.
+fn add_page<'s>(
     alloc: Global,
+    boxes: &mut BoxCells<'s>,
     rules: &'s [PageRule],
     initial: &'s [Name],
     name: &str,
     classes: PageClasses,
-) -> Result<PageStyle<'s>, NoMem>
+) -> Result<PageCell, NoMem>
     requires { initial.now ≡ initial_style.font_family }
-    ensures cell { IfOk result (λ style. style.cell ≡ spec.page_cell rules.entry.now name.now classes) }
-    ensures boxes { IfOk result (λ style. map box_in style.boxes ≡ boxes_by (margin_style rules.entry.now name.now classes)) }
-    ensures good { IfOk result (λ style. IsGoodFrame style.cell.frame) }
+    ensures cell { IfOk result (λ cell. cell ≡ spec.page_cell rules.entry.now name.now classes) }
+    ensures boxes { IfOk result (λ cell. cells_in boxes.new ≡ cells_in boxes.old ++ boxes_by (margin_style rules.entry.now name.now classes) ∷ []) }
+    ensures good { IfOk result (λ cell. IsGoodFrame cell.frame) }
 {
     let applied = applied_to(alloc, name, classes, rules)?;
     let declared = page_declared(alloc, &applied)?;
     let setting = page_setting(initial, &declared);
-    let boxes = boxes_by(alloc, &setting, initial, &applied)?;
-    Ok(PageStyle {
-        cell: cell_by(setting.size, &declared),
-        boxes,
-    })
+    let cell = cell_by(setting.size, &declared);
+    boxes.push(boxes_by(alloc, &setting, initial, &applied)?)?;
+    Ok(cell)
 }
 
 const PAGE_1: PageClasses = PageClasses {
@@ -74,57 +65,47 @@ const A_RIGHT_PAGE: PageClasses = PageClasses {
     blank: false,
 };
 
-fn as_blank(classes: PageClasses) -> PageClasses
-    ensures { result ≡ spec.as_blank classes }
-{
-    PageClasses {
-        blank: true,
-        ..classes
-    }
-}
+const BLANK_PAGE_1: PageClasses = PageClasses {
+    first: true,
+    left: false,
+    blank: true,
+};
 
-/// The pages of a name: page 1, another left page, another right page, and the same three blank.
-#[derive(Drop)]
-struct NameStyles<'s> {
-    row: PageRow,
-    boxes: BoxCells<'s>,
-}
+const A_BLANK_LEFT_PAGE: PageClasses = PageClasses {
+    first: false,
+    left: true,
+    blank: true,
+};
 
-fn name_styles<'s>(
+const A_BLANK_RIGHT_PAGE: PageClasses = PageClasses {
+    first: false,
+    left: false,
+    blank: true,
+};
+
+/// Appends the margin boxes of the pages of a name, and answers their page boxes: page 1, another left page, another right page, and the
+/// same three blank.
+fn add_name<'s>(
     alloc: Global,
+    boxes: &mut BoxCells<'s>,
     rules: &'s [PageRule],
     initial: &'s [Name],
     name: &str,
-) -> Result<NameStyles<'s>, NoMem>
-    requires { initial.now ≡ initial_style.font_family }
-    ensures row { IfOk result (λ styles. styles.row ≡ spec.row_by rules.entry.now name.now) }
-    ensures boxes { IfOk result (λ styles. cells_in styles.boxes ≡ boxes_of_name rules.entry.now name.now) }
-    ensures good { IfOk result (λ styles. HasGoodCells styles.row) }
+) -> Result<PageRow, NoMem>
+    requires none { boxes.old ≡ [] }
+    requires initial { initial.now ≡ initial_style.font_family }
+    ensures row { IfOk result (λ row. row ≡ spec.row_by rules.entry.now name.now) }
+    ensures boxes { IfOk result (λ row. cells_in boxes.new ≡ boxes_of_name rules.entry.now name.now) }
+    ensures good { IfOk result (λ row. HasGoodCells row) }
 {
-    let first = page_style(alloc, rules, initial, name, PAGE_1)?;
-    let left = page_style(alloc, rules, initial, name, A_LEFT_PAGE)?;
-    let right = page_style(alloc, rules, initial, name, A_RIGHT_PAGE)?;
-    let blank_first = page_style(alloc, rules, initial, name, as_blank(PAGE_1))?;
-    let blank_left = page_style(alloc, rules, initial, name, as_blank(A_LEFT_PAGE))?;
-    let blank_right = page_style(alloc, rules, initial, name, as_blank(A_RIGHT_PAGE))?;
-    let mut boxes = Items::new(alloc);
-    boxes.push(first.boxes)?;
-    boxes.push(left.boxes)?;
-    boxes.push(right.boxes)?;
-    boxes.push(blank_first.boxes)?;
-    boxes.push(blank_left.boxes)?;
-    boxes.push(blank_right.boxes)?;
-    let cells = [
-        first.cell,
-        left.cell,
-        right.cell,
-        blank_first.cell,
-        blank_left.cell,
-        blank_right.cell,
-    ];
-    Ok(NameStyles {
-        row: PageRow { cells },
-        boxes,
+    let first = add_page(alloc, boxes, rules, initial, name, PAGE_1)?;
+    let left = add_page(alloc, boxes, rules, initial, name, A_LEFT_PAGE)?;
+    let right = add_page(alloc, boxes, rules, initial, name, A_RIGHT_PAGE)?;
+    let blank_first = add_page(alloc, boxes, rules, initial, name, BLANK_PAGE_1)?;
+    let blank_left = add_page(alloc, boxes, rules, initial, name, A_BLANK_LEFT_PAGE)?;
+    let blank_right = add_page(alloc, boxes, rules, initial, name, A_BLANK_RIGHT_PAGE)?;
+    Ok(PageRow {
+        cells: [first, left, right, blank_first, blank_left, blank_right],
     })
 }
 
@@ -146,6 +127,26 @@ struct Rows<'s> {
     boxes: Items<BoxCells<'s>>,
 }
 
+/// Appends the row of a name, and the margin boxes of its pages.
+fn push_name<'s>(
+    alloc: Global,
+    rows: &mut Rows<'s>,
+    rules: &'s [PageRule],
+    initial: &'s [Name],
+    name: &str,
+) -> Result<(), NoMem>
+    requires { initial.now ≡ initial_style.font_family }
+    ensures table { OnOk result (rows.new.table ≡ rows.old.table ++ spec.row_by rules.entry.now name.now ∷ []) }
+    ensures boxes { OnOk result (map cells_in rows.new.boxes ≡ map cells_in rows.old.boxes ++ boxes_of_name rules.entry.now name.now ∷ []) }
+    ensures good { All HasGoodCells rows.old.table → OnOk result (All HasGoodCells rows.new.table) }
+{
+    let mut boxes = Items::new(alloc);
+    let row = add_name(alloc, &mut boxes, rules, initial, name)?;
+    rows.boxes.push(boxes)?;
+    rows.table.push(row)?;
+    Ok(())
+}
+
 /// Number 0 is no name.
 fn rows_by<'s>(
     alloc: Global,
@@ -158,17 +159,14 @@ fn rows_by<'s>(
     ensures boxes { IfOk result (λ rows. map cells_in rows.boxes ≡ map (boxes_of_name rules.entry.now) (spec.texts_of names.now)) }
     ensures good { IfOk result (λ rows. All HasGoodCells rows.table) }
 {
-    let mut table = Items::new(alloc);
-    let mut boxes = Items::new(alloc);
-    let none = name_styles(alloc, rules, initial, "")?;
-    table.push(none.row)?;
-    boxes.push(none.boxes)?;
+    let table = Items::new(alloc);
+    let boxes = Items::new(alloc);
+    let mut rows = Rows { table, boxes };
+    push_name(alloc, &mut rows, rules, initial, "")?;
     for number in 1..names.len() {
-        let styles = name_styles(alloc, rules, initial, text_at(names, number))?;
-        table.push(styles.row)?;
-        boxes.push(styles.boxes)?;
+        push_name(alloc, &mut rows, rules, initial, text_at(names, number))?;
     }
-    Ok(Rows { table, boxes })
+    Ok(rows)
 }
 
 /// The page box of each page, and the styles of its margin boxes, which borrow from the page rules.

@@ -7,6 +7,6 @@ use Rattle.page_ctx.proofs.resolve.rows_by.Given as goal
 
 abbrev pub invariant-loop-number : goal.invariant-loop-number
 invariant-loop-number l =
-    (l.table ++ map (row_by l.rules) (drop l.number l.names) ≡ map (row_by l.rules) (texts_of l.names))
-    × (map cells_in l.boxes ++ map (boxes_of_name l.rules) (drop l.number l.names) ≡ map (boxes_of_name l.rules) (texts_of l.names))
-    × All HasGoodCells l.table
+    (l.rows.table ++ map (row_by l.rules) (drop l.number l.names) ≡ map (row_by l.rules) (texts_of l.names))
+    × (map cells_in l.rows.boxes ++ map (boxes_of_name l.rules) (drop l.number l.names) ≡ map (boxes_of_name l.rules) (texts_of l.names))
+    × All HasGoodCells l.rows.table
