@@ -3,6 +3,7 @@
 ghost use Rattle.std.specs.Prelude.{◌≡◌, ◌<◌, ◌≤◌, length, IfOk};
 ghost use Rattle.bk_num.specs.Limits.{most_pages};
 ghost use Rattle.box_gen.specs.Sources.{AreInRange, IsRootShown};
+ghost use Rattle.gen_text.specs.References.{AreTargets};
 ghost use Rattle.page_list.specs.Pages.{HaveNearTops};
 ghost use Rattle.passes.specs.Conditions.{IsGoodFlow};
 ghost use Rattle.passes.specs.Passes.{id_of};
@@ -123,6 +124,54 @@ fn not_settled(alloc: Global, dom: &Dom, before: Entry, after: Entry) -> PassErr
     }
 }
 
+/// The table that a pass shows; the rest of it is let go.
+fn shown_of(pass: Pass) -> Table
+    ensures { result ≡ pass.shown }
+{
+    pass.shown
+}
+
+/// Passes over the elements that page references lead to, as `settle` answers them.
+fn settle_for<Fr: Frames, L: Ledger>(
+    alloc: Global,
+    input: &Input<'_>,
+    frames: &Fr,
+    limit: u32,
+    targets: &[NodeId],
+    steps: &mut Steps<L>,
+) -> Result<Settled, PassErr>
+    requires limit { 0 < limit }
+    requires ranges { AreInRange input.now.styles.now }
+    requires shown { IsRootShown input.now.styles.now }
+    requires targets { AreTargets input.now.dom.now input.now.styles.now targets.now }
+    ensures settles { Settles input.now (record { meets = Fr.meets frames.now; frame_of = Fr.frame_of frames.now }) limit result }
+    ensures good { IfOk result (λ s. IsGoodFlow input.now.faces.now s.flow) }
+    ensures tops { IfOk result (λ s. HaveNearTops s.pages.pages) }
+    ensures few { IfOk result (λ s. length s.pages.pages ≤ most_pages) }
+{
+    let mut table = opening(alloc, targets)?;
+    let mut passes = 1;
+    'passes: loop {
+        let pass = pass_under(alloc, input, frames, targets, &table, steps)?;
+        let Some(place) = first_difference(&table, &pass.shown) else {
+            let Pass { flow, pages, shown } = pass;
+            return Ok(Settled {
+                flow,
+                pages,
+                table: shown,
+                passes,
+            });
+        };
+        if passes == limit {
+            let before = table.as_slice()[place];
+            let after = pass.shown.as_slice()[place];
+            return Err(not_settled(alloc, input.dom, before, after));
+        }
+        passes += 1;
+        table = shown_of(pass);
+    }
+}
+
 /// Lays a document out in passes, each under the table that the pass before shows, the first under zeros, until a pass
 /// shows the table under which it is laid out: at most `limit` passes, which is at least 1. The flow and the pages of a
 /// pass that doesn't settle are let go before the next.
@@ -148,26 +197,5 @@ pub fn settle<Fr: Frames, L: Ledger>(
     ensures few { IfOk result (λ s. length s.pages.pages ≤ most_pages) }
 {
     let referenced = targets(alloc, input.dom, input.styles)?;
-    let targets = referenced.as_slice();
-    let mut table = opening(alloc, targets)?;
-    let mut passes = 1;
-    'passes: loop {
-        let pass = pass_under(alloc, input, frames, targets, &table, steps)?;
-        let Pass { flow, pages, shown } = pass;
-        let Some(place) = first_difference(&table, &shown) else {
-            return Ok(Settled {
-                flow,
-                pages,
-                table: shown,
-                passes,
-            });
-        };
-        if passes == limit {
-            let before = table.as_slice()[place];
-            let after = shown.as_slice()[place];
-            return Err(not_settled(alloc, input.dom, before, after));
-        }
-        passes += 1;
-        table = shown;
-    }
+    settle_for(alloc, input, frames, limit, referenced.as_slice(), steps)
 }

@@ -1,7 +1,7 @@
 use Rattle.std.proofs.Common.{◌≤◌, ◌<◌, ◌-◌}
 use Rattle.passes.specs.Passes.{IsOpenAfter}
 use Rattle.passes.specs.Settles.{work_of}
-use Rattle.passes.proofs.settle.settle.Given as goal
+use Rattle.passes.proofs.settle.settle_for.Given as goal
 
 abbrev pub invariant-passes : goal.invariant-passes
 invariant-passes g l = (0 < l.passes) × (l.passes ≤ l.limit) × IsOpenAfter (work_of l.input (record { meets = g.Fr.Frames.meets l.frames; frame_of = g.Fr.Frames.frame_of l.frames }) l.targets) (l.passes - 1) l.table
