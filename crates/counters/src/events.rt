@@ -18,7 +18,7 @@ use style::styles::Styles;
 use style::values::Display;
 
 /// A place's number, and where scopes end that begin at it.
-#[derive(Clone, Copy, Debug)]
+#[derive(Clone, Copy)]
 pub(crate) struct Place {
     pub at: u32,
     pub end: u32,

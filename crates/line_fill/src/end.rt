@@ -17,7 +17,7 @@ use boxes::span::used_units;
 use metrics::{Faces, Pen};
 
 /// Where a line begins, and the units that it has.
-#[derive(Clone, Copy, Debug)]
+#[derive(Clone, Copy)]
 pub(crate) struct Room {
     pub from: usize,
     pub units: i64,

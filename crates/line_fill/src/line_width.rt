@@ -13,7 +13,7 @@ pub struct LineWidth {
 }
 
 /// The end of a run of bytes, and the widths there.
-#[derive(Clone, Copy, Debug)]
+#[derive(Clone, Copy)]
 pub(crate) struct Run {
     pub to: usize,
     pub line_width: LineWidth,

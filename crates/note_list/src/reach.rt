@@ -11,7 +11,7 @@ use notes::solid::NoteSolid;
 pub(crate) const SEPARATOR: i64 = 512;
 
 /// The bottom of the solids so far, and the greatest bottom.
-#[derive(Clone, Copy, Debug)]
+#[derive(Clone, Copy)]
 pub(crate) struct Reach {
     pub bottom: i64,
     pub extent: i64,

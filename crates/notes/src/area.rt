@@ -12,7 +12,7 @@ use crate::solid::NoteSolid;
 const SEPARATOR: i64 = 512;
 
 /// The bottom of the solids so far, and the greatest bottom.
-#[derive(Clone, Copy, Debug)]
+#[derive(Clone, Copy)]
 struct Reach {
     bottom: i64,
     extent: i64,
