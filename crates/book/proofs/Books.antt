@@ -22,9 +22,9 @@ use Rattle.book.specs.declared.styled.Styled.{Styled}
 use Rattle.book.specs.Laws.{PageLaws}
 use Rattle.book.proofs.KeepLemmas.{keeps}
 use Rattle.book.proofs.Stopping.{keeps_same}
-use Rattle.book_print.specs.Puts.{Puts}
-use Rattle.book_print.specs.declared.print.PrintErr.{PrintErr}
-use Rattle.book_print.specs.declared.print.PrintErr.TheVariants as print
+use Rattle.listing.specs.Puts.{Puts}
+use Rattle.listing.specs.declared.print.PrintErr.{PrintErr}
+use Rattle.listing.specs.declared.print.PrintErr.TheVariants as print
 use Rattle.boxes.specs.declared.flow.Flow.{Flow}
 use Rattle.boxes.specs.declared.page.Page.{Page}
 use Rattle.gen_text.specs.declared.table.Entry.{Entry}

@@ -3,7 +3,7 @@ use Rattle.std.proofs.Common.{◌≡◌, ℕ, zero, suc, List, [], ◌∷◌, sl
 use Rattle.std.proofs.lemmas.Option.{same_Some, none-some}
 use Rattle.bk_io.specs.Shelf.{Told, absent}
 use Rattle.bk_io.specs.Causes.{Rose}
-use Rattle.run_sheets.specs.Readings.{SheetOf}
+use Rattle.sheets.specs.Readings.{SheetOf}
 use Rattle.book.specs.Expect.{Expect, free, refused, given, ◌>>=◌}
 use Rattle.book.specs.Request.{Task, files, chapters, name_of, asked}
 use Rattle.words.specs.Asked.{FormatWords}

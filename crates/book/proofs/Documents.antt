@@ -4,10 +4,10 @@ use Rattle.metrics.specs.Text.{faces_of}
 use Rattle.metrics.specs.Face.{FontFace}
 use Rattle.dom.specs.Nodes.{Node}
 use Rattle.html_tree.specs.Tree.{tree_of}
-use Rattle.run_sheets.specs.Readings.{SheetOf}
-use Rattle.run_sheets.specs.Sources.{AreRead}
-use Rattle.run_sheets.specs.declared.read.Sheets.{Sheets}
-use Rattle.run_sheets.specs.declared.read.SheetsErr.TheVariants as err
+use Rattle.sheets.specs.Readings.{SheetOf}
+use Rattle.sheets.specs.Sources.{AreRead}
+use Rattle.sheets.specs.declared.read.Sheets.{Sheets}
+use Rattle.sheets.specs.declared.read.SheetsErr.TheVariants as err
 use Rattle.book.specs.Expect.{IsGiven, IsRefusedUnlessMemory}
 use Rattle.sheets.specs.Sheets.{author_texts, element_sheets}
 use Rattle.book.specs.Document.{Document, Texts, document_of, faces_expected, nodes_expected, sheets_expected}

@@ -1,4 +1,5 @@
 pub mod Books
+pub mod BoxLemmas
 pub mod Complete
 pub mod Conditions
 pub mod Documents

@@ -16,12 +16,12 @@ use Rattle.gen_text.specs.declared.table.Entry.{Entry}
 use Rattle.passes.specs.Passes.{End, EndsIn, HaveOneEnd, settled, unsettled, long, many}
 use Rattle.passes.specs.Work.{Work}
 use Rattle.style.specs.Nodes.{NodeStyles}
-use Rattle.run_sheets.specs.Laws.{PageRulesAreOne}
-use Rattle.run_sheets.specs.Sources.{Source as SheetSource, authors_of, sources_of, IsReadFrom}
+use Rattle.sheets.specs.Laws.{PageRulesAreOne}
+use Rattle.sheets.specs.Sources.{Source as SheetSource, authors_of, sources_of, IsReadFrom}
 use Rattle.book.specs.Answer.{output_of, print_of}
 use Rattle.book.specs.Document.{Document}
 use Rattle.book.specs.Flow.{AreStylesBy, IsWorkOf, texts_of, work_by}
-use Rattle.book_print.specs.Printed.{Print}
+use Rattle.listing.specs.Printed.{Print}
 use Rattle.book.specs.Laws.{HasOneBook}
 
 -- what two lists are paired with is one list, where each is paired with one

@@ -1,7 +1,7 @@
 -- The texts of a sample book are those that are expected.
 use Rattle.std.proofs.Common.{◌≡◌, ℕ, ◌≤◌, List, [], ◌∷◌, length, refl, ap, ◌∙◌, arith}
 use Rattle.bk_num.specs.Limits.{most_text_bytes}
-use Rattle.bk_text.specs.Texts.{unmarked}
+use Rattle.bk_io.specs.Texts.{unmarked}
 use Rattle.sample.specs.Html.{html_of}
 use Rattle.sample.specs.Texts.{css_text, metrics_text}
 use Rattle.book.specs.Document.{Texts}

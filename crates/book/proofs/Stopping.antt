@@ -18,8 +18,8 @@ use Rattle.dom.specs.declared.dom.DomErr.{DomErr}
 use Rattle.dom.specs.declared.dom.DomErr.TheVariants as dom_err
 use Rattle.html_tree.specs.Tree.{tree_of}
 use Rattle.sheets.specs.Sheets.{author_texts, element_sheets}
-use Rattle.run_sheets.specs.Readings.{SheetOf}
-use Rattle.run_sheets.specs.Sources.{has_many_rules}
+use Rattle.sheets.specs.Readings.{SheetOf}
+use Rattle.sheets.specs.Sources.{has_many_rules}
 use Rattle.book.specs.Request.{Task, files, chapters, name_of}
 use Rattle.words.specs.Asked.{FormatWords}
 use Rattle.book.specs.Document.{Texts, Document, document_of, faces_expected, nodes_expected, sheets_expected}

@@ -16,7 +16,7 @@ use Rattle.page_ctx.specs.declared.resolve.PageStyles.{PageStyles}
 use Rattle.page_seq.specs.Frames.{frame_at, frame_in, frame_of}
 use Rattle.book.specs.Answer.{print_of}
 use Rattle.book.specs.Flow.{page_frames}
-use Rattle.book_print.specs.Printed.{Print}
+use Rattle.listing.specs.Printed.{Print}
 
 frame_in_cell : (row : Option PageRow) (place : ℕ) → frame_at row place ≡ frame_in (cell_in row place)
 frame_in_cell None place = refl

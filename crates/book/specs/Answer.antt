@@ -15,7 +15,7 @@ use Rattle.book.specs.Document.{Document}
 use Rattle.book.specs.Flow.{IsWorkOf}
 use Rattle.book.specs.declared.document.Output.{Output}
 use Rattle.book.specs.declared.document.Output.TheVariants as output
-use Rattle.book_print.specs.Printed.{Print, listing_of}
+use Rattle.listing.specs.Printed.{Print, listing_of}
 
 -- what is printed of a flow that settled in so many passes: each page has the page box and the margin boxes that its winning page
 -- declarations give (css-page-3, 4 to 7)

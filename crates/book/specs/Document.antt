@@ -10,8 +10,8 @@ use Rattle.dom.specs.declared.dom.DomErr.{DomErr}
 use Rattle.dom.specs.declared.dom.DomErr.TheVariants as dom_err
 use Rattle.html_tree.specs.Tree.{tree_of}
 use Rattle.sheets.specs.Sheets.{author_texts, element_sheets}
-use Rattle.run_sheets.specs.Readings.{SheetOf}
-use Rattle.run_sheets.specs.Sources.{has_many_rules}
+use Rattle.sheets.specs.Readings.{SheetOf}
+use Rattle.sheets.specs.Sources.{has_many_rules}
 use Rattle.book.specs.Expect.{Expect, refused, given, ◌>>=◌}
 use Rattle.book.specs.declared.document.Output.{Output}
 use Rattle.book.specs.declared.outcome.Outcome.TheVariants as out

@@ -1,8 +1,8 @@
 -- What texts and a document in memory stand for.
 use Rattle.std.specs.List.{AllZip}
 use Rattle.sheets.specs.Sheets.{author_texts, element_sheets}
-use Rattle.run_sheets.specs.Files.{file_texts}
-use Rattle.run_sheets.specs.Sources.{sources_of, IsReadFrom}
+use Rattle.sheets.specs.Files.{file_texts}
+use Rattle.sheets.specs.Sources.{sources_of, IsReadFrom}
 use Rattle.book.specs.Document.{Document, Texts}
 use Rattle.book.specs.Flow.{AreRulesOf}
 use Rattle.book.specs.declared.document.Document.{Document as InMemory}

@@ -1,7 +1,7 @@
 -- What the texts of files in memory stand for.
 use Rattle.std.specs.Prelude.{ℕ, string_bytes}
-use Rattle.bk_text.specs.Texts.{unmarked}
-use Rattle.run_sheets.specs.Files.{file_texts}
+use Rattle.bk_io.specs.Texts.{unmarked}
+use Rattle.sheets.specs.Files.{file_texts}
 use Rattle.book.specs.Document.{Texts}
 use Rattle.book.specs.declared.document.Output.TheVariants as output
 use Rattle.book.specs.declared.files.FileTexts.{FileTexts}

@@ -15,7 +15,7 @@ use Rattle.passes.specs.Passes.{End, EndsIn}
 use Rattle.passes.specs.Work.{Work}
 use Rattle.sheets.specs.Sheets.{author_texts, element_sheets}
 use Rattle.style.specs.Nodes.{NodeStyles}
-use Rattle.run_sheets.specs.Sources.{ArePageRules, authors_of, sources_of, IsReadFrom}
+use Rattle.sheets.specs.Sources.{ArePageRules, authors_of, sources_of, IsReadFrom}
 use Rattle.book.specs.Document.{Document}
 
 -- the texts of a document's sheets: those of files, and then those of its `style` elements (CSS 2.1, 6.4)

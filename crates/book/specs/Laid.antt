@@ -27,8 +27,8 @@ use Rattle.book.specs.declared.outcome.LimitOf.TheVariants as limit
 use Rattle.book.specs.declared.outcome.Outcome.{Outcome}
 use Rattle.book.specs.declared.outcome.Outcome.TheVariants as out
 use Rattle.book.specs.declared.styled.Styled.{Styled}
-use Rattle.book_print.specs.declared.print.PrintErr.{PrintErr}
-use Rattle.book_print.specs.declared.print.PrintErr.TheVariants as print
+use Rattle.listing.specs.declared.print.PrintErr.{PrintErr}
+use Rattle.listing.specs.declared.print.PrintErr.TheVariants as print
 
 -- the styles of nodes are in range, and the root is shown
 pub record AreGoodStyles (s : Styled) : Type 0 where

@@ -1,5 +1,6 @@
 -- The line that a run puts on its second sink, and the status that the program ends with.
-use Rattle.std.specs.Prelude.{ℕ, List, [], ◌∷◌, codes, pos}
+use Rattle.std.specs.Prelude.{ℕ, ◌/◌, ◌%◌, List, [], ◌∷◌, nat_lt, ◌==◌, ◌||◌, if◌then◌else◌, codes, pos}
+use Rattle.std.specs.Char.{digit_char}
 use Rattle.std.specs.Fmt.{signed_decimal}
 use Rattle.std.specs.List.{flat_map}
 use Rattle.metrics.specs.declared.fault.MetricsWhy.{MetricsWhy}
@@ -39,6 +40,15 @@ limit_text limit.Rules = codes "rules"
 limit_text limit.Text = codes "text"
 limit_text limit.Pages = codes "pages"
 
+-- a byte of a target as the line shows it: LF is `\n`, other control characters are `\x` and two digits, as in a string of a listing, so that
+-- a target can neither begin another line nor command a terminal; other characters stand as they are
+unfoldable pub shown_byte : ℕ → List ℕ
+shown_byte b = if b == 10 then codes "\\n" else
+    if nat_lt b 32 || b == 127 then 92 ∷ 120 ∷ digit_char (b / 16) ∷ digit_char (b % 16) ∷ [] else b ∷ []
+
+abbrev pub shown_target : List ℕ → List ℕ
+shown_target bytes = flat_map shown_byte bytes
+
 -- the texts of an answer's line, one after the other
 unfoldable pub texts_of : Outcome → List (List ℕ)
 texts_of (out.Done pages passes) = codes "bookfmt: " ∷ decimal pages ∷ codes " pages, " ∷ decimal passes ∷ codes " passes\n" ∷ []
@@ -49,7 +59,7 @@ texts_of (out.NotUtf8 f at) =
     codes "bookfmt: " ∷ (file_words f).0 ∷ (file_words f).1 ∷ codes " is not UTF-8 at " ∷ decimal at ∷ codes "\n" ∷ []
 texts_of (out.BadMetrics line reason) = codes "bookfmt: metrics line " ∷ decimal line ∷ codes ": " ∷ why_text reason ∷ codes "\n" ∷ []
 texts_of (out.NotSettled target before after) =
-    codes "bookfmt: page reference to " ∷ target ∷ codes " not settled: " ∷ signed_decimal before ∷ codes " then " ∷ signed_decimal after ∷ codes "\n" ∷ []
+    codes "bookfmt: page reference to " ∷ shown_target target ∷ codes " not settled: " ∷ signed_decimal before ∷ codes " then " ∷ signed_decimal after ∷ codes "\n" ∷ []
 texts_of (out.Limit what) = codes "bookfmt: limit: " ∷ limit_text what ∷ codes "\n" ∷ []
 texts_of out.WriteFault = codes "bookfmt: cannot write\n" ∷ []
 texts_of out.NoMemory = codes "bookfmt: no memory\n" ∷ []

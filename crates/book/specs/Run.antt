@@ -4,11 +4,11 @@ use Rattle.std.specs.Io.KnownBytes.{Appends, Keeps}
 use Rattle.std.specs.Str.{is_utf8}
 use Rattle.std.specs.Str.Lossy.{utf8_valid_len}
 use Rattle.bk_num.specs.Limits.{most_file_bytes}
-use Rattle.bk_text.specs.Texts.{unmarked}
+use Rattle.bk_io.specs.Texts.{unmarked}
 use Rattle.bk_io.specs.Shelf.{Told, untold, absent, holds, Faulted}
 use Rattle.bk_io.specs.Causes.{Rose}
 use Rattle.passes.specs.Passes.{unsettled, long, many}
-use Rattle.run_sheets.specs.Readings.{SheetOf, AreReadings}
+use Rattle.sheets.specs.Readings.{SheetOf, AreReadings}
 use Rattle.sample.specs.Html.{html_of}
 use Rattle.sample.specs.Texts.{css_text, metrics_text}
 use Rattle.book.specs.Expect.{Expect, free, refused, given, ◌>>=◌, IsRefused}

@@ -6,14 +6,15 @@ ghost use Rattle.bk_num.specs.Limits.{most_text_bytes};
 ghost use Rattle.metrics.specs.Text.{faces_of};
 ghost use Rattle.html_tree.specs.Tree.{tree_of};
 ghost use Rattle.sheets.specs.Sheets.{author_texts, element_sheets};
-ghost use Rattle.run_sheets.specs.Files.{file_texts};
-ghost use Rattle.run_sheets.specs.Readings.{SheetOf, AreReadings};
-ghost use Rattle.run_sheets.specs.Sources.{ArePageRules, IsReadFrom, authors_of, sources_of};
+ghost use Rattle.sheets.specs.Files.{file_texts};
+ghost use Rattle.sheets.specs.Readings.{SheetOf, AreReadings};
+ghost use Rattle.sheets.specs.Sources.{ArePageRules, IsReadFrom, authors_of, sources_of};
 ghost use Rattle.book.specs.Expect.{IsRefusedUnlessMemory, IsGiven};
 ghost use Rattle.book.specs.Document.{document_of, faces_expected, nodes_expected, sheets_expected};
 ghost use Rattle.book.specs.DocumentView.{document_in, texts_in, HasSheets};
 ghost use Rattle.book.specs.Run.{IsOfTexts};
 
+use crate::boxed::boxed;
 use crate::outcome::{LimitOf, Outcome};
 use bk_num::items::Items;
 use bk_num::name::NoMem;
@@ -22,7 +23,7 @@ use css_page::rules::PageRule;
 use dom::{Dom, DomErr};
 use html_tree::read_html;
 use metrics::{Faces, MetricsErr, read_metrics};
-use run_sheets::read::{Sheets, SheetsErr, read_sheets};
+use sheets::read::{Sheets, SheetsErr, read_sheets};
 use std::alloc::{AllocError, Global};
 
 /// What is put of a book.
@@ -134,25 +135,29 @@ fn read_run_sheets(alloc: Global, dom: &Dom, files: &[String]) -> Result<Sheets,
 }
 
 /// The document of the texts.
-pub fn read_document<'a>(alloc: Global, texts: Texts<'a>) -> Result<Document<'a>, Outcome>
+pub fn read_document<'a>(alloc: Global, texts: Texts<'a>) -> Result<Box<Document<'a>>, Outcome>
     requires { length texts.metrics.now ≤ most_text_bytes }
     ensures document { (reading : List ℕ → SheetOf) → AreReadings reading →
         let document = document_of reading (texts_in texts.entry) in
-        MatchResult result (λ d. IsGiven document (document_in d)) (λ o. IsRefusedUnlessMemory document o) }
-    ensures passes { IfOk result (λ d. d.passes ≡ texts.entry.passes) }
-    ensures read { IfOk result HasSheets }
+        MatchResult result (λ d. IsGiven document (document_in d.value)) (λ o. IsRefusedUnlessMemory document o) }
+    ensures passes { IfOk result (λ d. d.value.passes ≡ texts.entry.passes) }
+    ensures read { IfOk result (λ d. HasSheets d.value) }
     ensures of_texts { IfErr result IsOfTexts }
 {
     let faces = read_faces(alloc, texts.metrics)?;
     let dom = read_tree(alloc, texts.html)?;
     let sheets = read_run_sheets(alloc, &dom, texts.sheets)?;
-    Ok(Document {
-        passes: texts.passes,
-        output: texts.output,
-        faces,
-        dom,
-        sheets: texts.sheets,
-        read: sheets.read,
-        pages: sheets.pages,
-    })
+    let document = boxed(
+        alloc,
+        Document {
+            passes: texts.passes,
+            output: texts.output,
+            faces,
+            dom,
+            sheets: texts.sheets,
+            read: sheets.read,
+            pages: sheets.pages,
+        },
+    )?;
+    Ok(document)
 }

@@ -2,18 +2,18 @@
 
 ghost use Rattle.std.specs.Prelude.{◌≡◌, ◌≤◌, MatchResult, IfErr, IfOk, map, string_bytes, string_len};
 ghost use Rattle.bk_num.specs.Limits.{most_file_bytes};
-ghost use Rattle.bk_text.specs.Texts.{unmarked};
+ghost use Rattle.bk_io.specs.Texts.{unmarked};
 ghost use Rattle.book.specs.Expect.{IsGiven};
 ghost use Rattle.book.specs.FilesView.{listed_texts};
 ghost use Rattle.book.specs.Run.{text_of, sheets_from, texts_named, Stops, StopsAt, HasCauseAt, HasSheetCause, IsOfFiles};
-ghost use Rattle.run_sheets.specs.Files.{file_texts};
+ghost use Rattle.sheets.specs.Files.{file_texts};
 ghost use Rattle.words.specs.Asked.{format_view};
 
 use crate::outcome::{FileOf, Outcome};
 use bk_io::read_all::{ReadErr, read_all};
 use bk_io::shelf::Shelf;
+use bk_io::texts::text_from;
 use bk_num::limits::MOST_FILE_BYTES;
-use bk_text::text_from;
 use std::alloc::Global;
 use words::Format;
 

@@ -3,11 +3,12 @@
 ghost use Rattle.std.specs.Prelude.{◌≡◌, ◌<◌, ◌≤◌, IfOk, IfErr, length};
 ghost use Rattle.bk_io.specs.Causes.{Rose};
 ghost use Rattle.bk_num.specs.Limits.{most_pages};
+ghost use Rattle.page_seq.specs.Numbers.{numbers_of};
 ghost use Rattle.passes.specs.Conditions.{IsGoodFlow};
 ghost use Rattle.passes.specs.Passes.{settled};
 ghost use Rattle.style.specs.Styles.{initial_style};
-ghost use Rattle.book_print.specs.Printed.{listing_of};
-ghost use Rattle.book_print.specs.Puts.{HasPutCause, Puts};
+ghost use Rattle.listing.specs.Printed.{listing_of};
+ghost use Rattle.listing.specs.Puts.{HasPutCause, Puts};
 ghost use Rattle.book.specs.Answer.{output_of, print_of};
 ghost use Rattle.book.specs.DocumentView.{document_in, HasSheets};
 ghost use Rattle.book.specs.Laid.{AreBoxesOf, AreGoodStyles, EndSo, StopsBy, WritesBy, outcome_of};
@@ -21,9 +22,9 @@ use crate::styled::{Styled, in_styles};
 use bk_io::sink::Sink;
 use bk_num::name::NoMem;
 use bk_num::steps::Steps;
-use book_print::pages::Printer;
-use book_print::print::{PrintErr, print};
 use boxes::page::PageList;
+use listing::pages::Printer;
+use listing::print::{PrintErr, print};
 use page_ctx::resolve::{PageStyles, resolve};
 use page_list::laws::{
     breaks_hold, main_stands_once, notes_begin_in_time, notes_stand_once, pages_end_inside,
@@ -123,6 +124,38 @@ fn settle_passes<L: Ledger>(
     Ok(settled)
 }
 
+/// Puts the listing of the pages that settled, which have these numbers.
+fn print_numbered<O: Sink, L: Ledger>(
+    alloc: Global,
+    styled: &Styled,
+    boxes: &PageStyles<'_>,
+    laid: &Settled,
+    numbers: &[i64],
+    out: &mut O,
+    steps: &mut Steps<L>,
+) -> Result<(), PrintErr>
+    requires good { IsGoodFlow styled.now.faces laid.now.flow }
+    requires boxes { AreBoxesOf styled.now boxes.now }
+    requires few { length laid.now.pages.pages ≤ most_pages }
+    requires numbers { numbers.now ≡ numbers_of laid.now.flow.main laid.now.pages.pages laid.now.flow.resets }
+    ensures bytes { Puts (O.taken out.old) (O.taken out.new)
+        (listing_of (print_of styled.now.faces styled.now.rules styled.now.names laid.now.passes laid.now.flow) laid.now.pages.pages) result }
+    ensures cause { HasPutCause (O.faults out.old) (O.faults out.new) result }
+{
+    let strings = Strings::new(alloc, &laid.flow, &laid.pages)?;
+    let printer = Printer {
+        passes: laid.passes,
+        faces: &styled.faces,
+        flow: &laid.flow,
+        names: &styled.names,
+        list: &laid.pages,
+        numbers,
+        strings: &strings,
+        styles: boxes,
+    };
+    print(alloc, &printer, out, steps)
+}
+
 /// Puts the listing of the pages that settled. Their numbers and the running strings along them are found once, for all
 /// pages.
 fn print_settled<O: Sink, L: Ledger>(
@@ -140,21 +173,8 @@ fn print_settled<O: Sink, L: Ledger>(
         (listing_of (print_of styled.now.faces styled.now.rules styled.now.names laid.now.passes laid.now.flow) laid.now.pages.pages) result }
     ensures cause { HasPutCause (O.faults out.old) (O.faults out.new) result }
 {
-    let flow = &laid.flow;
-    let list = &laid.pages;
-    let numbers = numbers(alloc, flow, list)?;
-    let strings = Strings::new(alloc, flow, list)?;
-    let printer = Printer {
-        passes: laid.passes,
-        faces: &styled.faces,
-        flow,
-        names: &styled.names,
-        list,
-        numbers: numbers.as_slice(),
-        strings: &strings,
-        styles: boxes,
-    };
-    print(alloc, &printer, out, steps)
+    let numbers = numbers(alloc, &laid.flow, &laid.pages)?;
+    print_numbered(alloc, styled, boxes, laid, numbers.as_slice(), out, steps)
 }
 
 /// Puts what is asked for of the pages that settled.
@@ -187,6 +207,29 @@ fn count_of(list: &PageList) -> u32
     list.pages.as_slice().len() as u32
 }
 
+/// Puts what is asked for of the pages that settled, and answers how many there are.
+fn put_laid<O: Sink, L: Ledger>(
+    alloc: Global,
+    styled: &Styled,
+    boxes: &PageStyles<'_>,
+    laid: &Settled,
+    out: &mut O,
+    steps: &mut Steps<L>,
+) -> Result<Done, Outcome>
+    requires settled { EndSo styled.now (settled laid.now.passes laid.now.flow laid.now.pages.pages laid.now.table) }
+    requires good { IsGoodFlow styled.now.faces laid.now.flow }
+    requires boxes { AreBoxesOf styled.now boxes.now }
+    requires few { length laid.now.pages.pages ≤ most_pages }
+    ensures writes { WritesBy styled.now (O.taken out.old) (O.taken out.new) (outcome_of result) }
+    ensures fault { outcome_of result ≡ Outcome.WriteFault → Rose (O.faults out.old) (O.faults out.new) }
+{
+    put_settled(alloc, styled, boxes, laid, out, steps)?;
+    Ok(Done {
+        pages: count_of(&laid.pages),
+        passes: laid.passes,
+    })
+}
+
 /// Lays out a document in its styles, in the page boxes and the margin boxes of its page rules, and puts what is asked for.
 fn put_styled<O: Sink, L: Ledger>(
     alloc: Global,
@@ -202,11 +245,7 @@ fn put_styled<O: Sink, L: Ledger>(
     ensures fault { outcome_of result ≡ Outcome.WriteFault → Rose (O.faults out.old) (O.faults out.new) }
 {
     let settled = settle_passes(alloc, styled, boxes, steps)?;
-    put_settled(alloc, styled, boxes, &settled, out, steps)?;
-    Ok(Done {
-        pages: count_of(&settled.pages),
-        passes: settled.passes,
-    })
+    put_laid(alloc, styled, boxes, &settled, out, steps)
 }
 
 /// What holds of all page lists.
@@ -240,13 +279,13 @@ fn put_on_pages<O: Sink, L: Ledger>(
 /// Lays a document out, and puts what is asked for of its book. What that keeps is said by the laws of page lists.
 pub(crate) fn lay_out<O: Sink, L: Ledger>(
     alloc: Global,
-    document: Document<'_>,
+    document: Box<Document<'_>>,
     out: &mut O,
     steps: &mut Steps<L>,
 ) -> Result<Done, Outcome>
-    requires passes { 0 < document.passes }
-    requires sheets { HasSheets document }
-    ensures writes { Writes (document_in document.entry) (O.taken out.old) (O.taken out.new) (outcome_of result) }
+    requires passes { 0 < document.value.passes }
+    requires sheets { HasSheets document.value }
+    ensures writes { Writes (document_in document.entry.value) (O.taken out.old) (O.taken out.new) (outcome_of result) }
     ensures put { PutsOnlyABook (O.taken out.old) (O.taken out.new) (outcome_of result) }
     ensures of_book { IsOfBook (outcome_of result) }
     ensures fault { outcome_of result ≡ Outcome.WriteFault → Rose (O.faults out.old) (O.faults out.new) }

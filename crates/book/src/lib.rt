@@ -1,6 +1,7 @@
 //! The call behind the program: from words and files to a listing.
 #![tactic(auto)]
 
+mod boxed;
 mod counts;
 pub mod document;
 mod files;
@@ -9,3 +10,4 @@ pub mod message;
 pub mod outcome;
 pub mod run;
 pub mod styled;
+mod target;

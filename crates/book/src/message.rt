@@ -4,9 +4,10 @@ ghost use Rattle.std.specs.Prelude.{◌≡◌, ◌∷◌, [], codes};
 ghost use Rattle.std.specs.Fmt.{signed_decimal};
 ghost use Rattle.std.specs.List.{flat_map};
 ghost use Rattle.bk_io.specs.Sink.{AppendsAllOrPrefix, HasCause};
-ghost use Rattle.book.specs.Message.{message, texts_of, file_words, why_text, limit_text, decimal};
+ghost use Rattle.book.specs.Message.{message, shown_target, texts_of, file_words, why_text, limit_text, decimal};
 
 use crate::outcome::{FileOf, LimitOf, Outcome};
+use crate::target::put_target;
 use bk_io::put_all::put_all;
 use bk_io::sink::{Failed, Sink};
 use itoa::Buffer;
@@ -156,6 +157,25 @@ fn put_pages_line<E: Sink>(err: &mut E, pages: u32, passes: u32) -> Result<(), F
     )
 }
 
+/// Puts what the line tells of a page reference after its target: the numbers of the last two passes.
+fn put_numbers<E: Sink>(err: &mut E, before: i64, after: i64) -> Result<(), Failed>
+    ensures bytes { AppendsAllOrPrefix (E.taken err.old) (E.taken err.new)
+        (flat_map (λ t. t) (codes " not settled: " ∷ signed_decimal before ∷ codes " then " ∷ signed_decimal after ∷ codes "\n" ∷ [])) result }
+    ensures cause { HasCause (E.faults err.old) (E.faults err.new) result }
+{
+    let (mut first, mut second) = (Buffer::new(), Buffer::new());
+    put_texts(
+        err,
+        &[
+            " not settled: ",
+            first.format(before),
+            " then ",
+            second.format(after),
+            "\n",
+        ],
+    )
+}
+
 /// Puts the line that tells which page reference doesn't settle.
 fn put_reference_line<E: Sink>(
     err: &mut E,
@@ -164,22 +184,12 @@ fn put_reference_line<E: Sink>(
     after: i64,
 ) -> Result<(), Failed>
     ensures bytes { AppendsAllOrPrefix (E.taken err.old) (E.taken err.new)
-        (flat_map (λ t. t) (codes "bookfmt: page reference to " ∷ target.now ∷ codes " not settled: " ∷ signed_decimal before ∷ codes " then " ∷ signed_decimal after ∷ codes "\n" ∷ [])) result }
+        (flat_map (λ t. t) (codes "bookfmt: page reference to " ∷ shown_target target.now ∷ codes " not settled: " ∷ signed_decimal before ∷ codes " then " ∷ signed_decimal after ∷ codes "\n" ∷ [])) result }
     ensures cause { HasCause (E.faults err.old) (E.faults err.new) result }
 {
-    let (mut first, mut second) = (Buffer::new(), Buffer::new());
-    put_texts(
-        err,
-        &[
-            "bookfmt: page reference to ",
-            target,
-            " not settled: ",
-            first.format(before),
-            " then ",
-            second.format(after),
-            "\n",
-        ],
-    )
+    put_all(err, b"bookfmt: page reference to ")?;
+    put_target(err, target)?;
+    put_numbers(err, before, after)
 }
 
 /// Puts the line of an answer. It takes no memory but what the sink takes.

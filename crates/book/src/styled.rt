@@ -9,6 +9,7 @@ ghost use Rattle.counters.specs.Document.{values_of};
 ghost use Rattle.book.specs.DocumentView.{document_in, HasSheets};
 ghost use Rattle.book.specs.Laid.{AreGoodStyles, IsStyledOf};
 
+use crate::boxed::boxed;
 use crate::document::{Document, Output};
 use bk_num::items::Items;
 use bk_num::name::NoMem;
@@ -60,29 +61,37 @@ struct Computed {
 }
 
 /// What is computed of a document's nodes by its sheets.
-fn computed_of(alloc: Global, dom: &Dom, sheets: &[ReadSheet]) -> Result<Computed, NoMem>
-    ensures styles { IfOk result (λ c. AreDocumentStyles c.names dom.now sheets.now c.styles) }
-    ensures ranges { IfOk result (λ c. AreInRange c.styles) }
-    ensures shown { IfOk result (λ c. IsRootShown c.styles) }
-    ensures counters { IfOk result (λ c. (n : ℕ) (p : Pseudo) (x : List ℕ) → counter_values c.counters n p x ≡ values_of dom.now c.styles n p x) }
+fn computed_of(alloc: Global, dom: &Dom, sheets: &[ReadSheet]) -> Result<Box<Computed>, NoMem>
+    ensures styles { IfOk result (λ c. AreDocumentStyles c.value.names dom.now sheets.now c.value.styles) }
+    ensures ranges { IfOk result (λ c. AreInRange c.value.styles) }
+    ensures shown { IfOk result (λ c. IsRootShown c.value.styles) }
+    ensures counters { IfOk result (λ c. (n : ℕ) (p : Pseudo) (x : List ℕ) → counter_values c.value.counters n p x ≡ values_of dom.now c.value.styles n p x) }
 {
     let (styles, names) = styles_of(alloc, dom, sheets)?;
     let counters = number_all(alloc, dom, &styles)?;
-    Ok(Computed {
-        names,
-        styles,
-        counters,
-    })
+    boxed(
+        alloc,
+        Computed {
+            names,
+            styles,
+            counters,
+        },
+    )
 }
 
-/// A document in its styles. Each is made once, for all passes.
-pub fn in_styles(alloc: Global, document: Document<'_>) -> Result<Styled, NoMem>
-    requires { HasSheets document }
-    ensures of { IfOk result (λ s. IsStyledOf (document_in document.entry) s) }
-    ensures good { IfOk result AreGoodStyles }
+/// A document with what is computed of it.
+fn with_computed(document: Box<Document<'_>>, computed: Box<Computed>) -> Styled
+    requires sheets { HasSheets document.value }
+    requires styles { AreDocumentStyles computed.value.names document.value.dom document.value.read computed.value.styles }
+    requires ranges { AreInRange computed.value.styles }
+    requires shown { IsRootShown computed.value.styles }
+    requires counters { (n : ℕ) (p : Pseudo) (x : List ℕ) → counter_values computed.value.counters n p x ≡ values_of document.value.dom computed.value.styles n p x }
+    ensures of { IsStyledOf (document_in document.entry.value) result }
+    ensures good { AreGoodStyles result }
 {
-    let computed = computed_of(alloc, &document.dom, document.read.as_slice())?;
-    Ok(Styled {
+    let document = Box::into_inner(document);
+    let computed = Box::into_inner(computed);
+    Styled {
         passes: document.passes,
         output: document.output,
         faces: document.faces,
@@ -91,5 +100,15 @@ pub fn in_styles(alloc: Global, document: Document<'_>) -> Result<Styled, NoMem>
         names: computed.names,
         styles: computed.styles,
         counters: computed.counters,
-    })
+    }
+}
+
+/// A document in its styles. Each is made once, for all passes.
+pub fn in_styles(alloc: Global, document: Box<Document<'_>>) -> Result<Box<Styled>, NoMem>
+    requires { HasSheets document.value }
+    ensures of { IfOk result (λ s. IsStyledOf (document_in document.entry.value) s.value) }
+    ensures good { IfOk result (λ s. AreGoodStyles s.value) }
+{
+    let computed = computed_of(alloc, &document.dom, document.read.as_slice())?;
+    boxed(alloc, with_computed(document, computed))
 }

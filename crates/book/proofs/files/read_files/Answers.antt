@@ -1,7 +1,7 @@
 use Rattle.std.proofs.Common.{string_bytes, arith, refl}
 use Rattle.std.proofs.lemmas.Result.{err_from_is_err_and}
-use Rattle.bk_text.specs.Texts.{unmarked}
-use Rattle.run_sheets.specs.Files.{file_texts}
+use Rattle.bk_io.specs.Texts.{unmarked}
+use Rattle.sheets.specs.Files.{file_texts}
 use Rattle.words.specs.Asked.{format_view}
 use Rattle.book.specs.declared.outcome.FileOf.TheVariants as file
 use Rattle.book.proofs.Stopping.{file_cause, sheet_cause, stops_at_metrics, stops_at_html, stops_at_sheets, texts_given}

@@ -3,8 +3,8 @@ use Rattle.std.proofs.lemmas.Grind.{common_steps}
 use Rattle.std.proofs.lemmas.List.{map-append}
 use Rattle.std.proofs.lemmas.Option.{get_or_from_slice_get, slice_get-get_or}
 use Rattle.std.proofs.lemmas.Result.{err_from_is_err_and}
-use Rattle.bk_text.specs.Texts.{unmarked}
-use Rattle.run_sheets.specs.Files.{file_texts}
+use Rattle.bk_io.specs.Texts.{unmarked}
+use Rattle.sheets.specs.Files.{file_texts}
 use Rattle.book.specs.Run.{HasCauseAt, sheets_from}
 use Rattle.book.specs.declared.outcome.FileOf.TheVariants as file
 use Rattle.book.proofs.Stopping.{Leads, cause_since, leads_next, leads_stop, name_is}

@@ -1,5 +1,5 @@
 use Rattle.std.proofs.Common.{◌≡◌, ◌+◌, ◌≤◌, drop, map}
-use Rattle.run_sheets.specs.Files.{file_texts}
+use Rattle.sheets.specs.Files.{file_texts}
 use Rattle.book.specs.Run.{sheets_from}
 use Rattle.book.proofs.Stopping.{Leads}
 use Rattle.book.proofs.files.read_sheets.Given as goal

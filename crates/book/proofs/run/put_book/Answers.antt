@@ -36,4 +36,4 @@ returns-in_err-document-clause-fault g c =
 
 pub returns-clause-answers : goal.returns-clause-answers
 returns-clause-answers g c = λ reading h.
-    document_meets (document_of reading (texts_in c.args.texts)) (document_in c.in_ok-document.document) _ _ (outcome_of c.lay_out.result) (c.in_ok-document.ensures.document reading h) c.lay_out.ensures.writes
+    document_meets (document_of reading (texts_in c.args.texts)) (document_in c.in_ok-document.document.value) _ _ (outcome_of c.lay_out.result) (c.in_ok-document.ensures.document reading h) c.lay_out.ensures.writes

@@ -1,5 +1,5 @@
 use Rattle.std.proofs.Common.{◌≡◌, ◌∙◌, ◌∷◌, [], ap, subst}
-use Rattle.run_sheets.specs.Files.{file_texts}
+use Rattle.sheets.specs.Files.{file_texts}
 use Rattle.sample.specs.Texts.{css_text}
 use Rattle.book.specs.Document.{Texts, document_of}
 use Rattle.book.specs.Laid.{outcome_of}

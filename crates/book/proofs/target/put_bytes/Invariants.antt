@@ -1,0 +1,11 @@
+use Rattle.std.proofs.Common.{◌≤◌, take}
+use Rattle.std.specs.List.{flat_map}
+use Rattle.std.specs.Io.KnownBytes.{Appends}
+use Rattle.book.specs.Message.{shown_byte}
+use Rattle.book.proofs.target.put_bytes.Given as goal
+
+abbrev pub invariant-loop-b : goal.invariant-loop-b
+invariant-loop-b g l = record {
+  put : Appends (g.E.Sink.taken l.fn.err) (g.E.Sink.taken l.err) (flat_map shown_byte (take l.b-index l.b-items));
+  later : g.E.Sink.faults l.fn.err ≤ g.E.Sink.faults l.err;
+}
