@@ -11,6 +11,42 @@ pub fn question_of(line: &str) -> Option<&str> {
     }
 }
 
+/// The part of a question at a place, no text where it has none.
+pub fn part<'a>(parts: &[&'a str], place: usize) -> &'a str {
+    if place < parts.len() {
+        parts[place]
+    } else {
+        ""
+    }
+}
+
+/// The parts of a question from a place on.
+pub fn parts_from<'t, 'a>(parts: &'t [&'a str], place: usize) -> &'t [&'a str] {
+    if place < parts.len() {
+        &parts[place..]
+    } else {
+        &[]
+    }
+}
+
+/// Whether a word is one of those that commas separate.
+pub fn is_among(word: &str, words: &str) -> bool {
+    for one in words.split(',') {
+        if one == word {
+            return true;
+        }
+    }
+    false
+}
+
+/// Puts texts at the end.
+pub fn push_all(text: &mut String, pieces: &[&str]) -> Result<(), AllocError> {
+    for piece in pieces {
+        text.push_str(piece)?;
+    }
+    Ok(())
+}
+
 /// A whole number of a row, 0 where the part is none.
 pub fn number(part: &str) -> i64 {
     part.parse::<i64>().unwrap_or(0)
