@@ -1,5 +1,6 @@
 //! What the words of a command line ask for.
 
+use rows::{part, push_all};
 use std::alloc::{AllocError, Global};
 use words::{Format, Request, WordsErr, read_words};
 
@@ -12,6 +13,13 @@ fn words_of(alloc: Global, part: &str) -> Result<Vec<String>, AllocError> {
     Ok(words)
 }
 
+fn push_quoted(line: &mut String, names: &[&str]) -> Result<(), AllocError> {
+    for name in names {
+        push_all(line, &[" '", name, "'"])?;
+    }
+    Ok(())
+}
+
 /// The passes, and the names in quotes: of the metrics, of the HTML, and of the sheets.
 fn format(alloc: Global, format: &Format<'_>) -> Result<String, AllocError> {
     let Format {
@@ -21,9 +29,7 @@ fn format(alloc: Global, format: &Format<'_>) -> Result<String, AllocError> {
         ..
     } = format;
     let mut line = format!(in alloc; "format {passes} '{metrics}' '{html}'")?;
-    for sheet in &format.sheets {
-        write!(line, " '{sheet}'").map_err(|_| AllocError)?;
-    }
+    push_quoted(&mut line, &format.sheets)?;
     Ok(line)
 }
 
@@ -38,11 +44,9 @@ fn asked(alloc: Global, words: &[String]) -> Result<String, AllocError> {
 
 /// The answer to a question about words; without a part there are none.
 pub(crate) fn answer(alloc: Global, parts: &[&str]) -> Result<String, AllocError> {
-    match parts {
-        ["words", part] => {
-            let words = words_of(alloc, part)?;
-            asked(alloc, words.as_slice())
-        }
-        _ => asked(alloc, &[]),
+    if parts.len() < 2 {
+        return asked(alloc, &[]);
     }
+    let words = words_of(alloc, part(parts, 1))?;
+    asked(alloc, words.as_slice())
 }

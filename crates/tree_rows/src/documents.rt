@@ -4,7 +4,7 @@ ghost use Rattle.std.specs.Prelude.{◌<◌, length};
 
 use bk_num::ids::NodeId;
 use dom::{Dom, Step, Walk};
-use rows::number;
+use rows::{number, part, push_all};
 use std::alloc::{AllocError, Global};
 
 /// Adds what a step says: the number of an element, what it gets (`e` an element, `t` a text, else an attribute of that
@@ -16,40 +16,45 @@ fn grow(alloc: Global, dom: &mut Dom, step: &str) -> Option<()> {
     if node.0 >= dom.len() || dom.name(node).is_none() {
         return None;
     }
-    match kind {
-        "e" => dom.add_element(alloc, node, text).ok().map(|_| ()),
-        "t" => dom.add_text(alloc, node, text).ok().map(|_| ()),
-        name => dom.add_attr(alloc, node, name, text).ok().map(|_| ()),
-    }
+    let added = match kind {
+        "e" => dom.add_element(alloc, node, text).is_ok(),
+        "t" => dom.add_text(alloc, node, text).is_ok(),
+        name => dom.add_attr(alloc, node, name, text).is_ok(),
+    };
+    if added { Some(()) } else { None }
 }
 
-/// The document of these steps.
-fn document(alloc: Global, steps: &str) -> Option<Dom> {
-    let mut dom = Dom::new(alloc).ok()?;
+fn grow_all(alloc: Global, dom: &mut Dom, steps: &str) -> Option<()> {
     for step in steps.split(',') {
-        grow(alloc, &mut dom, step)?;
+        grow(alloc, dom, step)?;
     }
-    Some(dom)
+    Some(())
+}
+
+fn push_text(line: &mut String, text: Option<&str>) -> Result<(), AllocError> {
+    push_all(line, &[text.unwrap_or("-"), " "])
 }
 
 /// A node's name, text and attribute `id`, its depth, and how many elements stand before it and below it.
 fn facts(alloc: Global, dom: &Dom, node: NodeId) -> Result<String, AllocError>
     requires { node.0 < length dom.now }
 {
-    format!(in alloc;
-        "{} {} {} {} {} {}",
-        dom.name(node).unwrap_or("-"),
-        dom.text(node).unwrap_or("-"),
-        dom.attr(node, "id").unwrap_or("-"),
+    let mut line = String::new(alloc);
+    push_text(&mut line, dom.name(node))?;
+    push_text(&mut line, dom.text(node))?;
+    push_text(&mut line, dom.attr(node, "id"))?;
+    let (depth, before, within) = (
         dom.depth(node),
         dom.elements_before(node),
-        dom.element_count(node)
-    )
+        dom.element_count(node),
+    );
+    write!(line, "{depth} {before} {within}")?;
+    Ok(line)
 }
 
 fn push_number(line: &mut String, node: Option<NodeId>) -> Result<(), AllocError> {
     match node {
-        Some(node) => write!(line, " {}", node.0).map_err(|_| AllocError),
+        Some(node) => write!(line, " {}", node.0),
         None => line.push_str(" -"),
     }
 }
@@ -67,18 +72,28 @@ fn links(alloc: Global, dom: &Dom, node: NodeId) -> Result<String, AllocError>
     Ok(line)
 }
 
+fn push_step(line: &mut String, step: Step) -> Result<(), AllocError> {
+    match step {
+        Step::Enter(node) => write!(line, "+{} ", node.0),
+        Step::Leave(node) => write!(line, "-{} ", node.0),
+    }
+}
+
 /// The steps of a walk: `+` and the number of a node that is entered, `-` and that of one that is left.
-fn walk(alloc: Global, dom: &Dom) -> Result<String, AllocError> {
-    let mut line = String::new(alloc);
+fn push_walk(line: &mut String, dom: &Dom) -> Result<(), AllocError> {
     let mut walk = Walk::new(dom);
     for _ in 0..u64::MAX {
-        match walk.next() {
-            Some(Step::Enter(node)) => write!(line, "+{} ", node.0).map_err(|_| AllocError)?,
-            Some(Step::Leave(node)) => write!(line, "-{} ", node.0).map_err(|_| AllocError)?,
-            None => break,
-        }
+        let Some(step) = walk.next() else {
+            break;
+        };
+        push_step(line, step)?;
     }
-    line.push_str("end")?;
+    line.push_str("end")
+}
+
+fn walk(alloc: Global, dom: &Dom) -> Result<String, AllocError> {
+    let mut line = String::new(alloc);
+    push_walk(&mut line, dom)?;
     Ok(line)
 }
 
@@ -104,19 +119,26 @@ fn of_node(alloc: Global, dom: &Dom, what: &str, node: i64) -> Result<String, Al
 
 /// The answer to a question about a document.
 fn asked(alloc: Global, dom: &Dom, parts: &[&str]) -> Result<String, AllocError> {
-    match parts {
-        [_, _, "length"] => format!(in alloc; "{}", dom.len()),
-        [_, _, "walk"] => walk(alloc, dom),
-        [_, _, "id", id] => found(alloc, dom, id),
-        [_, _, what, node] => of_node(alloc, dom, what, number(node)),
-        _ => String::from_str(alloc, "?"),
+    match part(parts, 2) {
+        "length" => format!(in alloc; "{}", dom.len()),
+        "walk" => walk(alloc, dom),
+        "id" => found(alloc, dom, part(parts, 3)),
+        what => of_node(alloc, dom, what, number(part(parts, 3))),
+    }
+}
+
+/// The answer to a question about the document of its steps.
+fn of_grown(alloc: Global, dom: &mut Dom, parts: &[&str]) -> Result<String, AllocError> {
+    match grow_all(alloc, dom, part(parts, 1)) {
+        Some(()) => asked(alloc, dom, parts),
+        None => String::from_str(alloc, "no document"),
     }
 }
 
 /// The answer to a question about a document of some steps.
 pub(crate) fn answer(alloc: Global, parts: &[&str]) -> Result<String, AllocError> {
-    match document(alloc, parts.get(1).unwrap_or(&"")) {
-        Some(dom) => asked(alloc, &dom, parts),
-        None => String::from_str(alloc, "no document"),
+    match Dom::new(alloc) {
+        Ok(mut dom) => of_grown(alloc, &mut dom, parts),
+        Err(_) => String::from_str(alloc, "no document"),
     }
 }

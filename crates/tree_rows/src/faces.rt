@@ -4,7 +4,7 @@ use bk_num::ids::FaceId;
 use bk_num::name::Name;
 use bk_num::px::Px;
 use metrics::{Faces, MetricsErr, read_metrics};
-use rows::{number, unescaped};
+use rows::{number, part, unescaped};
 use std::alloc::{AllocError, Global};
 
 fn reading(alloc: Global, text: &str) -> Result<Faces, MetricsErr> {
@@ -14,14 +14,18 @@ fn reading(alloc: Global, text: &str) -> Result<Faces, MetricsErr> {
     }
 }
 
+fn push_faces(text: &mut String, count: i64, line: &str) -> Result<(), AllocError> {
+    text.push_str("bookmetrics 1\n")?;
+    for number in 0..count.clamp(0, 100) {
+        write!(text, "face f{number} normal 400 1000 800 200 500\n")?;
+    }
+    text.push_str(line)
+}
+
 /// A text of so many faces, `f0` and on, and a line more.
 fn many(alloc: Global, count: i64, line: &str) -> Result<String, AllocError> {
-    let mut text = String::from_str(alloc, "bookmetrics 1\n")?;
-    for number in 0..count.clamp(0, 100) {
-        let face = format!(in alloc; "face f{number} normal 400 1000 800 200 500\n")?;
-        text.push_str(face.as_str())?;
-    }
-    text.push_str(line)?;
+    let mut text = String::new(alloc);
+    push_faces(&mut text, count, line)?;
     Ok(text)
 }
 
@@ -51,30 +55,34 @@ fn scaled(faces: &Faces, face: i64, size: i64, what: &str) -> Option<i32> {
     Some(px.units())
 }
 
+/// The number of the face that is chosen, by its properties or as one value.
+fn face_of(faces: &Faces, names: &[Name], parts: &[&str]) -> FaceId {
+    let italic = part(parts, 3) == "italic";
+    let weight = number(part(parts, 4)).clamp(0, 1000) as u16;
+    if part(parts, 0) == "choose" {
+        faces.choose(names, italic, weight)
+    } else {
+        metrics::chosen::choose(faces, names, italic, weight)
+    }
+}
+
+fn chosen(alloc: Global, faces: &Faces, parts: &[&str]) -> Option<i32> {
+    let names = names(alloc, part(parts, 2))?;
+    Some(i32::from(face_of(faces, &names, parts).0))
+}
+
+fn scaled_part(alloc: Global, faces: &Faces, parts: &[&str]) -> Option<i32> {
+    let what = unescaped(alloc, part(parts, 4)).ok()?;
+    let (face, size) = (number(part(parts, 2)), number(part(parts, 3)));
+    scaled(faces, face, size, what.as_str())
+}
+
 /// What is asked of the faces of a text, as a number.
 fn number_of(alloc: Global, faces: &Faces, parts: &[&str]) -> Option<i32> {
-    match parts {
-        ["faces", _] | ["many", _, _] => Some(i32::from(faces.len())),
-        ["choose", _, families, style, weight] => {
-            let weight = number(weight).clamp(0, 1000) as u16;
-            let face = faces.choose(&names(alloc, families)?, *style == "italic", weight);
-            Some(i32::from(face.0))
-        }
-        ["choice", _, families, style, weight] => {
-            let weight = number(weight).clamp(0, 1000) as u16;
-            let face = face_choice::choose(
-                faces,
-                &names(alloc, families)?,
-                *style == "italic",
-                weight,
-            );
-            Some(i32::from(face.0))
-        }
-        ["scaled", _, face, size, what] => {
-            let what = unescaped(alloc, what).ok()?;
-            scaled(faces, number(face), number(size), what.as_str())
-        }
-        _ => None,
+    match part(parts, 0) {
+        "choose" | "choice" => chosen(alloc, faces, parts),
+        "scaled" => scaled_part(alloc, faces, parts),
+        _ => Some(i32::from(faces.len())),
     }
 }
 
@@ -90,8 +98,8 @@ fn label(alloc: Global, faces: &Faces, face: i64) -> Result<String, AllocError> 
 
 /// What is asked of the faces of a text.
 fn of_faces(alloc: Global, faces: &Faces, parts: &[&str]) -> Result<String, AllocError> {
-    if let ["label", _, face] = parts {
-        return label(alloc, faces, number(face));
+    if part(parts, 0) == "label" {
+        return label(alloc, faces, number(part(parts, 2)));
     }
     match number_of(alloc, faces, parts) {
         Some(n) => format!(in alloc; "{n}"),
@@ -108,11 +116,16 @@ fn of_text(alloc: Global, text: &str, parts: &[&str]) -> Result<String, AllocErr
     }
 }
 
+fn of_many(alloc: Global, parts: &[&str]) -> Result<String, AllocError> {
+    let text = many(alloc, number(part(parts, 1)), part(parts, 2))?;
+    of_text(alloc, text.as_str(), parts)
+}
+
 /// The answer to a question about faces.
 pub(crate) fn answer(alloc: Global, parts: &[&str]) -> Result<String, AllocError> {
-    match parts {
-        ["many", count, line] => of_text(alloc, many(alloc, number(count), line)?.as_str(), parts),
-        [_, text, ..] => of_text(alloc, text, parts),
-        _ => String::from_str(alloc, "?"),
+    if part(parts, 0) == "many" {
+        of_many(alloc, parts)
+    } else {
+        of_text(alloc, part(parts, 1), parts)
     }
 }

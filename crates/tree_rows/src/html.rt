@@ -4,7 +4,7 @@ use bk_num::ids::NodeId;
 use dom::{Dom, DomErr};
 use html_tok::{Attrs, Token, TokenKind, Tokens};
 use html_tree::read_html;
-use rows::{escaped, number, unescaped};
+use rows::{escaped, number, part, push_all, unescaped};
 use std::alloc::{AllocError, Global};
 
 fn push_attributes(line: &mut String, attributes: &str) -> Result<(), AllocError> {
@@ -13,7 +13,7 @@ fn push_attributes(line: &mut String, attributes: &str) -> Result<(), AllocError
         let Some((name, value)) = attributes.next() else {
             break;
         };
-        write!(line, "({name})[{value}]").map_err(|_| AllocError)?;
+        push_all(line, &["(", name, ")[", value, "]"])?;
     }
     Ok(())
 }
@@ -27,34 +27,49 @@ fn push_token(line: &mut String, token: &Token<'_>) -> Result<(), AllocError> {
         TokenKind::End { name } => ("E", name, ""),
         TokenKind::Start { name, attrs } => ("B", name, attrs),
     };
-    write!(line, "{kind}:{text}").map_err(|_| AllocError)?;
+    push_all(line, &["|", kind, ":", text])?;
     push_attributes(line, attributes)
+}
+
+/// Puts `!` where a token doesn't stand after those before it.
+fn push_misplaced(
+    line: &mut String,
+    text: &str,
+    length: usize,
+    token: &Token<'_>,
+) -> Result<(), AllocError> {
+    let rest = text.as_bytes().get(length..).unwrap_or(&[]);
+    if token.at == length && rest.starts_with(token.slice.as_bytes()) {
+        return Ok(());
+    }
+    line.push_str("!")
 }
 
 /// The tokens of a text, each before a `|`; `!` where one doesn't stand after those before it, and at the end where
 /// joined they aren't the text.
-fn tokens(alloc: Global, text: &str) -> Result<String, AllocError> {
-    let mut line = String::new(alloc);
+fn push_tokens(line: &mut String, text: &str) -> Result<(), AllocError> {
     let mut tokens = Tokens::new(text);
     let mut length = 0_usize;
     for _ in 0..u64::MAX {
         let Some(token) = tokens.next() else {
             break;
         };
-        line.push_str("|")?;
-        push_token(&mut line, &token)?;
-        let rest = text.as_bytes().get(length..).unwrap_or(&[]);
-        let follows = token.at == length && rest.starts_with(token.slice.as_bytes());
-        line.push_str(if follows { "" } else { "!" })?;
+        push_token(line, &token)?;
+        push_misplaced(line, text, length, &token)?;
         length = length.saturating_add(token.slice.len());
     }
-    line.push_str(if length == text.len() { "|" } else { "|!" })?;
-    Ok(line)
+    line.push_str(if length == text.len() { "|" } else { "|!" })
+}
+
+fn tokens(alloc: Global, text: &str) -> Result<String, AllocError> {
+    let mut line = String::new(alloc);
+    push_tokens(&mut line, text)?;
+    escaped(alloc, line.as_str())
 }
 
 fn push_attribute(line: &mut String, name: &str, value: Option<&str>) -> Result<(), AllocError> {
     match value {
-        Some(value) => write!(line, "[{name}={value}]").map_err(|_| AllocError),
+        Some(value) => push_all(line, &["[", name, "=", value, "]"]),
         None => Ok(()),
     }
 }
@@ -66,7 +81,7 @@ fn push_node(line: &mut String, dom: &Dom, node: NodeId) -> Result<(), AllocErro
     }
     line.push_str(dom.name(node).unwrap_or(""))?;
     if let Some(text) = dom.text(node) {
-        write!(line, "'{text}'").map_err(|_| AllocError)?;
+        push_all(line, &["'", text, "'"])?;
     }
     push_attribute(line, "a", dom.attr(node, "a"))?;
     push_attribute(line, "b", dom.attr(node, "b"))
@@ -90,46 +105,59 @@ fn push_between(line: &mut String, depth: u8, next: u8) -> Result<(), AllocError
 }
 
 /// The nodes by their numbers, which are in tree order; those inside an element stand in parentheses.
-fn tree(alloc: Global, dom: &Dom) -> Result<String, AllocError> {
-    let mut line = String::new(alloc);
+fn push_tree(line: &mut String, dom: &Dom) -> Result<(), AllocError> {
     let mut depth = 0;
     for index in 0..dom.len() {
         let next = dom.depth(NodeId(index));
         if index > 0 {
-            push_between(&mut line, depth, next)?;
+            push_between(line, depth, next)?;
         }
-        push_node(&mut line, dom, NodeId(index))?;
+        push_node(line, dom, NodeId(index))?;
         depth = next;
     }
-    push_closed(&mut line, depth, 1)?;
+    push_closed(line, depth, 1)
+}
+
+fn tree(alloc: Global, dom: &Dom) -> Result<String, AllocError> {
+    let mut line = String::new(alloc);
+    push_tree(&mut line, dom)?;
     escaped(alloc, line.as_str())
+}
+
+/// How many nodes a document has, or its tree.
+fn of_document(alloc: Global, dom: &Dom, counts: bool) -> Result<String, AllocError> {
+    if counts {
+        format!(in alloc; "{}", dom.len())
+    } else {
+        tree(alloc, dom)
+    }
 }
 
 /// A document in short, or why there is none.
 fn read(alloc: Global, text: &str, counts: bool) -> Result<String, AllocError> {
     match read_html(alloc, text) {
-        Ok(dom) if counts => format!(in alloc; "{}", dom.len()),
-        Ok(dom) => tree(alloc, &dom),
+        Ok(dom) => of_document(alloc, &dom, counts),
         Err(DomErr::NoMemory) => Err(AllocError),
         Err(err) => format!(in alloc; "{err:?}"),
     }
 }
 
+/// How many nodes the copies of a text have.
 fn copies(alloc: Global, text: &str, count: i64) -> Result<String, AllocError> {
-    text.repeat(alloc, count.clamp(0, 1_000_000) as usize)
+    let copies = text.repeat(alloc, count.clamp(0, 1_000_000) as usize)?;
+    read(alloc, copies.as_str(), true)
+}
+
+fn of_text(alloc: Global, text: &str, parts: &[&str]) -> Result<String, AllocError> {
+    match part(parts, 0) {
+        "tokens" => tokens(alloc, text),
+        "html" => read(alloc, text, false),
+        _ => copies(alloc, text, number(part(parts, 2))),
+    }
 }
 
 /// The answer to a question about an HTML text.
 pub(crate) fn answer(alloc: Global, parts: &[&str]) -> Result<String, AllocError> {
-    let text = unescaped(alloc, parts.get(1).unwrap_or(&""))?;
-    match parts {
-        ["tokens", _] => escaped(alloc, tokens(alloc, text.as_str())?.as_str()),
-        ["html", _] => read(alloc, text.as_str(), false),
-        ["copies", _, count] => read(
-            alloc,
-            copies(alloc, text.as_str(), number(count))?.as_str(),
-            true,
-        ),
-        _ => String::from_str(alloc, "?"),
-    }
+    let text = unescaped(alloc, part(parts, 1))?;
+    of_text(alloc, text.as_str(), parts)
 }

@@ -10,26 +10,33 @@ mod html;
 mod numbers;
 mod texts;
 
-use rows::question_of;
+use rows::{is_among, part, question_of};
 use std::alloc::{AllocError, Global};
 use std::io;
+
+/// The answer to the parts of a question, by its call.
+fn answer_to(alloc: Global, call: &str, parts: &[&str]) -> Result<String, AllocError> {
+    if is_among(call, "length,part,used,scale,list,text,name") {
+        numbers::answer(alloc, parts)
+    } else if is_among(call, "faces,many,choose,choice,label,scaled") {
+        faces::answer(alloc, parts)
+    } else if is_among(call, "tokens,html,copies") {
+        html::answer(alloc, parts)
+    } else if call == "dom" {
+        documents::answer(alloc, parts)
+    } else if is_among(call, "utf8,unmarked,sample") {
+        texts::answer(alloc, parts)
+    } else if call == "words" {
+        command_lines::answer(alloc, parts)
+    } else {
+        String::from_str(alloc, "?")
+    }
+}
 
 /// The answer to a question, `?` where it has no known form.
 fn answer(alloc: Global, question: &str) -> Result<String, AllocError> {
     let parts: Vec<&str> = question.split('|').collect(alloc)?;
-    let parts = parts.as_slice();
-    let call = *parts.first().unwrap_or(&"");
-    match call {
-        "length" | "part" | "used" | "scale" | "list" | "text" | "name" => numbers::answer(
-            alloc, parts,
-        ),
-        "faces" | "many" | "choose" | "choice" | "label" | "scaled" => faces::answer(alloc, parts),
-        "tokens" | "html" | "copies" => html::answer(alloc, parts),
-        "dom" => documents::answer(alloc, parts),
-        "utf8" | "unmarked" | "sample" => texts::answer(alloc, parts),
-        "words" => command_lines::answer(alloc, parts),
-        _ => String::from_str(alloc, "?"),
-    }
+    answer_to(alloc, part(&parts, 0), &parts)
 }
 
 /// A row with the answer of the libraries in place of the one that is wanted; any other line as it is.

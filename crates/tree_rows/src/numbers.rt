@@ -7,7 +7,7 @@ use bk_num::items::{Items, Text};
 use bk_num::length::{Len, Unit, part_of, px_of};
 use bk_num::name::{Name, NoMem};
 use bk_num::px::{Px, scale_floor};
-use rows::number;
+use rows::{number, part};
 use std::alloc::{AllocError, Global};
 
 /// A decimal number: a whole one, or one with places, as `75e-2`.
@@ -63,20 +63,16 @@ fn scaled(factor: i64, size: i64, per_em: i64) -> Px {
 
 /// A length in units, None for `auto` and for a question of no known form.
 fn length_of(parts: &[&str]) -> Option<Px> {
-    match parts {
-        ["length", length, of] => Some(px_of(decimal(length), unit(of))),
-        ["part", part, of, den] => Some(part_of(
-            decimal(part),
-            base(of),
-            number(den).clamp(1, 1_000_000) as u32,
+    let (first, second, third) = (part(parts, 1), part(parts, 2), number(part(parts, 3)));
+    match part(parts, 0) {
+        "length" => Some(px_of(decimal(first), unit(second))),
+        "part" => Some(part_of(
+            decimal(first),
+            base(second),
+            third.clamp(1, 1_000_000) as u32,
         )),
-        ["used", length, of] => len(length).used(base(of)),
-        ["scale", factor, size, per_em] => Some(scaled(
-            number(factor),
-            number(size),
-            number(per_em),
-        )),
-        _ => None,
+        "used" => len(first).used(base(second)),
+        _ => Some(scaled(number(first), number(second), third)),
     }
 }
 
@@ -109,15 +105,19 @@ fn name(alloc: Global, text: &str) -> Result<String, AllocError> {
     format!(in alloc; "{} {same}", name.as_str())
 }
 
+fn units(alloc: Global, length: Option<Px>) -> Result<String, AllocError> {
+    match length {
+        Some(length) => format!(in alloc; "{}", length.units()),
+        None => String::from_str(alloc, "none"),
+    }
+}
+
 /// The answer to a question about numbers, lists, texts or names.
 pub(crate) fn answer(alloc: Global, parts: &[&str]) -> Result<String, AllocError> {
-    match parts {
-        ["list", numbers] => list(alloc, numbers),
-        ["text", part] => text(alloc, part),
-        ["name", part] => name(alloc, part),
-        _ => match length_of(parts) {
-            Some(length) => format!(in alloc; "{}", length.units()),
-            None => String::from_str(alloc, "none"),
-        },
+    match part(parts, 0) {
+        "list" => list(alloc, part(parts, 1)),
+        "text" => text(alloc, part(parts, 1)),
+        "name" => name(alloc, part(parts, 1)),
+        _ => units(alloc, length_of(parts)),
     }
 }

@@ -1,8 +1,8 @@
 //! Bytes that are texts, the mark before a text, and the texts of the sample.
 
-use bk_text::{text_from, without_mark};
-use rows::{escaped, number, unescaped};
-use sample::book::sample_book;
+use bk_io::texts::{text_from, without_mark};
+use rows::{escaped, number, part, unescaped};
+use sample::book::{Texts, sample_book};
 use std::alloc::{AllocError, Global};
 
 /// The bytes of hexadecimal words.
@@ -36,23 +36,29 @@ fn start_of(alloc: Global, text: &str, count: i64) -> Result<String, AllocError>
     escaped(alloc, start.as_str())
 }
 
+fn text_of<'a>(texts: &'a Texts, which: &str) -> &'a str {
+    match which {
+        "metrics" => texts.metrics.as_str(),
+        "html" => texts.html.as_str(),
+        _ => texts.css.as_str(),
+    }
+}
+
 /// How a text of a sample book begins.
 fn sample(alloc: Global, chapters: i64, which: &str, count: i64) -> Result<String, AllocError> {
     let chapters = chapters.clamp(1, 2000) as u32;
-    let texts = Box::new(alloc, sample_book(alloc, chapters).map_err(|_| AllocError)?)?;
-    match which {
-        "metrics" => start_of(alloc, texts.metrics.as_str(), count),
-        "html" => start_of(alloc, texts.html.as_str(), count),
-        _ => start_of(alloc, texts.css.as_str(), count),
+    match sample_book(alloc, chapters) {
+        Ok(texts) => start_of(alloc, text_of(&texts, which), count),
+        Err(_) => Err(AllocError),
     }
 }
 
 /// The answer to a question about texts.
 pub(crate) fn answer(alloc: Global, parts: &[&str]) -> Result<String, AllocError> {
-    match parts {
-        ["utf8", words] => utf8(alloc, words),
-        ["unmarked", text] => unmarked(alloc, text),
-        ["sample", chapters, which, count] => sample(alloc, number(chapters), which, number(count)),
-        _ => String::from_str(alloc, "?"),
+    let first = part(parts, 1);
+    match part(parts, 0) {
+        "utf8" => utf8(alloc, first),
+        "unmarked" => unmarked(alloc, first),
+        _ => sample(alloc, number(first), part(parts, 2), number(part(parts, 3))),
     }
 }
