@@ -2,6 +2,7 @@
 
 use crate::unanswered::{Answered, Unanswered};
 use crate::{content, matching, pages, rules, runs, tokens, values, winners};
+use rows::{is_among, part};
 use std::alloc::{AllocError, Global};
 
 /// The parts of a question, their escapes undone.
@@ -13,23 +14,39 @@ fn parts_of(alloc: Global, question: &str) -> Result<Vec<String>, AllocError> {
     Ok(parts)
 }
 
+const TOKENS: &str = "tokens,plain,token_value,number,unit,token,places,is_word";
+
 /// Asks the crate that a call names.
 fn ask(alloc: Global, into: &mut String, parts: &[&str]) -> Answered {
-    match parts.first().copied().unwrap_or("") {
-        "tokens" | "plain" | "token_value" | "number" | "unit" | "token" | "places" | "is_word" => {
-            tokens::answer(alloc, into, parts)
-        }
-        "reader" | "words" | "find_word" => tokens::of_words(alloc, into, parts),
-        "rules" | "decls" | "media" | "long_media" | "rule_count" => {
-            rules::answer(alloc, into, parts)
-        }
-        "content" | "counters" | "strings" | "counter_count" => content::answer(alloc, into, parts),
-        "value" | "long_value" | "longhands" => values::answer(alloc, into, parts),
-        "page_selectors" | "page" | "box" | "page_rules" => pages::answer(alloc, into, parts),
-        "selector" | "match" | "table" | "pairs" => matching::answer(alloc, into, parts),
-        "choose" | "winners" | "winners_each" => winners::answer(alloc, into, parts),
-        "style_elements" | "default_sheet" | "run_sheets" => runs::answer(alloc, into, parts),
-        _ => Err(Unanswered::Unknown),
+    let call = part(parts, 0);
+    if is_among(call, TOKENS) {
+        tokens::answer(alloc, into, parts)
+    } else if is_among(call, "reader,words,find_word") {
+        tokens::of_words(alloc, into, parts)
+    } else if is_among(call, "rules,decls,media,long_media,rule_count") {
+        rules::answer(alloc, into, parts)
+    } else if is_among(call, "content,counters,strings,counter_count") {
+        content::answer(alloc, into, parts)
+    } else if is_among(call, "value,long_value,longhands") {
+        values::answer(alloc, into, parts)
+    } else if is_among(call, "page_selectors,page,box,page_rules") {
+        pages::answer(alloc, into, parts)
+    } else if is_among(call, "selector,match,table,pairs") {
+        matching::answer(alloc, into, parts)
+    } else {
+        ask_of_sheets(alloc, into, parts)
+    }
+}
+
+/// Asks the crates that bring sheets together.
+fn ask_of_sheets(alloc: Global, into: &mut String, parts: &[&str]) -> Answered {
+    let call = part(parts, 0);
+    if is_among(call, "choose,winners,winners_each") {
+        winners::answer(alloc, into, parts)
+    } else if is_among(call, "style_elements,default_sheet,run_sheets") {
+        runs::answer(alloc, into, parts)
+    } else {
+        Err(Unanswered::Unknown)
     }
 }
 

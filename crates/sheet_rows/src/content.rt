@@ -2,11 +2,12 @@
 
 use crate::printed::Printed;
 use crate::rules::repeated;
-use crate::unanswered::{Answered, Unanswered};
+use crate::unanswered::{Answered, Unanswered, done};
 use css_content::content::content;
 use css_content::counters::counter_list;
 use css_content::strings::string_sets;
 use css_words::reader::{Reader, Skipped};
+use rows::{part, parts_from};
 use std::alloc::Global;
 
 /// Refuses a reader that isn't at its end.
@@ -17,32 +18,33 @@ fn at_end(reader: &Reader<'_>) -> Answered {
     }
 }
 
+fn print_found<T: Printed + Drop>(into: &mut String, found: T) -> Answered {
+    done(found.print(into))
+}
+
 fn parts(alloc: Global, into: &mut String, text: &str) -> Answered {
     let mut reader = Reader::new(text, Skipped::CommentsAndSpaces);
-    let found = content(alloc, &mut reader)?;
-    found.print(into)?;
+    print_found(into, content(alloc, &mut reader)?)?;
     at_end(&reader)
 }
 
 /// Counters, of which one without a number has the number 1.
 fn counters(alloc: Global, into: &mut String, text: &str) -> Answered {
     let mut reader = Reader::new(text, Skipped::CommentsAndSpaces);
-    let found = counter_list(alloc, &mut reader, 1)?;
-    found.print(into)?;
+    print_found(into, counter_list(alloc, &mut reader, 1)?)?;
     at_end(&reader)
 }
 
 fn strings(alloc: Global, into: &mut String, text: &str) -> Answered {
     let mut reader = Reader::new(text, Skipped::CommentsAndSpaces);
-    let found = string_sets(alloc, &mut reader)?;
-    found.print(into)?;
+    print_found(into, string_sets(alloc, &mut reader)?)?;
     at_end(&reader)
 }
 
 fn count(alloc: Global, into: &mut String, text: &str) -> Answered {
     let mut reader = Reader::new(text, Skipped::CommentsAndSpaces);
-    let found = counter_list(alloc, &mut reader, 1)?;
-    write!(into, "{}", found.as_slice().len())?;
+    let count = counter_list(alloc, &mut reader, 1)?.as_slice().len();
+    write!(into, "{count}")?;
     at_end(&reader)
 }
 
@@ -54,11 +56,11 @@ fn counter_count(alloc: Global, into: &mut String, pieces: &[&str]) -> Answered 
 
 /// What is asked of lists.
 pub(crate) fn answer(alloc: Global, into: &mut String, asked: &[&str]) -> Answered {
-    match asked {
-        ["content", text] => parts(alloc, into, text),
-        ["counters", text] => counters(alloc, into, text),
-        ["strings", text] => strings(alloc, into, text),
-        ["counter_count", pieces @ ..] => counter_count(alloc, into, pieces),
-        _ => Err(Unanswered::Unknown),
+    let text = part(asked, 1);
+    match part(asked, 0) {
+        "content" => parts(alloc, into, text),
+        "counters" => counters(alloc, into, text),
+        "strings" => strings(alloc, into, text),
+        _ => counter_count(alloc, into, parts_from(asked, 1)),
     }
 }

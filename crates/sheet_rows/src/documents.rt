@@ -15,20 +15,32 @@ fn grow(alloc: Global, dom: &mut Dom, row: &str) -> Answered {
     if node.0 >= dom.len() || dom.name(node).is_none() {
         return Err(Unanswered::Unknown);
     }
-    match kind {
-        "e" => Ok(dom.add_element(alloc, node, text).map(|_| ())?),
-        "t" => Ok(dom.add_text(alloc, node, text).map(|_| ())?),
-        name => Ok(dom.add_attr(alloc, node, name, text).map(|_| ())?),
+    let added = match kind {
+        "e" => dom.add_element(alloc, node, text).is_ok(),
+        "t" => dom.add_text(alloc, node, text).is_ok(),
+        name => dom.add_attr(alloc, node, name, text).is_ok(),
+    };
+    if added {
+        Ok(())
+    } else {
+        Err(Unanswered::Unknown)
     }
+}
+
+fn grow_all(alloc: Global, dom: &mut Dom, rows: &str) -> Answered {
+    for row in rows.split(',') {
+        grow(alloc, dom, row)?;
+    }
+    Ok(())
 }
 
 /// The document of rows that commas separate.
 fn grown(alloc: Global, rows: &str) -> Result<Dom, Unanswered> {
     let mut dom = Dom::new(alloc)?;
-    for row in rows.split(',') {
-        grow(alloc, &mut dom, row)?;
+    match grow_all(alloc, &mut dom, rows) {
+        Ok(()) => Ok(dom),
+        Err(e) => Err(e),
     }
-    Ok(dom)
 }
 
 /// A document by its rows, where the text begins with a digit, or of HTML.

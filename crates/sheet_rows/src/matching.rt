@@ -1,12 +1,13 @@
 //! Selectors, and the nodes that they match.
 
 use crate::documents::document;
-use crate::printed::Printed;
-use crate::unanswered::{Answered, Unanswered};
+use crate::printed::{Printed, Written, print_all};
+use crate::unanswered::{Answered, Unanswered, done};
 use bk_num::ids::NodeId;
 use bk_num::values::Pseudo;
 use dom::Dom;
 use match_table::all::{MatchTable, match_all};
+use rows::part;
 use selectors::grammar::read_selectors;
 use selectors::matching::matches;
 use selectors::specificity::specificity;
@@ -15,11 +16,12 @@ use std::alloc::Global;
 
 /// The specificity, and the pseudo-element that the selector names.
 impl Printed for Selector {
-    fn print(&self, into: &mut String) -> Answered {
+    fn print(&self, into: &mut String) -> Written {
         let (ids, classes, types) = specificity(self);
+        write!(into, "{ids},{classes},{types}")?;
         match pseudo(self) {
-            Pseudo::Element => Ok(write!(into, "{ids},{classes},{types} ")?),
-            named => Ok(write!(into, "{ids},{classes},{types}::{named:?} ")?),
+            Pseudo::Element => into.push_str(" "),
+            named => write!(into, "::{named:?} "),
         }
     }
 }
@@ -33,20 +35,26 @@ fn list(alloc: Global, text: &str) -> Result<SelectorList, Unanswered> {
 
 fn specificities(alloc: Global, into: &mut String, text: &str) -> Answered {
     let list = list(alloc, text)?;
-    for selector in list.items.as_slice() {
-        selector.print(into)?;
+    done(print_all(into, list.items.as_slice()))
+}
+
+/// Whether one of the selectors matches a node.
+fn is_matched(dom: &Dom, node: NodeId, selectors: &[Selector]) -> bool {
+    if node.0 >= dom.len() {
+        return false;
     }
-    Ok(())
+    for selector in selectors {
+        if matches(dom, node, selector) {
+            return true;
+        }
+    }
+    false
 }
 
 /// The numbers of the nodes that one of the selectors matches.
-fn matched(into: &mut String, dom: &Dom, selectors: &[Selector]) -> Answered {
+fn matched(into: &mut String, dom: &Dom, selectors: &[Selector]) -> Written {
     for number in 0..dom.len() {
-        let node = NodeId(number);
-        if selectors
-            .iter()
-            .any(|selector| matches(dom, node, selector))
-        {
+        if is_matched(dom, NodeId(number), selectors) {
             write!(into, "{number} ")?;
         }
     }
@@ -68,14 +76,14 @@ fn places(into: &mut String, dom: &Dom, table: &MatchTable) -> Answered {
 }
 
 /// How many pairs of a selector and a node match.
-fn pairs(into: &mut String, dom: &Dom, table: &MatchTable) -> Answered {
+fn pairs(into: &mut String, dom: &Dom, table: &MatchTable) -> Written {
     let mut count = 0u64;
     for number in 0..dom.len() {
         if (number as usize) < table.len() {
             count = count.saturating_add(table.of(NodeId(number)).len() as u64);
         }
     }
-    Ok(write!(into, "{count}")?)
+    write!(into, "{count}")
 }
 
 /// All matches of some selectors in one call.
@@ -84,7 +92,10 @@ fn table_of(alloc: Global, dom: &Dom, list: &[Selector]) -> Result<MatchTable, U
     for selector in list {
         selectors.push(selector)?;
     }
-    Ok(match_all(alloc, dom, &selectors)?)
+    match match_all(alloc, dom, &selectors) {
+        Ok(table) => Ok(table),
+        Err(_) => Err(Unanswered::NoMemory),
+    }
 }
 
 fn of_table(
@@ -97,7 +108,7 @@ fn of_table(
     let table = table_of(alloc, dom, list)?;
     match call {
         "table" => places(into, dom, &table),
-        _ => pairs(into, dom, &table),
+        _ => done(pairs(into, dom, &table)),
     }
 }
 
@@ -111,7 +122,7 @@ fn of_document(
 ) -> Answered {
     let dom = document(alloc, html)?;
     match call {
-        "match" => matched(into, &dom, list),
+        "match" => done(matched(into, &dom, list)),
         _ => of_table(alloc, into, call, &dom, list),
     }
 }
@@ -123,9 +134,8 @@ fn of_texts(alloc: Global, into: &mut String, call: &str, text: &str, html: &str
 
 /// What is asked of selectors.
 pub(crate) fn answer(alloc: Global, into: &mut String, parts: &[&str]) -> Answered {
-    match parts {
-        ["selector", text] => specificities(alloc, into, text),
-        [call, text, html] => of_texts(alloc, into, call, text, html),
-        _ => Err(Unanswered::Unknown),
+    match part(parts, 0) {
+        "selector" => specificities(alloc, into, part(parts, 1)),
+        call => of_texts(alloc, into, call, part(parts, 1), part(parts, 2)),
     }
 }

@@ -1,15 +1,17 @@
 //! Page rules as css_page reads them.
 
-use crate::printed::Printed;
-use crate::unanswered::{Answered, Unanswered};
+use crate::printed::{Printed, Written, print_all, shown};
+use crate::unanswered::{Answered, Unanswered, done};
 use css_page::rules::{PageRule, read_page_rule};
 use css_page::selectors::{PageSelector, read_selectors};
 use css_page::sizes::PageSize;
 use css_page::values::{PageDecl, PageLong, Upright};
+use css_rules::pages::PageSlice;
 use css_rules::sheet::read_sheet;
+use rows::part;
 use std::alloc::Global;
 
-fn push_times(into: &mut String, word: &str, times: u32) -> Answered {
+fn push_times(into: &mut String, word: &str, times: u32) -> Written {
     for _ in 0..times {
         into.push_str(word)?;
     }
@@ -18,50 +20,48 @@ fn push_times(into: &mut String, word: &str, times: u32) -> Answered {
 
 /// A selector's name, `*` where it has none, and then its pseudo-classes by their names.
 impl Printed for PageSelector {
-    fn print(&self, into: &mut String) -> Answered {
-        match &self.name {
-            Some(name) => into.push_str(name.as_str())?,
-            None => into.push_str("*")?,
-        }
+    fn print(&self, into: &mut String) -> Written {
+        let name = match &self.name {
+            Some(name) => name.as_str(),
+            None => "*",
+        };
+        into.push_str(name)?;
         push_times(into, ":first", self.firsts)?;
         push_times(into, ":blank", self.blanks)?;
         push_times(into, ":left", self.lefts)?;
         push_times(into, ":right", self.rights)?;
-        Ok(into.push_str(" ")?)
+        into.push_str(" ")
     }
 }
 
 fn selectors(alloc: Global, into: &mut String, text: &str) -> Answered {
-    let Some(found) = read_selectors(alloc, text)? else {
-        return Err(Unanswered::NoReading);
-    };
-    for selector in found.as_slice() {
-        selector.print(into)?;
+    match read_selectors(alloc, text)? {
+        Some(found) => done(print_all(into, found.as_slice())),
+        None => Err(Unanswered::NoReading),
     }
-    Ok(())
 }
 
 impl Printed for PageSize {
-    fn print(&self, into: &mut String) -> Answered {
+    fn print(&self, into: &mut String) -> Written {
         self.width.print(into)?;
         self.height.print(into)
     }
 }
 
 impl Printed for Upright {
-    fn print(&self, into: &mut String) -> Answered {
-        Ok(write!(into, "{self:?} ")?)
+    fn print(&self, into: &mut String) -> Written {
+        shown(into, self)
     }
 }
 
-fn named(into: &mut String, name: &str, value: &impl Printed) -> Answered {
+fn named<T: Printed>(into: &mut String, name: &str, value: &T) -> Written {
     into.push_str(name)?;
     value.print(into)
 }
 
 /// A longhand's name and its value.
 impl Printed for PageLong {
-    fn print(&self, into: &mut String) -> Answered {
+    fn print(&self, into: &mut String) -> Written {
         match self {
             PageLong::Size(given) => named(into, "size ", given),
             PageLong::MarginTop(given) => named(into, "top ", given),
@@ -81,17 +81,14 @@ impl Printed for PageLong {
     }
 }
 
-fn print_all(into: &mut String, decls: &[PageDecl]) -> Answered {
-    for decl in decls {
-        for long in decl.longs.as_slice() {
-            long.print(into)?;
-        }
+impl Printed for PageDecl {
+    fn print(&self, into: &mut String) -> Written {
+        print_all(into, self.longs.as_slice())
     }
-    Ok(())
 }
 
 /// The declarations of a page and of its boxes.
-fn print_rule(into: &mut String, rule: &PageRule) -> Answered {
+fn print_rule(into: &mut String, rule: &PageRule) -> Written {
     print_all(into, rule.decls.as_slice())?;
     for (_, decls) in rule.boxes.as_slice() {
         print_all(into, decls.as_slice())?;
@@ -99,30 +96,9 @@ fn print_rule(into: &mut String, rule: &PageRule) -> Answered {
     Ok(())
 }
 
-/// What the page rules of a sheet give.
-fn print_sheet(alloc: Global, into: &mut String, text: &str) -> Answered {
-    let sheet = read_sheet(alloc, text)?;
-    for slice in &sheet.pages {
-        if let Some(rule) = read_page_rule(alloc, slice)? {
-            print_rule(into, &rule)?;
-        }
-    }
-    Ok(())
-}
-
-/// What the declarations of a rule give, whose text is cut off after them.
-fn declared(alloc: Global, into: &mut String, before: &str, text: &str) -> Answered {
-    let text = format!(in alloc; "{before}{text}")?;
-    print_sheet(alloc, into, text.as_str())?;
-    if into.is_empty() {
-        return Err(Unanswered::NoReading);
-    }
-    Ok(())
-}
-
 /// How many longhands each declaration of a page rule gives, `!` where it is important, and the number of each of its boxes and
 /// of that box's declarations.
-fn counts(into: &mut String, rule: &PageRule) -> Answered {
+fn counts(into: &mut String, rule: &PageRule) -> Written {
     for decl in rule.decls.as_slice() {
         let mark = if decl.important { "!" } else { "" };
         write!(into, "{}{mark} ", decl.longs.as_slice().len())?;
@@ -133,23 +109,47 @@ fn counts(into: &mut String, rule: &PageRule) -> Answered {
     Ok(())
 }
 
-fn rules(alloc: Global, into: &mut String, text: &str) -> Answered {
+/// What is asked of a page rule.
+fn of_rule(into: &mut String, call: &str, rule: &PageRule) -> Written {
+    match call {
+        "page_rules" => counts(into, rule),
+        _ => print_rule(into, rule),
+    }
+}
+
+fn of_slice(alloc: Global, into: &mut String, call: &str, slice: &PageSlice<'_>) -> Answered {
+    match read_page_rule(alloc, slice)? {
+        Some(rule) => done(of_rule(into, call, &rule)),
+        None => Ok(()),
+    }
+}
+
+/// What is asked of the page rules of a sheet.
+fn of_sheet(alloc: Global, into: &mut String, call: &str, text: &str) -> Answered {
     let sheet = read_sheet(alloc, text)?;
     for slice in &sheet.pages {
-        if let Some(rule) = read_page_rule(alloc, slice)? {
-            counts(into, &rule)?;
-        }
+        of_slice(alloc, into, call, slice)?;
+    }
+    Ok(())
+}
+
+/// What the declarations of a rule give, whose text is cut off after them.
+fn declared(alloc: Global, into: &mut String, before: &str, text: &str) -> Answered {
+    let text = format!(in alloc; "{before}{text}")?;
+    of_sheet(alloc, into, "", text.as_str())?;
+    if into.is_empty() {
+        return Err(Unanswered::NoReading);
     }
     Ok(())
 }
 
 /// What is asked of page rules.
 pub(crate) fn answer(alloc: Global, into: &mut String, parts: &[&str]) -> Answered {
-    match parts {
-        ["page_selectors", text] => selectors(alloc, into, text),
-        ["page", text] => declared(alloc, into, "@page{", text),
-        ["box", text] => declared(alloc, into, "@page{@top-left{", text),
-        ["page_rules", text] => rules(alloc, into, text),
-        _ => Err(Unanswered::Unknown),
+    let text = part(parts, 1);
+    match part(parts, 0) {
+        "page_selectors" => selectors(alloc, into, text),
+        "page" => declared(alloc, into, "@page{", text),
+        "box" => declared(alloc, into, "@page{@top-left{", text),
+        call => of_sheet(alloc, into, call, text),
     }
 }

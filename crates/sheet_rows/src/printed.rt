@@ -1,102 +1,112 @@
 //! Declared values as texts, each with a space after it.
 
-use crate::unanswered::Answered;
 use bk_num::decimal::Decimal;
 use bk_num::name::Name;
 use bk_num::values::{Align, BreakAt, Color, NumStyle, WhiteSpace};
+use rows::push_all;
+use std::alloc::AllocError;
+use std::fmt::Debug;
 use style::lists::{CounterList, Families};
 use style::long::{Given, Long};
 use style::values::{BorderStyle, Display, FontSize, GivenHeight, Measure, Weight};
 
-pub(crate) fn yes_or_no(into: &mut String, is_so: bool) -> Answered {
-    Ok(into.push_str(if is_so { "yes " } else { "no " })?)
+/// Whether a text was written.
+pub(crate) type Written = Result<(), AllocError>;
+
+pub(crate) fn yes_or_no(into: &mut String, is_so: bool) -> Written {
+    into.push_str(if is_so { "yes " } else { "no " })
 }
 
 /// A decimal: its digits, and after `/` how many of them are places.
-pub(crate) fn decimal(into: &mut String, number: Decimal, unit: &str) -> Answered {
-    let (units, places) = (number.units(), number.places());
-    if places == 0 {
-        return Ok(write!(into, "{units}{unit} ")?);
+pub(crate) fn decimal(into: &mut String, number: Decimal, unit: &str) -> Written {
+    let units = number.units();
+    match number.places() {
+        0 => write!(into, "{units}{unit} "),
+        places => write!(into, "{units}/{places}{unit} "),
     }
-    Ok(write!(into, "{units}/{places}{unit} ")?)
 }
 
 /// A value that is printed, with a space after it.
 pub(crate) trait Printed {
-    fn print(&self, into: &mut String) -> Answered;
+    fn print(&self, into: &mut String) -> Written;
+}
+
+/// A value by its own name.
+pub(crate) fn shown<T: Debug>(into: &mut String, value: &T) -> Written {
+    write!(into, "{value:?} ")
 }
 
 impl<T: Printed> Printed for Given<T> {
-    fn print(&self, into: &mut String) -> Answered {
+    fn print(&self, into: &mut String) -> Written {
         match self {
             Given::Value(value) => value.print(into),
-            Given::Inherit => Ok(into.push_str("inherit ")?),
-            Given::Initial => Ok(into.push_str("initial ")?),
+            Given::Inherit => into.push_str("inherit "),
+            Given::Initial => into.push_str("initial "),
         }
     }
 }
 
 impl<T: Printed> Printed for Option<T> {
-    fn print(&self, into: &mut String) -> Answered {
+    fn print(&self, into: &mut String) -> Written {
         match self {
             Some(value) => value.print(into),
-            None => Ok(into.push_str("none ")?),
+            None => into.push_str("none "),
         }
     }
 }
 
 impl Printed for bool {
-    fn print(&self, into: &mut String) -> Answered {
+    fn print(&self, into: &mut String) -> Written {
         yes_or_no(into, *self)
     }
 }
 
 impl Printed for u32 {
-    fn print(&self, into: &mut String) -> Answered {
-        Ok(write!(into, "{self} ")?)
+    fn print(&self, into: &mut String) -> Written {
+        shown(into, self)
     }
 }
 
 impl Printed for Name {
-    fn print(&self, into: &mut String) -> Answered {
-        Ok(write!(into, "\"{}\" ", self.as_str())?)
+    fn print(&self, into: &mut String) -> Written {
+        push_all(into, &["\"", self.as_str(), "\" "])
     }
 }
 
 /// A length in units of 1/64 px, or what it is relative to.
 impl Printed for Measure {
-    fn print(&self, into: &mut String) -> Answered {
+    fn print(&self, into: &mut String) -> Written {
         match self {
-            Measure::Px(length) => Ok(write!(into, "{} ", length.units())?),
+            Measure::Px(length) => shown(into, &length.units()),
             Measure::Em(number) => decimal(into, *number, "em"),
             Measure::Rem(number) => decimal(into, *number, "rem"),
             Measure::Ex(number) => decimal(into, *number, "ex"),
             Measure::Percent(number) => decimal(into, *number, "%"),
-            Measure::Auto => Ok(into.push_str("auto ")?),
+            Measure::Auto => into.push_str("auto "),
         }
     }
 }
 
 impl Printed for FontSize {
-    fn print(&self, into: &mut String) -> Answered {
+    fn print(&self, into: &mut String) -> Written {
         match self {
             FontSize::Size(size) => size.print(into),
-            _ => Ok(write!(into, "{self:?} ")?),
+            _ => shown(into, self),
         }
     }
 }
 
 impl Printed for Weight {
-    fn print(&self, into: &mut String) -> Answered {
+    fn print(&self, into: &mut String) -> Written {
         match self {
-            Weight::Number(number) => Ok(write!(into, "{number} ")?),
-            _ => Ok(write!(into, "{self:?} ")?),
+            Weight::Number(number) => shown(into, number),
+            _ => shown(into, self),
         }
     }
 }
 
 impl Printed for GivenHeight {
-    fn print(&self, into: &mut String) -> Answered {
+    fn print(&self, into: &mut String) -> Written {
         match self {
             GivenHeight::Number(number) => decimal(into, *number, " times"),
             GivenHeight::Size(size) => size.print(into),
@@ -105,58 +115,63 @@ impl Printed for GivenHeight {
 }
 
 impl Printed for Color {
-    fn print(&self, into: &mut String) -> Answered {
-        Ok(write!(into, "{},{},{} ", self.red, self.green, self.blue)?)
+    fn print(&self, into: &mut String) -> Written {
+        write!(into, "{},{},{} ", self.red, self.green, self.blue)
     }
 }
 
 impl Printed for BorderStyle {
-    fn print(&self, into: &mut String) -> Answered {
-        Ok(write!(into, "{self:?} ")?)
+    fn print(&self, into: &mut String) -> Written {
+        shown(into, self)
     }
 }
 
 impl Printed for Display {
-    fn print(&self, into: &mut String) -> Answered {
-        Ok(write!(into, "{self:?} ")?)
+    fn print(&self, into: &mut String) -> Written {
+        shown(into, self)
     }
 }
 
 impl Printed for Align {
-    fn print(&self, into: &mut String) -> Answered {
-        Ok(write!(into, "{self:?} ")?)
+    fn print(&self, into: &mut String) -> Written {
+        shown(into, self)
     }
 }
 
 impl Printed for WhiteSpace {
-    fn print(&self, into: &mut String) -> Answered {
-        Ok(write!(into, "{self:?} ")?)
+    fn print(&self, into: &mut String) -> Written {
+        shown(into, self)
     }
 }
 
 impl Printed for NumStyle {
-    fn print(&self, into: &mut String) -> Answered {
-        Ok(write!(into, "{self:?} ")?)
+    fn print(&self, into: &mut String) -> Written {
+        shown(into, self)
     }
 }
 
 impl Printed for BreakAt {
-    fn print(&self, into: &mut String) -> Answered {
-        Ok(write!(into, "{self:?} ")?)
+    fn print(&self, into: &mut String) -> Written {
+        shown(into, self)
     }
 }
 
+/// Values one after the other.
+pub(crate) fn print_all<T: Printed>(into: &mut String, values: &[T]) -> Written {
+    for value in values {
+        value.print(into)?;
+    }
+    Ok(())
+}
+
 impl Printed for Families {
-    fn print(&self, into: &mut String) -> Answered {
-        for name in self.as_slice() {
-            name.print(into)?;
-        }
-        Ok(())
+    fn print(&self, into: &mut String) -> Written {
+        print_all(into, self.as_slice())
     }
 }
 
 impl Printed for CounterList {
-    fn print(&self, into: &mut String) -> Answered {
+    fn print(&self, into: &mut String) -> Written {
         for (name, number) in self.as_slice() {
             write!(into, "{}={number} ", name.as_str())?;
         }
@@ -165,7 +180,7 @@ impl Printed for CounterList {
 }
 
 impl Printed for Long {
-    fn print(&self, into: &mut String) -> Answered {
+    fn print(&self, into: &mut String) -> Written {
         match self {
             Long::Display(given) => given.print(into),
             Long::MarginTop(given)

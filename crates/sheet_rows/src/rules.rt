@@ -1,43 +1,43 @@
 //! Rules, declarations and media lists of css_rules.
 
 use crate::printed;
-use crate::unanswered::{Answered, Unanswered};
+use crate::unanswered::{Answered, Unanswered, done};
 use css_rules::decls::{DeclSlice, read_decls};
 use css_rules::media::media_read;
 use css_rules::pages::PageSlice;
 use css_rules::sheet::{Rule, Sheet, SheetErr, read_sheet};
+use rows::{part, parts_from, push_all};
 use std::alloc::{AllocError, Global};
 
 /// Each declaration as `name:value;`, with `!` where it is important.
 fn declarations(into: &mut String, decls: &[DeclSlice<'_>]) -> Result<(), AllocError> {
     for decl in decls {
-        let mark = if decl.important { "!" } else { "" };
-        write!(into, "{}:{}{mark};", decl.name, decl.value)?;
+        let mark = if decl.important { "!;" } else { ";" };
+        push_all(into, &[decl.name, ":", decl.value, mark])?;
     }
     Ok(())
 }
 
 /// A ruleset as `selectors{..}`.
 fn rule(into: &mut String, rule: &Rule<'_>) -> Result<(), AllocError> {
-    into.push_str(rule.selectors)?;
-    into.push_str("{")?;
+    push_all(into, &[rule.selectors, "{"])?;
     declarations(into, &rule.decls)?;
     into.push_str("}")
 }
 
 /// A page rule as `@selectors{..}`, with its boxes in `[ ]`.
 fn page(into: &mut String, page: &PageSlice<'_>) -> Result<(), AllocError> {
-    write!(into, "@{}{{", page.selectors)?;
+    push_all(into, &["@", page.selectors, "{"])?;
     declarations(into, &page.decls)?;
     for (name, decls) in &page.boxes {
-        write!(into, "[{name} ")?;
+        push_all(into, &["[", name, " "])?;
         declarations(into, decls)?;
         into.push_str("]")?;
     }
     into.push_str("}")
 }
 
-fn whole_sheet(into: &mut String, sheet: &Sheet<'_>) -> Answered {
+fn whole_sheet(into: &mut String, sheet: &Sheet<'_>) -> Result<(), AllocError> {
     for one in &sheet.rules {
         rule(into, one)?;
     }
@@ -50,8 +50,8 @@ fn whole_sheet(into: &mut String, sheet: &Sheet<'_>) -> Answered {
 /// The sheet of a text, or that it is refused.
 fn sheet(alloc: Global, into: &mut String, text: &str) -> Answered {
     match read_sheet(alloc, text) {
-        Ok(sheet) => whole_sheet(into, &sheet),
-        Err(SheetErr::Rules) => Ok(into.push_str("refused")?),
+        Ok(sheet) => done(whole_sheet(into, &sheet)),
+        Err(SheetErr::Rules) => done(into.push_str("refused")),
         Err(SheetErr::NoMemory) => Err(Unanswered::NoMemory),
     }
 }
@@ -59,15 +59,15 @@ fn sheet(alloc: Global, into: &mut String, text: &str) -> Answered {
 /// How many rulesets the sheet of a text has, or that it is refused.
 fn rule_count(alloc: Global, into: &mut String, text: &str) -> Answered {
     match read_sheet(alloc, text) {
-        Ok(sheet) => Ok(write!(into, "{}", sheet.rules.len())?),
-        Err(SheetErr::Rules) => Ok(into.push_str("refused")?),
+        Ok(sheet) => done(printed::shown(into, &sheet.rules.len())),
+        Err(SheetErr::Rules) => done(into.push_str("refused")),
         Err(SheetErr::NoMemory) => Err(Unanswered::NoMemory),
     }
 }
 
 fn style_attribute(alloc: Global, into: &mut String, text: &str) -> Answered {
     let decls = read_decls(alloc, text)?;
-    Ok(declarations(into, &decls)?)
+    done(declarations(into, &decls))
 }
 
 fn push_times(text: &mut String, piece: &str, times: i64) -> Result<(), AllocError> {
@@ -92,19 +92,18 @@ pub(crate) fn repeated(alloc: Global, pieces: &[&str]) -> Result<String, AllocEr
 fn of_long(alloc: Global, into: &mut String, call: &str, pieces: &[&str]) -> Answered {
     let text = repeated(alloc, pieces)?;
     match call {
-        "long_media" => printed::yes_or_no(into, media_read(text.as_str())),
-        "rule_count" => rule_count(alloc, into, text.as_str()),
-        _ => Err(Unanswered::Unknown),
+        "long_media" => done(printed::yes_or_no(into, media_read(text.as_str()))),
+        _ => rule_count(alloc, into, text.as_str()),
     }
 }
 
 /// What is asked of rules.
 pub(crate) fn answer(alloc: Global, into: &mut String, parts: &[&str]) -> Answered {
-    match parts {
-        ["rules", text] => sheet(alloc, into, text),
-        ["decls", text] => style_attribute(alloc, into, text),
-        ["media", text] => printed::yes_or_no(into, media_read(text)),
-        [call, pieces @ ..] => of_long(alloc, into, call, pieces),
-        _ => Err(Unanswered::Unknown),
+    let text = part(parts, 1);
+    match part(parts, 0) {
+        "rules" => sheet(alloc, into, text),
+        "decls" => style_attribute(alloc, into, text),
+        "media" => done(printed::yes_or_no(into, media_read(text))),
+        call => of_long(alloc, into, call, parts_from(parts, 1)),
     }
 }

@@ -19,6 +19,14 @@ pub(crate) enum Unanswered {
 /// Whether an answer was written.
 pub(crate) type Answered = Result<(), Unanswered>;
 
+/// What was answered, where an answer was written whole.
+pub(crate) fn done(written: Result<(), AllocError>) -> Answered {
+    match written {
+        Ok(()) => Ok(()),
+        Err(_) => Err(Unanswered::NoMemory),
+    }
+}
+
 impl From<AllocError> for Unanswered {
     fn from(_e: AllocError) -> Unanswered {
         Unanswered::NoMemory

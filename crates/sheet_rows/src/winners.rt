@@ -1,8 +1,8 @@
 //! Which declarations win, by the cascade.
 
 use crate::documents::document;
-use crate::printed::Printed;
-use crate::unanswered::{Answered, Unanswered};
+use crate::printed::{Printed, Written, print_all};
+use crate::unanswered::{Answered, Unanswered, done};
 use bk_num::ids::NodeId;
 use bk_num::values::Pseudo;
 use cascade::choice::{Applied, choose};
@@ -15,31 +15,47 @@ use css_rules::decls::{DeclSlice, read_decls};
 use css_rules::sheet::read_sheet;
 use css_values::decls::read_decl;
 use dom::Dom;
-use std::alloc::Global;
+use rows::{part, parts_from};
+use std::alloc::{AllocError, Global};
 use style::long::Long;
 
 fn whole(text: &str) -> u32 {
     text.parse::<u32>().unwrap_or(0)
 }
 
-/// The weight of a style attribute, or of a rule: its origin, specificity and place.
-fn weight(alloc: Global, text: &str) -> Result<Weight, Unanswered> {
-    let words: Vec<&str> = text.split(' ').collect(alloc)?;
-    match words.as_slice() {
-        ["style"] => Ok(Weight::of_style()),
-        [origin, ids, classes, types, rule] => Ok(Weight {
-            important: false,
-            author: *origin == "author",
-            styled: false,
-            ids: whole(ids),
-            classes: whole(classes),
-            types: whole(types),
-            rule: whole(rule) as u64,
-            decl: 0,
-            place: 0,
-        }),
-        _ => Err(Unanswered::Unknown),
+/// The weight of a rule, by whether it is the author's and the numbers of its specificity and its place.
+fn weight_of(author: bool, numbers: &[u32]) -> Weight {
+    Weight {
+        important: false,
+        author,
+        styled: false,
+        ids: nth(numbers, 1),
+        classes: nth(numbers, 2),
+        types: nth(numbers, 3),
+        rule: u64::from(nth(numbers, 4)),
+        decl: 0,
+        place: 0,
     }
+}
+
+fn nth(numbers: &[u32], place: usize) -> u32 {
+    if place < numbers.len() {
+        numbers[place]
+    } else {
+        0
+    }
+}
+
+/// The weight of a style attribute, or of a rule: its origin, specificity and place.
+fn weight(alloc: Global, text: &str) -> Result<Weight, AllocError> {
+    if text == "style" {
+        return Ok(Weight::of_style());
+    }
+    let mut numbers = Vec::new(alloc);
+    for word in text.split(' ') {
+        numbers.push(whole(word))?;
+    }
+    Ok(weight_of(text.starts_with("author"), &numbers))
 }
 
 /// Puts a declaration at the end, where it has a reading.
@@ -53,12 +69,20 @@ fn push_read(alloc: Global, into: &mut Vec<ReadDecl>, slice: &DeclSlice<'_>) -> 
     Ok(())
 }
 
-fn declarations(alloc: Global, text: &str) -> Result<Vec<ReadDecl>, Unanswered> {
-    let mut decls = Vec::new(alloc);
-    for slice in &read_decls(alloc, text)? {
-        push_read(alloc, &mut decls, slice)?;
+fn push_all_read(alloc: Global, into: &mut Vec<ReadDecl>, slices: &[DeclSlice<'_>]) -> Answered {
+    for slice in slices {
+        push_read(alloc, into, slice)?;
     }
-    Ok(decls)
+    Ok(())
+}
+
+fn declarations(alloc: Global, text: &str) -> Result<Vec<ReadDecl>, Unanswered> {
+    let slices = read_decls(alloc, text)?;
+    let mut decls = Vec::new(alloc);
+    match push_all_read(alloc, &mut decls, &slices) {
+        Ok(()) => Ok(decls),
+        Err(e) => Err(e),
+    }
 }
 
 fn all_declarations(alloc: Global, texts: &[&str]) -> Result<Vec<Vec<ReadDecl>>, Unanswered> {
@@ -69,21 +93,27 @@ fn all_declarations(alloc: Global, texts: &[&str]) -> Result<Vec<Vec<ReadDecl>>,
     Ok(all)
 }
 
-fn print_all(into: &mut String, longs: &[Long]) -> Answered {
-    for long in longs {
-        long.print(into)?;
-    }
-    Ok(())
-}
-
-/// What wins among the declarations of rules of these weights.
-fn won(alloc: Global, into: &mut String, weights: &str, all: &[Vec<ReadDecl>]) -> Answered {
+/// The declarations of rules, with their weights.
+fn applied<'a>(
+    alloc: Global,
+    weights: &str,
+    all: &'a [Vec<ReadDecl>],
+) -> Result<Vec<Applied<'a>>, AllocError> {
     let mut rules = Vec::new(alloc);
     for (text, decls) in weights.split(", ").zip(all) {
         let weight = weight(alloc, text)?;
         rules.push(Applied { weight, decls })?;
     }
-    print_all(into, choose(alloc, &rules)?.as_slice())
+    Ok(rules)
+}
+
+/// What wins among the declarations of rules of these weights.
+fn won(alloc: Global, into: &mut String, weights: &str, all: &[Vec<ReadDecl>]) -> Answered {
+    let rules = applied(alloc, weights, all)?;
+    match choose(alloc, &rules) {
+        Ok(longs) => done(print_all(into, longs.as_slice())),
+        Err(_) => Err(Unanswered::NoMemory),
+    }
 }
 
 fn chosen(alloc: Global, into: &mut String, weights: &str, texts: &[&str]) -> Answered {
@@ -91,31 +121,34 @@ fn chosen(alloc: Global, into: &mut String, weights: &str, texts: &[&str]) -> An
     won(alloc, into, weights, &all)
 }
 
-fn sheet(alloc: Global, text: &str, origin: Origin) -> Result<ReadSheet, Unanswered> {
+fn push_sheet(alloc: Global, into: &mut Vec<ReadSheet>, text: &str, origin: Origin) -> Answered {
     let sheet = read_sheet(alloc, text)?;
-    Ok(read_rules(alloc, &sheet, origin)?)
+    match read_rules(alloc, &sheet, origin) {
+        Ok(read) => Ok(into.push(read)?),
+        Err(_) => Err(Unanswered::NoMemory),
+    }
 }
 
 /// The default sheet and the author's.
 fn both_sheets(alloc: Global, defaults: &str, author: &str) -> Result<Vec<ReadSheet>, Unanswered> {
     let mut sheets = Vec::new(alloc);
-    sheets.push(sheet(alloc, defaults, Origin::Default)?)?;
-    sheets.push(sheet(alloc, author, Origin::Author)?)?;
+    push_sheet(alloc, &mut sheets, defaults, Origin::Default)?;
+    push_sheet(alloc, &mut sheets, author, Origin::Author)?;
     Ok(sheets)
 }
 
 /// The colour among some winners, `-` where there is none.
-fn color_in(into: &mut String, longs: &[Long]) -> Answered {
+fn color_in(into: &mut String, longs: &[Long]) -> Written {
     for long in longs {
         if let Long::Color(given) = long {
             return given.print(into);
         }
     }
-    Ok(into.push_str("- ")?)
+    into.push_str("- ")
 }
 
 /// The colours of a node and of its pseudo-elements.
-fn colors_of(into: &mut String, node: &NodeWinners) -> Answered {
+fn colors_of(into: &mut String, node: &NodeWinners) -> Written {
     color_in(into, node.own.as_slice())?;
     color_in(into, node.before.as_slice())?;
     color_in(into, node.after.as_slice())?;
@@ -125,7 +158,17 @@ fn colors_of(into: &mut String, node: &NodeWinners) -> Answered {
 
 fn table_of(alloc: Global, html: &str, sheets: &[ReadSheet]) -> Result<WinnerTable, Unanswered> {
     let dom = document(alloc, html)?;
-    Ok(all_winners(alloc, &dom, sheets)?)
+    match all_winners(alloc, &dom, sheets) {
+        Ok(all) => Ok(all),
+        Err(_) => Err(Unanswered::NoMemory),
+    }
+}
+
+fn colors_in(into: &mut String, all: &WinnerTable, node: NodeId) -> Answered {
+    if node.0 as usize >= all.len() {
+        return Err(Unanswered::Unknown);
+    }
+    done(colors_of(into, all.of(node)))
 }
 
 /// The same, of the list of all nodes.
@@ -137,10 +180,7 @@ fn colors_in_all(
     node: NodeId,
 ) -> Answered {
     let all = table_of(alloc, html, sheets)?;
-    if node.0 as usize >= all.len() {
-        return Err(Unanswered::Unknown);
-    }
-    colors_of(into, all.of(node))
+    colors_in(into, &all, node)
 }
 
 const PSEUDOS: [Pseudo; 5] = [
@@ -151,6 +191,24 @@ const PSEUDOS: [Pseudo; 5] = [
     Pseudo::Marker,
 ];
 
+/// The colour of a node or of one of its pseudo-elements.
+fn color_of(
+    alloc: Global,
+    into: &mut String,
+    dom: &Dom,
+    sheets: &[ReadSheet],
+    node: NodeId,
+    pseudo: Pseudo,
+) -> Answered {
+    if node.0 >= dom.len() {
+        return Err(Unanswered::Unknown);
+    }
+    match winners(alloc, dom, sheets, node, pseudo) {
+        Ok(found) => done(color_in(into, found.longs.as_slice())),
+        Err(_) => Err(Unanswered::NoMemory),
+    }
+}
+
 /// The colours of a node and of its pseudo-elements, each asked for by itself.
 fn colors_of_each(
     alloc: Global,
@@ -159,12 +217,8 @@ fn colors_of_each(
     sheets: &[ReadSheet],
     node: NodeId,
 ) -> Answered {
-    if node.0 >= dom.len() {
-        return Err(Unanswered::Unknown);
-    }
     for pseudo in &PSEUDOS {
-        let found = winners(alloc, dom, sheets, node, *pseudo)?;
-        color_in(into, found.longs.as_slice())?;
+        color_of(alloc, into, dom, sheets, node, *pseudo)?;
     }
     Ok(())
 }
@@ -198,12 +252,12 @@ fn colors_by(
 
 /// What is asked of the cascade.
 pub(crate) fn answer(alloc: Global, into: &mut String, parts: &[&str]) -> Answered {
-    match parts {
-        ["choose", weights, texts @ ..] => chosen(alloc, into, weights, texts),
-        [call, number, html, defaults, author] => {
-            let node = NodeId(whole(number));
-            colors_by(alloc, into, call, node, [html, defaults, author])
+    let first = part(parts, 1);
+    match part(parts, 0) {
+        "choose" => chosen(alloc, into, first, parts_from(parts, 2)),
+        call => {
+            let texts = [part(parts, 2), part(parts, 3), part(parts, 4)];
+            colors_by(alloc, into, call, NodeId(whole(first)), texts)
         }
-        _ => Err(Unanswered::Unknown),
     }
 }
