@@ -1,33 +1,27 @@
 //! From a line to a line, and from a question to its answer.
 
+use crate::questions::{Question, asked};
 use crate::{counted, documents, values};
 use bk_num::name::NoMem;
 use rows::question_of;
 use std::alloc::{AllocError, Global};
 
-/// The answer to a question of no known form.
-pub(crate) fn unknown(alloc: Global) -> Result<String, NoMem> {
-    Ok(String::from_str(alloc, "?")?)
-}
-
-/// The answer to a question: of numbers alone, or of a document by its sheet.
-fn answer_to(alloc: Global, parts: &[&str]) -> Result<String, NoMem> {
-    match parts {
-        ["length" | "font-size" | "font-weight" | "line-height", ..] => values::answer(
-            alloc, parts,
-        ),
-        ["numerals", number, styles] => counted::numerals(alloc, rows::number(number), styles),
-        ["numeral texts", number, styles] => {
-            counted::numeral_texts(alloc, rows::number(number), styles)
+/// Puts the answer to a question at the end: of a number in some styles, of a document by its sheet, or of numbers alone.
+fn push_answer(alloc: Global, answer: &mut String, question: &Question<'_>) -> Result<(), NoMem> {
+    match question.call {
+        "numerals" => counted::push_numerals(alloc, answer, question),
+        "numeral texts" => counted::push_texts(alloc, answer, question),
+        "computed" | "names" | "counter" | "content" | "generated" | "targets" => {
+            documents::push_answer(alloc, answer, question)
         }
-        [_, html, sheet, ..] => documents::answer(alloc, html, sheet, parts),
-        _ => unknown(alloc),
+        _ => values::push_answer(answer, question),
     }
 }
 
-fn answer(alloc: Global, question: &str) -> Result<String, NoMem> {
-    let parts: Vec<&str> = question.split('|').collect(alloc)?;
-    answer_to(alloc, parts.as_slice())
+/// Puts a question and the library's answer to it at the end.
+fn push_row(alloc: Global, row: &mut String, question: &str) -> Result<(), NoMem> {
+    write!(row, "{question} => ")?;
+    push_answer(alloc, row, &asked(question))
 }
 
 /// A row with the library's answer in place of the one that is wanted; any other line as it is.
@@ -35,8 +29,9 @@ pub(crate) fn answered(alloc: Global, line: &str) -> Result<String, AllocError> 
     let Some(question) = question_of(line) else {
         return String::from_str(alloc, line);
     };
-    match answer(alloc, question) {
-        Ok(answer) => format!(in alloc; "{question} => {answer}"),
+    let mut row = String::new(alloc);
+    match push_row(alloc, &mut row, question) {
+        Ok(_) => Ok(row),
         Err(NoMem) => Err(AllocError),
     }
 }

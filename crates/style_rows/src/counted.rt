@@ -1,11 +1,13 @@
 //! Numerals, and values of counters.
 
-use crate::documents::{Styled, place_of};
+use crate::documents::Styled;
+use crate::questions::{Question, cut, node_of, pseudo_of};
 use bk_num::name::NoMem;
 use bk_num::values::NumStyle;
 use counters::at::CounterAt;
 use counters::number::number_all;
 use counters::numeral::{numeral, numeral_text};
+use rows::number;
 use std::alloc::Global;
 
 fn style_named(word: &str) -> NumStyle {
@@ -24,70 +26,90 @@ fn style_named(word: &str) -> NumStyle {
 }
 
 /// A number in some styles, each put after the bytes that are there, with `=` before it.
-pub(crate) fn numerals(alloc: Global, number: i64, styles: &str) -> Result<String, NoMem> {
-    let mut bytes = Vec::new(alloc);
+fn put_numerals(bytes: &mut Vec<u8>, number: i64, styles: &str) -> Result<(), NoMem> {
     for style in styles.split(' ') {
         bytes.push(b'=')?;
-        numeral(number, style_named(style), &mut bytes)?;
+        numeral(number, style_named(style), bytes)?;
     }
-    match String::from_utf8(bytes) {
-        Ok(text) => Ok(text),
+    Ok(())
+}
+
+/// A number in some styles, each put after what is there.
+pub(crate) fn push_numerals(
+    alloc: Global,
+    answer: &mut String,
+    question: &Question<'_>,
+) -> Result<(), NoMem> {
+    let mut bytes = Vec::new(alloc);
+    put_numerals(&mut bytes, number(question.first), question.second)?;
+    match str::from_utf8(bytes.as_slice()) {
+        Ok(text) => Ok(answer.push_str(text)?),
         Err(_) => Err(NoMem),
     }
 }
 
+fn push_text(alloc: Global, answer: &mut String, number: i64, style: &str) -> Result<(), NoMem> {
+    let text = numeral_text(alloc, number, style_named(style))?;
+    Ok(write!(answer, "={text}")?)
+}
+
 /// A number in some styles, each as a text, with `=` before it.
-pub(crate) fn numeral_texts(alloc: Global, number: i64, styles: &str) -> Result<String, NoMem> {
-    let mut answer = String::new(alloc);
-    for style in styles.split(' ') {
-        answer.push('=')?;
-        let text = numeral_text(alloc, number, style_named(style))?;
-        answer.push_str(text.as_str())?;
+pub(crate) fn push_texts(
+    alloc: Global,
+    answer: &mut String,
+    question: &Question<'_>,
+) -> Result<(), NoMem> {
+    let number = number(question.first);
+    for style in question.second.split(' ') {
+        push_text(alloc, answer, number, style)?;
     }
-    Ok(answer)
+    Ok(())
+}
+
+fn push_numbers(answer: &mut String, numbers: &[i64]) -> Result<(), NoMem> {
+    let mut between = "";
+    for number in numbers {
+        write!(answer, "{between}{number}")?;
+        between = " ";
+    }
+    Ok(())
 }
 
 /// The values of a counter at a place, the outermost first.
-fn push_values(
+fn push_at(
     alloc: Global,
     answer: &mut String,
     counters: &CounterAt,
     place: &str,
     name: &str,
 ) -> Result<(), NoMem> {
-    let (node, pseudo) = place_of(place);
-    let values = counters.values(alloc, node, pseudo, name)?;
-    let mut between = "";
-    for value in values.as_slice() {
-        write!(answer, "{between}{value}").map_err(|_| NoMem)?;
-        between = " ";
+    let (node, word) = cut(place, ' ');
+    let values = counters.values(alloc, node_of(node), pseudo_of(word), name)?;
+    push_numbers(answer, values.as_slice())
+}
+
+fn push_all(
+    alloc: Global,
+    answer: &mut String,
+    counters: &CounterAt,
+    question: &Question<'_>,
+) -> Result<(), NoMem> {
+    for (at, place) in question.fourth.split(", ").enumerate() {
+        if at > 0 {
+            answer.push_str(", ")?;
+        }
+        push_at(alloc, answer, counters, place, question.third)?;
     }
     Ok(())
 }
 
-fn values_at(
-    alloc: Global,
-    counters: &CounterAt,
-    name: &str,
-    places: &str,
-) -> Result<String, NoMem> {
-    let mut answer = String::new(alloc);
-    for (at, place) in places.split(", ").enumerate() {
-        if at > 0 {
-            answer.push_str(", ")?;
-        }
-        push_values(alloc, &mut answer, counters, place, name)?;
-    }
-    Ok(answer)
-}
-
 /// The values of a counter at some places.
-pub(crate) fn values(
+pub(crate) fn push_values(
     alloc: Global,
-    styled: Styled<'_>,
-    name: &str,
-    places: &str,
-) -> Result<String, NoMem> {
+    answer: &mut String,
+    styled: &Styled<'_>,
+    question: &Question<'_>,
+) -> Result<(), NoMem> {
     let counters = number_all(alloc, styled.dom, styled.styles)?;
-    values_at(alloc, &counters, name, places)
+    push_all(alloc, answer, &counters, question)
 }

@@ -7,6 +7,7 @@ mod answers;
 mod counted;
 mod documents;
 mod properties;
+mod questions;
 mod texts;
 mod values;
 

@@ -1,13 +1,13 @@
 //! Computed values of an element or a pseudo-element. Lengths are in units of 1/64 px.
 
-use crate::documents::{Styled, place_of};
+use crate::documents::Styled;
+use crate::questions::{Question, cut, node_of, pseudo_of};
 use bk_num::ids::NameId;
 use bk_num::length::Len;
 use bk_num::name::NoMem;
 use bk_num::px::Px;
 use bk_num::values::{BreakAt, NumStyle, WhiteSpace};
 use computed_values::fonts::used_line_height;
-use std::alloc::Global;
 use style::names::Names;
 use style::style::Style;
 use style::values::{Display, LineHeight};
@@ -86,12 +86,23 @@ fn word<'s>(style: &'s Style, names: &'s Names, property: &str) -> &'s str {
 }
 
 fn push_length(answer: &mut String, length: &Len) -> Result<(), NoMem> {
-    let pushed = match length {
-        Len::Px(length) => write!(answer, "{}", length.units()),
-        Len::Percent(part) => write!(answer, "{}%", part.units()),
-        Len::Auto => write!(answer, "auto"),
-    };
-    pushed.map_err(|_| NoMem)
+    match length {
+        Len::Px(length) => Ok(write!(answer, "{}", length.units())?),
+        Len::Percent(part) => Ok(write!(answer, "{}%", part.units())?),
+        Len::Auto => Ok(answer.push_str("auto")?),
+    }
+}
+
+fn push_other(
+    answer: &mut String,
+    style: &Style,
+    names: &Names,
+    property: &str,
+) -> Result<(), NoMem> {
+    match number(style, property) {
+        Some(number) => Ok(write!(answer, "{number}")?),
+        None => Ok(answer.push_str(word(style, names, property))?),
+    }
 }
 
 fn push_value(
@@ -100,59 +111,53 @@ fn push_value(
     names: &Names,
     property: &str,
 ) -> Result<(), NoMem> {
-    if let Some(length) = length(style, property) {
-        return push_length(answer, length);
+    match length(style, property) {
+        Some(length) => push_length(answer, length),
+        None => push_other(answer, style, names, property),
     }
-    let pushed = match number(style, property) {
-        Some(number) => write!(answer, "{number}"),
-        None => answer.push_str(word(style, names, property)),
-    };
-    pushed.map_err(|_| NoMem)
 }
 
 /// A property at a place: whether the element is shown, or a computed value, `-` where there is no style.
 fn push_asked(
     answer: &mut String,
-    styled: Styled<'_>,
+    styled: &Styled<'_>,
     at: &str,
     property: &str,
 ) -> Result<(), NoMem> {
-    let (node, pseudo) = place_of(at);
+    let (node, word) = cut(at, ' ');
+    let node = node_of(node);
     if property == "shown" {
         let shown = styled.styles.is_shown(node);
         return Ok(answer.push_str(if shown { "yes" } else { "no" })?);
     }
-    match styled.styles.of(node, pseudo) {
+    match styled.styles.of(node, pseudo_of(word)) {
         Some(style) => push_value(answer, style, styled.names, property),
         None => Ok(answer.push('-')?),
     }
 }
 
 /// The values of some properties at a place, with a space between them.
-pub(crate) fn computed(
-    alloc: Global,
-    styled: Styled<'_>,
-    at: &str,
-    properties: &str,
-) -> Result<String, NoMem> {
-    let mut answer = String::new(alloc);
-    for (number, property) in properties.split(' ').enumerate() {
+pub(crate) fn push_computed(
+    answer: &mut String,
+    styled: &Styled<'_>,
+    question: &Question<'_>,
+) -> Result<(), NoMem> {
+    for (number, property) in question.fourth.split(' ').enumerate() {
         if number > 0 {
             answer.push(' ')?;
         }
-        push_asked(&mut answer, styled, at, property)?;
+        push_asked(answer, styled, question.third, property)?;
     }
-    Ok(answer)
+    Ok(())
 }
 
 /// The names of pages in the order of their numbers, each in quotes and with a space after it, and how many they are.
-pub(crate) fn page_names(alloc: Global, names: &Names) -> Result<String, NoMem> {
-    let mut answer = String::new(alloc);
+pub(crate) fn push_names(answer: &mut String, names: &Names) -> Result<(), NoMem> {
     for number in 0..=names.len() {
         match names.text(NameId(number)) {
-            Some(name) => write!(answer, "\"{name}\" ").map_err(|_| NoMem)?,
-            None => write!(answer, "{number}").map_err(|_| NoMem)?,
+            Some(name) => write!(answer, "\"{name}\" ")?,
+            None => write!(answer, "{number}")?,
         }
     }
-    Ok(answer)
+    Ok(())
 }

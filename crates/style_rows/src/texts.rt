@@ -2,8 +2,8 @@
 
 ghost use Rattle.std.specs.Prelude.{◌<◌};
 
-use crate::answers::unknown;
-use crate::documents::{Styled, place_of};
+use crate::documents::Styled;
+use crate::questions::{Question, cut, node_of};
 use bk_num::ids::NodeId;
 use bk_num::items::Items;
 use bk_num::name::{Name, NoMem};
@@ -54,7 +54,7 @@ fn content_of(alloc: Global, list: &str) -> Result<Content, Unread> {
 
 fn entry(node: &str, page: &str) -> Entry {
     Entry {
-        node: NodeId(node.parse::<u32>().unwrap_or(0)),
+        node: node_of(node),
         number: number(page),
     }
 }
@@ -71,9 +71,10 @@ fn table_with(alloc: Global, first: Entry, second: Entry) -> Result<Table, NoMem
 
 /// The pages of two elements, `NODE PAGE NODE PAGE`, in the order of their numbers; of none where it has another form.
 fn table_of(alloc: Global, pages: &str) -> Result<Table, NoMem> {
-    let mut words = pages.split(' ');
-    let first = entry(words.next().unwrap_or(""), words.next().unwrap_or(""));
-    let second = entry(words.next().unwrap_or(""), words.next().unwrap_or(""));
+    let (first, rest) = cut(pages, ' ');
+    let (first_page, rest) = cut(rest, ' ');
+    let (second, second_page) = cut(rest, ' ');
+    let (first, second) = (entry(first, first_page), entry(second, second_page));
     if first.node.0 < second.node.0 {
         table_with(alloc, first, second)
     } else {
@@ -84,13 +85,13 @@ fn table_of(alloc: Global, pages: &str) -> Result<Table, NoMem> {
 /// What a list prints at an element.
 fn print_list(
     alloc: Global,
-    styled: Styled<'_>,
+    styled: &Styled<'_>,
     counters: &CounterAt,
     table: &Table,
     at: &str,
     list: &Content,
 ) -> Result<Name, NoMem> {
-    let (node, _) = place_of(at);
+    let node = node_of(at);
     if node.0 >= styled.dom.len() {
         return Err(NoMem);
     }
@@ -99,45 +100,57 @@ fn print_list(
     eval(alloc, dom, styles, node, pseudo, list, counters, table)
 }
 
-fn quoted(alloc: Global, text: &str) -> Result<String, NoMem> {
+fn push_quoted(alloc: Global, answer: &mut String, text: &str) -> Result<(), NoMem> {
     let text = escaped(alloc, text)?;
-    Ok(format!(in alloc; "\"{text}\"")?)
+    Ok(write!(answer, "\"{text}\"")?)
 }
 
-fn printed(
+fn push_printed(
     alloc: Global,
-    styled: Styled<'_>,
+    answer: &mut String,
+    styled: &Styled<'_>,
+    counters: &CounterAt,
     table: &Table,
     at: &str,
     list: &Content,
-) -> Result<String, NoMem> {
-    let counters = number_all(alloc, styled.dom, styled.styles)?;
-    let text = print_list(alloc, styled, &counters, table, at, list)?;
-    quoted(alloc, text.as_str())
+) -> Result<(), NoMem> {
+    let text = print_list(alloc, styled, counters, table, at, list)?;
+    push_quoted(alloc, answer, text.as_str())
 }
 
-fn with_pages(
+fn push_counted(
     alloc: Global,
-    styled: Styled<'_>,
-    pages: &str,
+    answer: &mut String,
+    styled: &Styled<'_>,
+    table: &Table,
     at: &str,
     list: &Content,
-) -> Result<String, NoMem> {
-    let table = table_of(alloc, pages)?;
-    printed(alloc, styled, &table, at, list)
+) -> Result<(), NoMem> {
+    let counters = number_all(alloc, styled.dom, styled.styles)?;
+    push_printed(alloc, answer, styled, &counters, table, at, list)
+}
+
+fn push_list(
+    alloc: Global,
+    answer: &mut String,
+    styled: &Styled<'_>,
+    question: &Question<'_>,
+    list: &Content,
+) -> Result<(), NoMem> {
+    let table = table_of(alloc, question.third)?;
+    push_counted(alloc, answer, styled, &table, question.fourth, list)
 }
 
 /// What a list of content prints at an element, where some elements stand on some pages.
-pub(crate) fn content(
+pub(crate) fn push_content(
     alloc: Global,
-    styled: Styled<'_>,
-    pages: &str,
-    at: &str,
-    list: &str,
-) -> Result<String, NoMem> {
-    match content_of(alloc, list) {
-        Ok(list) => with_pages(alloc, styled, pages, at, &list),
-        Err(Unread::NoReading) => unknown(alloc),
+    answer: &mut String,
+    styled: &Styled<'_>,
+    question: &Question<'_>,
+) -> Result<(), NoMem> {
+    match content_of(alloc, question.fifth) {
+        Ok(list) => push_list(alloc, answer, styled, question, &list),
+        Err(Unread::NoReading) => Ok(answer.push('?')?),
         Err(Unread::NoMemory) => Err(NoMem),
     }
 }
@@ -146,54 +159,84 @@ fn push_text(alloc: Global, answer: &mut String, before: &str, text: &Name) -> R
     if text.as_str().is_empty() {
         return Ok(());
     }
-    let text = quoted(alloc, text.as_str())?;
-    write!(answer, " {before} {text}").map_err(|_| NoMem)
+    write!(answer, " {before} ")?;
+    push_quoted(alloc, answer, text.as_str())
 }
 
-/// The texts of a node's pseudo-elements, and the strings that it assigns.
-fn push_texts(alloc: Global, answer: &mut String, texts: &NodeTexts) -> Result<(), NoMem> {
-    write!(answer, "{}", texts.node.0).map_err(|_| NoMem)?;
-    push_text(alloc, answer, "before", &texts.before)?;
-    push_text(alloc, answer, "after", &texts.after)?;
-    push_text(alloc, answer, "call", &texts.call)?;
-    push_text(alloc, answer, "marker", &texts.marker)?;
-    for string in texts.strings.as_slice() {
+fn push_strings(alloc: Global, answer: &mut String, strings: &[(Name, Name)]) -> Result<(), NoMem> {
+    for string in strings {
         push_text(alloc, answer, string.0.as_str(), &string.1)?;
     }
     Ok(())
 }
 
-fn all_texts(alloc: Global, texts: &[NodeTexts]) -> Result<String, NoMem> {
-    let mut answer = String::new(alloc);
+/// The texts of a node's pseudo-elements, and the strings that it assigns.
+fn push_texts(alloc: Global, answer: &mut String, texts: &NodeTexts) -> Result<(), NoMem> {
+    write!(answer, "{}", texts.node.0)?;
+    push_text(alloc, answer, "before", &texts.before)?;
+    push_text(alloc, answer, "after", &texts.after)?;
+    push_text(alloc, answer, "call", &texts.call)?;
+    push_text(alloc, answer, "marker", &texts.marker)?;
+    push_strings(alloc, answer, texts.strings.as_slice())
+}
+
+fn push_all(alloc: Global, answer: &mut String, texts: &[NodeTexts]) -> Result<(), NoMem> {
     let mut between = "";
     for node in texts {
         answer.push_str(between)?;
-        push_texts(alloc, &mut answer, node)?;
+        push_texts(alloc, answer, node)?;
         between = ", ";
     }
-    Ok(answer)
+    Ok(())
 }
 
-fn generated_by(alloc: Global, styled: Styled<'_>, table: &Table) -> Result<String, NoMem> {
+fn push_by_counters(
+    alloc: Global,
+    answer: &mut String,
+    styled: &Styled<'_>,
+    counters: &CounterAt,
+    table: &Table,
+) -> Result<(), NoMem> {
+    let texts = generate(alloc, styled.dom, styled.styles, counters, table)?;
+    push_all(alloc, answer, texts.as_slice())
+}
+
+fn push_by_table(
+    alloc: Global,
+    answer: &mut String,
+    styled: &Styled<'_>,
+    table: &Table,
+) -> Result<(), NoMem> {
     let counters = number_all(alloc, styled.dom, styled.styles)?;
-    let texts = generate(alloc, styled.dom, styled.styles, &counters, table)?;
-    all_texts(alloc, texts.as_slice())
+    push_by_counters(alloc, answer, styled, &counters, table)
 }
 
 /// What a document generates, where some elements stand on some pages.
-pub(crate) fn generated(alloc: Global, styled: Styled<'_>, pages: &str) -> Result<String, NoMem> {
-    let table = table_of(alloc, pages)?;
-    generated_by(alloc, styled, &table)
+pub(crate) fn push_generated(
+    alloc: Global,
+    answer: &mut String,
+    styled: &Styled<'_>,
+    question: &Question<'_>,
+) -> Result<(), NoMem> {
+    let table = table_of(alloc, question.third)?;
+    push_by_table(alloc, answer, styled, &table)
+}
+
+fn push_nodes(answer: &mut String, nodes: &[NodeId]) -> Result<(), NoMem> {
+    let mut between = "";
+    for node in nodes {
+        write!(answer, "{between}{}", node.0)?;
+        between = " ";
+    }
+    Ok(())
 }
 
 /// The elements that the page references of a document lead to.
-pub(crate) fn page_targets(alloc: Global, styled: Styled<'_>) -> Result<String, NoMem> {
+pub(crate) fn push_targets(
+    alloc: Global,
+    answer: &mut String,
+    styled: &Styled<'_>,
+) -> Result<(), NoMem> {
     let nodes = targets(alloc, styled.dom, styled.styles)?;
-    let mut answer = String::new(alloc);
-    let mut between = "";
-    for node in nodes.as_slice() {
-        write!(answer, "{between}{}", node.0).map_err(|_| NoMem)?;
-        between = " ";
-    }
-    Ok(answer)
+    push_nodes(answer, nodes.as_slice())
 }

@@ -1,6 +1,6 @@
 //! Computed values of declared ones, as `computed_values` gives them.
 
-use crate::answers::unknown;
+use crate::questions::{Question, cut};
 use bk_num::decimal::Decimal;
 use bk_num::length::Len;
 use bk_num::name::NoMem;
@@ -8,13 +8,12 @@ use bk_num::px::Px;
 use computed_values::fonts::{chosen_height, chosen_size, chosen_weight, used_line_height};
 use computed_values::lengths::{len_of, units_of};
 use rows::number;
-use std::alloc::Global;
 use style::long::Given;
 use style::values::{FontSize, GivenHeight, LineHeight, Measure, Weight};
 
 /// A number with at most one digit after its point.
 fn decimal(part: &str) -> Decimal {
-    let (whole, tenths) = part.split_once('.').unwrap_or((part, "0"));
+    let (whole, tenths) = cut(part, '.');
     let whole = number(whole).clamp(-1_000_000, 1_000_000);
     Decimal::new(10 * whole + number(tenths).clamp(0, 9), 1)
 }
@@ -87,22 +86,27 @@ fn line_height(font: &str, root: &str, child: &str, value: &str) -> i64 {
     i64::from(used_line_height(px(child), &height).units())
 }
 
-fn value(parts: &[&str]) -> Option<i64> {
-    match parts {
-        ["length", font, root, base, value] => Some(length(font, root, base, value)),
-        ["length", font, root, value] => kept_length(font, root, value),
-        ["font-size", parent, root, value] => Some(font_size(parent, root, value)),
-        ["font-weight", parent, value] => Some(font_weight(parent, value)),
-        ["line-height", font, root, child, value] => Some(line_height(font, root, child, value)),
+fn value(question: &Question<'_>) -> Option<i64> {
+    let (first, second, third) = (question.first, question.second, question.third);
+    match question.call {
+        "length" if question.fourth.is_empty() => kept_length(first, second, third),
+        "length" => Some(length(first, second, third, question.fourth)),
+        "font-size" => Some(font_size(first, second, third)),
+        "font-weight" => Some(font_weight(first, second)),
+        "line-height" => Some(line_height(first, second, third, question.fourth)),
         _ => None,
     }
 }
 
-/// The answer to a question of one value; `auto` and a percentage, which have no units, are `-`.
-pub(crate) fn answer(alloc: Global, parts: &[&str]) -> Result<String, NoMem> {
-    match (value(parts), parts) {
-        (Some(units), _) => Ok(format!(in alloc; "{units}")?),
-        (None, ["length", _, _, _]) => Ok(String::from_str(alloc, "-")?),
-        (None, _) => unknown(alloc),
+/// The answer where there is no value: a length that is `auto` or a percentage has no units, and no other call is known.
+fn blank(call: &str) -> char {
+    if call == "length" { '-' } else { '?' }
+}
+
+/// Puts the answer to a question of one value at the end.
+pub(crate) fn push_answer(answer: &mut String, question: &Question<'_>) -> Result<(), NoMem> {
+    match value(question) {
+        Some(units) => Ok(write!(answer, "{units}")?),
+        None => Ok(answer.push(blank(question.call))?),
     }
 }
