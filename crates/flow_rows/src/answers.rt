@@ -2,7 +2,7 @@
 
 use crate::{breaks, documents, lines, pages, plain, trees};
 use bk_num::name::NoMem;
-use rows::question_of;
+use rows::{is_among, part, parts_from, question_of};
 use std::alloc::{AllocError, Global};
 
 /// The answer to a question of no known form.
@@ -12,36 +12,26 @@ pub(crate) fn unknown(alloc: Global) -> Result<String, NoMem> {
 
 /// The answer to a question of a text.
 fn of_text(alloc: Global, parts: &[&str]) -> Result<String, NoMem> {
-    match parts {
-        ["collapse", texts @ ..] => breaks::collapsed(alloc, texts),
-        ["breaks", text, half, first, second] => {
-            breaks::marked_text(alloc, text, half, first, second)
-        }
-        ["line", ..] | ["height", ..] | ["runs", ..] => lines::answer(alloc, parts),
+    match part(parts, 0) {
+        "collapse" => breaks::collapsed(alloc, parts_from(parts, 1)),
+        "breaks" => breaks::marked_text(alloc, parts),
+        "line" | "height" | "runs" => lines::answer(alloc, parts),
         _ => plain::answer(alloc, parts),
     }
 }
 
+const OF_DOCUMENTS: &str = "flow,events,around,chains,boxes,holds,span,content width,seam,level";
+
 fn answer_to(alloc: Global, parts: &[&str]) -> Result<String, NoMem> {
-    match parts {
-        ["steps", steps] => trees::states(alloc, steps),
-        ["page box", ..] => pages::page_box(alloc, parts),
-        [
-            "flow"
-            | "events"
-            | "around"
-            | "chains"
-            | "boxes"
-            | "holds"
-            | "span"
-            | "content width"
-            | "seam"
-            | "level",
-            html,
-            sheet,
-            ..
-        ] => documents::answer(alloc, html, sheet, parts),
-        _ => of_text(alloc, parts),
+    let call = part(parts, 0);
+    if call == "steps" {
+        trees::states(alloc, part(parts, 1))
+    } else if call == "page box" {
+        pages::page_box(alloc, parts)
+    } else if is_among(call, OF_DOCUMENTS) {
+        documents::answer(alloc, part(parts, 1), part(parts, 2), parts)
+    } else {
+        of_text(alloc, parts)
     }
 }
 

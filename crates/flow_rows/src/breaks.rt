@@ -10,7 +10,7 @@ use bk_num::values::{Color, WhiteSpace};
 use boxes::leaf::Span;
 use inline_text::places::opportunities;
 use inline_text::space::{TextPart, collapse};
-use rows::{escaped, unescaped};
+use rows::{escaped, part, unescaped};
 use std::alloc::Global;
 
 fn white_space(word: &str) -> WhiteSpace {
@@ -123,14 +123,8 @@ fn broken(
 }
 
 /// The ordinary places of a text in two spans, and after ` / ` its emergency places, each with `|` there.
-pub(crate) fn marked_text(
-    alloc: Global,
-    text: &str,
-    half: &str,
-    first: &str,
-    second: &str,
-) -> Result<String, NoMem> {
-    let text = unescaped(alloc, text)?;
-    let half = half.parse::<usize>().unwrap_or(0);
-    broken(alloc, text.as_str(), half, first, second)
+pub(crate) fn marked_text(alloc: Global, parts: &[&str]) -> Result<String, NoMem> {
+    let text = unescaped(alloc, part(parts, 1))?;
+    let half = part(parts, 2).parse::<usize>().unwrap_or(0);
+    broken(alloc, text.as_str(), half, part(parts, 3), part(parts, 4))
 }

@@ -4,7 +4,6 @@
 ghost use Rattle.std.specs.Prelude.{IfOk};
 ghost use Rattle.box_gen.specs.Sources.{AreInRange};
 
-use crate::answers::unknown;
 use crate::flows::flow_text;
 use crate::{seam_rows, trees};
 use bk_num::items::Items;
@@ -17,13 +16,13 @@ use computed::laws::styles_keep_ranges;
 use counters::at::CounterAt;
 use counters::number::number_all;
 use css_rules::sheet::read_sheet;
-use default_sheet::sheet::default_sheet;
 use dom::Dom;
 use gen_text::generate::generate;
 use gen_text::table::Table;
 use html_tree::read_html;
 use metrics::{Faces, read_metrics};
-use rows::unescaped;
+use rows::{part, parts_from, unescaped};
+use sheets::default_sheet::default_sheet;
 use std::alloc::Global;
 use style::names::Names;
 use style::styles::Styles;
@@ -109,12 +108,12 @@ fn flow_of(alloc: Global, dom: &Dom, styles: &Styles) -> Result<Flow, NoMem>
 
 /// The answer to a question of a flow.
 fn of_flow(alloc: Global, flow: &Flow, names: &Names, parts: &[&str]) -> Result<String, NoMem> {
-    match parts {
-        ["flow", _, _] => flow_text(alloc, flow),
-        ["seam", _, _, at] => seam_rows::seam_at(alloc, &flow.main, names, at),
-        ["level", _, _, at, seam, lines] => seam_rows::level_at(alloc, &flow.main, at, seam, lines),
-        [call, _, _, asked @ ..] => trees::answer(alloc, &flow.main, call, asked),
-        _ => unknown(alloc),
+    let at = part(parts, 3);
+    match part(parts, 0) {
+        "flow" => flow_text(alloc, flow),
+        "seam" => seam_rows::seam_at(alloc, &flow.main, names, at),
+        "level" => seam_rows::level_at(alloc, &flow.main, at, part(parts, 4), part(parts, 5)),
+        call => trees::answer(alloc, &flow.main, call, parts_from(parts, 3)),
     }
 }
 

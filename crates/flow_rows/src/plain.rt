@@ -12,7 +12,7 @@ use boxes::frames::side_of;
 use boxes::laws::make_line;
 use boxes::span::used_units;
 use margins::gap;
-use rows::number;
+use rows::{number, part};
 use std::alloc::Global;
 
 /// The numbers of a part.
@@ -93,17 +93,18 @@ fn printed(alloc: Global, number: i64) -> Result<String, NoMem> {
 
 /// The answer to a question of a value or two.
 pub(crate) fn answer(alloc: Global, parts: &[&str]) -> Result<String, NoMem> {
-    match parts {
-        ["gap", margins] => printed(alloc, gap_of(alloc, margins)?),
-        ["used", part, base] => {
-            let base = number(base).clamp(0, 1_000_000);
-            printed(alloc, used_units(length(part), base))
-        }
-        ["side", index] => Ok(String::from_str(alloc, side_word(index))?),
-        ["empty before", index, demand] => pages::empty_before(alloc, index, demand),
-        ["line parts", from, to, hyphen] => line_parts(alloc, from, to, *hyphen == "hyphen"),
-        ["list", part] => list_back(alloc, part),
-        ["text", part] => text_back(alloc, part),
+    let (first, second) = (part(parts, 1), part(parts, 2));
+    match part(parts, 0) {
+        "gap" => printed(alloc, gap_of(alloc, first)?),
+        "used" => printed(
+            alloc,
+            used_units(length(first), number(second).clamp(0, 1_000_000)),
+        ),
+        "side" => Ok(String::from_str(alloc, side_word(first))?),
+        "empty before" => pages::empty_before(alloc, first, second),
+        "line parts" => line_parts(alloc, first, second, part(parts, 3) == "hyphen"),
+        "list" => list_back(alloc, first),
+        "text" => text_back(alloc, first),
         _ => unknown(alloc),
     }
 }

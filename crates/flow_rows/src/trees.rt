@@ -10,7 +10,7 @@ use bk_num::name::NoMem;
 use boxes::place::{Event, Position};
 use boxes::span::{content_width_in, span_of_box};
 use boxes::tree::BoxTree;
-use rows::number;
+use rows::{number, part, push_all};
 use std::alloc::Global;
 use tree_fixtures::leaf::leaf_of;
 use tree_fixtures::shape::{PLAIN, props_of};
@@ -210,15 +210,15 @@ pub(crate) fn answer(
     call: &str,
     asked: &[&str],
 ) -> Result<String, NoMem> {
-    match (call, asked) {
-        ("events", []) => events(alloc, tree),
-        ("around", []) => around(alloc, tree),
-        ("chains", []) => chains(alloc, tree),
-        ("boxes", []) => all_boxes(alloc, tree),
-        ("holds", [places]) => holds(alloc, tree, places),
-        ("span", [width, at]) => span_text(alloc, tree, number(width), at),
-        ("content width", [width, at]) => width_text(alloc, tree, number(width), at),
-        _ => unknown(alloc),
+    let (first, at) = (part(asked, 0), part(asked, 1));
+    match call {
+        "events" => events(alloc, tree),
+        "around" => around(alloc, tree),
+        "chains" => chains(alloc, tree),
+        "boxes" => all_boxes(alloc, tree),
+        "holds" => holds(alloc, tree, first),
+        "span" => span_text(alloc, tree, number(first), at),
+        _ => width_text(alloc, tree, number(first), at),
     }
 }
 
@@ -267,15 +267,26 @@ fn state(tree: &BoxTree) -> &'static str {
     }
 }
 
+fn push_states(
+    alloc: Global,
+    tree: &mut BoxTree,
+    answer: &mut String,
+    steps: &str,
+) -> Result<(), NoMem> {
+    answer.push_str(state(tree))?;
+    for step in steps.split(' ') {
+        take(alloc, tree, step)?;
+        push_all(answer, &[" ", state(tree)])?;
+    }
+    Ok(())
+}
+
 /// What a tree takes before each of its steps and after the last.
 pub(crate) fn states(alloc: Global, steps: &str) -> Result<String, NoMem> {
     let mut tree = BoxTree::new(alloc);
     let mut answer = String::new(alloc);
-    answer.push_str(state(&tree))?;
-    for step in steps.split(' ') {
-        take(alloc, &mut tree, step)?;
-        answer.push(' ')?;
-        answer.push_str(state(&tree))?;
+    match push_states(alloc, &mut tree, &mut answer, steps) {
+        Ok(()) => Ok(answer),
+        Err(NoMem) => Err(NoMem),
     }
-    Ok(answer)
 }
