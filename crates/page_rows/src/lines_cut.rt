@@ -4,6 +4,7 @@ ghost use Rattle.std.specs.Prelude.{◌≡◌, All, None};
 ghost use Rattle.cuts.specs.Areas.{IsArea};
 ghost use Rattle.cuts.specs.Rows.{AreForcedBetween, IsSmall};
 
+use crate::notation::unknown;
 use bk_num::ids::NameId;
 use bk_num::name::NoMem;
 use cuts::cut::cut_noted;
@@ -121,6 +122,6 @@ pub(crate) fn answer(alloc: Global, parts: &[&str]) -> Result<String, NoMem> {
             let count = lines_read(&areas(notes), &room(kept, height, carried));
             Ok(format!(in alloc; "{count}")?)
         }
-        _ => Ok(String::from_str(alloc, "?")?),
+        _ => unknown(alloc),
     }
 }

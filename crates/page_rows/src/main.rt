@@ -16,31 +16,65 @@ mod references;
 mod running_strings;
 mod tree_pages;
 
+use crate::notation::unknown;
 use bk_num::name::NoMem;
 use rows::question_of;
 use std::alloc::Global;
 use std::io::{Error, ErrorKind};
 
-/// The answer to a question, `?` where it has no known form.
+/// What a question is about.
+enum Topic {
+    NoteArea,
+    LinesCut,
+    TreePages,
+    PagePlaces,
+    References,
+    RunningStrings,
+    PageRules,
+    MarginTexts,
+    Painted,
+    Records,
+    Unknown,
+}
+
+/// What a call is about.
+fn topic_of(call: &str) -> Topic {
+    match call {
+        "area" | "carry" | "must" | "placed" => Topic::NoteArea,
+        "cut" | "read" => Topic::LinesCut,
+        "tops" | "pages" | "solids" | "cut_at" => Topic::TreePages,
+        "frame" | "side" | "place" | "numbers" => Topic::PagePlaces,
+        "shown" | "changed" | "difference" => Topic::References,
+        "strings" | "string_on" | "assigned" => Topic::RunningStrings,
+        "tops_of" | "page_box" | "box_text" | "box_font" | "box_place" => Topic::PageRules,
+        "margins" => Topic::MarginTexts,
+        "paint" => Topic::Painted,
+        "listing" | "long_listing" => Topic::Records,
+        _ => Topic::Unknown,
+    }
+}
+
+/// The answer to the parts of a question, `?` where it has no known form.
+fn answer_to(alloc: Global, parts: &[&str]) -> Result<String, NoMem> {
+    match topic_of(parts.first().unwrap_or(&"")) {
+        Topic::NoteArea => note_area::answer(alloc, parts),
+        Topic::LinesCut => lines_cut::answer(alloc, parts),
+        Topic::TreePages => tree_pages::answer(alloc, parts),
+        Topic::PagePlaces => page_places::answer(alloc, parts),
+        Topic::References => references::answer(alloc, parts),
+        Topic::RunningStrings => running_strings::answer(alloc, parts),
+        Topic::PageRules => page_rules::answer(alloc, parts),
+        Topic::MarginTexts => margin_texts::answer(alloc, parts),
+        Topic::Painted => painted::answer(alloc, parts),
+        Topic::Records => records::answer(alloc, parts),
+        Topic::Unknown => unknown(alloc),
+    }
+}
+
+/// The answer to a question.
 fn answer(alloc: Global, question: &str) -> Result<String, NoMem> {
     let parts: Vec<&str> = question.split('|').collect(alloc)?;
-    let parts = parts.as_slice();
-    let call = *parts.first().unwrap_or(&"");
-    match call {
-        "area" | "carry" | "must" | "placed" => note_area::answer(alloc, parts),
-        "cut" | "read" => lines_cut::answer(alloc, parts),
-        "tops" | "pages" | "solids" | "cut_at" => tree_pages::answer(alloc, parts),
-        "frame" | "side" | "place" | "numbers" => page_places::answer(alloc, parts),
-        "shown" | "changed" | "difference" => references::answer(alloc, parts),
-        "strings" | "string_on" | "assigned" => running_strings::answer(alloc, parts),
-        "tops_of" | "page_box" | "box_text" | "box_font" | "box_place" => page_rules::answer(
-            alloc, parts,
-        ),
-        "margins" => margin_texts::answer(alloc, parts),
-        "paint" => painted::answer(alloc, parts),
-        "listing" | "long_listing" => records::answer(alloc, parts),
-        _ => Ok(String::from_str(alloc, "?")?),
-    }
+    answer_to(alloc, parts.as_slice())
 }
 
 /// A row with the answer of the libraries in place of the one that is wanted; any other line as it is.

@@ -7,19 +7,19 @@ ghost use Rattle.page_seq.specs.Places.{NeverFall};
 ghost use Rattle.strings.specs.Assigned.{AreStrings};
 ghost use Rattle.margin_box.specs.Conditions.{CanShowMargins};
 
-use crate::notation::{pages_of, tree_in_short};
+use crate::notation::{faces_of, pages_of, tree_in_short, unknown};
 use crate::page_rules::rules_of;
 use crate::running_strings::{PARAGRAPHS, assign, flow_of, page_at};
 use bk_num::items::Items;
 use bk_num::name::NoMem;
-use boxes::flow::Flow;
+use boxes::flow::{Assign, Flow};
 use boxes::page::PageList;
 use css_page::rules::PageRule;
 use margin_box::items::{MarginText, Margins, margin_items};
-use metrics::{Faces, read_metrics};
+use metrics::Faces;
 use page_ctx::resolve::{PageStyles, resolve};
 use rows::{escaped, unescaped};
-use std::alloc::Global;
+use std::alloc::{AllocError, Global};
 use strings::assigned::Strings;
 use style::lists::Families;
 use style::names::Names;
@@ -34,13 +34,19 @@ face test normal 700 16 8 8 16
 /// The events of the lines of each page.
 const PAGES: &str = "2 5 8/11 14 17/20";
 
-fn flow(alloc: Global) -> Result<Flow, NoMem>
-    ensures { IfOk result (λ flow. NeverFall (map (λ a. a.at) flow.strings)) }
+fn strings(alloc: Global) -> Result<Vec<Assign>, NoMem>
+    ensures { IfOk result (λ strings. NeverFall (map (λ a. a.at) strings.items)) }
 {
     let first = assign(alloc, "s", "A", 1)?;
     let second = assign(alloc, "s", "B", 13)?;
     let third = assign(alloc, "s", "C", 16)?;
-    let strings = Vec::from_array(alloc, [first, second, third])?;
+    Ok(Vec::from_array(alloc, [first, second, third])?)
+}
+
+fn flow(alloc: Global) -> Result<Flow, NoMem>
+    ensures { IfOk result (λ flow. NeverFall (map (λ a. a.at) flow.strings)) }
+{
+    let strings = strings(alloc)?;
     let main = tree_in_short(alloc, PARAGRAPHS)?;
     Ok(flow_of(main, alloc, Items::of(strings)))
 }
@@ -69,7 +75,7 @@ fn book_of(alloc: Global) -> Result<Book, NoMem>
     ensures pages { IfOk result (λ book. length book.list.pages ≡ 3) }
 {
     Ok(Book {
-        faces: read_metrics(alloc, METRICS).map_err(|_| NoMem)?,
+        faces: faces_of(alloc, METRICS)?,
         flow: flow(alloc)?,
         list: list(alloc)?,
     })
@@ -92,24 +98,25 @@ fn margins_of<'a>(book: &'a Book, strings: &'a Strings, styles: &'a PageStyles<'
     }
 }
 
+/// Adds an item: its text, its left and its baseline.
+fn push_item(line: &mut String, item: &MarginText) -> Result<(), AllocError> {
+    if !line.is_empty() {
+        line.push_str(", ")?;
+    }
+    let (text, style) = (item.text.as_str(), item.style);
+    write!(line, "'{text}' {} {}", style.x, style.y)
+}
+
 /// Items, each with its text, its left and its baseline; `nothing` where there is none.
-fn items_of(alloc: Global, items: &[MarginText]) -> Result<String, NoMem> {
+fn items_of(alloc: Global, items: &[MarginText]) -> Result<String, AllocError> {
     let mut line = String::new(alloc);
     for item in items {
-        let (text, style) = (item.text.as_str(), item.style);
-        if !line.is_empty() {
-            line.push_str(", ")?;
-        }
-        write!(line, "'{text}' {} {}", style.x, style.y).map_err(|_| NoMem)?;
+        push_item(&mut line, item)?;
     }
-    Ok(escaped(
-        alloc,
-        if line.is_empty() {
-            "nothing"
-        } else {
-            line.as_str()
-        },
-    )?)
+    if line.is_empty() {
+        return String::from_str(alloc, "nothing");
+    }
+    escaped(alloc, line.as_str())
 }
 
 /// What the margin boxes of a page print.
@@ -118,7 +125,7 @@ fn printed_on(alloc: Global, margins: &Margins<'_>, page: usize) -> Result<Strin
     requires page { page < length margins.now.list.now.pages }
 {
     let items = margin_items(alloc, margins, page)?;
-    items_of(alloc, items.as_slice())
+    Ok(items_of(alloc, items.as_slice())?)
 }
 
 /// What the margin boxes of a page of a book print in these styles.
@@ -164,7 +171,7 @@ fn printed(alloc: Global, sheet: &str, page: usize) -> Result<String, NoMem> {
     if page < 3 {
         printed_by(alloc, rules.as_slice(), page)
     } else {
-        Ok(String::from_str(alloc, "?")?)
+        unknown(alloc)
     }
 }
 
@@ -172,6 +179,6 @@ fn printed(alloc: Global, sheet: &str, page: usize) -> Result<String, NoMem> {
 pub(crate) fn answer(alloc: Global, parts: &[&str]) -> Result<String, NoMem> {
     match parts {
         ["margins", sheet, page] => printed(alloc, sheet, page_at(page)),
-        _ => Ok(String::from_str(alloc, "?")?),
+        _ => unknown(alloc),
     }
 }

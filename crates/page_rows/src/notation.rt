@@ -1,5 +1,7 @@
 //! Places, pages and trees of questions in short.
 
+ghost use Rattle.std.specs.Prelude.{◌<◌, ◌≤◌, length, IfOk};
+
 use bk_num::ids::NameId;
 use bk_num::items::Items;
 use bk_num::name::NoMem;
@@ -8,10 +10,33 @@ use boxes::frames::{Frame, PageKind};
 use boxes::page::{Page, PageList, Placed, SolidKind};
 use boxes::place::Position;
 use boxes::tree::BoxTree;
+use metrics::{Faces, read_metrics};
 use rows::number;
 use std::alloc::Global;
 use tree_fixtures::shape::{PLAIN, Shape, Space};
 use tree_fixtures::tree::{Step, tree_of};
+
+/// The answer to a question of no known form.
+pub(crate) fn unknown(alloc: Global) -> Result<String, NoMem> {
+    match String::from_str(alloc, "?") {
+        Ok(answer) => Ok(answer),
+        Err(_) => Err(NoMem),
+    }
+}
+
+/// The faces of a metrics text, at least one.
+pub(crate) fn faces_of(alloc: Global, metrics: &str) -> Result<Faces, NoMem>
+    requires { length metrics.now ≤ 33554432 }
+    ensures { IfOk result (λ faces. 0 < length faces) }
+{
+    let Ok(faces) = read_metrics(alloc, metrics) else {
+        return Err(NoMem);
+    };
+    if faces.len() == 0 {
+        return Err(NoMem);
+    }
+    Ok(faces)
+}
 
 /// A number from 0 on.
 pub(crate) fn count(word: &str) -> u32 {
@@ -152,21 +177,32 @@ fn shape_of(words: &str) -> Shape {
     shape
 }
 
+fn add_step<'a>(steps: &mut Vec<Step<'a>>, step: Step<'a>) -> Result<(), NoMem> {
+    match steps.push(step) {
+        Ok(_) => Ok(()),
+        Err(_) => Err(NoMem),
+    }
+}
+
+/// Adds a plain box with a text.
+fn add_boxed<'a>(steps: &mut Vec<Step<'a>>, text: &'a str) -> Result<(), NoMem> {
+    add_step(steps, Step::Open(PLAIN))?;
+    add_step(steps, Step::Text(text))?;
+    add_step(steps, Step::Close)
+}
+
 /// Adds a step: `(` and the properties of a box that opens, `)` where one closes, else a text; `=` and a text is a
 /// plain box with it.
 fn push_step<'a>(steps: &mut Vec<Step<'a>>, step: &'a str) -> Result<(), NoMem> {
     if let Some(words) = step.strip_prefix('(') {
-        steps.push(Step::Open(shape_of(words)))?;
-    } else if step == ")" {
-        steps.push(Step::Close)?;
+        add_step(steps, Step::Open(shape_of(words)))
     } else if let Some(text) = step.strip_prefix('=') {
-        steps.push(Step::Open(PLAIN))?;
-        steps.push(Step::Text(text))?;
-        steps.push(Step::Close)?;
+        add_boxed(steps, text)
+    } else if step == ")" {
+        add_step(steps, Step::Close)
     } else {
-        steps.push(Step::Text(step))?;
+        add_step(steps, Step::Text(step))
     }
-    Ok(())
 }
 
 /// The steps of a tree, with `;` between them.

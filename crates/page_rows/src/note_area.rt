@@ -3,6 +3,7 @@
 ghost use Rattle.std.specs.Prelude.{◌≤◌, All};
 ghost use Rattle.notes.specs.Notes.{IsSmallNote};
 
+use crate::notation::unknown;
 use bk_num::name::NoMem;
 use notes::area::{area, carry_count, must, placed};
 use notes::solid::NoteSolid;
@@ -85,6 +86,6 @@ fn number_of(parts: &[&str]) -> Option<i64> {
 pub(crate) fn answer(alloc: Global, parts: &[&str]) -> Result<String, NoMem> {
     match number_of(parts) {
         Some(number) => Ok(format!(in alloc; "{number}")?),
-        None => Ok(String::from_str(alloc, "?")?),
+        None => unknown(alloc),
     }
 }

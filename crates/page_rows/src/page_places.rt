@@ -4,7 +4,7 @@ ghost use Rattle.std.specs.Prelude.{◌≤◌, IfOk};
 ghost use Rattle.boxes.specs.Frames.{IsGoodFrame};
 ghost use Rattle.page_seq.specs.Frames.{HasGoodCells, IsGoodTable};
 
-use crate::notation::{count, pages_of, position, tree_in_short, units};
+use crate::notation::{count, pages_of, position, tree_in_short, units, unknown};
 use bk_num::ids::NameId;
 use bk_num::items::Items;
 use bk_num::name::NoMem;
@@ -159,6 +159,6 @@ pub(crate) fn answer(alloc: Global, parts: &[&str]) -> Result<String, NoMem> {
         ["side", index] => side_at(alloc, index_of(index)),
         ["place", tree, pages, at] => place(alloc, tree, pages, at),
         ["numbers", tree, pages, value, at] => numbers_of(alloc, tree, pages, value, at),
-        _ => Ok(String::from_str(alloc, "?")?),
+        _ => unknown(alloc),
     }
 }

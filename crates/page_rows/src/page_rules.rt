@@ -2,7 +2,7 @@
 
 ghost use Rattle.page_seq.specs.Frames.{IsGoodTable};
 
-use crate::notation::count;
+use crate::notation::{count, unknown};
 use bk_num::ids::NameId;
 use bk_num::items::Items;
 use bk_num::name::NoMem;
@@ -13,14 +13,16 @@ use css_rules::sheet::read_sheet;
 use page_ctx::margins::MarginStyle;
 use page_ctx::resolve::{PageStyles, resolve};
 use rows::unescaped;
-use std::alloc::Global;
+use std::alloc::{AllocError, Global};
 use style::content::Part;
 use style::lists::Families;
 use style::names::Names;
 
 /// The page rules of a sheet.
 pub(crate) fn rules_of(alloc: Global, text: &str) -> Result<Items<PageRule>, NoMem> {
-    let sheet = read_sheet(alloc, text).map_err(|_| NoMem)?;
+    let Ok(sheet) = read_sheet(alloc, text) else {
+        return Err(NoMem);
+    };
     let mut rules = Items::new(alloc);
     for slice in &sheet.pages {
         if let Some(rule) = read_page_rule(alloc, slice)? {
@@ -41,15 +43,12 @@ fn names(alloc: Global) -> Result<Names, NoMem> {
 /// A page's index, and by a letter its name and kind: `n` and `m` names, `x` one past them on a page of notes, `b` a
 /// blank page, `-` a page without a name.
 fn page_of(page: &str) -> (u32, NameId, PageKind) {
-    let index = page
-        .get(0..1)
-        .and_then(|digit| digit.parse::<u32>().ok())
-        .unwrap_or(0);
-    match page.get(1..2) {
-        Some("n") => (index, NameId(1), PageKind::Flow),
-        Some("m") => (index, NameId(2), PageKind::Flow),
-        Some("x") => (index, NameId(3), PageKind::Notes),
-        Some("b") => (index, NameId(0), PageKind::Blank),
+    let index = count(page.get(0..1).unwrap_or("0"));
+    match page.get(1..2).unwrap_or("-") {
+        "n" => (index, NameId(1), PageKind::Flow),
+        "m" => (index, NameId(2), PageKind::Flow),
+        "x" => (index, NameId(3), PageKind::Notes),
+        "b" => (index, NameId(0), PageKind::Blank),
         _ => (index, NameId(0), PageKind::Flow),
     }
 }
@@ -61,20 +60,20 @@ fn cell_at(styles: &PageStyles<'_>, page: &str) -> PageCell
     styles.cell(index, name, kind)
 }
 
+/// Adds the top of a frame, in px where it has no fraction.
+fn push_top(line: &mut String, top: i64) -> Result<(), AllocError> {
+    let space = if line.is_empty() { "" } else { " " };
+    let fraction = if top % 64 == 0 { "" } else { "+" };
+    write!(line, "{space}{}{fraction}", top / 64)
+}
+
 /// The tops of the frames of pages, in px where they have no fraction.
 fn tops(alloc: Global, styles: &PageStyles<'_>, pages: &str) -> Result<String, NoMem>
     requires { IsGoodTable styles.now.table.rows }
 {
     let mut line = String::new(alloc);
     for page in pages.split(' ') {
-        if !line.is_empty() {
-            line.push_str(" ")?;
-        }
-        let top = cell_at(styles, page).frame.top;
-        write!(line, "{}", top / 64).map_err(|_| NoMem)?;
-        if top % 64 != 0 {
-            line.push_str("+")?;
-        }
+        push_top(&mut line, cell_at(styles, page).frame.top)?;
     }
     Ok(line)
 }
@@ -109,7 +108,10 @@ fn text_of<'s>(style: &MarginStyle<'s>) -> &'s str {
 /// The first family of a box and how many there are, its style and weight, its size and line height in units, and its
 /// colour.
 fn font_of(alloc: Global, style: &MarginStyle<'_>) -> Result<String, NoMem> {
-    let family = style.families.first().map_or("", |name| name.as_str());
+    let family = match style.families.first() {
+        Some(name) => name.as_str(),
+        None => "",
+    };
     let slant = if style.italic { "italic" } else { "normal" };
     let color = style.color;
     Ok(format!(in alloc;
@@ -136,7 +138,7 @@ fn of_box(alloc: Global, style: &MarginStyle<'_>, call: &str) -> Result<String, 
 /// What is asked of the box with a number on a page, `-` where there is none.
 fn at_box(alloc: Global, styles: &PageStyles<'_>, parts: &[&str]) -> Result<String, NoMem> {
     let [call, _, page, number] = parts else {
-        return Ok(String::from_str(alloc, "?")?);
+        return unknown(alloc);
     };
     let (index, name, kind) = page_of(page);
     match styles.boxes.of(index, name, kind, count(number)) {

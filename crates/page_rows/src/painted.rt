@@ -4,7 +4,7 @@ ghost use Rattle.std.specs.Prelude.{◌≡◌, ◌<◌, ◌∷◌, [], ◌++◌,
 ghost use Rattle.boxes.specs.Contents.{AreOffsets, IsGoodBox, IsGoodLeaf, IsGoodSpan, IsNotAuto, IsNotNegative};
 ghost use Rattle.paint.specs.Conditions.{CanBePainted, CanFlowBePainted, IsFaced};
 
-use crate::notation::units;
+use crate::notation::{faces_of, units, unknown};
 use bk_num::ids::NameId;
 use bk_num::items::{Items, Text};
 use bk_num::length::Len;
@@ -19,11 +19,11 @@ use boxes::page::{Page, Placed, PlacedNote, SolidKind};
 use boxes::place::Position;
 use boxes::props::BoxProps;
 use boxes::tree::BoxTree;
-use metrics::{Faces, read_metrics};
+use metrics::Faces;
 use paint::item::{Area, ItemRef};
 use paint::place::place;
 use rows::{escaped, number, unescaped};
-use std::alloc::Global;
+use std::alloc::{AllocError, Global};
 use std::marker::Brand;
 use std::sync::ledger::{Blank, Ledger};
 use tree_fixtures::leaf::span_to;
@@ -171,7 +171,26 @@ fn fill(tree: &mut BoxTree, leaf: Leaf) -> Result<(), NoMem>
     Ok(())
 }
 
-/// A leaf in box 2, in box 1, in the root. Box 1 has a border and paddings, and each has a background or none.
+/// Opens the root, box 1 and box 2. Box 1 has a border and paddings, and each has a background or none.
+fn open_all(tree: &mut BoxTree, sides: &[i64]) -> Result<(), NoMem>
+    ensures { OnOk result (tree.new.leaves ≡ tree.old.leaves) }
+{
+    let (border, upright, left) = (small(sides, 0), small(sides, 1), small(sides, 2));
+    open(tree, props_of(0, 0, 0, small(sides, 3)))?;
+    open(tree, props_of(border, upright, left, small(sides, 4)))?;
+    open(tree, props_of(0, 0, 0, small(sides, 5)))
+}
+
+/// Closes box 2, box 1 and the root.
+fn close_all(tree: &mut BoxTree) -> Result<(), NoMem>
+    ensures { OnOk result (tree.new.leaves ≡ tree.old.leaves) }
+{
+    close(tree)?;
+    close(tree)?;
+    close(tree)
+}
+
+/// A leaf in box 2, in box 1, in the root.
 fn tree_of(alloc: Global, faces: &Faces, sides: &[i64], leaf: Leaf) -> Result<BoxTree, NoMem>
     requires good { IsGoodLeaf leaf }
     requires faced { IsFaced faces.now leaf }
@@ -180,14 +199,11 @@ fn tree_of(alloc: Global, faces: &Faces, sides: &[i64], leaf: Leaf) -> Result<Bo
 {
     let _faces = faces;
     let mut tree = BoxTree::new(alloc);
-    let (border, upright, left) = (small(sides, 0), small(sides, 1), small(sides, 2));
-    open(&mut tree, props_of(0, 0, 0, small(sides, 3)))?;
-    open(&mut tree, props_of(border, upright, left, small(sides, 4)))?;
-    open(&mut tree, props_of(0, 0, 0, small(sides, 5)))?;
-    fill(&mut tree, leaf)?;
-    close(&mut tree)?;
-    close(&mut tree)?;
-    close(&mut tree)?;
+    let opened = open_all(&mut tree, sides);
+    let filled = fill(&mut tree, leaf);
+    opened?;
+    filled?;
+    close_all(&mut tree)?;
     if tree.depth() > MOST_OPEN {
         return Err(NoMem);
     }
@@ -331,28 +347,35 @@ fn flow_of(alloc: Global, faces: &Faces, asked: Asked<'_>) -> Result<Flow, NoMem
 }
 
 /// An area with the word of its item.
-fn push_area(line: &mut String, word: &str, area: &Area) -> Result<(), NoMem> {
+fn push_area(line: &mut String, word: &str, area: &Area) -> Result<(), AllocError> {
     let Area { x, y, w, h } = *area;
-    write!(line, "{word} {x} {y} {w} {h};").map_err(|_| NoMem)
+    write!(line, "{word} {x} {y} {w} {h};")
+}
+
+fn push_rect(line: &mut String, area: &Area, level: u8) -> Result<(), AllocError> {
+    let Area { x, y, w, h } = *area;
+    write!(line, "rect {x} {y} {w} {h} {level};")
 }
 
 /// An item in short: its kind, its place, its size or its text; of a rectangle its level.
-fn push_item(line: &mut String, item: &ItemRef<'_>) -> Result<(), NoMem> {
+fn push_item(line: &mut String, item: &ItemRef<'_>) -> Result<(), AllocError> {
     match item {
-        ItemRef::Rect { area, color } => {
-            let Area { x, y, w, h } = *area;
-            write!(line, "rect {x} {y} {w} {h} {};", color.red).map_err(|_| NoMem)
+        ItemRef::Rect { area, color } => push_rect(line, area, color.red),
+        ItemRef::Edge { opens, area } => {
+            push_area(line, if *opens { "edge open" } else { "edge close" }, area)
         }
-        ItemRef::Edge { opens: true, area } => push_area(line, "edge open", area),
-        ItemRef::Edge { opens: false, area } => push_area(line, "edge close", area),
         ItemRef::Line { area } => push_area(line, "line", area),
-        ItemRef::Text { style, text } => {
-            write!(line, "text {} {} {text};", style.x, style.y).map_err(|_| NoMem)
-        }
-        ItemRef::Hyphen { style } => {
-            write!(line, "hyphen {} {};", style.x, style.y).map_err(|_| NoMem)
-        }
+        ItemRef::Text { style, text } => write!(line, "text {} {} {text};", style.x, style.y),
+        ItemRef::Hyphen { style } => write!(line, "hyphen {} {};", style.x, style.y),
     }
+}
+
+/// Items in short.
+fn push_items(line: &mut String, items: &[ItemRef<'_>]) -> Result<(), AllocError> {
+    for item in items {
+        push_item(line, item)?;
+    }
+    Ok(())
 }
 
 /// The items of a page in short, or `refused`, with a counter of steps.
@@ -368,16 +391,12 @@ fn counted<L: Ledger>(
     requires counted { 0 < L.parts }
     requires flow { CanFlowBePainted faces.now flow.now }
 {
-    let mut out = String::new(alloc);
     let mut steps = Steps::<L>::zero(token);
-    match place(alloc, flow, faces, page, &mut steps) {
-        Ok(items) => {
-            for item in &items {
-                push_item(&mut out, item)?;
-            }
-        }
-        Err(NoMem) => out.push_str("refused")?,
-    }
+    let Ok(items) = place(alloc, flow, faces, page, &mut steps) else {
+        return Ok(String::from_str(alloc, "refused")?);
+    };
+    let mut out = String::new(alloc);
+    push_items(&mut out, items.as_slice())?;
     Ok(out)
 }
 
@@ -390,10 +409,7 @@ fn shown(alloc: Global, flow: &Flow, faces: &Faces, page: &Page) -> Result<Strin
 
 /// The items of a page of such a flow.
 fn painted(alloc: Global, asked: Asked<'_>, page: &Page) -> Result<String, NoMem> {
-    let faces = read_metrics(alloc, METRICS).map_err(|_| NoMem)?;
-    if faces.len() == 0 {
-        return Err(NoMem);
-    }
+    let faces = faces_of(alloc, METRICS)?;
     let flow = flow_of(alloc, &faces, asked)?;
     let items = shown(alloc, &flow, &faces, page)?;
     let items = if items.is_empty() {
@@ -430,6 +446,6 @@ pub(crate) fn answer(alloc: Global, parts: &[&str]) -> Result<String, NoMem> {
             };
             painted(alloc, asked, &page)
         }
-        _ => Ok(String::from_str(alloc, "?")?),
+        _ => unknown(alloc),
     }
 }

@@ -2,7 +2,7 @@
 
 ghost use Rattle.std.specs.Prelude.{◌≡◌};
 
-use crate::notation::count;
+use crate::notation::{count, faces_of, unknown};
 use bk_io::sink::{Failed, Sink};
 use bk_io::still_sink::StillSink;
 use bk_num::ids::FaceId;
@@ -13,7 +13,7 @@ use boxes::frames::PageKind;
 use listing::records::PageHead;
 use listing::write::{write_end, write_head, write_page};
 use margin_box::items::MarginText;
-use metrics::{Faces, read_metrics};
+use metrics::Faces;
 use paint::item::{Area, ItemRef, Style};
 use rows::escaped;
 use std::alloc::Global;
@@ -98,7 +98,7 @@ struct Written {
 
 /// Writes a listing of one page to a sink with room for so many bytes.
 fn write_to_memory(alloc: Global, room: usize, text: &str) -> Result<Written, NoMem> {
-    let faces = read_metrics(alloc, METRICS).map_err(|_| NoMem)?;
+    let faces = faces_of(alloc, METRICS)?;
     let name = Name::new(alloc, text)?;
     let mut sink = StillSink::new(alloc, room)?;
     let whole = write_one(&mut sink, &faces, name).is_ok();
@@ -122,13 +122,24 @@ fn listing(alloc: Global, room: &str, text: &str) -> Result<String, NoMem> {
     Ok(format!(in alloc; "{} {} '{shown}'", whole_word(written.whole), bytes.len())?)
 }
 
+/// How many letters `x` there are.
+fn letters_in(bytes: &[u8]) -> u32 {
+    let mut count: u32 = 0;
+    for byte in bytes {
+        if *byte == b'x' {
+            count = count.saturating_add(1);
+        }
+    }
+    count
+}
+
 /// The same where the text in the margin box has so many letters `x`: how many of them are written in all, and the last
 /// bytes.
 fn long_listing(alloc: Global, room: &str, letters: &str) -> Result<String, NoMem> {
     let text = "x".repeat(alloc, room_of(letters))?;
     let written = write_to_memory(alloc, room_of(room), text.as_str())?;
     let bytes = written.sink.bytes();
-    let count = bytes.iter().filter(|byte| **byte == b'x').count();
+    let count = letters_in(bytes);
     let from = bytes.len().saturating_sub(8);
     let end = from_utf8(bytes.get(from..).unwrap_or(&[])).unwrap_or("?");
     let shown = escaped(alloc, end)?;
@@ -144,6 +155,6 @@ pub(crate) fn answer(alloc: Global, parts: &[&str]) -> Result<String, NoMem> {
     match parts {
         ["listing", room, text] => listing(alloc, room, text),
         ["long_listing", room, letters] => long_listing(alloc, room, letters),
-        _ => Ok(String::from_str(alloc, "?")?),
+        _ => unknown(alloc),
     }
 }

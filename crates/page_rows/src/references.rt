@@ -6,7 +6,7 @@ ghost use Rattle.page_seq.specs.Numbers.{IsSmallReset};
 ghost use Rattle.page_seq.specs.Places.{NeverFall};
 ghost use Rattle.refs.specs.Tables.{NodesAscend};
 
-use crate::notation::{count, pages_of, position, tree_in_short};
+use crate::notation::{count, pages_of, position, tree_in_short, unknown};
 use bk_num::ids::NodeId;
 use bk_num::items::Items;
 use bk_num::name::NoMem;
@@ -41,19 +41,21 @@ const STARTS: [(u32, &str, &str); 10] = [
     (3, "-", "8"),
 ];
 
-fn notes(alloc: Global) -> Result<Items<Note>, NoMem> {
-    let mut notes = Items::new(alloc);
-    for call in &CALLS {
-        notes.push(Note {
-            call: position(call),
-            body: tree_in_short(alloc, "(;note;)")?,
-        })?;
-    }
-    Ok(notes)
+fn note(alloc: Global, call: &str) -> Result<Note, NoMem> {
+    Ok(Note {
+        call: position(call),
+        body: tree_in_short(alloc, "(;note;)")?,
+    })
 }
 
-fn starts(alloc: Global) -> Result<Items<Start>, NoMem> {
-    let mut starts = Items::new(alloc);
+fn add_notes(alloc: Global, notes: &mut Items<Note>) -> Result<(), NoMem> {
+    for call in &CALLS {
+        notes.push(note(alloc, call)?)?;
+    }
+    Ok(())
+}
+
+fn add_starts(starts: &mut Items<Start>) -> Result<(), NoMem> {
     for (node, note, at) in &STARTS {
         starts.push(Start {
             node: NodeId(*node),
@@ -61,7 +63,7 @@ fn starts(alloc: Global) -> Result<Items<Start>, NoMem> {
             at: position(at),
         })?;
     }
-    Ok(starts)
+    Ok(())
 }
 
 /// The second box sets the page number to 8.
@@ -82,26 +84,27 @@ fn flow(alloc: Global) -> Result<Flow, NoMem>
     ensures small { IfOk result (λ flow. All IsSmallReset flow.resets) }
 {
     let main = tree_in_short(alloc, TREE)?;
-    let notes = notes(alloc)?;
-    let starts = starts(alloc)?;
-    let resets = resets(alloc)?;
-    Ok(Flow {
+    let mut flow = Flow {
         main,
-        notes,
-        starts,
+        notes: Items::new(alloc),
+        starts: Items::new(alloc),
         strings: Items::new(alloc),
-        resets: Items::of(resets),
-    })
+        resets: Items::new(alloc),
+    };
+    add_notes(alloc, &mut flow.notes)?;
+    add_starts(&mut flow.starts)?;
+    flow.resets = Items::of(resets(alloc)?);
+    Ok(flow)
 }
 
 /// The nodes of these numbers, ascending.
 fn nodes(alloc: Global, numbers: &str) -> Result<Vec<NodeId>, NoMem>
     ensures { IfOk result (λ v. NodesAscend v.items) }
 {
-    let mut list: Vec<NodeId> = numbers
-        .split_whitespace()
-        .map(|number| NodeId(count(number)))
-        .collect(alloc)?;
+    let mut list = Vec::new(alloc);
+    for number in numbers.split_whitespace() {
+        list.push(NodeId(count(number)))?;
+    }
     list.sort_by_key(|node| node.0)?;
     Ok(list)
 }
@@ -127,13 +130,19 @@ fn table(alloc: Global, pages: &str, numbers: &str) -> Result<Table, NoMem> {
     table_on(alloc, &list, nodes.as_slice())
 }
 
-/// Each node with its number.
+/// Each node of a table with its number.
 fn printed(alloc: Global, table: &Table) -> Result<String, NoMem> {
     let mut line = String::from_str(alloc, "table")?;
     for entry in table.as_slice() {
-        write!(line, " {}:{}", entry.node.0, entry.number).map_err(|_| NoMem)?;
+        write!(line, " {}:{}", entry.node.0, entry.number)?;
     }
     Ok(line)
+}
+
+/// Each node of the table of pages with its number.
+fn numbers(alloc: Global, pages: &str, nodes: &str) -> Result<String, NoMem> {
+    let table = table(alloc, pages, nodes)?;
+    printed(alloc, &table)
 }
 
 /// The place of the first difference of two tables, from 0.
@@ -145,32 +154,23 @@ fn difference(alloc: Global, a: &Table, b: &Table) -> Result<String, NoMem> {
 }
 
 /// The first difference of a table to that of other pages for other nodes.
-fn changed(
-    alloc: Global,
-    table_before: &Table,
-    pages: &str,
-    numbers: &str,
-) -> Result<String, NoMem> {
-    let next = table(alloc, pages, numbers)?;
-    difference(alloc, table_before, &next)
+fn changed(alloc: Global, old: &Table, pages: &str, nodes: &str) -> Result<String, NoMem> {
+    let next = table(alloc, pages, nodes)?;
+    difference(alloc, old, &next)
+}
+
+/// The first difference of the tables of pages and nodes, which are two each.
+fn differing(alloc: Global, pages: [&str; 2], nodes: [&str; 2]) -> Result<String, NoMem> {
+    let old = table(alloc, pages[0], nodes[0])?;
+    changed(alloc, &old, pages[1], nodes[1])
 }
 
 /// The answer to a question about tables.
 pub(crate) fn answer(alloc: Global, parts: &[&str]) -> Result<String, NoMem> {
     match parts {
-        ["shown", pages, nodes] => printed(alloc, &table(alloc, pages, nodes)?),
-        ["changed", before, pages, nodes] => changed(
-            alloc,
-            &table(alloc, before, nodes)?,
-            pages,
-            nodes,
-        ),
-        ["difference", nodes, others] => changed(
-            alloc,
-            &table(alloc, "opening", nodes)?,
-            "opening",
-            others,
-        ),
-        _ => Ok(String::from_str(alloc, "?")?),
+        ["shown", pages, nodes] => numbers(alloc, pages, nodes),
+        ["changed", before, pages, nodes] => differing(alloc, [before, pages], [nodes, nodes]),
+        ["difference", nodes, others] => differing(alloc, ["opening"; 2], [nodes, others]),
+        _ => unknown(alloc),
     }
 }

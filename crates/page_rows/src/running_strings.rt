@@ -4,14 +4,14 @@
 ghost use Rattle.std.specs.Prelude.{◌≡◌, ◌<◌, length, map, IfOk};
 ghost use Rattle.page_seq.specs.Places.{NeverFall};
 
-use crate::notation::{count, pages_of, tree_in_short};
+use crate::notation::{count, pages_of, tree_in_short, unknown};
 use bk_num::items::Items;
 use bk_num::name::{Name, NoMem};
 use boxes::flow::{Assign, Flow};
 use boxes::page::PageList;
 use boxes::place::Position;
 use boxes::tree::BoxTree;
-use std::alloc::Global;
+use std::alloc::{AllocError, Global};
 use strings::assigned::Strings;
 use strings::shown::string_on;
 use style::content::Keyword;
@@ -79,11 +79,9 @@ fn flow(alloc: Global, which: &str) -> Result<Flow, NoMem>
     Ok(flow_of(main, alloc, Items::new(alloc)))
 }
 
-fn push_text(line: &mut String, text: &str) -> Result<(), NoMem> {
-    if !line.is_empty() {
-        line.push_str(" ")?;
-    }
-    write!(line, "'{text}'").map_err(|_| NoMem)
+fn push_text(line: &mut String, text: &str) -> Result<(), AllocError> {
+    let space = if line.is_empty() { "" } else { " " };
+    write!(line, "{space}'{text}'")
 }
 
 /// The texts of the four keywords on a page.
@@ -151,7 +149,7 @@ fn on_pages(alloc: Global, flow: &Flow, list: &PageList, parts: &[&str]) -> Resu
         ["strings", _, _, name, page] => texts(alloc, flow, list, page_at(page), name),
         ["string_on", _, _, name, page] => texts_alone(alloc, flow, list, page_at(page), name),
         ["assigned", _, _, name, page] => assigned(alloc, flow, list, page_at(page), name),
-        _ => Ok(String::from_str(alloc, "?")?),
+        _ => unknown(alloc),
     }
 }
 

@@ -5,58 +5,62 @@ ghost use Rattle.cursor.specs.Conditions.{CanBeLaidOut};
 ghost use Rattle.note_list.specs.Conditions.{CanBePaged};
 
 use crate::flows::{METRICS, NoteInShort, flow_with_notes, frame, paged};
-use crate::notation::{position, steps_of, units};
+use crate::notation::{faces_of, position, steps_of, units, unknown};
 use bk_num::name::NoMem;
 use bk_num::steps::Steps;
 use boxes::flow::Flow;
 use boxes::frames::PageKind;
-use boxes::page::{Page, Placed, SolidKind};
+use boxes::page::{Page, Placed, PlacedNote, SolidKind};
 use boxes::place::Position;
 use boxes::tree::BoxTree;
 use cursor::{Solid, next_solid, remainder};
 use fragment::next_cut::next_cut;
-use metrics::{Faces, read_metrics};
+use metrics::Faces;
 use page_list::cut::CutFrom;
 use rows::{escaped, unescaped};
 use seams::seam::widths_at;
 use seams::widths::Widths;
-use std::alloc::Global;
+use std::alloc::{AllocError, Global};
 use std::marker::Brand;
 use std::sync::ledger::{Blank, Ledger};
 
 /// A solid: where it begins and ends, its top and its height, and the box whose edge it is.
-fn push_solid(line: &mut String, solid: &Placed) -> Result<(), NoMem> {
+fn push_solid(line: &mut String, solid: &Placed) -> Result<(), AllocError> {
     let (at, end) = (solid.at, solid.end);
     write!(
         line,
         " {}.{}-{}.{}@{}+{}",
         at.event, at.offset, end.event, end.offset, solid.top, solid.height
-    )
-    .map_err(|_| NoMem)?;
+    )?;
     match solid.kind {
-        SolidKind::OpenEdge(block) => write!(line, "<{block}").map_err(|_| NoMem),
-        SolidKind::CloseEdge(block) => write!(line, ">{block}").map_err(|_| NoMem),
+        SolidKind::OpenEdge(block) => write!(line, "<{block}"),
+        SolidKind::CloseEdge(block) => write!(line, ">{block}"),
         SolidKind::Line => Ok(()),
     }
 }
 
-/// The solids of a page, and those of its notes.
-fn push_solids(line: &mut String, page: &Page) -> Result<(), NoMem> {
-    for solid in page.solids.as_slice() {
-        push_solid(line, solid)?;
-    }
-    for (note, solid) in page.notes.as_slice() {
-        write!(line, " note{note}").map_err(|_| NoMem)?;
+/// The solids of a page.
+fn push_solids(line: &mut String, solids: &[Placed]) -> Result<(), AllocError> {
+    for solid in solids {
         push_solid(line, solid)?;
     }
     Ok(())
 }
 
-/// Where the solids of a page begin, and their tops.
-fn push_tops(line: &mut String, page: &Page) -> Result<(), NoMem> {
-    for solid in page.solids.as_slice() {
+/// The solids of notes, each with the number of its note.
+fn push_notes(line: &mut String, notes: &[PlacedNote]) -> Result<(), AllocError> {
+    for (note, solid) in notes {
+        write!(line, " note{note}")?;
+        push_solid(line, solid)?;
+    }
+    Ok(())
+}
+
+/// Where solids begin, and their tops.
+fn push_tops(line: &mut String, solids: &[Placed]) -> Result<(), AllocError> {
+    for solid in solids {
         let Position { event, offset } = solid.at;
-        write!(line, " {event}.{offset}@{}", solid.top).map_err(|_| NoMem)?;
+        write!(line, " {event}.{offset}@{}", solid.top)?;
     }
     Ok(())
 }
@@ -70,36 +74,40 @@ fn kind_word(kind: PageKind) -> &'static str {
 }
 
 /// A page whole: its index, kind, name and level, and its solids.
-fn push_page(line: &mut String, page: &Page) -> Result<(), NoMem> {
+fn push_page(line: &mut String, page: &Page) -> Result<(), AllocError> {
     let kind = kind_word(page.kind);
     write!(
         line,
         "{} {kind} {} {}:",
         page.index, page.name.0, page.level
-    )
-    .map_err(|_| NoMem)?;
-    push_solids(line, page)
+    )?;
+    push_solids(line, page.solids.as_slice())?;
+    push_notes(line, page.notes.as_slice())
 }
 
 /// A page in short: its kind and level, and the tops of its solids.
-fn push_short(line: &mut String, page: &Page) -> Result<(), NoMem> {
-    let kind = kind_word(page.kind);
-    write!(line, "{kind} {}:", page.level).map_err(|_| NoMem)?;
-    push_tops(line, page)
+fn push_short(line: &mut String, page: &Page) -> Result<(), AllocError> {
+    write!(line, "{} {}:", kind_word(page.kind), page.level)?;
+    push_tops(line, page.solids.as_slice())
+}
+
+/// Adds a page, whole or in short, after ` / ` where one stands before it.
+fn push_next(line: &mut String, page: &Page, whole: bool) -> Result<(), AllocError> {
+    if !line.is_empty() {
+        line.push_str(" / ")?;
+    }
+    if whole {
+        push_page(line, page)
+    } else {
+        push_short(line, page)
+    }
 }
 
 /// The pages of a flow, whole or in short, with `/` between them.
 fn printed(alloc: Global, pages: &[Page], whole: bool) -> Result<String, NoMem> {
     let mut line = String::new(alloc);
     for page in pages {
-        if !line.is_empty() {
-            line.push_str(" / ")?;
-        }
-        if whole {
-            push_page(&mut line, page)?;
-        } else {
-            push_short(&mut line, page)?;
-        }
+        push_next(&mut line, page, whole)?;
     }
     Ok(line)
 }
@@ -152,7 +160,7 @@ fn pages(
 }
 
 /// A solid of a tree: what it is, where it begins, its height, and its text.
-fn push_of_tree(line: &mut String, solid: &Solid<'_>) -> Result<(), NoMem> {
+fn push_of_tree(line: &mut String, solid: &Solid<'_>) -> Result<(), AllocError> {
     let Position { event, offset } = solid.placed_at;
     let kind = if solid.line.is_some() { "line" } else { "edge" };
     write!(
@@ -160,7 +168,6 @@ fn push_of_tree(line: &mut String, solid: &Solid<'_>) -> Result<(), NoMem> {
         " {kind} {event}.{offset}+{} '{}'",
         solid.height, solid.text
     )
-    .map_err(|_| NoMem)
 }
 
 /// The solid that comes first from a place on, and after `:` all of them.
@@ -241,7 +248,7 @@ fn cut(alloc: Global, flow: &Flow, faces: &Faces, at: Position) -> Result<String
         Some(((event, offset), ended, level, count)) => {
             Ok(format!(in alloc; "{event}.{offset} {ended} {level} {count}")?)
         }
-        None => Ok(String::from_str(alloc, "?")?),
+        None => unknown(alloc),
     }
 }
 
@@ -254,29 +261,34 @@ fn of_flow(alloc: Global, faces: &Faces, flow: &Flow, parts: &[&str]) -> Result<
         ["pages", _, _, size] => pages(alloc, flow, faces, size, true),
         ["solids", _, from] => solids(alloc, &flow.main, faces, position(from)),
         ["cut_at", _, at] => cut(alloc, flow, faces, position(at)),
-        _ => Ok(String::from_str(alloc, "?")?),
+        _ => unknown(alloc),
     }
 }
 
 /// The answer to a question about a tree and notes in short.
 fn of_tree(alloc: Global, tree: &str, body: &str, parts: &[&str]) -> Result<String, NoMem> {
-    let faces = read_metrics(alloc, METRICS).map_err(|_| NoMem)?;
-    if faces.len() == 0 {
-        return Err(NoMem);
-    }
+    let faces = faces_of(alloc, METRICS)?;
     let flow = flow_in(alloc, &faces, tree, body)?;
     of_flow(alloc, &faces, &flow, parts)
 }
 
+/// The notes of a question.
+fn notes_in(alloc: Global, parts: &[&str]) -> Result<String, AllocError> {
+    match parts {
+        ["pages", _, notes, _] => unescaped(alloc, notes),
+        _ => Ok(String::new(alloc)),
+    }
+}
+
+/// The answer to a question about a tree, with characters that a line doesn't show.
+fn unescaped_answer(alloc: Global, parts: &[&str]) -> Result<String, NoMem> {
+    let tree = unescaped(alloc, parts.get(1).unwrap_or(&""))?;
+    let body = notes_in(alloc, parts)?;
+    of_tree(alloc, tree.as_str(), body.as_str(), parts)
+}
+
 /// The answer to a question about a tree.
 pub(crate) fn answer(alloc: Global, parts: &[&str]) -> Result<String, NoMem> {
-    let tree = unescaped(alloc, parts.get(1).unwrap_or(&""))?;
-    let body = match parts {
-        ["pages", _, notes, _] => unescaped(alloc, notes)?,
-        _ => String::new(alloc),
-    };
-    Ok(escaped(
-        alloc,
-        of_tree(alloc, tree.as_str(), body.as_str(), parts)?.as_str(),
-    )?)
+    let answer = unescaped_answer(alloc, parts)?;
+    Ok(escaped(alloc, answer.as_str())?)
 }
