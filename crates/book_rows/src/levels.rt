@@ -15,22 +15,23 @@ use page_seq::pages::Pages;
 use passes::settle::{Input, settle};
 use std::alloc::Global;
 use std::marker::Brand;
+use std::str;
 use std::sync::ledger::{Blank, Ledger};
-use style::style::Style;
+use style::lists::Families;
 
 /// The text of a file.
-fn text_of(alloc: Global, files: &[(Name, Vec<u8>)], name: &str) -> Result<String, NoMem> {
+fn text_of<'a>(files: &'a [(Name, Vec<u8>)], name: &str) -> &'a str {
     for (named, bytes) in files {
         if named.as_str() == name {
-            return Ok(String::from_utf8_lossy(alloc, bytes.as_slice())?);
+            return str::from_utf8(bytes.as_slice()).unwrap_or("?");
         }
     }
-    Ok(String::new(alloc))
+    ""
 }
 
 /// A document in its styles, by its HTML and its sheet.
-fn styled_of(alloc: Global, html: &str, sheets: &[String]) -> Result<Styled, NoMem>
-    ensures { IfOk result AreGoodStyles }
+fn styled_of(alloc: Global, html: &str, sheets: &[String]) -> Result<Box<Styled>, NoMem>
+    ensures { IfOk result (λ s. AreGoodStyles s.value) }
 {
     let texts = Texts {
         passes: 8,
@@ -39,41 +40,63 @@ fn styled_of(alloc: Global, html: &str, sheets: &[String]) -> Result<Styled, NoM
         html,
         sheets,
     };
-    let Ok(document) = read_document(alloc, texts) else {
-        return Err(NoMem);
-    };
-    in_styles(alloc, document)
+    match read_document(alloc, texts) {
+        Ok(document) => in_styles(alloc, document),
+        Err(_) => Err(NoMem),
+    }
 }
 
-/// The pages on which a document in its styles settles.
-fn pages_of<L: Ledger>(alloc: Global, styled: &Styled, token: Blank) -> Result<PageList, NoMem>
-    requires good { AreGoodStyles styled.now }
-    requires name { token.name ≡ L.name }
-    requires parts { token.parts ≡ L.parts }
-    requires some { 0 < L.parts }
+/// The frames that the page rules of a document give.
+fn frames_of(alloc: Global, styled: &Styled) -> Result<Pages, NoMem> {
+    let initial = Families::serif(alloc)?;
+    match resolve(alloc, styled.rules.as_slice(), &styled.names, &initial) {
+        Ok(boxes) => Ok(Pages::new(boxes.table)),
+        Err(e) => Err(e),
+    }
+}
+
+/// The pages on which a document in its styles settles in these frames.
+fn settled_pages<L: Ledger>(
+    alloc: Global,
+    styled: &Styled,
+    frames: &Pages,
+    steps: &mut Steps<L>,
+) -> Result<PageList, NoMem>
+    requires { AreGoodStyles styled.now }
 {
-    let mut steps = Steps::<L>::zero(token);
-    let initial = Style::initial(alloc)?;
-    let families = &initial.font_family;
-    let boxes = resolve(alloc, styled.rules.as_slice(), &styled.names, families)?;
-    let frames = Pages::new(boxes.table.copy(alloc)?);
     let input = Input {
         dom: &styled.dom,
         styles: &styled.styles,
         counters: &styled.counters,
         faces: &styled.faces,
     };
-    match settle(alloc, &input, &frames, 8, &mut steps) {
+    match settle(alloc, &input, frames, 8, steps) {
         Ok(settled) => Ok(settled.pages),
         Err(_) => Err(NoMem),
     }
 }
 
+/// The same, with this counter.
+fn pages_of<L: Ledger>(
+    alloc: Global,
+    styled: &Styled,
+    frames: &Pages,
+    token: Blank,
+) -> Result<PageList, NoMem>
+    requires good { AreGoodStyles styled.now }
+    requires name { token.name ≡ L.name }
+    requires parts { token.parts ≡ L.parts }
+    requires some { 0 < L.parts }
+{
+    let mut steps = Steps::<L>::zero(token);
+    settled_pages(alloc, styled, frames, &mut steps)
+}
+
 /// The same, with a counter of its own.
-fn listed(alloc: Global, styled: &Styled) -> Result<PageList, NoMem>
+fn listed(alloc: Global, styled: &Styled, frames: &Pages) -> Result<PageList, NoMem>
     requires { AreGoodStyles styled.now }
 {
-    pages_of::<Brand>(alloc, styled, Blank::new(1))
+    pages_of::<Brand>(alloc, styled, frames, Blank::new(1))
 }
 
 /// Puts a page at the end: its level, how many lines and edges of the flow stand on it, and the notes that begin on it.
@@ -100,6 +123,43 @@ fn push_pages(printed: &mut String, pages: &[Page]) -> Result<(), NoMem> {
     Ok(printed.push('\n')?)
 }
 
+/// Puts the levels of the pages of a document in its styles at the end.
+fn push_styled(printed: &mut String, alloc: Global, styled: &Styled) -> Result<(), NoMem>
+    requires { AreGoodStyles styled.now }
+{
+    let frames = frames_of(alloc, styled)?;
+    match listed(alloc, styled, &frames) {
+        Ok(list) => push_pages(printed, list.pages.as_slice()),
+        Err(e) => Err(e),
+    }
+}
+
+/// Puts the levels of the pages of a document at the end, by its HTML and its sheet.
+fn push_document(
+    printed: &mut String,
+    alloc: Global,
+    html: &str,
+    sheets: &[String],
+) -> Result<(), NoMem> {
+    match styled_of(alloc, html, sheets) {
+        Ok(styled) => push_styled(printed, alloc, &styled),
+        Err(e) => Err(e),
+    }
+}
+
+/// A list of one text.
+fn one_text(alloc: Global, text: &str) -> Result<Vec<String>, NoMem> {
+    let mut texts = Vec::new(alloc);
+    texts.push(String::from_str(alloc, text)?)?;
+    Ok(texts)
+}
+
+/// Puts the levels of the pages of a book at the end, by its files.
+fn push_files(printed: &mut String, alloc: Global, files: &[(Name, Vec<u8>)]) -> Result<(), NoMem> {
+    let sheets = one_text(alloc, text_of(files, "sheet"))?;
+    push_document(printed, alloc, text_of(files, "html"), &sheets)
+}
+
 /// Puts the levels of a book's pages at the end.
 pub(crate) fn push_levels(
     printed: &mut String,
@@ -107,11 +167,5 @@ pub(crate) fn push_levels(
     sections: &[Section<'_>],
 ) -> Result<(), NoMem> {
     let files = files_of(alloc, sections)?;
-    let html = text_of(alloc, &files, "html")?;
-    let sheet = text_of(alloc, &files, "sheet")?;
-    let mut sheets = Vec::new(alloc);
-    sheets.push(sheet)?;
-    let styled = styled_of(alloc, html.as_str(), &sheets)?;
-    let list = listed(alloc, &styled)?;
-    push_pages(printed, list.pages.as_slice())
+    push_files(printed, alloc, files.as_slice())
 }

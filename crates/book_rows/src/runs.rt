@@ -91,6 +91,49 @@ fn push_listing(printed: &mut String, listing: &str, view: View) -> Result<(), N
     }
 }
 
+/// Puts what a run gave at the end: its listing, and its answer.
+fn push_given(printed: &mut String, bytes: &[u8], view: View, answer: &str) -> Result<(), NoMem> {
+    push_listing(printed, str::from_utf8(bytes).unwrap_or("?"), view)?;
+    Ok(printed.push_str(answer)?)
+}
+
+/// Puts what a run over a shelf gave at the end, where no put fails.
+fn push_still<F: Shelf>(
+    printed: &mut String,
+    alloc: Global,
+    sections: &[Section<'_>],
+    shelf: &mut F,
+    view: View,
+    room: usize,
+) -> Result<(), NoMem> {
+    let mut out = StillSink::new(alloc, room)?;
+    match answer(alloc, sections, shelf, &mut out) {
+        Ok(answer) => push_given(printed, out.bytes(), view, answer.as_str()),
+        Err(e) => Err(e),
+    }
+}
+
+/// A stream with so much room that takes so much a put and fails at one.
+fn failing_sink(alloc: Global, room: usize, put: &str, step: &str) -> Result<MemSink, NoMem> {
+    let fail = Vec::from_slice(alloc, &[count(put)])?;
+    MemSink::new(alloc, room, count(step).max(1) as usize, fail)
+}
+
+/// Puts what a run over a shelf gave at the end, where one put fails.
+fn push_failing<F: Shelf>(
+    printed: &mut String,
+    alloc: Global,
+    sections: &[Section<'_>],
+    shelf: &mut F,
+    view: View,
+    out: &mut MemSink,
+) -> Result<(), NoMem> {
+    match answer(alloc, sections, shelf, out) {
+        Ok(answer) => push_given(printed, out.bytes(), view, answer.as_str()),
+        Err(e) => Err(e),
+    }
+}
+
 /// Puts what a run over a shelf gave at the end. The put that is to fail stands in a heading, with how much a put takes; so does
 /// the room for the listing.
 fn push_written<F: Shelf>(
@@ -103,18 +146,13 @@ fn push_written<F: Shelf>(
     let room = after(sections, "room ")
         .map_or(MOST_ROOM, count)
         .min(MOST_ROOM) as usize;
-    let Some((put, step)) = after(sections, "failing put ").and_then(|put| put.split_once(" of "))
-    else {
-        let mut out = StillSink::new(alloc, room)?;
-        let answer = answer(alloc, sections, shelf, &mut out)?;
-        push_listing(printed, str::from_utf8(out.bytes()).unwrap_or("?"), view)?;
-        return Ok(printed.push_str(answer.as_str())?);
-    };
-    let fail = Vec::from_slice(alloc, &[count(put)])?;
-    let mut out = MemSink::new(alloc, room, count(step).max(1) as usize, fail)?;
-    let answer = answer(alloc, sections, shelf, &mut out)?;
-    push_listing(printed, str::from_utf8(out.bytes()).unwrap_or("?"), view)?;
-    Ok(printed.push_str(answer.as_str())?)
+    match after(sections, "failing put ").and_then(|put| put.split_once(" of ")) {
+        None => push_still(printed, alloc, sections, shelf, view, room),
+        Some((put, step)) => match failing_sink(alloc, room, put, step) {
+            Ok(mut out) => push_failing(printed, alloc, sections, shelf, view, &mut out),
+            Err(e) => Err(e),
+        },
+    }
 }
 
 /// Puts what the run of a book gave at the end. The read that is to fail stands in a heading.
