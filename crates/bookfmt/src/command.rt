@@ -4,7 +4,8 @@
 ghost use Rattle.std.specs.Prelude.{◌≡◌, ◌<◌, drop};
 ghost use Rattle.book.specs.Message.{message};
 ghost use Rattle.book.specs.Run.{PutsLine};
-ghost use Rattle.bookfmt.specs.End.{EndsWith};
+ghost use Rattle.book.specs.declared.outcome.Outcome.{Outcome};
+ghost use Rattle.bookfmt.specs.End.{EndsWith, IsAnswer};
 
 use bk_io::dir_shelf::DirShelf;
 use bk_io::shelf::Shelf;
@@ -54,7 +55,8 @@ fn answer<F: Shelf, O: Sink, E: Sink, L: Ledger>(
     err: &mut E,
     steps: &mut Steps<L>,
 ) -> Outcome
-    ensures { PutsLine (E.taken err.old) (E.taken err.new) (E.faults err.old) (E.faults err.new) (message result) }
+    ensures answer { IsAnswer words (F.told shelf.old) (O.taken out.old) (O.taken out.new) result }
+    ensures line { PutsLine (E.taken err.old) (E.taken err.new) (E.faults err.old) (E.faults err.new) (message result) }
 {
     match words {
         Ok(words) => run(alloc, &words, shelf, out, err, steps),
@@ -65,7 +67,8 @@ fn answer<F: Shelf, O: Sink, E: Sink, L: Ledger>(
     }
 }
 
-/// Answers the words with a counter of its own, and gives the status that the program ends with.
+/// Answers the words with a counter of its own, and gives the status that the program ends with: that of what `run` answers
+/// to these words, whose line was put on `err`.
 fn end<F: Shelf, O: Sink, E: Sink, L: Ledger>(
     alloc: Global,
     words: Result<Vec<String>, Outcome>,
@@ -77,7 +80,8 @@ fn end<F: Shelf, O: Sink, E: Sink, L: Ledger>(
     requires name { token.name ≡ L.name }
     requires parts { token.parts ≡ L.parts }
     requires some { 0 < L.parts }
-    ensures { EndsWith (E.taken err.old) (E.taken err.new) (E.faults err.old) (E.faults err.new) result }
+    ensures { (answer : Outcome) × IsAnswer words (F.told shelf.old) (O.taken out.old) (O.taken out.new) answer
+        × EndsWith answer (E.taken err.old) (E.taken err.new) (E.faults err.old) (E.faults err.new) result }
 {
     let mut steps = Steps::<L>::zero(token);
     ExitCode::from(answer(alloc, words, shelf, out, err, &mut steps).status())
