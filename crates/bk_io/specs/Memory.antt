@@ -27,7 +27,8 @@ pub record Taken : Type 0 where
   pub room : ℕ
   pub faults : ℕ
 
--- a shelf with calls that fail: its files, the numbers of these calls, the calls and faults so far, and the name of the last fault
+-- a shelf with calls that fail: its files, the numbers of these calls, the calls and faults so far, and the name of the
+-- last fault
 pub record Failing : Type 0 where
   pub files : Files
   pub fail : List ℕ

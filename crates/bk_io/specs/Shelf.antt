@@ -18,7 +18,8 @@ abbrev pub Faulted : Told → List ℕ → ℕ → ℕ → Option (List ℕ) →
 Faulted told name before now last = (told ≡ absent) ⊎ (Rose before now × IfSome last (λ n. n ≡ name))
 
 -- the count never falls, stays for a name that is absent, and has the cause of a call that failed
-pub record HasFault (told : Told) (name : List ℕ) (before now : ℕ) (last : Option (List ℕ)) (Fails : Type 0) : Type 0 where
+pub record HasFault (told : Told) (name : List ℕ) (before now : ℕ) (last : Option (List ℕ))
+    (Fails : Type 0) : Type 0 where
   pub later : before ≤ now
   pub failed : Fails → Faulted told name before now last
   pub absent : told ≡ absent → now ≡ before
@@ -40,6 +41,7 @@ ReadAnswers told limit (Err reading.TooLarge) = IfHolds told (λ file. limit < l
 ReadAnswers told limit (Err reading.Failed) = Unit {0}
 ReadAnswers told limit (Err reading.NoMemory) = Unit {0}
 
+-- why a file wasn't read, by why its fetch failed
 abbrev pub read_err_of : FetchErr → ReadErr
 read_err_of fetching.Failed = reading.Failed
 read_err_of fetching.NoMemory = reading.NoMemory

@@ -1,4 +1,5 @@
--- Texts of files. A text is its UTF-8 bytes; its characters are `chars` of them (Unicode, 3.9), and offsets are byte offsets at `IsCharBoundary`.
+-- Texts of files. A text is its UTF-8 bytes; its characters are `chars` of them (Unicode, 3.9), and offsets are byte
+-- offsets at `IsCharBoundary`.
 use Rattle.std.specs.Prelude.{ℕ, ◌≤◌, List, ◌∷◌, [], length, take, drop, nat_eq, if◌then◌else◌}
 use Rattle.std.specs.Str.{IsUtf8}
 use Rattle.std.specs.List.{starts_with}

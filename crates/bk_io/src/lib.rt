@@ -1,4 +1,5 @@
-//! Named files to read and streams to write, with a written meaning, their real and in-memory forms, and texts of files.
+//! Named files to read and streams to write, with a written meaning, their real and in-memory forms, and texts of
+//! files.
 #![tactic(auto)]
 
 pub mod dir_shelf;

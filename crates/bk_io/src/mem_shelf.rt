@@ -32,7 +32,13 @@ impl Model for MemShelf {
 impl MemShelf {
     /// A shelf of these files. It takes no memory.
     pub fn new(files: Vec<(Name, Vec<u8>)>, fail: Vec<u64>) -> MemShelf
-        ensures { result ≡ record { files = files_in files.items; fail = fail.items; calls = 0; faults = 0; last = None } }
+        ensures { result ≡ record {
+          files = files_in files.items;
+          fail = fail.items;
+          calls = 0;
+          faults = 0;
+          last = None;
+        } }
     {
         MemShelf {
             files,
@@ -55,15 +61,21 @@ impl Shelf for MemShelf {
     fn fetch(&mut self, name: &str, from: u64, into: &mut [u8]) -> Result<usize, FetchErr>
         requires { 0 < length into.old }
         ensures bound { IfOk result (λ n. n ≤ length into.new) }
-        ensures answers { IfOk result (λ n. IfHolds (told_of self.old.files name.now) (λ file. Fetches file from (take n into.new))) }
-        ensures fault { HasFault (told_of self.old.files name.now) name.now self.old.faults self.new.faults self.new.last (result ≡ Err FetchErr.Failed) }
+        ensures answers { IfOk result (λ n. IfHolds (told_of self.old.files name.now)
+            (λ file. Fetches file from (take n into.new))) }
+        ensures fault { HasFault
+            (told_of self.old.files name.now) name.now self.old.faults self.new.faults self.new.last
+            (result ≡ Err FetchErr.Failed) }
         ensures no_memory { result ≡ Err FetchErr.NoMemory → ⊥ }
 
         ensures told { (self.new.files ≡ self.old.files) × (self.new.fail ≡ self.old.fail) }
         ensures calls { self.new.calls ≡ min (self.old.calls + 1) (2 ^ 64 - 1) }
-        ensures given { (file : _) → told_of self.old.files name.now ≡ holds file → ¬ (Contains self.old.fail self.new.calls) → result ≡ Ok (fetched (length file) from (length into.old)) }
-        ensures listed { (file : _) → told_of self.old.files name.now ≡ holds file → Contains self.old.fail self.new.calls → result ≡ Err FetchErr.Failed }
-        ensures counted { (file : _) → told_of self.old.files name.now ≡ holds file → Contains self.old.fail self.new.calls → HasFaultMore self.old self.new name.now }
+        ensures given { (file : _) → told_of self.old.files name.now ≡ holds file →
+            ¬ (Contains self.old.fail self.new.calls) → result ≡ Ok (fetched (length file) from (length into.old)) }
+        ensures listed { (file : _) → told_of self.old.files name.now ≡ holds file →
+            Contains self.old.fail self.new.calls → result ≡ Err FetchErr.Failed }
+        ensures counted { (file : _) → told_of self.old.files name.now ≡ holds file →
+            Contains self.old.fail self.new.calls → HasFaultMore self.old self.new name.now }
         ensures read { IfOk result (λ _. HasSameFaults self.old self.new) }
         ensures absent { told_of self.old.files name.now ≡ absent → HasSameFaults self.old self.new }
     {

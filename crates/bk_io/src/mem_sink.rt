@@ -27,7 +27,14 @@ impl Model for MemSink {
 
     ghost Value = { FailingTaken };
 
-    ghost view = { λ s. record { bytes = s.bytes.items; room = s.room; step = s.step; fail = s.fail.items; calls = s.calls; faults = s.faults } };
+    ghost view = { λ s. record {
+      bytes = s.bytes.items;
+      room = s.room;
+      step = s.step;
+      fail = s.fail.items;
+      calls = s.calls;
+      faults = s.faults;
+    } };
 
     ghost invariant = { λ s. (vec_len s.bytes ≤ s.room) × (s.room ≤ vec_capacity s.bytes) × (0 < s.step) };
 }
@@ -36,7 +43,14 @@ impl MemSink {
     /// A sink with room for so many bytes, for which it takes the memory now.
     pub fn new(alloc: Global, room: usize, step: usize, fail: Vec<u64>) -> Result<MemSink, NoMem>
         requires { 0 < step }
-        ensures { IfOk result (λ s. s ≡ record { bytes = []; room = room; step = step; fail = fail.items; calls = 0; faults = 0 }) }
+        ensures { IfOk result (λ s. s ≡ record {
+          bytes = [];
+          room = room;
+          step = step;
+          fail = fail.items;
+          calls = 0;
+          faults = 0;
+        }) }
     {
         let bytes = Vec::with_capacity(alloc, room)?;
         Ok(MemSink {
@@ -69,11 +83,14 @@ impl Sink for MemSink {
         ensures bytes { WriteAppends (Some self.old.bytes) (Some self.new.bytes) result piece.now }
         ensures cause { HasCause self.old.faults self.new.faults result }
 
-        ensures most { IfOk result (λ n. n ≡ min (min (length piece.now) (self.old.room - length self.old.bytes)) self.old.step) }
-        ensures full { IsErr result ↔ (Contains self.old.fail self.new.calls ⊎ ((0 < length piece.now) × (length self.old.bytes ≡ self.old.room))) }
+        ensures most { IfOk result (λ n. n ≡ min (min (length piece.now)
+            (self.old.room - length self.old.bytes)) self.old.step) }
+        ensures full { IsErr result ↔ (Contains self.old.fail self.new.calls
+            ⊎ ((0 < length piece.now) × (length self.old.bytes ≡ self.old.room))) }
         ensures faults { self.new.faults ≡ faults_after self.old.faults result }
         ensures calls { self.new.calls ≡ min (self.old.calls + 1) (2 ^ 64 - 1) }
-        ensures room { (self.new.room ≡ self.old.room) × (self.new.step ≡ self.old.step) × (self.new.fail ≡ self.old.fail) }
+        ensures room { (self.new.room ≡ self.old.room) × (self.new.step ≡ self.old.step)
+            × (self.new.fail ≡ self.old.fail) }
     {
         self.calls = self.calls.saturating_add(1);
         if self.fail.contains(&self.calls) {

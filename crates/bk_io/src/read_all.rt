@@ -51,7 +51,8 @@ pub fn read_all<S: Shelf>(
 ) -> Result<Vec<u8>, ReadErr>
     ensures told { S.told shelf.new ≡ S.told shelf.old }
     ensures answers { ReadAnswers (S.told shelf.old name.now) limit result }
-    ensures fault { HasFault (S.told shelf.old name.now) name.now (S.faults shelf.old) (S.faults shelf.new) (S.last_fault shelf.new) (result ≡ Err ReadErr.Failed) }
+    ensures fault { HasFault (S.told shelf.old name.now) name.now (S.faults shelf.old) (S.faults shelf.new)
+        (S.last_fault shelf.new) (result ≡ Err ReadErr.Failed) }
 {
     let mut piece = [0; PIECE];
     let mut bytes = Vec::new(alloc);

@@ -27,7 +27,9 @@ pub trait Shelf {
         requires { 0 < length into.old }
         ensures bound { IfOk result (λ n. n ≤ length into.new) }
         ensures told { told self.new ≡ told self.old }
-        ensures answers { IfOk result (λ n. IfHolds (told self.old name.now) (λ file. Fetches file from (take n into.new))) }
-        ensures fault { HasFault (told self.old name.now) name.now (faults self.old) (faults self.new) (last_fault self.new) (result ≡ Err FetchErr.Failed) }
+        ensures answers { IfOk result (λ n. IfHolds (told self.old name.now)
+            (λ file. Fetches file from (take n into.new))) }
+        ensures fault { HasFault (told self.old name.now) name.now (faults self.old) (faults self.new)
+            (last_fault self.new) (result ≡ Err FetchErr.Failed) }
         ensures no_memory { result ≡ Err FetchErr.NoMemory → faults self.new ≡ faults self.old };
 }

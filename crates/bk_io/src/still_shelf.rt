@@ -43,12 +43,14 @@ impl Shelf for StillShelf {
     fn fetch(&mut self, name: &str, from: u64, into: &mut [u8]) -> Result<usize, FetchErr>
         requires { 0 < length into.old }
         ensures bound { IfOk result (λ n. n ≤ length into.new) }
-        ensures answers { IfOk result (λ n. IfHolds (told_of self.old name.now) (λ file. Fetches file from (take n into.new))) }
+        ensures answers { IfOk result (λ n. IfHolds (told_of self.old name.now)
+            (λ file. Fetches file from (take n into.new))) }
         ensures fault { HasFault (told_of self.old name.now) name.now 0 0 None (result ≡ Err FetchErr.Failed) }
         ensures no_memory { result ≡ Err FetchErr.NoMemory → ⊥ }
 
         ensures told { self.new ≡ self.old }
-        ensures given { (file : _) → told_of self.old name.now ≡ holds file → result ≡ Ok (fetched (length file) from (length into.old)) }
+        ensures given { (file : _) → told_of self.old name.now ≡ holds file →
+            result ≡ Ok (fetched (length file) from (length into.old)) }
     {
         match place_of(&self.files, name) {
             None => Err(FetchErr::Failed),
@@ -59,7 +61,8 @@ impl Shelf for StillShelf {
 
 /// The place of the first file of this name.
 pub(crate) fn place_of(files: &[(Name, Vec<u8>)], name: &str) -> Option<usize>
-    ensures here { IfSome result (λ i. (i < length files.now) × ((d : _) → told_of (files_in files.now) name.now ≡ holds (slice_index_or files.now i d).1.items)) }
+    ensures here { IfSome result (λ i. (i < length files.now)
+        × ((d : _) → told_of (files_in files.now) name.now ≡ holds (slice_index_or files.now i d).1.items)) }
     ensures named { IfSome result (λ i. option_map (λ f. f.0) (slice_get files.now i) ≡ Some name.now) }
     ensures none { IfNone result (told_of (files_in files.now) name.now ≡ absent) }
 {

@@ -20,7 +20,8 @@ pub fn without_mark(text: &str) -> &str
     }
 }
 
-/// Owns these bytes as a text exactly where they are UTF-8, or else tells the length of their longest prefix that is UTF-8. It takes no memory.
+/// Owns these bytes as a text exactly where they are UTF-8, or else tells the length of their longest prefix that is
+/// UTF-8. It takes no memory.
 pub fn text_from(bytes: Vec<u8>) -> Result<String, usize>
     ensures text { MatchResult result (λ t. string_bytes t ≡ bytes.items) (λ at. at ≡ utf8_valid_len bytes.items) }
     ensures utf8 { is_ok result ≡ is_utf8 bytes.items }

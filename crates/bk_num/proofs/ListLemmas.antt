@@ -1,5 +1,10 @@
 -- what stands at a place of a list, after changes of the list
-use Rattle.std.proofs.Common.{◌≡◌, ℕ, suc, zero, ◌+◌, ◌<◌, List, [], ◌∷◌, ◌++◌, Some, length, take, slice_get, slice_set, refl, ap, arith, ◌⊎◌, inl, inr}
+use Rattle.std.proofs.Common.{◌≡◌, ◌∙◌, ℕ, suc, zero, ◌+◌, ◌<◌, ◌≤◌, List, [], ◌∷◌, ◌++◌, Option, None, Some, Bool, true, false, cond, All, is_some, length, map, take, drop, slice_get, slice_set, refl, ap, subst, arith, ◌⊎◌, inl, inr}
+use Rattle.std.specs.List.{Contains, prefix_len}
+use Rattle.std.specs.Option.{option_map}
+use Rattle.std.specs.Str.{bytes_eq}
+use Rattle.std.proofs.lemmas.Option.{slice_get-get_or, slice_get-map, slice_get_within, get_or_from_slice_get}
+use Rattle.std.proofs.lemmas.Slice.Eq.{bytes_eq-Decides}
 
 -- one more at the end: the new one, or one of before
 pub get-push : {A : Type 0} (xs : List A) (y x : A) (k : ℕ) → slice_get (xs ++ y ∷ []) k ≡ Some x → ((k ≡ length xs) × (x ≡ y)) ⊎ (slice_get xs k ≡ Some x)
@@ -73,3 +78,76 @@ pub slice_get_at : {A : Type 0} (xs : List A) (k : ℕ) → k < length xs → (x
 slice_get_at [] k h = absurd (omega arith)
 slice_get_at (a ∷ xs) zero h = (a, refl)
 slice_get_at (a ∷ xs) (suc k) h = slice_get_at xs k (omega arith)
+
+-- a place below the length reads as before where more follows
+pub get-append : {A : Type 0} (xs ys : List A) (k : ℕ) → k < length xs → slice_get (xs ++ ys) k ≡ slice_get xs k
+get-append [] ys k l = absurd (omega arith)
+get-append (a ∷ xs) ys zero l = refl
+get-append (a ∷ xs) ys (suc k) l = get-append xs ys k (omega arith)
+
+-- a place that holds nothing is past the end
+pub get-none : {A : Type 0} (xs : List A) (k : ℕ) → slice_get xs k ≡ None → length xs ≤ k
+get-none [] k h = omega arith
+get-none (a ∷ xs) zero h = cc
+get-none (a ∷ xs) (suc k) h = let l = get-none xs k h in omega arith
+
+-- the first values, with one more
+pub take-next : {A : Type 0} (xs : List A) (k : ℕ) (x : A) → slice_get xs k ≡ Some x → take (suc k) xs ≡ take k xs ++ x ∷ []
+take-next [] k x h = absurd cc
+take-next (a ∷ xs) zero x h = let same : a ≡ x = cc in ap (λ y. y ∷ []) same
+take-next (a ∷ xs) (suc k) x h = ap (λ l. a ∷ l) (take-next xs k x h)
+
+-- what is left from a value on
+pub drop-next : {A : Type 0} (xs : List A) (k : ℕ) (x : A) → slice_get xs k ≡ Some x → drop k xs ≡ x ∷ drop (suc k) xs
+drop-next [] k x h = absurd cc
+drop-next (a ∷ xs) zero x h = let same : a ≡ x = cc in ap (λ y. y ∷ xs) same
+drop-next (a ∷ xs) (suc k) x h = drop-next xs k x h
+
+-- a list's first value and those after it
+pub head-same : {A : Type 0} {x y : A} {xs ys : List A} → x ∷ xs ≡ y ∷ ys → x ≡ y
+head-same h = cc
+
+pub tail-same : {A : Type 0} {x y : A} {xs ys : List A} → x ∷ xs ≡ y ∷ ys → xs ≡ ys
+tail-same h = cc
+
+-- ---- the values of a list
+
+-- what holds of each value holds of the one at a place
+pub all-get : {A : Type 0} (P : A → Type 0) (xs : List A) (k : ℕ) (x : A) → All P xs → slice_get xs k ≡ Some x → P x
+all-get P xs k x h e = subst P (get_or_from_slice_get xs k x x e) (h k x (slice_get_within xs k x e))
+
+-- a value of a list stands at a place, and what stands at a place is a value
+pub contains-get : {A : Type 0} (xs : List A) (x : A) → Contains xs x → (k : ℕ) × (slice_get xs k ≡ Some x)
+contains-get xs x h = (h.0, slice_get-get_or xs h.0 x h.1 ∙ ap (λ y. Some y) h.2)
+
+pub get-contains : {A : Type 0} (xs : List A) (k : ℕ) (x : A) → slice_get xs k ≡ Some x → Contains xs x
+get-contains xs k x h = (k, slice_get_within xs k x h, get_or_from_slice_get xs k x x h)
+
+pub contains-none : {A : Type 0} (x : A) → Contains [] x → ⊥
+contains-none x h = let low = h.1 in omega (arith, low)
+
+pub contains-one : {A : Type 0} (x y : A) → Contains (x ∷ []) y → x ≡ y
+contains-one x y (zero, less, same) = same
+contains-one x y (suc k, less, same) = absurd (omega (arith, less))
+
+pub contains-map : {A B : Type 0} (f : A → B) (xs : List A) (x : A) → Contains xs x → Contains (map f xs) (f x)
+contains-map f xs x h = let g = contains-get xs x h in get-contains (map f xs) g.0 (f x) (slice_get-map f xs g.0 ∙ ap (option_map f) g.1)
+
+-- how many values from the first on pass a test of what is made of them
+pub prefix_len-map : {A B : Type 0} (f : A → B) (p : B → Bool) (xs : List A) → prefix_len p (map f xs) ≡ prefix_len (λ x. p (f x)) xs
+prefix_len-map f p [] = refl
+prefix_len-map f p (x ∷ xs) = ap (λ n. cond (p (f x)) (1 + n) 0) (prefix_len-map f p xs)
+
+-- ---- texts and what may be missing
+
+-- the test of texts tells them apart
+pub bytes_same : (xs ys : List ℕ) → bytes_eq xs ys ≡ true → xs ≡ ys
+bytes_same xs ys e = (bytes_eq-Decides xs ys).0 e
+
+pub bytes_self : (xs : List ℕ) → bytes_eq xs xs ≡ true
+bytes_self xs = (bytes_eq-Decides xs xs).1 refl
+
+-- what isn't there is None
+pub none-is : {A : Type 0} (o : Option A) → is_some o ≡ false → o ≡ None
+none-is None h = refl
+none-is (Some x) h = absurd cc

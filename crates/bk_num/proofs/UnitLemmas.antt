@@ -1,9 +1,11 @@
--- Rounding and clamping keep the order.
-use Rattle.std.proofs.Common.{◌≡◌, ℕ, ◌+◌, ◌*◌, ◌^◌, ◌<◌, ◌≤◌, ◌/◌, ℤ, pos, negsuc, ◌≤ℤ◌, ◌+ℤ◌, ◌*ℤ◌, unsigned_abs, arith}
+-- Rounding and clamping keep the order, and what isn't below 0.
+use Rattle.std.proofs.Common.{◌≡◌, ℕ, ◌+◌, ◌*◌, ◌^◌, ◌<◌, ◌≤◌, ◌/◌, ℤ, pos, negsuc, ◌≤ℤ◌, ◌+ℤ◌, ◌*ℤ◌, unsigned_abs, arith, rules}
 use Rattle.std.proofs.lemmas.Int.{ints, clamps}
 use Rattle.std.proofs.Math.Nat.{div-mul-le_self}
 use Rattle.std.proofs.lemmas.Nat.{le-div}
 use Rattle.bk_num.specs.Units.{clamped, floor_div, rounded}
+use Rattle.bk_num.specs.Numbers.{Number}
+use Rattle.bk_num.specs.Lengths.{part}
 
 pub clamped-order : (x y : ℤ) → x ≤ℤ y → clamped x ≤ℤ clamped y
 unfolding clamped
@@ -29,3 +31,24 @@ floor-order (negsuc a) (negsuc b) d h k = let e : b ≤ a = omega (arith, ints) 
 pub rounded-order : (x y : ℤ) (d : ℕ) → 0 < d → x ≤ℤ y → rounded x d ≤ℤ rounded y d
 unfolding rounded
 rounded-order x y d h k = floor-order (pos 2 *ℤ x +ℤ pos d) (pos 2 *ℤ y +ℤ pos d) (2 * d) (omega arith) (omega (arith, ints))
+
+-- ---- what isn't below 0
+
+pub times-least : (a b : ℤ) → pos 0 ≤ℤ a → pos 0 ≤ℤ b → pos 0 ≤ℤ (a *ℤ b)
+times-least (pos a) (pos b) h g = omega (arith, ints)
+times-least (pos a) (negsuc b) h g = absurd (omega (arith, ints))
+times-least (negsuc a) b h g = absurd (omega (arith, ints))
+
+pub rounded-least : (n : ℤ) (d : ℕ) → pos 0 ≤ℤ n → pos 0 ≤ℤ rounded n d
+unfolding rounded
+rounded-least (pos n) d h = search (rules, ints)
+rounded-least (negsuc n) d h = absurd (omega (arith, ints))
+
+pub clamped-least : (z : ℤ) → pos 0 ≤ℤ z → pos 0 ≤ℤ clamped z
+unfolding clamped
+clamped-least z h = omega (arith, ints, clamps)
+
+pub part-least : (d : Number) (base : ℤ) (den : ℕ) → pos 0 ≤ℤ d.units → pos 0 ≤ℤ base → pos 0 ≤ℤ part d base den
+part-least d base den h g =
+    clamped-least (rounded (d.units *ℤ base) (10 ^ d.places * den))
+    (rounded-least (d.units *ℤ base) (10 ^ d.places * den) (times-least d.units base h g))

@@ -1,6 +1,6 @@
--- The limits of the program, and the sizes of the page that no sheet changes, in units of 1/64 px.
+-- The limits of the program, and the sizes that a page has where no sheet says another, in units of 1/64 px.
 use Rattle.std.specs.Prelude.{◌≡◌, ℕ, ℤ, pos}
-use Rattle.bk_num.specs.declared.limits.TheConstants.{MOST_NODES, MOST_DEPTH, MOST_FILE_BYTES, MOST_TEXT_BYTES, MOST_PAGES, MOST_SHEETS, MOST_RULES, MOST_EVENTS, MOST_OPEN, MOST_ENTRIES, PAGE_WIDTH, PAGE_HEIGHT, PAGE_MARGIN, FRAME_WIDTH, FRAME_HEIGHT, ROOT_SIZE}
+use Rattle.bk_num.specs.declared.limits.TheConstants.{MOST_NODES, MOST_DEPTH, MOST_FILE_BYTES, MOST_TEXT_BYTES, MOST_PAGES, MOST_SHEETS, MOST_RULES, MOST_EVENTS, MOST_OPEN, MOST_ENTRIES, PAGE_WIDTH, PAGE_HEIGHT, PAGE_MARGIN, ROOT_SIZE, SEPARATOR}
 
 -- the most nodes of a document, elements and texts
 abbrev pub most_nodes : ℕ
@@ -42,10 +42,11 @@ most_open = 2048
 abbrev pub most_entries : ℕ
 most_entries = 67108864
 
--- the default page, 148 mm by 210 mm
+-- the width of the default page, 148 mm
 abbrev pub page_width : ℤ
 page_width = pos 35800
 
+-- the height of the default page, 210 mm
 abbrev pub page_height : ℤ
 page_height = pos 50797
 
@@ -53,16 +54,13 @@ page_height = pos 50797
 abbrev pub page_margin : ℤ
 page_margin = pos 4608
 
--- its frame: what the margins leave
-abbrev pub frame_width : ℤ
-frame_width = pos 26584
-
-abbrev pub frame_height : ℤ
-frame_height = pos 41581
-
 -- the font size that the root begins with, 16 px (CSS 2.1, 'medium')
 abbrev pub root_size : ℤ
 root_size = pos 1024
+
+-- the height of the separator above the notes of a page, 8 px
+abbrev pub separator : ℤ
+separator = pos 512
 
 -- the code has these limits
 pub record LimitsAgree : Type 0 where
@@ -82,6 +80,5 @@ pub record PageAgrees : Type 0 where
   pub width : PAGE_WIDTH ≡ page_width
   pub height : PAGE_HEIGHT ≡ page_height
   pub margin : PAGE_MARGIN ≡ page_margin
-  pub inner_width : FRAME_WIDTH ≡ frame_width
-  pub inner_height : FRAME_HEIGHT ≡ frame_height
   pub size : ROOT_SIZE ≡ root_size
+  pub separator : SEPARATOR ≡ separator

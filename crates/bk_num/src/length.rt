@@ -1,7 +1,7 @@
 //! Lengths made of decimal numbers: of absolute units, and of parts of a base.
 
 ghost use Rattle.std.specs.Prelude.{◌≡◌, ◌+◌, ◌*◌, ◌^◌, ◌<◌, ◌≤◌, ℤ, pos, unsigned_abs, ◌*ℤ◌};
-ghost use Rattle.bk_num.specs.Units.{clamped, rounded};
+ghost use Rattle.bk_num.specs.Units.{rounded};
 ghost use Rattle.bk_num.specs.Lengths.{part, units_per, used_of};
 
 use crate::decimal::Decimal;

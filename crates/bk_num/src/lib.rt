@@ -9,5 +9,6 @@ pub mod length;
 pub mod limits;
 pub mod name;
 pub mod px;
+pub mod sides;
 pub mod steps;
 pub mod values;

@@ -1,4 +1,4 @@
-//! The limits of the program, and the sizes of the page that no sheet changes. Specs name the same numbers.
+//! The limits of the program, and the sizes that a page has where no sheet says another. Specs name the same numbers.
 
 ghost use Rattle.bk_num.specs.Limits.{LimitsAgree, PageAgrees};
 
@@ -41,14 +41,11 @@ pub const PAGE_HEIGHT: i32 = 50797;
 /// Each margin of the default page, in units: 0.75 in.
 pub const PAGE_MARGIN: i32 = 4608;
 
-/// The width of the default page's frame, in units.
-pub const FRAME_WIDTH: i32 = 26584;
-
-/// The height of the default page's frame, in units.
-pub const FRAME_HEIGHT: i32 = 41581;
-
 /// The font size that the root begins with, in units: 16 px (CSS 2.1, `medium`).
 pub const ROOT_SIZE: i32 = 1024;
+
+/// The height of the separator above the notes of a page, in units: 8 px.
+pub const SEPARATOR: i64 = 512;
 
 /// The limits are those that specs name.
 pub fn limits_agree()
