@@ -11,9 +11,10 @@ use Rattle.dom.specs.Nodes.{Node, NodeData, root, changed_at, is_at, first_of, f
 use Rattle.dom.specs.declared.rows.Row.{Row}
 use Rattle.dom.specs.Links.{IsRowOf, root_row, change, linked_before, linked_at}
 use Rattle.dom.specs.DomFields.{node_of, joined, IsLinked, AreSound}
-use Rattle.dom.specs.Answers.{is_too_deep}
+use Rattle.dom.specs.Answers.{is_below_all}
 use Rattle.std.specs.List.{count_by}
 use Rattle.std.proofs.lemmas.List.Sums.{sum_by-append, count_by-le-length}
+use Rattle.bk_num.proofs.ListLemmas.{get-set, get-push, get-keep, get-end, get-before, none-is}
 
 abbrev pub parents_in : List Row → List NodeData → List (Option ℕ)
 parents_in rows whats = parents_of (joined rows whats)
@@ -127,43 +128,6 @@ pub none-behind : (o : Option ℕ) (k : ℕ) → ((i : ℕ) → o ≡ Some i →
 none-behind None k low h = refl
 none-behind (Some i) k low h = let e : i ≡ k = cc in let l = low i refl in absurd (omega arith)
 
--- what a change by place leaves
-pub get-set : {A : Type 0} (xs : List A) (i k : ℕ) (y x : A) → slice_get (slice_set xs i y) k ≡ Some x → (old : A) × (slice_get xs k ≡ Some old) × (((k ≡ i) × (x ≡ y)) ⊎ ((k ≡ i → ⊥) × (x ≡ old)))
-get-set [] i k y x h = cc
-get-set (a ∷ xs) zero zero y x h = (a, refl, inl (refl, cc))
-get-set (a ∷ xs) zero (suc k) y x h = (x, h, inr (λ e. omega arith, refl))
-get-set (a ∷ xs) (suc i) zero y x h = (x, h, inr (λ e. omega arith, refl))
-get-set {A} (a ∷ xs) (suc i) (suc k) y x h = up (get-set xs i k y x h)
-  where
-    up : ((old : A) × (slice_get xs k ≡ Some old) × (((k ≡ i) × (x ≡ y)) ⊎ ((k ≡ i → ⊥) × (x ≡ old)))) → (old : A) × (slice_get xs k ≡ Some old) × (((suc k ≡ suc i) × (x ≡ y)) ⊎ ((suc k ≡ suc i → ⊥) × (x ≡ old)))
-    up (old, g, inl (e, v)) = (old, g, inl (ap (λ n. suc n) e, v))
-    up (old, g, inr (e, v)) = (old, g, inr (λ s. e (omega arith), v))
-
-pub get-push : {A : Type 0} (xs : List A) (y x : A) (k : ℕ) → slice_get (xs ++ y ∷ []) k ≡ Some x → ((k ≡ length xs) × (x ≡ y)) ⊎ (slice_get xs k ≡ Some x)
-get-push [] y x zero h = inl (refl, cc)
-get-push [] y x (suc k) h = cc
-get-push (a ∷ xs) y x zero h = inr h
-get-push (a ∷ xs) y x (suc k) h = up (get-push xs y x k h)
-  where
-    up : ((k ≡ length xs) × (x ≡ y)) ⊎ (slice_get xs k ≡ Some x) → ((suc k ≡ length (a ∷ xs)) × (x ≡ y)) ⊎ (slice_get xs k ≡ Some x)
-    up (inl (e, v)) = inl (ap (λ n. suc n) e, v)
-    up (inr g) = inr g
-
--- reading a list that grew
-get-keep : {A : Type 0} (xs ys : List A) (k : ℕ) (x : A) → slice_get xs k ≡ Some x → slice_get (xs ++ ys) k ≡ Some x
-get-keep [] ys k x h = cc
-get-keep (a ∷ xs) ys zero x h = h
-get-keep (a ∷ xs) ys (suc k) x h = get-keep xs ys k x h
-
-pub get-end : {A : Type 0} (xs : List A) (x : A) → slice_get (xs ++ x ∷ []) (length xs) ≡ Some x
-get-end [] x = refl
-get-end (a ∷ xs) x = get-end xs x
-
-pub get-before : {A : Type 0} (xs : List A) (y : A) (k : ℕ) → k < length xs → slice_get (xs ++ y ∷ []) k ≡ slice_get xs k
-get-before [] y k h = absurd (omega arith)
-get-before (a ∷ xs) y zero h = refl
-get-before (a ∷ xs) y (suc k) h = get-before xs y k (omega arith)
-
 -- no node has a number as its parent: it has no child
 pub no-first : (p : ℕ) (ps : List (Option ℕ)) (k : ℕ) → ((j : ℕ) → slice_get ps j ≡ Some (Some p) → ⊥) → first_from p ps k ≡ None
 no-first p [] k none = refl
@@ -182,10 +146,6 @@ pub first_of-Some : (o z : Option ℕ) → is_some o ≡ true → first_of o z �
 first_of-Some None z h = cc
 first_of-Some (Some x) z h = refl
 
-pub None-first : (o : Option ℕ) → is_some o ≡ false → o ≡ None
-None-first None h = refl
-None-first (Some x) h = cc
-
 pub Some-first : (o : Option ℕ) → (o ≡ None → ⊥) → is_some o ≡ true
 Some-first None h = absurd (h refl)
 Some-first (Some x) h = refl
@@ -196,7 +156,7 @@ pub first-step : (ps : List (Option ℕ)) (p k n : ℕ) (last old new : Option �
 first-step ps p k n last old new len l o (inl (e, none, v)) =
     let f = none-both p ps 0 in
     let s : is_some (last_from p ps 0) ≡ false = ap is_some (sym l ∙ none) in
-    let g : first_from p ps 0 ≡ None = None-first (first_from p ps 0) (f ∙ s) in
+    let g : first_from p ps 0 ≡ None = none-is (first_from p ps 0) (f ∙ s) in
     let t : is_at p (Some p) ≡ true = eqb-self p in
     let z : 0 + length ps ≡ n = omega arith in
     v ∙ sym (rw e (first-push p ps (Some p) 0 ∙ rw (g, t, z) refl))
@@ -243,7 +203,7 @@ next-step ps p k n (Some s) last old new len g l o change =
         let child : slice_get ps k ≡ Some (Some p) = subst (λ i. slice_get ps i ≡ Some (Some p)) m w.2 in
         let same : s ≡ p = (let z = sym g ∙ child in cc) in
         let none = behind child (sym l ∙ e) in
-        let f : first_from s (drop (k + 1) ps) (k + 1) ≡ None = rw same (None-first (first_from p (drop (k + 1) ps) (k + 1)) (none-both p (drop (k + 1) ps) (k + 1) ∙ ap is_some none)) in
+        let f : first_from s (drop (k + 1) ps) (k + 1) ≡ None = rw same (none-is (first_from p (drop (k + 1) ps) (k + 1)) (none-both p (drop (k + 1) ps) (k + 1) ∙ ap is_some none)) in
         let t : (p == s) ≡ true = rw same (eqb-self p) in
         v ∙ sym (rw (f, t) refl)
       where
@@ -590,7 +550,7 @@ linked-new nodes ps es p m added last new r falls within size h l n c = record {
 
     last-is-none : ((length ps ≡ p) × (r.last_child ≡ Some (length ps))) ⊎ ((length ps ≡ p → ⊥) × (r.last_child ≡ new.last_child)) → r.last_child ≡ last_from (length ps) (ps ++ Some p ∷ []) 0
     last-is-none (inl (e, v)) = absurd (omega arith)
-    last-is-none (inr (other, v)) = v ∙ n.last ∙ sym (None-first (last_from (length ps) (ps ++ Some p ∷ []) 0) (sym (none-both (length ps) (ps ++ Some p ∷ []) 0) ∙ ap is_some childless))
+    last-is-none (inr (other, v)) = v ∙ n.last ∙ sym (none-is (last_from (length ps) (ps ++ Some p ∷ []) 0) (sym (none-both (length ps) (ps ++ Some p ∷ []) 0) ∙ ap is_some childless))
 
     next : ((last ≡ Some (length ps)) × (r.next ≡ Some (length ps))) ⊎ ((last ≡ Some (length ps) → ⊥) × (r.next ≡ new.next)) → r.next ≡ next_under (ps ++ Some p ∷ []) (length ps) r.parent
     next (inl (e, v)) =
@@ -700,7 +660,7 @@ last-inside ps p None e = tt
 last-inside ps p (Some l) e = let w = last-is p ps 0 l (sym e) in let u = w.1 in let i = slice_get_within ps w.0 (Some p) w.2 in omega arith
 
 -- a new node that is not too deep
-pub reach-new : (depth : ℕ) (what : NodeData) → depth ≤ 200 → is_too_deep depth what ≡ false → reach_of (depth + 1) what ≤ 201
+pub reach-new : (depth : ℕ) (what : NodeData) → depth ≤ 200 → is_below_all (is_element what) depth ≡ false → reach_of (depth + 1) what ≤ 201
 reach-new depth what h shallow = by (is_element what) shallow
   where
     by : (b : Bool) → (nat_le 200 depth && b) ≡ false → depth + 1 + cond b 1 0 ≤ 201

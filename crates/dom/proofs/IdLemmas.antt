@@ -9,10 +9,10 @@ use Rattle.dom.specs.declared.store.New.{New}
 use Rattle.dom.specs.declared.store.New.TheVariants as new
 use Rattle.dom.specs.Nodes.{Node, NodeData, root, Element, Text, parents_of, flat, depth_at, is_element, is_element_at, is_element_node, attribute_in, attribute_at, attributed, part_of, changed_at, with_attribute, IsTree}
 use Rattle.dom.specs.Order.{way, way_to, comes_after, has_id, is_text, leads, IsFirstOf}
-use Rattle.dom.proofs.NameLemmas.{bytes_same, bytes_self}
 use Rattle.std.proofs.lemmas.Bool.{eq-eqb}
 use Rattle.std.proofs.lemmas.List.{map-append, length-map}
-use Rattle.dom.proofs.DomLemmas.{get-before, get-end, parent-falls, depth-push}
+use Rattle.bk_num.proofs.ListLemmas.{bytes_same, bytes_self, get-before, get-end}
+use Rattle.dom.proofs.DomLemmas.{parent-falls, depth-push}
 use Rattle.dom.proofs.ShapeLemmas.{after-same, shape-with}
 use Rattle.dom.proofs.OrderLemmas.{after-self, after-one-way, after-trans, beyond, inside}
 

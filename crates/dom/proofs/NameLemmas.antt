@@ -3,17 +3,13 @@ use Rattle.std.proofs.Common.{zero, slice_get, get_or, ◌⊎◌, inl, inr, subs
 use Rattle.std.specs.String.{string_bytes, string_eq}
 use Rattle.std.specs.declared.string.String.{String}
 use Rattle.std.specs.Str.{bytes_eq}
-use Rattle.std.proofs.lemmas.Slice.Eq.{bytes_eq-Decides}
 use Rattle.std.proofs.lemmas.List.Quantifiers.{position-Some}
 use Rattle.std.proofs.lemmas.Option.{slice_get-get_or}
 use Rattle.dom.specs.NameLists.{with_name, AreOnce}
 use Rattle.std.specs.List.{list_any, prefix_len, position_or_len}
 use Rattle.std.proofs.lemmas.List.{length-map, map-append}
 use Rattle.std.proofs.lemmas.Bool.Decides.{nat_tests}
-
-prefix_len-map : {A B : Type 0} (f : A → B) (p : B → Bool) (xs : List A) → prefix_len p (map f xs) ≡ prefix_len (λ x. p (f x)) xs
-prefix_len-map f p [] = refl
-prefix_len-map f p (x ∷ xs) = ap (λ n. cond (p (f x)) (1 + n) 0) (prefix_len-map f p xs)
+use Rattle.bk_num.proofs.ListLemmas.{prefix_len-map, bytes_same, bytes_self, get-push}
 
 pub position-map : {A B : Type 0} (f : A → B) (test : B → Bool) (xs : List A) → position test (map f xs) ≡ position (λ x. test (f x)) xs
 position-map f test xs = rw (prefix_len-map f (λ x. not (test x)) xs, length-map xs f) refl
@@ -50,12 +46,6 @@ names-new {S} text keys key name is none =
     let no : list_any (λ k. bytes_eq (text key) (text k)) keys ≡ false = any-position (λ k. bytes_eq (text key) (text k)) keys ∙ ap is_some (sym (position-map text (bytes_eq (text key)) keys) ∙ at) in
     rw (no, none) (map-append text keys (key ∷ []) ∙ ap (λ n. map text keys ++ n ∷ []) is)
 
-pub bytes_same : (xs ys : List ℕ) → bytes_eq xs ys ≡ true → xs ≡ ys
-bytes_same xs ys e = (bytes_eq-Decides xs ys).0 e
-
-pub bytes_self : (xs : List ℕ) → bytes_eq xs xs ≡ true
-bytes_self xs = (bytes_eq-Decides xs xs).1 refl
-
 any-get : {A : Type 0} (test : A → Bool) (xs : List A) (j : ℕ) (x : A) → slice_get xs j ≡ Some x → test x ≡ true → list_any test xs ≡ true
 any-get test [] j x g t = cc
 any-get test (a ∷ xs) zero x g t = let e : a ≡ x = cc in rw (e, t) refl
@@ -79,22 +69,12 @@ is-there names name k e =
     let p = position-Some (bytes_eq name) names k [] e in
     (p.0, slice_get-get_or names k [] p.0 ∙ ap (λ n. Some n) (sym (bytes_same name (get_or names k []) p.1)))
 
-get-push-name : (names : List (List ℕ)) (name x : List ℕ) (k : ℕ) → slice_get (names ++ name ∷ []) k ≡ Some x → ((k ≡ length names) × (x ≡ name)) ⊎ (slice_get names k ≡ Some x)
-get-push-name [] name x zero h = inl (refl, cc)
-get-push-name [] name x (suc k) h = cc
-get-push-name (a ∷ names) name x zero h = inr h
-get-push-name (a ∷ names) name x (suc k) h = up (get-push-name names name x k h)
-  where
-    up : (((k ≡ length names) × (x ≡ name)) ⊎ (slice_get names k ≡ Some x)) → ((suc k ≡ suc (length names)) × (x ≡ name)) ⊎ (slice_get names k ≡ Some x)
-    up (inl (e, v)) = inl (ap (λ n. suc n) e, v)
-    up (inr g) = inr g
-
 pub once-with : (names : List (List ℕ)) (name : List ℕ) → AreOnce names → AreOnce (with_name names name)
 once-with names name once = by (position (bytes_eq name) names) refl
   where
     by : (o : Option ℕ) → position (bytes_eq name) names ≡ o → AreOnce (cond (is_some o) names (names ++ name ∷ []))
     by (Some k) e = once
-    by None e = λ i j x g h. both i j x (get-push-name names name x i g) (get-push-name names name x j h)
+    by None e = λ i j x g h. both i j x (get-push names name x i g) (get-push names name x j h)
       where
         both : (i j : ℕ) (x : List ℕ) → (((i ≡ length names) × (x ≡ name)) ⊎ (slice_get names i ≡ Some x)) → (((j ≡ length names) × (x ≡ name)) ⊎ (slice_get names j ≡ Some x)) → i ≡ j
         both i j x (inl (a, v)) (inl (b, w)) = a ∙ sym b

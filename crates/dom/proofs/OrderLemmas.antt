@@ -8,7 +8,8 @@ use Rattle.std.specs.Cmp.Lexicographic.{slice_cmp}
 use Rattle.std.specs.Ordering.{nat_cmp, is_gt, ordering_reverse}
 use Rattle.std.specs.declared.cmp.Ordering.{Ordering}
 use Rattle.std.specs.declared.cmp.Ordering.TheVariants.{Less, Equal, Greater}
-use Rattle.std.proofs.lemmas.Option.{slice_get-map}
+use Rattle.std.proofs.lemmas.Option.{slice_get-map, slice_get_past}
+use Rattle.bk_num.proofs.ListLemmas.{slice_get_at}
 use Rattle.dom.specs.Nodes.{Node, parents_of, parent_at, flat, depth_at, depth_of, IsTree, HasPlace}
 use Rattle.dom.specs.Order.{way, way_to, comes_after, has_id, IsFirstOf}
 
@@ -18,16 +19,6 @@ use Rattle.dom.specs.Order.{way, way_to, comes_after, has_id, IsFirstOf}
 abbrev pub IsStep : List Node → ℕ → Option ℕ → Type 0
 IsStep nodes d None = d ≡ 0
 IsStep nodes d (Some n) = (n < length nodes) × (depth_at nodes n ≡ d)
-
-pub slice_get_at : {A : Type 0} (xs : List A) (k : ℕ) → k < length xs → (x : A) × (slice_get xs k ≡ Some x)
-slice_get_at [] k h = absurd (omega arith)
-slice_get_at (a ∷ xs) zero h = (a, refl)
-slice_get_at (a ∷ xs) (suc k) h = slice_get_at xs k (omega arith)
-
-pub get-past : {A : Type 0} (xs : List A) (k : ℕ) → length xs ≤ k → slice_get xs k ≡ None
-get-past [] k h = refl
-get-past (a ∷ xs) zero h = absurd (omega arith)
-get-past (a ∷ xs) (suc k) h = get-past xs k (omega arith)
 
 parent-of : (nodes : List Node) (k : ℕ) (n : Node) → slice_get nodes k ≡ Some n → parent_at (parents_of nodes) k ≡ n.parent
 parent-of nodes k n h = ap flat (slice_get-map (λ (n : Node). n.parent) nodes k ∙ ap (option_map (λ (n : Node). n.parent)) h)
@@ -85,7 +76,7 @@ module _ (nodes : List Node) where
 
   module _ (id : List ℕ) where
     pub beyond : (m : ℕ) → length nodes ≤ m → has_id nodes id m ≡ false
-    beyond m h = rw (get-past nodes m h) refl
+    beyond m h = rw (slice_get_past nodes m h) refl
 
     -- an element of an id is a node
     pub inside : (n : ℕ) → has_id nodes id n ≡ true → n < length nodes

@@ -6,13 +6,14 @@ use Rattle.std.specs.Str.{bytes_eq, IsUtf8}
 use Rattle.std.proofs.lemmas.Option.{slice_get-get_or, slice_get_read, unwrap_or-slice_get}
 use Rattle.std.specs.Map.{lookup}
 use Rattle.dom.specs.NameLists.{with_name, place_of, AreOnce}
-use Rattle.dom.proofs.NameLemmas.{bytes_same, bytes_self, not-there, is-there}
+use Rattle.dom.proofs.NameLemmas.{not-there, is-there}
 use Rattle.dom.proofs.SpanLemmas.{between-append, fits-append}
 use Rattle.std.proofs.lemmas.Bool.{and_parts, and_from}
 use Rattle.dom.specs.Keys.{is_key}
 use Rattle.dom.specs.Nodes.{NodeData, Element, Text, attributed, changed_at, is_element, attribute_in}
 use Rattle.dom.specs.Pairs.{pair_value}
 use Rattle.std.specs.Option.{option_and_then}
+use Rattle.bk_num.proofs.ListLemmas.{bytes_same, bytes_self, get-append, get-push, get-end}
 use Rattle.dom.specs.Spans.{between, Fits}
 use Rattle.dom.specs.StoreFields.{name_of, pair_of, attributes_of, node_of, nodes_from, ItemFits, EntryFits, AreSound}
 use Rattle.dom.specs.declared.texts.Span.{Span}
@@ -129,17 +130,12 @@ module _ (names : List (List ℕ)) (texts : List ℕ) where
 
 -- ---- names and texts that go on
 
-get-keep : {A : Type 0} (xs ys : List A) (k : ℕ) → k < length xs → slice_get (xs ++ ys) k ≡ slice_get xs k
-get-keep [] ys k h = absurd (omega arith)
-get-keep (x ∷ xs) ys zero h = refl
-get-keep (x ∷ xs) ys (suc k) h = get-keep xs ys k (omega arith)
-
 pub grow-name : (names : List (List ℕ)) (texts : List ℕ) (name : List ℕ) → Grow names texts (with_name names name) texts
 grow-name names texts name = by (is_some (position (bytes_eq name) names))
   where
     by : (b : Bool) → Grow names texts (cond b names (names ++ name ∷ [])) texts
     by true = record { name = λ k h. refl; count = omega arith; text = λ s f. refl; fits = λ s f. f }
-    by false = record { name = λ k h. ap (λ o. unwrap_or o []) (get-keep names (name ∷ []) k h); count = (let a = length-append names (name ∷ []) in omega arith); text = λ s f. refl; fits = λ s f. f }
+    by false = record { name = λ k h. ap (λ o. unwrap_or o []) (get-append names (name ∷ []) k h); count = (let a = length-append names (name ∷ []) in omega arith); text = λ s f. refl; fits = λ s f. f }
 
 pub grow-text : (names : List (List ℕ)) (texts more : List ℕ) → IsUtf8 more → Grow names texts names (texts ++ more)
 grow-text names texts more u = record { name = λ k h. refl; count = omega arith; text = λ s f. between-append texts more s f; fits = λ s f. fits-append texts more s u f }
@@ -153,17 +149,11 @@ nodes-kept names names' texts texts' es is g s = nodes-grow names texts names' t
 
 -- ---- one more item
 
-pub get-push : {A : Type 0} (xs : List A) (y x : A) (k : ℕ) → slice_get (xs ++ y ∷ []) k ≡ Some x → (x ≡ y) ⊎ (slice_get xs k ≡ Some x)
-get-push [] y x zero h = inl cc
-get-push [] y x (suc k) h = cc
-get-push (a ∷ xs) y x zero h = inr h
-get-push (a ∷ xs) y x (suc k) h = get-push xs y x k h
-
 pub sound-push : (names : List (List ℕ)) (texts : List ℕ) (es : List (Key × Span)) (is : List Item) (i : Item) → AreSound names texts es is → ItemFits names texts i → AreSound names texts es (is ++ i ∷ [])
 sound-push names texts es is i s f = record { items = λ k j g. item j k (get-push is i j k g); entries = λ k e g. entry e (s.entries k e g) }
   where
-    item : (j : Item) (k : ℕ) → ((j ≡ i) ⊎ (slice_get is k ≡ Some j)) → ItemFits names texts j
-    item j k (inl e) = subst (ItemFits names texts) (sym e) f
+    item : (j : Item) (k : ℕ) → (((k ≡ length is) × (j ≡ i)) ⊎ (slice_get is k ≡ Some j)) → ItemFits names texts j
+    item j k (inl (at, e)) = subst (ItemFits names texts) (sym e) f
     item j k (inr g) = s.items k j g
 
     entry : (e : Key × Span) → EntryFits names texts (length is) e → EntryFits names texts (length (is ++ i ∷ [])) e
@@ -173,10 +163,6 @@ sound-push names texts es is i s f = record { items = λ k j g. item j k (get-pu
 pub place-name : (names : List (List ℕ)) (name : List ℕ) → (slice_get (with_name names name) (place_of names name) ≡ Some name) × (place_of names name < length (with_name names name))
 place-name names name = by (position (bytes_eq name) names) refl
   where
-    get-end : {A : Type 0} (xs : List A) (x : A) → slice_get (xs ++ x ∷ []) (length xs) ≡ Some x
-    get-end [] x = refl
-    get-end (a ∷ xs) x = get-end xs x
-
     by : (o : Option ℕ) → position (bytes_eq name) names ≡ o → (slice_get (cond (is_some o) names (names ++ name ∷ [])) (unwrap_or o (length names)) ≡ Some name) × (unwrap_or o (length names) < length (cond (is_some o) names (names ++ name ∷ [])))
     by None e = (get-end names name, (let a = length-append names (name ∷ []) in omega arith))
     by (Some k) e =
@@ -284,8 +270,8 @@ none-map f (Some x) h = cc
 pub attr-sound : (names : List (List ℕ)) (texts : List ℕ) (es : List (Key × Span)) (is : List Item) (e : Key × Span) → AreSound names texts es is → EntryFits names texts (length is) e → AreSound names texts (es ++ e ∷ []) is
 attr-sound names texts es is e s f = record { items = s.items; entries = λ k d g. by d k (get-push es e d k g) }
   where
-    by : (d : Key × Span) (k : ℕ) → ((d ≡ e) ⊎ (slice_get es k ≡ Some d)) → EntryFits names texts (length is) d
-    by d k (inl v) = subst (EntryFits names texts (length is)) (sym v) f
+    by : (d : Key × Span) (k : ℕ) → (((k ≡ length es) × (d ≡ e)) ⊎ (slice_get es k ≡ Some d)) → EntryFits names texts (length is) d
+    by d k (inl (at, v)) = subst (EntryFits names texts (length is)) (sym v) f
     by d k (inr g) = s.entries k d g
 
 pub item-at : (names : List (List ℕ)) (texts : List ℕ) (es : List (Key × Span)) (is : List Item) (n : ℕ) (i : Item) → n < length is → i ≡ get_or is n i → (slice_get is n ≡ Some i) × (slice_get (nodes_from names texts es 0 is) n ≡ Some (node_of names texts es n i))

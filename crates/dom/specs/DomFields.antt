@@ -6,6 +6,7 @@ use Rattle.dom.specs.Ids.{first_in}
 use Rattle.dom.specs.declared.rows.Row.{Row}
 use Rattle.dom.specs.declared.dom.Dom.TheInside.{Inside}
 
+-- a node: where its row has it, and what it is
 abbrev pub node_of : Row → NodeData → Node
 node_of r what = record { parent = r.parent; depth = r.depth; what = what }
 
@@ -15,6 +16,7 @@ joined [] whats = []
 joined (r ∷ rows) [] = []
 joined (r ∷ rows) (what ∷ whats) = node_of r what ∷ joined rows whats
 
+-- the nodes that contracts see
 abbrev pub nodes_of : Inside → List Node
 nodes_of a = joined a.rows.items a.store
 
@@ -27,11 +29,14 @@ pub record IsLinked (ps es : List (Option ℕ)) (k : ℕ) (r : Row) : Type 0 whe
   pub before : r.elements_before ≡ elements_under es k r.parent
   pub elements : r.elements ≡ element_count es k
 
+-- rows and what they are: one row a node, each linked as the parents' numbers say
 pub record AreSound (rows : List Row) (whats : List NodeData) : Type 0 where
   pub count : length whats ≡ length rows
   pub tree : IsTree (joined rows whats)
-  pub linked : (k : ℕ) (r : Row) → slice_get rows k ≡ Some r → IsLinked (parents_of (joined rows whats)) (element_parents_of (joined rows whats)) k r
+  pub linked : (k : ℕ) (r : Row) → slice_get rows k ≡ Some r →
+      IsLinked (parents_of (joined rows whats)) (element_parents_of (joined rows whats)) k r
 
+-- a document: sound rows, and for each id the first element that has it
 pub record IsSound (a : Inside) : Type 0 where
   pub rows : AreSound a.rows.items a.store
   pub firsts : (id : List ℕ) → IsFirstOf (nodes_of a) id (first_in a.ids id)

@@ -14,19 +14,42 @@ pub record IsRowOf (nodes : List Node) (k : ℕ) (r : Row) : Type 0 where
   pub before : r.elements_before ≡ elements_before_of nodes k
   pub elements : r.elements ≡ element_count (element_parents_of nodes) k
 
+-- where node 0 stands
 abbrev pub root_row : Row
-root_row = record { parent = None; first_child = None; last_child = None; next = None; prev = None; elements_before = 0; elements = 0; depth = 1 }
+root_row = record {
+  parent = None;
+  first_child = None;
+  last_child = None;
+  next = None;
+  prev = None;
+  elements_before = 0;
+  elements = 0;
+  depth = 1;
+}
 
+-- where a new last child stands, whose parent has so many element children before it
 abbrev pub child_row : ℕ → ℕ → Option ℕ → ℕ → Row
-child_row parent depth last before = record { parent = Some parent; first_child = None; last_child = None; next = None; prev = last; elements_before = before; elements = 0; depth = depth + 1 }
+child_row parent depth last before = record {
+  parent = Some parent;
+  first_child = None;
+  last_child = None;
+  next = None;
+  prev = last;
+  elements_before = before;
+  elements = 0;
+  depth = depth + 1;
+}
 
 -- the row at a place, changed
 abbrev pub change : (Row → Row) → List Row → ℕ → List Row
 change f rows k = changed_at f rows k (slice_get rows k)
 
+-- the rows after a new child: its parent's first child, or the next sibling of the last one
 abbrev pub linked_before : List Row → ℕ → Option ℕ → ℕ → List Row
 linked_before rows parent None index = change (λ r. record r { first_child = Some index }) rows parent
 linked_before rows parent (Some l) index = change (λ r. record r { next = Some index }) rows l
 
+-- the rows after a new child, which is its parent's last one, where the parent has so many element children
 abbrev pub linked_at : List Row → ℕ → Option ℕ → ℕ → ℕ → List Row
-linked_at rows parent last index elements = change (λ r. record r { last_child = Some index; elements = elements }) (linked_before rows parent last index) parent
+linked_at rows parent last index elements = change (λ r. record r { last_child = Some index; elements = elements })
+    (linked_before rows parent last index) parent

@@ -15,10 +15,12 @@ way ps (suc d) (Some n) = way ps d (parent_at ps n) ++ n ∷ []
 abbrev pub way_to : List Node → ℕ → List ℕ
 way_to nodes n = way (parents_of nodes) (depth_at nodes n) (Some n)
 
--- whether one node comes after another in tree order (DOM, 4.2, "tree order"): the order of their ways, the shorter before what goes on from it
+-- whether one node comes after another in tree order (DOM, 4.2, "tree order"): the order of their ways, the shorter
+-- before what goes on from it
 abbrev pub comes_after : List Node → ℕ → ℕ → Bool
 comes_after nodes a b = is_gt (slice_cmp nat_cmp (way_to nodes a) (way_to nodes b))
 
+-- whether a value is there and is this text
 abbrev pub is_text : List ℕ → Option (List ℕ) → Bool
 is_text id None = false
 is_text id (Some value) = bytes_eq value id
@@ -29,7 +31,8 @@ has_id nodes id n = is_text id (attribute_at nodes n (105 ∷ 100 ∷ []))
 
 -- the element of an id that comes after no other, or none where there is none
 abbrev pub IsFirstOf : List Node → List ℕ → Option ℕ → Type 0
-IsFirstOf nodes id r = MatchOption r ((m : ℕ) → has_id nodes id m ≡ false) (λ n. (has_id nodes id n ≡ true) × ((m : ℕ) → has_id nodes id m ≡ true → comes_after nodes n m ≡ false))
+IsFirstOf nodes id r = MatchOption r ((m : ℕ) → has_id nodes id m ≡ false)
+    (λ n. (has_id nodes id n ≡ true) × ((m : ℕ) → has_id nodes id m ≡ true → comes_after nodes n m ≡ false))
 
 -- whether a node comes before the first of an id, if there is one
 abbrev pub leads : List Node → ℕ → Option ℕ → Bool
@@ -40,4 +43,5 @@ leads nodes n (Some m) = comes_after nodes m n
 
 -- an id has one first element
 abbrev pub FirstIsOne : Type 0
-FirstIsOne = (nodes : List Node) (id : List ℕ) (a b : Option ℕ) → IsTree nodes → IsFirstOf nodes id a → IsFirstOf nodes id b → a ≡ b
+FirstIsOne = (nodes : List Node) (id : List ℕ) (a b : Option ℕ) → IsTree nodes → IsFirstOf nodes id a →
+    IsFirstOf nodes id b → a ≡ b

@@ -1,4 +1,5 @@
--- The steps of a walk through a tree: preorder, depth first (DOM, 4.2 "tree order"), each node entered, and left after its descendants.
+-- The steps of a walk through a tree: preorder, depth first (DOM, 4.2 "tree order"), each node entered, and left after
+-- its descendants.
 use Rattle.std.specs.Prelude.{ℕ, zero, suc, ◌+◌, List, [], ◌∷◌, ◌++◌, Option, length, if◌then◌else◌}
 use Rattle.std.specs.List.{flat_map}
 use Rattle.dom.specs.Nodes.{Node, is_at, parents_of}

@@ -10,7 +10,7 @@ ghost use Rattle.dom.specs.Order.{IsFirstOf, comes_after, leads, way_to};
 ghost use Rattle.dom.specs.Answers.{AddAnswers, HasRoom, is_below_all};
 
 use crate::ids::{Ids, first, make_room, set_first};
-use crate::rows::{Row, child_row, link, root_row};
+use crate::rows::{Row, child_row, link, root_rows};
 use crate::store::{New, Store};
 use bk_num::ids::NodeId;
 use bk_num::limits::{MOST_DEPTH, MOST_NODES};
@@ -19,18 +19,33 @@ use indexmap::IndexMap;
 use std::alloc::Global;
 use std::cmp::Ordering;
 use std::marker::Model;
+use thiserror::Error;
 
 /// The most nodes on the way from the root to a node: 200 elements and a text.
 const WAY: usize = 201;
 
 /// Why a node was not added.
-#[derive(Clone, Copy, PartialEq, Eq, Debug)]
+#[derive(Clone, Copy, PartialEq, Eq, Debug, Error)]
 pub enum DomErr {
     /// There are 400,000 nodes already.
+    #[error("too many nodes")]
     Nodes,
     /// The element would be at depth 201.
+    #[error("too deep")]
     Depth,
+    #[error("no memory")]
     NoMemory,
+}
+
+impl From<NoMem> for DomErr {
+    ghost use Rattle.std.specs.Prelude.{◌≡◌};
+    ghost use Rattle.dom.specs.declared.dom.DomErr.TheVariants.{NoMemory};
+
+    ghost from_gives = { λ _ e. e ≡ NoMemory };
+
+    fn from(_e: NoMem) -> DomErr {
+        DomErr::NoMemory
+    }
 }
 
 /// A document. Contracts see the list of its nodes, each with the number of its parent. Node 0 is the element `html`.
@@ -60,14 +75,8 @@ impl Dom {
         ensures ok { IfOk result (λ dom. dom ≡ root ∷ []) }
         ensures err { IfErr result (λ e. e ≡ DomErr.NoMemory) }
     {
-        let mut store = Store::new(alloc);
-        if store.add_element(alloc, "html").is_err() {
-            return Err(DomErr::NoMemory);
-        }
-        let mut rows = Vec::new(alloc);
-        if rows.push(root_row()).is_err() {
-            return Err(DomErr::NoMemory);
-        }
+        let store = Store::of_element(alloc, "html")?;
+        let rows = root_rows(alloc)?;
         Ok(Dom {
             rows,
             store,
@@ -89,6 +98,7 @@ impl Dom {
         ensures some { 0 < length self.now }
         ensures tree { IsTree self.now }
     {
+        // the look at a row shows the proof that there is one
         let _ = &self.rows;
         NodeId(0)
     }
@@ -233,7 +243,8 @@ impl Dom {
         requires node { node.0 < length self.old }
         requires element { IsTrue (is_element_at self.old node.0) }
         ensures added { IfOk result (λ b. b ≡ not (is_some (attribute_at self.old node.0 name.now))) }
-        ensures ok { IfOk result (λ b. self.new ≡ (if b then with_attribute self.old node.0 name.now value.now else self.old)) }
+        ensures ok { IfOk result (λ b. self.new
+            ≡ (if b then with_attribute self.old node.0 name.now value.now else self.old)) }
         ensures err { OnErr result (self.new ≡ self.old) }
     {
         if name == "id" {
@@ -247,7 +258,8 @@ impl Dom {
         requires node { node.0 < length self.old }
         requires element { IsTrue (is_element_at self.old node.0) }
         ensures added { IfOk result (λ b. b ≡ not (is_some (attribute_at self.old node.0 (codes "id")))) }
-        ensures ok { IfOk result (λ b. self.new ≡ (if b then with_attribute self.old node.0 (codes "id") value.now else self.old)) }
+        ensures ok { IfOk result (λ b. self.new
+            ≡ (if b then with_attribute self.old node.0 (codes "id") value.now else self.old)) }
         ensures err { OnErr result (self.new ≡ self.old) }
     {
         let leads = self.leads(node, first(&self.ids, value));

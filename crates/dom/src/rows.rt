@@ -1,7 +1,9 @@
 //! The rows of a document: where each node stands.
-ghost use Rattle.std.specs.Prelude.{vec_len, IfSome, ◌≡◌, ◌<◌, Some};
+ghost use Rattle.std.specs.Prelude.{vec_len, IfOk, IfSome, ◌≡◌, ◌<◌, ◌∷◌, [], Some};
 ghost use Rattle.dom.specs.Links.{linked_at, root_row, child_row};
 
+use bk_num::name::NoMem;
+use std::alloc::Global;
 use std::marker::Model;
 
 /// The number of no node.
@@ -44,7 +46,8 @@ impl NodeLink {
     }
 }
 
-/// Where a node stands: its parent, its depth, its links, and the counts of the elements before it among its siblings and among its children.
+/// Where a node stands: its parent, its depth, its links, and the counts of the elements before it among its siblings
+/// and among its children.
 #[derive(Drop)]
 pub(crate) struct Row {
     pub(crate) parent: NodeLink,
@@ -71,6 +74,15 @@ pub(crate) fn root_row() -> Row
         elements: 0,
         depth: 1,
     }
+}
+
+/// Where node 0 stands, alone.
+pub(crate) fn root_rows(alloc: Global) -> Result<Vec<Row>, NoMem>
+    ensures { IfOk result (λ rows. rows.items ≡ root_row ∷ []) }
+{
+    let mut rows = Vec::new(alloc);
+    rows.push(root_row())?;
+    Ok(rows)
 }
 
 /// Where the next child of an element of this depth stands, after its last child and the element children that it has.

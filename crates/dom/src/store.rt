@@ -76,7 +76,8 @@ fn find(attributes: &IndexMap<Key, Span>, node: u32, name: u32) -> Option<Span>
 /// Adds an attribute that is not there.
 fn put(attributes: &mut IndexMap<Key, Span>, node: u32, name: u32, span: Span) -> Result<(), NoMem>
     requires { lookup (is_key node name) attributes.old.entries ≡ None }
-    ensures ok { OnOk result (attributes.new.entries ≡ attributes.old.entries ++ (record { node = node; name = name }, span) ∷ []) }
+    ensures ok { OnOk result (attributes.new.entries
+        ≡ attributes.old.entries ++ (record { node = node; name = name }, span) ∷ []) }
     ensures err { OnErr result (attributes.new.entries ≡ attributes.old.entries) }
 {
     if attributes.insert(Key { node, name }, span).is_err() {
@@ -96,6 +97,15 @@ impl Store {
             attributes: IndexMap::new(alloc),
             items: Vec::new(alloc),
         }
+    }
+
+    /// An element without attributes alone.
+    pub(crate) fn of_element(alloc: Global, name: &str) -> Result<Store, NoMem>
+        ensures { IfOk result (λ store. store ≡ Element name.now [] ∷ []) }
+    {
+        let mut store = Store::new(alloc);
+        store.add_element(alloc, name)?;
+        Ok(store)
     }
 
     /// Adds a node.
@@ -142,8 +152,10 @@ impl Store {
         value: &str,
     ) -> Result<bool, NoMem>
         requires { option_map is_element (slice_get self.old node) ≡ Some true }
-        ensures added { IfOk result (λ b. b ≡ not (is_some (option_and_then (attribute_in name.now) (slice_get self.old node)))) }
-        ensures ok { IfOk result (λ b. self.new ≡ (if b then changed_at (attributed name.now value.now) self.old node (slice_get self.old node) else self.old)) }
+        ensures added { IfOk result (λ b. b
+            ≡ not (is_some (option_and_then (attribute_in name.now) (slice_get self.old node)))) }
+        ensures ok { IfOk result (λ b. self.new ≡ (if b
+            then changed_at (attributed name.now value.now) self.old node (slice_get self.old node) else self.old)) }
         ensures err { OnErr result (self.new ≡ self.old) }
     {
         if self.attr(node, name).is_some() {

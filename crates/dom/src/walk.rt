@@ -68,7 +68,8 @@ impl<'a> Walk<'a> {
 fn step_inside(dom: &Dom, node: NodeId) -> Step
     requires tree { IsTree dom.now }
     requires within { node.0 < length dom.now }
-    ensures steps { steps_from (parents_of dom.now) (Some (Enter node)) ≡ Enter node ∷ steps_from (parents_of dom.now) (Some result) }
+    ensures steps { steps_from (parents_of dom.now) (Some (Enter node))
+        ≡ Enter node ∷ steps_from (parents_of dom.now) (Some result) }
     ensures within { node_of result < length dom.now }
 {
     match dom.first_child(node) {
@@ -81,7 +82,8 @@ fn step_inside(dom: &Dom, node: NodeId) -> Step
 fn step_beyond(dom: &Dom, node: NodeId) -> Option<Step>
     requires tree { IsTree dom.now }
     requires within { node.0 < length dom.now }
-    ensures steps { steps_from (parents_of dom.now) (Some (Leave node)) ≡ Leave node ∷ steps_from (parents_of dom.now) result }
+    ensures steps { steps_from (parents_of dom.now) (Some (Leave node))
+        ≡ Leave node ∷ steps_from (parents_of dom.now) result }
     ensures within { IfSome result (λ s. node_of s < length dom.now) }
 {
     match dom.next_sibling(node) {

@@ -4,10 +4,9 @@ use Rattle.std.specs.List.{flat_map}
 use Rattle.std.proofs.lemmas.List.{take-append-drop, length-take-le}
 use Rattle.html_tok.specs.Pieces.{Piece, piece_at, raw_after}
 use Rattle.html_tok.specs.Listed.{view_at, tokens_after, ArePlaced}
-use Rattle.html_tok.specs.declared.raw.RawElement.{RawElement}
 use Rattle.html_tok.proofs.PieceLemmas.{piece-cut}
 
-tokens-later : (n at : ℕ) (awaited : Option RawElement) (bs : List ℕ) → tokens_after n at awaited bs ≡ tokens_after 0 (at + n) awaited (drop n bs)
+tokens-later : (n at : ℕ) (awaited : Option (List ℕ)) (bs : List ℕ) → tokens_after n at awaited bs ≡ tokens_after 0 (at + n) awaited (drop n bs)
 unfolding tokens_after
 tokens-later zero at awaited [] = refl
 tokens-later (suc n) at awaited [] = refl
@@ -15,7 +14,7 @@ tokens-later zero at awaited (b ∷ bs) = ap (λ m. tokens_after 0 m awaited (b 
 tokens-later (suc n) at awaited (b ∷ bs) = tokens-later n (at + 1) awaited bs ∙ ap (λ m. tokens_after 0 m awaited (drop n bs)) (let e : at + 1 + n ≡ at + suc n = omega arith in e)
 
 -- the first token and those after it
-pub tokens-step : (at : ℕ) (awaited : Option RawElement) (bs : List ℕ) → 0 < length bs → tokens_after 0 at awaited bs ≡ view_at at bs (piece_at awaited bs) ∷ tokens_after 0 (at + (piece_at awaited bs).len) (raw_after (piece_at awaited bs).kind) (drop (piece_at awaited bs).len bs)
+pub tokens-step : (at : ℕ) (awaited : Option (List ℕ)) (bs : List ℕ) → 0 < length bs → tokens_after 0 at awaited bs ≡ view_at at bs (piece_at awaited bs) ∷ tokens_after 0 (at + (piece_at awaited bs).len) (raw_after (piece_at awaited bs).kind) (drop (piece_at awaited bs).len bs)
 unfolding tokens_after
 tokens-step at awaited [] l = absurd (omega arith)
 tokens-step at awaited (b ∷ bs) l = ap (λ ts. view_at at (b ∷ bs) (piece_at awaited (b ∷ bs)) ∷ ts) (past at (b ∷ bs) b bs refl (piece_at awaited (b ∷ bs)) (piece-cut awaited (b ∷ bs) l).some)
@@ -27,7 +26,7 @@ tokens-step at awaited (b ∷ bs) l = ap (λ ts. view_at at (b ∷ bs) (piece_at
         ∙ ap (λ m. tokens_after 0 m (raw_after p.kind) (drop (p.len - 1) bs)) (let n : at + 1 + (p.len - 1) ≡ at + p.len = omega arith in n)
         ∙ ap (λ m. tokens_after 0 (at + p.len) (raw_after p.kind) (drop m (b ∷ bs))) (sym s)
 
-pub tokens-none : (at : ℕ) (awaited : Option RawElement) (bs : List ℕ) → length bs ≡ 0 → tokens_after 0 at awaited bs ≡ []
+pub tokens-none : (at : ℕ) (awaited : Option (List ℕ)) (bs : List ℕ) → length bs ≡ 0 → tokens_after 0 at awaited bs ≡ []
 unfolding tokens_after
 tokens-none at awaited [] h = refl
 tokens-none at awaited (b ∷ bs) h = absurd (omega arith)
@@ -37,7 +36,7 @@ whole : (m : ℕ) (b : ℕ) (bs : List ℕ) → 0 < m → take m (b ∷ bs) ++ d
 whole zero b bs h = absurd (omega arith)
 whole (suc m) b bs h = let e : suc m - 1 ≡ m = omega arith in rw e (ap (λ r. b ∷ r) (take-append-drop m bs))
 
-joined-after : (n at : ℕ) (awaited : Option RawElement) (bs : List ℕ) → flat_map (λ t. t.slice) (tokens_after n at awaited bs) ≡ drop n bs
+joined-after : (n at : ℕ) (awaited : Option (List ℕ)) (bs : List ℕ) → flat_map (λ t. t.slice) (tokens_after n at awaited bs) ≡ drop n bs
 unfolding tokens_after
 joined-after zero at awaited [] = refl
 joined-after (suc n) at awaited [] = refl
@@ -46,7 +45,7 @@ joined-after zero at awaited (b ∷ bs) =
     ap (λ r. take (piece_at awaited (b ∷ bs)).len (b ∷ bs) ++ r) (joined-after ((piece_at awaited (b ∷ bs)).len - 1) (at + 1) (raw_after (piece_at awaited (b ∷ bs)).kind) bs)
     ∙ whole (piece_at awaited (b ∷ bs)).len b bs (piece-cut awaited (b ∷ bs) (omega arith)).some
 
-placed-after : (n at : ℕ) (awaited : Option RawElement) (bs : List ℕ) → ArePlaced (at + n) (tokens_after n at awaited bs)
+placed-after : (n at : ℕ) (awaited : Option (List ℕ)) (bs : List ℕ) → ArePlaced (at + n) (tokens_after n at awaited bs)
 unfolding tokens_after
 placed-after zero at awaited [] = tt
 placed-after (suc n) at awaited [] = tt

@@ -8,11 +8,7 @@ use Rattle.std.proofs.lemmas.Str.{IsCharBoundary-after_ascii}
 use Rattle.std.proofs.lemmas.Bool.{eqb-true, and_parts}
 use Rattle.html_tok.specs.Classes.{ends_name, from_first, is_between}
 use Rattle.html_tok.specs.Tags.{end_after, tag_end, attribute_len}
-use Rattle.html_tok.specs.Pieces.{opening_of, is_start, is_end, is_text, text_len, start_piece, close_piece, start_at, close_at, piece_of, raw_piece, piece_at}
-use Rattle.html_tok.specs.declared.scan.Opening.{Opening}
-use Rattle.html_tok.specs.declared.scan.Opening.TheVariants as opens
-use Rattle.html_tok.specs.declared.scan.Until.TheVariants as until
-use Rattle.html_tok.specs.declared.raw.RawElement.{RawElement}
+use Rattle.html_tok.specs.Pieces.{opening_of, is_start, is_end, is_text, text_len, start_piece, close_piece, start_at, close_at, piece_of, raw_piece, piece_at, Opening, opens_comment, opens_bogus, opens_end, opens_start, opens_text, by_markup, by_end_of}
 use Rattle.html_tok.proofs.Places.{place-le}
 use Rattle.html_tok.proofs.Ends.{through_le, through_some}
 use Rattle.html_tok.proofs.TextLen.{text_boundary, text_len_more}
@@ -22,7 +18,7 @@ pub record Begins (bs : List ℕ) (a b : ℕ) : Type 0 where
   pub first : get_or bs 0 0 ≡ a
   pub second : get_or bs 1 0 ≡ b
 
-start-test : (a b c d e : Bool) → is_start (cond a opens.Comment (cond b opens.Bogus (cond c (cond d opens.End opens.Bogus) (cond e opens.Start opens.Text)))) ≡ true → e ≡ true
+start-test : (a b c d e : Bool) → is_start (cond a opens_comment (cond b opens_bogus (cond c (cond d opens_end opens_bogus) (cond e opens_start opens_text)))) ≡ true → e ≡ true
 start-test true b c d e h = cc
 start-test false true c d e h = cc
 start-test false false true true e h = cc
@@ -30,7 +26,7 @@ start-test false false true false e h = cc
 start-test false false false d true h = refl
 start-test false false false d false h = cc
 
-end-test : (a b c d e : Bool) → is_end (cond a opens.Comment (cond b opens.Bogus (cond c (cond d opens.End opens.Bogus) (cond e opens.Start opens.Text)))) ≡ true → c ≡ true
+end-test : (a b c d e : Bool) → is_end (cond a opens_comment (cond b opens_bogus (cond c (cond d opens_end opens_bogus) (cond e opens_start opens_text)))) ≡ true → c ≡ true
 end-test true b c d e h = cc
 end-test false true c d e h = cc
 end-test false false true d e h = refl
@@ -63,7 +59,7 @@ comment-reads (a ∷ b ∷ []) h = grind arith
 comment-reads (a ∷ b ∷ c ∷ []) h = grind arith
 comment-reads (a ∷ b ∷ c ∷ d ∷ bs) h = grind arith
 
-comment-test : (a b c d e : Bool) → cond a opens.Comment (cond b opens.Bogus (cond c (cond d opens.End opens.Bogus) (cond e opens.Start opens.Text))) ≡ opens.Comment → a ≡ true
+comment-test : (a b c d e : Bool) → cond a opens_comment (cond b opens_bogus (cond c (cond d opens_end opens_bogus) (cond e opens_start opens_text))) ≡ opens_comment → a ≡ true
 comment-test true b c d e h = refl
 comment-test false true c d e h = cc
 comment-test false false true true e h = cc
@@ -71,11 +67,11 @@ comment-test false false true false e h = cc
 comment-test false false false d true h = cc
 comment-test false false false d false h = cc
 
-comment-begins : (bs : List ℕ) → opening_of bs ≡ opens.Comment → (3 < length bs) × (get_or bs 3 0 ≡ 45)
+comment-begins : (bs : List ℕ) → opening_of bs ≡ opens_comment → (3 < length bs) × (get_or bs 3 0 ≡ 45)
 unfolding opening_of
 comment-begins bs e = comment-reads bs (comment-test (starts_with nat_eq bs (codes "<!--")) (slice_index bs 0 == 60 && (slice_index bs 1 == 33 || slice_index bs 1 == 63)) (slice_index bs 0 == 60 && slice_index bs 1 == 47) (is_ascii_alphabetic (slice_index bs 2)) (slice_index bs 0 == 60 && is_ascii_alphabetic (slice_index bs 1)) e)
 
-pub comment-boundary : (bs : List ℕ) → IsUtf8 bs → opening_of bs ≡ opens.Comment → IsCharBoundary bs 4
+pub comment-boundary : (bs : List ℕ) → IsUtf8 bs → opening_of bs ≡ opens_comment → IsCharBoundary bs 4
 comment-boundary bs u e = let r = comment-begins bs e in IsCharBoundary-after_ascii bs 3 u r.0 (rw r.1 (omega arith))
 
 -- ---- tags
@@ -138,26 +134,26 @@ close-cut bs l = by (tag_end (from_first ends_name (drop 2 bs))) refl
     by None e = record { some = l; within = omega arith }
     by (Some n) e = let t = tag-end-at bs 2 (position_or_len ends_name (drop 2 bs)) n e in let m = name-length ends_name (drop 2 bs) in record { some = omega arith; within = omega (arith, t.within, m) }
 
-pub text-some : (bs : List ℕ) → 0 < length bs → opening_of bs ≡ opens.Text → 0 < text_len until.Markup bs
-text-some bs l e = rw (text_len_more until.Markup bs l (ap (λ o. not (is_text o)) e)) (omega arith)
+pub text-some : (bs : List ℕ) → 0 < length bs → opening_of bs ≡ opens_text → 0 < text_len by_markup bs
+text-some bs l e = rw (text_len_more by_markup bs l (ap (λ o. not (is_text o)) e)) (omega arith)
 
 of-cut : (o : Opening) (bs : List ℕ) → 0 < length bs → opening_of bs ≡ o → IsCut bs (piece_of o bs).len
 unfolding piece_of
-of-cut opens.Comment bs l e =
+of-cut opens_comment bs l e =
     let r = comment-begins bs e in
     let t = through_le (codes "-->") (lit< tt) (drop 4 bs) in
     let d : length (drop 4 bs) ≡ length bs - 4 = length-drop 4 bs in
     record { some = omega arith; within = omega (arith, r.0, t, d) }
-of-cut opens.Bogus bs l e = record { some = through_some (codes ">") bs (lit< tt) l; within = through_le (codes ">") (lit< tt) bs }
-of-cut opens.End bs l e = close-cut bs l
-of-cut opens.Start bs l e = start-cut bs l
-of-cut opens.Text bs l e = record { some = text-some bs l e; within = (text_boundary until.Markup bs).0 }
+of-cut opens_bogus bs l e = record { some = through_some (codes ">") bs (lit< tt) l; within = through_le (codes ">") (lit< tt) bs }
+of-cut opens_end bs l e = close-cut bs l
+of-cut opens_start bs l e = start-cut bs l
+of-cut opens_text bs l e = record { some = text-some bs l e; within = (text_boundary by_markup bs).0 }
 
 raw-cut : (bs : List ℕ) (n : ℕ) → 0 < length bs → n ≤ length bs → IsCut bs (raw_piece bs n).len
 raw-cut bs zero l h = of-cut (opening_of bs) bs l refl
 raw-cut bs (suc n) l h = record { some = omega arith; within = h }
 
-pub piece-cut : (awaited : Option RawElement) (bs : List ℕ) → 0 < length bs → IsCut bs (piece_at awaited bs).len
+pub piece-cut : (awaited : Option (List ℕ)) (bs : List ℕ) → 0 < length bs → IsCut bs (piece_at awaited bs).len
 unfolding piece_at
 piece-cut None bs l = of-cut (opening_of bs) bs l refl
-piece-cut (Some e) bs l = raw-cut bs (text_len (until.EndOf e) bs) l (text_boundary (until.EndOf e) bs).0
+piece-cut (Some e) bs l = raw-cut bs (text_len (by_end_of e) bs) l (text_boundary (by_end_of e) bs).0

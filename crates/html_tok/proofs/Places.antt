@@ -5,7 +5,7 @@ use Rattle.std.specs.Str.{IsCharBoundary, IsUtf8}
 use Rattle.std.proofs.lemmas.Str.{IsCharBoundary-end, IsCharBoundary-start, IsCharBoundary-before_ascii, IsCharBoundary-after_ascii}
 use Rattle.std.proofs.lemmas.Bool.{cases_Bool, cases_lt}
 use Rattle.std.proofs.lemmas.Bool.Decides.{nat_tests}
-use Rattle.html_tok.specs.Classes.{stops}
+use Rattle.html_tok.specs.Fields.{stops}
 use Rattle.html_tok.specs.declared.classes.Stop.{Stop}
 use Rattle.html_tok.specs.declared.classes.Stop.TheVariants as stop
 

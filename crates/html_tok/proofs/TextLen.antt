@@ -4,9 +4,7 @@ use Rattle.memchr.specs.Find.{Nowhere, Passes, is_byte}
 use Rattle.std.specs.Str.{IsCharBoundary}
 use Rattle.std.proofs.lemmas.Str.{IsCharBoundary-end, IsCharBoundary-before_ascii}
 use Rattle.std.proofs.lemmas.Bool.{cases_Bool, cases_eq, both_ways}
-use Rattle.html_tok.specs.Pieces.{opening_of, is_text, ends_raw, ends_at, text_len}
-use Rattle.html_tok.specs.declared.scan.Until.{Until}
-use Rattle.html_tok.specs.declared.scan.Until.TheVariants as until
+use Rattle.html_tok.specs.Pieces.{opening_of, is_text, ends_raw, ends_at, text_len, TextEnd, by_markup, by_end_of}
 
 eqb_no : (a b : ℕ) → (a ≡ b → ⊥) → eqb a b ≡ false
 eqb_no a b h = grind arith
@@ -20,11 +18,11 @@ unfolding ends_raw
 raw_from_byte e b bs h = let e : eqb b 60 ≡ false = eqb_no b 60 h in let e' : eqb 60 b ≡ false = eqb_no 60 b (λ q. h (sym q)) in simp (e, e')
 
 -- only a `<` ends a text
-ends_not : (u : Until) (b : ℕ) (bs : List ℕ) → (b ≡ 60 → ⊥) → ends_at u (b ∷ bs) ≡ false
-ends_not until.Markup b bs h = ap not (text_from_byte b bs h)
-ends_not (until.EndOf e) b bs h = raw_from_byte e b bs h
+ends_not : (u : TextEnd) (b : ℕ) (bs : List ℕ) → (b ≡ 60 → ⊥) → ends_at u (b ∷ bs) ≡ false
+ends_not by_markup b bs h = ap not (text_from_byte b bs h)
+ends_not (by_end_of e) b bs h = raw_from_byte e b bs h
 
-module _ (u : Until) where
+module _ (u : TextEnd) where
   text_len_skip : (n : ℕ) (bs : List ℕ) → n ≤ length bs → ((k : ℕ) → k < n → get_or bs k 0 ≡ 60 → ⊥) → text_len u bs ≡ n + text_len u (drop n bs)
   unfolding text_len
   text_len_skip zero bs h none = sym (zero-add (text_len u bs))

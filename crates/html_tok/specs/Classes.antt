@@ -1,9 +1,7 @@
 -- The classes of bytes at which the parts of a tag end (HTML, 13.2.5, "Tokenization").
-use Rattle.std.specs.Prelude.{ℕ, Bool, not, List, drop, ◌==◌, ◌||◌}
+use Rattle.std.specs.Prelude.{ℕ, Bool, List, drop, ◌==◌, ◌||◌}
 use Rattle.std.specs.List.{position_or_len}
 use Rattle.std.specs.Char.{is_ascii_whitespace}
-use Rattle.html_tok.specs.declared.classes.Stop.{Stop}
-use Rattle.html_tok.specs.declared.classes.Stop.TheVariants as stop
 
 -- what may stand between the attributes of a tag: white space and `/`
 abbrev pub is_between : ℕ → Bool
@@ -21,15 +19,9 @@ ends_attribute_name b = ends_name b || b == 61
 abbrev pub ends_value : ℕ → Bool
 ends_value b = is_ascii_whitespace b || b == 62
 
+-- what a quoted value stands between: `"` or `'`
 abbrev pub is_quote : ℕ → Bool
 is_quote b = b == 34 || b == 39
-
-abbrev pub stops : Stop → ℕ → Bool
-stops stop.NotSpace b = not (is_ascii_whitespace b)
-stops stop.NotBetween b = not (is_between b)
-stops stop.Name b = ends_name b
-stops stop.AttributeName b = ends_attribute_name b
-stops stop.Value b = ends_value b
 
 -- the bytes from the first one on that passes
 abbrev pub from_first : (ℕ → Bool) → List ℕ → List ℕ

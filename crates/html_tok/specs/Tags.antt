@@ -11,7 +11,10 @@ pub record Part : Type 0 where
 
 -- a value that begins here: between quotes, or up to white space or `>`
 unfoldable pub value_at : List ℕ → Part
-value_at bs = if is_quote (slice_index bs 0) then record { text = before_first (λ b. b == slice_index bs 0) (drop 1 bs); rest = after_first (λ b. b == slice_index bs 0) (drop 1 bs) }
+value_at bs = if is_quote (slice_index bs 0) then record {
+  text = before_first (λ b. b == slice_index bs 0) (drop 1 bs);
+  rest = after_first (λ b. b == slice_index bs 0) (drop 1 bs);
+}
     else record { text = before_first ends_value bs; rest = from_first ends_value bs }
 
 -- after white space that is passed
@@ -20,13 +23,15 @@ past_space bs = from_first (λ b. not (is_ascii_whitespace b)) bs
 
 -- the value after an attribute's name: what follows white space, `=` and white space, and else the empty one
 unfoldable pub value_after : List ℕ → Part
-value_after bs = if slice_index (past_space bs) 0 == 61 then value_at (past_space (drop 1 (past_space bs))) else record { text = []; rest = bs }
+value_after bs = if slice_index (past_space bs) 0 == 61 then value_at (past_space (drop 1 (past_space bs)))
+    else record { text = []; rest = bs }
 
 -- the name of the attribute that begins here: one byte, and then those up to white space, `/`, `>` or `=`
 unfoldable pub name_at : List ℕ → Part
 name_at [] = record { text = []; rest = [] }
 name_at (b ∷ bs) = record { text = b ∷ before_first ends_attribute_name bs; rest = from_first ends_attribute_name bs }
 
+-- the name and the value of the attribute that begins here
 abbrev pub attribute_at : List ℕ → List ℕ × List ℕ
 attribute_at bs = ((name_at bs).text, (value_after (name_at bs).rest).text)
 

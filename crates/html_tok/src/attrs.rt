@@ -9,7 +9,8 @@ use crate::classes::{Stop, skip_to, split_before};
 use memchr::memchr;
 use std::marker::Model;
 
-/// The attributes of a start tag, in their order. Contracts see those that are left, each a name and a value as they stand in the text.
+/// The attributes of a start tag, in their order. Contracts see those that are left, each a name and a value as they
+/// stand in the text.
 #[derive(Drop)]
 pub struct Attrs<'a> {
     rest: &'a str,

@@ -1,7 +1,8 @@
 //! Splits a text before the first byte of a class.
 ghost use Rattle.std.specs.Prelude.{◌≡◌};
 ghost use Rattle.std.specs.List.{position, position_or_len, before_first};
-ghost use Rattle.html_tok.specs.Classes.{stops, from_first, is_between};
+ghost use Rattle.html_tok.specs.Classes.{from_first, is_between};
+ghost use Rattle.html_tok.specs.Fields.{stops};
 
 /// Where a part of a tag ends.
 #[derive(Clone, Copy)]

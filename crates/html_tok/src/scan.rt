@@ -1,8 +1,9 @@
 //! What begins at a place, and where text ends.
 ghost use Rattle.std.specs.Prelude.{◌≡◌, ◌<◌, length, codes};
+ghost use Rattle.html_tok.specs.Fields.{opening_in, end_in};
 ghost use Rattle.html_tok.specs.Pieces.{opening_of, ends_at, text_len, len_through, dashes};
 
-use crate::raw::{RawElement, ends_raw};
+use crate::raw::ends_raw;
 use memchr::{memchr, memmem};
 
 /// What begins at a place.
@@ -18,7 +19,7 @@ pub(crate) enum Opening {
 /// What begins at the start of these bytes.
 #[tactic(auto, unfolding(crate::specs::Pieces::opening_of))]
 pub(crate) fn what_begins(rest: &[u8]) -> Opening
-    ensures { result ≡ opening_of rest.now }
+    ensures { opening_in result ≡ opening_of rest.now }
 {
     if rest.starts_with(b"<!--") {
         return Opening::Comment;
@@ -37,24 +38,25 @@ pub(crate) fn what_begins(rest: &[u8]) -> Opening
 #[derive(Clone, Copy)]
 pub(crate) enum Until {
     Markup,
-    EndOf(RawElement),
+    /// The end tag of the element of this name.
+    EndOf(&'static str),
 }
 
 impl Until {
     /// Whether text ends at the start of these bytes.
     fn is_at(self, rest: &[u8]) -> bool
-        ensures { result ≡ ends_at self rest.now }
+        ensures { result ≡ ends_at (end_in self) rest.now }
     {
         match self {
             Until::Markup => !matches!(what_begins(rest), Opening::Text),
-            Until::EndOf(element) => ends_raw(rest, element),
+            Until::EndOf(name) => ends_raw(rest, name),
         }
     }
 }
 
 /// How many bytes come before the place where text ends.
 pub(crate) fn length_of_text(rest: &[u8], until: Until) -> usize
-    ensures { result ≡ text_len until rest.now }
+    ensures { result ≡ text_len (end_in until) rest.now }
 {
     let mut from = 0;
     while let Some(found) = memchr(b'<', &rest[from..]) {

@@ -4,11 +4,12 @@ ghost use Rattle.std.specs.List.{flat_map};
 ghost use Rattle.std.specs.Str.{IsCharBoundary};
 ghost use Rattle.std.specs.Prelude.{IsTrue, slice_index, codes, ◌-◌};
 ghost use Rattle.html_tok.specs.Pieces.{is_start, is_end, raw_after, start_at, close_at, piece_of, opening_of, piece_at, len_through};
+ghost use Rattle.html_tok.specs.Fields.{awaited_in};
 ghost use Rattle.html_tok.specs.Listed.{tokens_of, kind_of, view_of, ArePlaced};
 
 use crate::attrs::end_of_tag;
 use crate::classes::{Stop, split_before};
-use crate::raw::{RawElement, raw_element};
+use crate::raw::raw_element;
 use crate::scan::{
     Opening, Until, length_of_text, length_through, length_through_comment, what_begins,
 };
@@ -44,7 +45,7 @@ pub enum TokenKind<'a> {
 pub struct Tokens<'a> {
     at: usize,
     rest: &'a str,
-    raw: Option<RawElement>,
+    raw: Option<&'static str>,
 }
 
 impl<'a> Model for Tokens<'a> {
@@ -93,8 +94,8 @@ impl<'a> Tokens<'a> {
 }
 
 /// The element whose raw text may come after a token.
-fn raw_text_after(kind: &TokenKind<'_>) -> Option<RawElement>
-    ensures { result ≡ raw_after (kind_of kind.now) }
+fn raw_text_after(kind: &TokenKind<'_>) -> Option<&'static str>
+    ensures { awaited_in result ≡ raw_after (kind_of kind.now) }
 {
     match kind {
         TokenKind::Start { name, .. } => raw_element(name),
@@ -104,15 +105,15 @@ fn raw_text_after(kind: &TokenKind<'_>) -> Option<RawElement>
 
 /// The kind and the length of the token at the start.
 #[tactic(auto, unfolding(crate::specs::Pieces::piece_at))]
-fn piece<'a>(rest: &'a str, raw: Option<RawElement>) -> (TokenKind<'a>, usize)
+fn piece<'a>(rest: &'a str, raw: Option<&'static str>) -> (TokenKind<'a>, usize)
     requires { 0 < length rest.now }
-    ensures kind { kind_of result.0 ≡ (piece_at raw rest.entry.now).kind }
-    ensures len { result.1 ≡ (piece_at raw rest.entry.now).len }
+    ensures kind { kind_of result.0 ≡ (piece_at (awaited_in raw.entry) rest.entry.now).kind }
+    ensures len { result.1 ≡ (piece_at (awaited_in raw.entry) rest.entry.now).len }
     ensures boundary { IsCharBoundary rest.entry.now result.1 }
     ensures some { 0 < result.1 }
 {
-    if let Some(element) = raw {
-        let len = length_of_text(rest.as_bytes(), Until::EndOf(element));
+    if let Some(name) = raw {
+        let len = length_of_text(rest.as_bytes(), Until::EndOf(name));
         if len > 0 {
             return (TokenKind::Raw, len);
         }

@@ -3,6 +3,7 @@ use Rattle.std.proofs.Common.{◌≡◌, ℕ, suc, zero, ◌+◌, ◌-◌, ◌<�
 use Rattle.std.proofs.lemmas.Option.{slice_get_within}
 use Rattle.std.specs.Str.{bytes_eq}
 use Rattle.bk_num.specs.declared.ids.NodeId.{NodeId}
+use Rattle.bk_num.proofs.ListLemmas.{get-keep, get-end}
 use Rattle.dom.specs.Nodes.{Node, NodeData, Element, Text, child_of, is_element_at, is_element_node, is_element, part_of, attributed, changed_at, with_attribute, attribute_at, depth_at}
 use Rattle.dom.specs.declared.dom.DomErr.{DomErr}
 use Rattle.dom.specs.declared.dom.DomErr.TheVariants.{Nodes, Depth, NoMemory}
@@ -11,15 +12,6 @@ use Rattle.html_tree.specs.Texts.{name_of, text_of}
 use Rattle.html_tree.specs.Tree.{State, name_in, kept, closed_by, after_rule, current, number_of, is_text_under, last_of, longer, appended, new_text, add_text, put, put_all, opened_after, add_element, after_start}
 use Rattle.html_tree.specs.Built.{waiting, AreElements, Answers}
 use Rattle.html_tree.proofs.OpenedLemmas.{elements-take}
-
-pub get-keep : {A : Type 0} (xs ys : List A) (k : ℕ) (x : A) → slice_get xs k ≡ Some x → slice_get (xs ++ ys) k ≡ Some x
-get-keep [] ys k x h = cc
-get-keep (a ∷ xs) ys zero x h = h
-get-keep (a ∷ xs) ys (suc k) x h = get-keep xs ys k x h
-
-pub get-end : {A : Type 0} (xs : List A) (x : A) → slice_get (xs ++ x ∷ []) (length xs) ≡ Some x
-get-end [] x = refl
-get-end (a ∷ xs) x = get-end xs x
 
 -- an element is a node that is there
 pub element-is : (nodes : List Node) (m : ℕ) → is_element_at nodes m ≡ true → (n : Node) × (slice_get nodes m ≡ Some n)

@@ -6,14 +6,15 @@ use Rattle.std.proofs.lemmas.List.{length-take, length-take-le, take_more, get_o
 use Rattle.std.proofs.lemmas.List.Sums.{fold-append}
 use Rattle.std.proofs.lemmas.Option.{slice_get_within, get_or_from_slice_get}
 use Rattle.bk_num.specs.declared.ids.NodeId.{NodeId}
+use Rattle.bk_num.proofs.ListLemmas.{get-take, get-end, get-append, none-is}
 use Rattle.dom.specs.Nodes.{Node, NodeData, Element, Text, name_at, part_of, child_of, attributed, changed_at, attribute_at}
 use Rattle.html_tree.specs.Rules.{Rule, rules, has_name, names_tag}
 use Rattle.html_tree.specs.Texts.{name_of, text_of}
 use Rattle.html_tree.specs.Tree.{name_in, kept, closed_by, after_rule, without, put, put_all}
 use Rattle.html_tree.specs.Built.{AreElements}
 use Rattle.html_tree.specs.Scopes.{has_in_scope, has_within, AreScopes, HaveScopes}
-use Rattle.html_tree.proofs.OpenedLemmas.{get-take, closed-none}
-use Rattle.html_tree.proofs.BuildLemmas.{get-end, name-grow, elements-grow}
+use Rattle.html_tree.proofs.OpenedLemmas.{closed-none}
+use Rattle.html_tree.proofs.BuildLemmas.{name-grow, elements-grow}
 
 -- ---- the eight rows
 
@@ -51,17 +52,12 @@ scopes-same a b opened scopes names h = record {
   each = λ k flags g i r e. h.each k flags g i r e ∙ ap is_some (kept-same (has_name r.closes) (has_name r.scope) a b opened opened (suc k) (λ j l. names j));
 }
 
-take-get : {A : Type 0} (xs : List A) (m j : ℕ) → j < length (take m xs) → slice_get xs j ≡ slice_get (take m xs) j
-take-get [] zero j h = refl
-take-get [] (suc m) j h = refl
-take-get (x ∷ xs) zero j h = absurd (omega arith)
-take-get (x ∷ xs) (suc m) zero h = refl
-take-get (x ∷ xs) (suc m) (suc j) h = take-get xs m j (omega arith)
-
-append-get : {A : Type 0} (xs ys : List A) (j : ℕ) → j < length xs → slice_get (xs ++ ys) j ≡ slice_get xs j
-append-get [] ys j h = absurd (omega arith)
-append-get (x ∷ xs) ys zero h = refl
-append-get (x ∷ xs) ys (suc j) h = append-get xs ys j (omega arith)
+take-before : {A : Type 0} (xs : List A) (m j : ℕ) → j < length (take m xs) → slice_get xs j ≡ slice_get (take m xs) j
+take-before [] zero j h = refl
+take-before [] (suc m) j h = refl
+take-before (x ∷ xs) zero j h = absurd (omega arith)
+take-before (x ∷ xs) (suc m) zero h = refl
+take-before (x ∷ xs) (suc m) (suc j) h = take-before xs m j (omega arith)
 
 pub scopes-take : (nodes : List Node) (opened : List NodeId) (scopes : List (List Bool)) (m : ℕ) → HaveScopes nodes opened scopes → HaveScopes nodes (take m opened) (take (length (take m opened)) scopes)
 scopes-take nodes opened scopes m h =
@@ -72,8 +68,8 @@ scopes-take nodes opened scopes m h =
       count = n;
       each = λ k flags g i r e.
           let w = slice_get_within (take (length (take m opened)) scopes) k flags g in
-          h.each k flags (get-take scopes (length (take m opened)) k flags g) i r e
-          ∙ ap is_some (kept-same (has_name r.closes) (has_name r.scope) nodes nodes opened (take m opened) (suc k) (λ j q. ap (name_in nodes) (take-get opened m j (omega (arith, w, n, q)))));
+          h.each k flags (get-take scopes (length (take m opened)) k flags g).1 i r e
+          ∙ ap is_some (kept-same (has_name r.closes) (has_name r.scope) nodes nodes opened (take m opened) (suc k) (λ j q. ap (name_in nodes) (take-before opened m j (omega (arith, w, n, q)))));
     }
 
 within-step : (r : Rule) (nodes : List Node) (opened : List NodeId) (n : ℕ) (name : List ℕ) → name_in nodes (slice_get opened n) ≡ name → has_in_scope r nodes opened (suc n) ≡ has_within r name (has_in_scope r nodes opened n)
@@ -95,8 +91,8 @@ scopes-push nodes opened scopes o name flags h e f = record {
     by : (k : ℕ) (x : List Bool) → slice_get (scopes ++ flags ∷ []) k ≡ Some x → (k < length scopes) ⊎ (length scopes ≤ k) → AreScopes nodes (opened ++ o ∷ []) (suc k) x
     by k x g (inl l) i r q =
         let c = h.count in
-        h.each k x (sym (append-get scopes (flags ∷ []) k l) ∙ g) i r q
-        ∙ ap is_some (kept-same (has_name r.closes) (has_name r.scope) nodes nodes opened (opened ++ o ∷ []) (suc k) (λ j m. ap (name_in nodes) (sym (append-get opened (o ∷ []) j (omega (arith, c, l, m))))))
+        h.each k x (sym (get-append scopes (flags ∷ []) k l) ∙ g) i r q
+        ∙ ap is_some (kept-same (has_name r.closes) (has_name r.scope) nodes nodes opened (opened ++ o ∷ []) (suc k) (λ j m. ap (name_in nodes) (sym (get-append opened (o ∷ []) j (omega (arith, c, l, m))))))
     by k x g (inr l) i r q =
         let c = h.count in
         let w = slice_get_within (scopes ++ flags ∷ []) k x g in
@@ -106,7 +102,7 @@ scopes-push nodes opened scopes o name flags h e f = record {
         let here : Some flags ≡ Some x = sym (get-end scopes flags) ∙ ap (slice_get (scopes ++ flags ∷ [])) (sym at) ∙ g in
         let is : flags ≡ x = cc in
         let last : name_in nodes (slice_get (opened ++ o ∷ []) (length opened)) ≡ name = ap (name_in nodes) (get-end opened o) ∙ e in
-        let before : has_in_scope r nodes opened (length opened) ≡ has_in_scope r nodes (opened ++ o ∷ []) (length opened) = ap is_some (kept-same (has_name r.closes) (has_name r.scope) nodes nodes opened (opened ++ o ∷ []) (length opened) (λ j m. ap (name_in nodes) (sym (append-get opened (o ∷ []) j m)))) in
+        let before : has_in_scope r nodes opened (length opened) ≡ has_in_scope r nodes (opened ++ o ∷ []) (length opened) = ap is_some (kept-same (has_name r.closes) (has_name r.scope) nodes nodes opened (opened ++ o ∷ []) (length opened) (λ j m. ap (name_in nodes) (sym (get-append opened (o ∷ []) j m)))) in
         ap (λ (l : List Bool). get_or l i false) (sym is) ∙ f i r q ∙ ap (has_within r name) before ∙ sym (within-step r nodes (opened ++ o ∷ []) (length opened) name last) ∙ ap (λ j. has_in_scope r nodes (opened ++ o ∷ []) (suc j)) (sym place)
 
 pub scopes-begun : (nodes : List Node) → HaveScopes nodes [] []
@@ -119,16 +115,12 @@ scopes-last nodes opened scopes last h g =
     let n : suc (length scopes - 1) ≡ length opened = omega (arith, w, c) in
     subst (λ i. AreScopes nodes opened i last) n (h.each (length scopes - 1) last g)
 
-none-kept : (o : Option ℕ) → is_some o ≡ false → o ≡ None
-none-kept None e = refl
-none-kept (Some k) e = cc
-
 -- where a row has no element in scope it closes nothing
 pub none-closed : (name : List ℕ) (nodes : List Node) (opened : List NodeId) (r : Rule) → has_in_scope r nodes opened (length opened) ≡ false → opened ≡ after_rule name nodes opened r
 none-closed name nodes opened r h = by (names_tag r name)
   where
     by : (b : Bool) → opened ≡ (if b then closed_by (has_name r.closes) (has_name r.scope) nodes opened else opened)
-    by true = closed-none (has_name r.closes) (has_name r.scope) nodes opened (none-kept (kept (has_name r.closes) (has_name r.scope) nodes opened (length opened)) h)
+    by true = closed-none (has_name r.closes) (has_name r.scope) nodes opened (none-is (kept (has_name r.closes) (has_name r.scope) nodes opened (length opened)) h)
     by false = refl
 
 pub set-long : (flags : List Bool) (k : ℕ) (flag : Bool) → length (slice_set flags k flag) ≡ length flags
@@ -204,4 +196,4 @@ on-ok (Err x) e p = cc
 -- no open `head` closes where its row has none in scope
 pub head-none : (nodes : List Node) (opened : List NodeId) (flags : List Bool) → AreScopes nodes opened (length opened) flags → get_or flags 0 false ≡ false → opened ≡ without (codes "head") nodes opened
 unfolding rules
-head-none nodes opened flags h e = closed-none (has_name (codes "head" ∷ [])) (has_name []) nodes opened (none-kept (kept (has_name (codes "head" ∷ [])) (has_name []) nodes opened (length opened)) (sym (h 0 _ refl) ∙ e))
+head-none nodes opened flags h e = closed-none (has_name (codes "head" ∷ [])) (has_name []) nodes opened (none-is (kept (has_name (codes "head" ∷ [])) (has_name []) nodes opened (length opened)) (sym (h 0 _ refl) ∙ e))

@@ -6,6 +6,7 @@ use Rattle.std.specs.List.{list_any}
 use Rattle.std.specs.Str.{bytes_eq}
 use Rattle.std.proofs.Math.Seq.{take-length}
 use Rattle.bk_num.specs.declared.ids.NodeId.{NodeId}
+use Rattle.bk_num.proofs.ListLemmas.{get-take}
 use Rattle.dom.specs.Nodes.{Node, name_at, is_element_at}
 use Rattle.html_tree.specs.Rules.{has_name, texts, rule_of}
 use Rattle.html_tree.specs.Tree.{kept, closed_by}
@@ -30,15 +31,8 @@ module _ (closes scope : List ℕ → Bool) (nodes : List Node) (opened : List N
   pub closed-none : kept closes scope nodes opened (length opened) ≡ None → opened ≡ closed_by closes scope nodes opened
   closed-none e = rw e (sym (take-length opened))
 
-pub get-take : {A : Type 0} (xs : List A) (n k : ℕ) (x : A) → slice_get (take n xs) k ≡ Some x → slice_get xs k ≡ Some x
-get-take [] zero k x h = h
-get-take [] (suc n) k x h = h
-get-take (a ∷ xs) zero k x h = cc
-get-take (a ∷ xs) (suc n) zero x h = h
-get-take (a ∷ xs) (suc n) (suc k) x h = get-take xs n k x h
-
 pub elements-take : (nodes : List Node) (opened : List NodeId) (n : ℕ) → AreElements nodes opened → AreElements nodes (take n opened)
-elements-take nodes opened n h k o g = h k o (get-take opened n k o g)
+elements-take nodes opened n h k o g = h k o (get-take opened n k o g).1
 
 pub element-at : (nodes : List Node) (opened : List NodeId) (at : ℕ) (o : NodeId) → AreElements nodes opened → 0 < at → at ≤ length opened → o ≡ get_or opened (at - 1) o → is_element_at nodes o.0 ≡ true
 element-at nodes opened at o h some within e = h (at - 1) o (slice_get_read opened (length opened) (at - 1) o refl (omega arith) e)

@@ -4,6 +4,7 @@ use Rattle.std.proofs.lemmas.Option.{slice_get_within, slice_get-map}
 use Rattle.std.specs.Str.{bytes_eq}
 use Rattle.bk_num.specs.declared.ids.NodeId.{NodeId}
 use Rattle.bk_num.specs.Limits.{most_nodes}
+use Rattle.bk_num.proofs.ListLemmas.{get-push, get-before, get-end, get-none, get-take}
 use Rattle.dom.specs.Nodes.{Node, NodeData, Element, Text, root, child_of, depth_at, depth_of, attribute_at, attributed, changed_at, with_attribute}
 use Rattle.dom.specs.Answers.{is_below_all}
 use Rattle.dom.specs.declared.dom.DomErr.{DomErr}
@@ -16,7 +17,6 @@ use Rattle.html_tree.specs.Texts.{name_of, text_of}
 use Rattle.html_tree.specs.Tree.{State, closed_by, after_rule, without, current, number_of, is_text_under, last_of, longer, appended, add_text, put, put_all, add_element, after_start, after_text, after_kind, after_result, after_tokens, nodes_in, begun, tree_of, is_blank, is_escapable, current_name}
 use Rattle.html_tree.specs.Order.{AreInOrder}
 use Rattle.html_tree.specs.Built.{Answers}
-use Rattle.html_tree.proofs.OpenedLemmas.{get-take}
 
 -- an open element's place among the open ones gives its depth, and all nodes after it are deeper
 pub record IsPlaced (nodes : List Node) (i : ℕ) (o : NodeId) : Type 0 where
@@ -109,30 +109,6 @@ shape-put_all n (a ∷ attrs) nodes = shape-put n nodes a ∙ shape-put_all n at
 
 -- ---- a new child of the current element
 
-pub get-push : {A : Type 0} (xs : List A) (y x : A) (k : ℕ) → slice_get (xs ++ y ∷ []) k ≡ Some x → ((k ≡ length xs) × (x ≡ y)) ⊎ (slice_get xs k ≡ Some x)
-get-push [] y x zero h = inl (refl, cc)
-get-push [] y x (suc k) h = cc
-get-push (a ∷ xs) y x zero h = inr h
-get-push (a ∷ xs) y x (suc k) h = up (get-push xs y x k h)
-  where
-    up : ((k ≡ length xs) × (x ≡ y)) ⊎ (slice_get xs k ≡ Some x) → ((suc k ≡ length (a ∷ xs)) × (x ≡ y)) ⊎ (slice_get xs k ≡ Some x)
-    up (inl (e, v)) = inl (ap suc e, v)
-    up (inr g) = inr g
-
-get-before : {A : Type 0} (xs : List A) (y : A) (k : ℕ) → k < length xs → slice_get (xs ++ y ∷ []) k ≡ slice_get xs k
-get-before [] y k h = absurd (omega arith)
-get-before (a ∷ xs) y zero h = refl
-get-before (a ∷ xs) y (suc k) h = get-before xs y k (omega arith)
-
-pub get-last : {A : Type 0} (xs : List A) (y : A) → slice_get (xs ++ y ∷ []) (length xs) ≡ Some y
-get-last [] y = refl
-get-last (a ∷ xs) y = get-last xs y
-
-pub get-none : {A : Type 0} (xs : List A) (k : ℕ) → slice_get xs k ≡ None → length xs ≤ k
-get-none [] k h = omega arith
-get-none (a ∷ xs) zero h = cc
-get-none (a ∷ xs) (suc k) h = let l = get-none xs k h in omega arith
-
 -- the current element's depth, and what is deeper than it
 pub record IsCurrent (s : State) (c : ℕ) : Type 0 where
   pub there : c < length s.nodes
@@ -206,7 +182,7 @@ module _ (s : State) (what : NodeData) (h : IsOrdered s) where
       by : (i : ℕ) (o : NodeId) → ((i ≡ length s.opened) × (o ≡ record { 0 = length s.nodes })) ⊎ (slice_get s.opened i ≡ Some o) → IsPlaced (s.nodes ++ child_of s.nodes (current s.opened) what ∷ []) i o
       by i o (inl (at, v)) = let n : o.0 ≡ length s.nodes = ap (λ (x : NodeId). x.0) v in record {
         there = (let l = later 0 0 in omega (arith, l, n));
-        depth = ap (λ k. depth_at (s.nodes ++ child_of s.nodes (current s.opened) what ∷ []) k) n ∙ ap depth_of (get-last s.nodes (child_of s.nodes (current s.opened) what)) ∙ new-depth ∙ ap (λ k. k + 2) (sym at);
+        depth = ap (λ k. depth_at (s.nodes ++ child_of s.nodes (current s.opened) what ∷ []) k) n ∙ ap depth_of (get-end s.nodes (child_of s.nodes (current s.opened) what)) ∙ new-depth ∙ ap (λ k. k + 2) (sym at);
         deeper = λ j m l g. let w = slice_get_within (s.nodes ++ child_of s.nodes (current s.opened) what ∷ []) j m g in let e = later 0 0 in absurd (omega (arith, w, e, n));
       }
       by i o (inr old) = push-child.placed i o old
@@ -218,7 +194,7 @@ Keeps (Ok s) = IsOrdered s
 Keeps (Err e) = Unit {0}
 
 keeps-taken : (s : State) (n : ℕ) → IsOrdered s → IsOrdered (record s { opened = take n s.opened })
-keeps-taken s n h = record { order = h.order; some = h.some; top = h.top; deeper = h.deeper; placed = λ i o g. h.placed i o (get-take s.opened n i o g) }
+keeps-taken s n h = record { order = h.order; some = h.some; top = h.top; deeper = h.deeper; placed = λ i o g. h.placed i o (get-take s.opened n i o g).1 }
 
 keeps-rules : (name : List ℕ) (table : List Rule) (s : State) → IsOrdered s → IsOrdered (record s { opened = fold (after_rule name s.nodes) s.opened table })
 keeps-rules name [] s h = h

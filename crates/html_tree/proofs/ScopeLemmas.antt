@@ -1,9 +1,9 @@
 -- What is kept among the open elements, and what a row or a table of rows closes.
 use Rattle.std.proofs.Common.{◌≡◌, ◌⊎◌, inl, inr, ℕ, suc, zero, ◌<◌, ◌≤◌, Bool, true, false, List, [], ◌∷◌, Option, None, Some, Contains, fold, length, take, slice_get, if◌then◌else◌, refl, sym, ap, subst, arith}
 use Rattle.std.proofs.lemmas.Bool.{cases_lt}
-use Rattle.std.proofs.lemmas.Option.{slice_get_within, slice_get_read, get_or_from_slice_get}
 use Rattle.std.proofs.Math.Seq.{take-length}
 use Rattle.bk_num.specs.declared.ids.NodeId.{NodeId}
+use Rattle.bk_num.proofs.ListLemmas.{get-take, take-get, contains-get, get-contains}
 use Rattle.dom.specs.Nodes.{Node}
 use Rattle.html_tree.specs.Rules.{Rule, has_name, names_tag}
 use Rattle.html_tree.specs.Tree.{name_in, kept, closed_by, after_rule}
@@ -71,25 +71,6 @@ all_kept closes scope nodes opened n = (λ e k s. kept-none closes scope nodes o
 pub record AreApart (opened : List NodeId) : Type 0 where
   pub apart : (i j : ℕ) (o : NodeId) → slice_get opened i ≡ Some o → slice_get opened j ≡ Some o → i ≡ j
 
-take-get : {A : Type 0} (xs : List A) (n k : ℕ) (x : A) → slice_get (take n xs) k ≡ Some x → (k < n) × (slice_get xs k ≡ Some x)
-take-get [] zero k x h = cc
-take-get [] (suc n) k x h = cc
-take-get (a ∷ xs) zero k x h = cc
-take-get (a ∷ xs) (suc n) zero x h = (omega arith, h)
-take-get (a ∷ xs) (suc n) (suc k) x h = let r = take-get xs n k x h in let l = r.0 in (omega arith, r.1)
-
-get-take : {A : Type 0} (xs : List A) (n k : ℕ) (x : A) → k < n → slice_get xs k ≡ Some x → slice_get (take n xs) k ≡ Some x
-get-take [] n k x l h = cc
-get-take (a ∷ xs) zero k x l h = absurd (omega arith)
-get-take (a ∷ xs) (suc n) zero x l h = h
-get-take (a ∷ xs) (suc n) (suc k) x l h = get-take xs n k x (omega arith) h
-
-pub contains-get : {A : Type 0} (xs : List A) (x : A) → Contains xs x → (k : ℕ) × (slice_get xs k ≡ Some x)
-contains-get xs x (k, l, e) = (k, slice_get_read xs (length xs) k x refl l (sym e))
-
-pub get-contains : {A : Type 0} (xs : List A) (k : ℕ) (x : A) → slice_get xs k ≡ Some x → Contains xs x
-get-contains xs k x h = (k, slice_get_within xs k x h, get_or_from_slice_get xs k x x h)
-
 module _ (closes scope : List ℕ → Bool) (nodes : List Node) (opened : List NodeId) where
   closed-take : (k : ℕ) → kept closes scope nodes opened (length opened) ≡ Some k → closed_by closes scope nodes opened ≡ take k opened
   closed-take k e = rw e refl
@@ -106,7 +87,7 @@ module _ (closes scope : List ℕ → Bool) (nodes : List Node) (opened : List N
       by (Some k) e (i, g) = of (cases_lt i k)
         where
           of : (i < k) ⊎ (k ≤ i) → Contains (closed_by closes scope nodes opened) o
-          of (inl l) = subst (λ l. Contains l o) (sym (closed-take k e)) (get-contains (take k opened) i o (get-take opened k i o l g))
+          of (inl l) = subst (λ l. Contains l o) (sym (closed-take k e)) (get-contains (take k opened) i o (take-get opened k i o l g))
           of (inr l) = absurd (not (record { innermost = k; place = i; found = kept-some closes scope nodes opened (length opened) k e; inside = l; here = g }))
 
   -- what stays isn't closed
@@ -114,14 +95,14 @@ module _ (closes scope : List ℕ → Bool) (nodes : List Node) (opened : List N
   closed-not apart o h c =
       let e = some-kept closes scope nodes opened (length opened) c.innermost c.found in
       let w = contains-get (take c.innermost opened) o (subst (λ l. Contains l o) (closed-take c.innermost e) h) in
-      let g = take-get opened c.innermost w.0 o w.1 in
+      let g = get-take opened c.innermost w.0 o w.1 in
       let same = apart.apart w.0 c.place o g.1 c.here in
       let l = g.0 in
       let i = c.inside in omega (arith, l, i, same)
 
   -- closing opens nothing
   pub closed-within : (k : ℕ) (o : NodeId) → slice_get (closed_by closes scope nodes opened) k ≡ Some o → slice_get opened k ≡ Some o
-  closed-within k o h = (take-get opened _ k o h).1
+  closed-within k o h = (get-take opened _ k o h).1
 
 pub within-contains : (less more : List NodeId) → ((k : ℕ) (o : NodeId) → slice_get less k ≡ Some o → slice_get more k ≡ Some o) → (o : NodeId) → Contains less o → Contains more o
 within-contains less more f o h = let w = contains-get less o h in get-contains more w.0 o (f w.0 o w.1)

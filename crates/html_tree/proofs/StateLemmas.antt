@@ -5,14 +5,15 @@ use Rattle.std.proofs.lemmas.List.{take_more}
 use Rattle.std.proofs.lemmas.Option.{slice_get_within, slice_get-map, get_or_from_slice_get}
 use Rattle.std.proofs.Math.Seq.{take-length}
 use Rattle.bk_num.specs.declared.ids.NodeId.{NodeId}
+use Rattle.bk_num.proofs.ListLemmas.{get-none, contains-get, get-contains, slice_get_at}
 use Rattle.dom.specs.Nodes.{Node, parents_of, depth_of, flat}
 use Rattle.dom.specs.declared.dom.DomErr.{DomErr}
 use Rattle.html_tok.specs.Listed.{TokenView, tokens_of}
 use Rattle.html_tree.specs.Tree.{State, current, number_of, after_kind, after_result, after_tokens, nodes_in, begun, tree_of}
 use Rattle.html_tree.specs.Open.{KindCloses, KindOpens, IsStateAt, Closes, Opens, Adds, IsOpenSince, StaysSince, IsParentAt, OpenIsOpened, OpenIsPath, NodesAreAdded, ParentIsLastOpened, TreeIsLastState}
-use Rattle.html_tree.proofs.OrderLemmas.{IsOrdered, Keeps, keeps-tokens, begun-ordered, get-none}
-use Rattle.html_tree.proofs.ScopeLemmas.{AreApart, contains-get, get-contains, within-contains}
-use Rattle.html_tree.proofs.TokenLemmas.{left, left-within, left-stays, left-not, IsNext, kind-next, next-cases, next-left, opens-next, next-opens, next-keeps, next-more, next-parent, parents-length, get-at, IsPath, next-path}
+use Rattle.html_tree.proofs.OrderLemmas.{IsOrdered, Keeps, keeps-tokens, begun-ordered}
+use Rattle.html_tree.proofs.ScopeLemmas.{AreApart, within-contains}
+use Rattle.html_tree.proofs.TokenLemmas.{left, left-within, left-stays, left-not, IsNext, kind-next, next-cases, next-left, opens-next, next-opens, next-keeps, next-more, next-parent, parents-length, IsPath, next-path}
 
 -- ---- the states of a text
 
@@ -96,7 +97,7 @@ module _ (tokens : List TokenView) where
       by : (length s.nodes < length a.nodes) ⊎ (length a.nodes ≤ length s.nodes) → length a.nodes ≤ length s.nodes
       by (inr m) = m
       by (inl m) =
-          let w = get-at (parents_of a.nodes) (length s.nodes) (let n = parents-length a.nodes in omega (arith, n)) in
+          let w = slice_get_at (parents_of a.nodes) (length s.nodes) (let n = parents-length a.nodes in omega (arith, n)) in
           let k = slice_get_within (parents_of s.nodes) (length s.nodes) w.0 (later-keeps t u a s l g h (length s.nodes) w.0 w.1) in
           let n = parents-length s.nodes in absurd (omega (arith, k, n))
 
@@ -197,7 +198,7 @@ module _ (tokens : List TokenView) where
       by (inr m) = m
       by (inl m) =
           let p = r.placed i q a in
-          let n = get-at s.nodes q.0 p.there in
+          let n = slice_get_at s.nodes q.0 p.there in
           let d = sym (ap depth_of n.1) ∙ p.depth in
           let e = (r.placed j o b).deeper q.0 n.0 m n.1 in absurd (omega (arith, d, e))
 

@@ -6,7 +6,7 @@ use Rattle.std.specs.Str.{IsCharBoundary, IsUtf8}
 use Rattle.std.proofs.lemmas.Str.{IsCharBoundary-after_ascii}
 use Rattle.std.proofs.lemmas.List.{get_or-drop}
 use Rattle.std.proofs.Math.Seq.{take-length}
-use Rattle.std.proofs.lemmas.Bool.{cases_Bool, cases_eq, both_ways, false_from_ne_true, eqb-true, and_parts}
+use Rattle.std.proofs.lemmas.Bool.{cases_Bool, cases_eq, both_ways, false_from_ne_true, eqb-true, and_parts, not-true}
 use Rattle.std.proofs.lemmas.Bool.Decides.{nat_tests}
 use Rattle.memchr.specs.Find.{Nowhere, Passes, IsFirstByte, is_byte, is_byte2}
 use Rattle.html_tok.proofs.Places.{place-le, place-fails}
@@ -71,10 +71,6 @@ name-same (b ∷ bs) h =
     let rest = name-same bs t.1 in
     let byte = plain-byte b (get_or bs 0 0) other in
     rw byte (let e : b ∷ bs ≡ to_ascii_lowercase b ∷ name_of bs = ap (λ x. x ∷ bs) (sym lower) ∙ ap (λ l. to_ascii_lowercase b ∷ l) rest in e)
-  where
-    not-true : (x : Bool) → not x ≡ true → x ≡ false
-    not-true true e = cc
-    not-true false e = refl
 
 -- ---- references
 

@@ -6,6 +6,7 @@ use Rattle.std.proofs.lemmas.Option.{slice_get_within, slice_get_past}
 use Rattle.std.specs.Str.{bytes_eq}
 use Rattle.bk_num.specs.declared.ids.NodeId.{NodeId}
 use Rattle.bk_num.specs.Limits.{most_nodes}
+use Rattle.bk_num.proofs.ListLemmas.{get-keep, get-push, get-end, slice_get_at}
 use Rattle.dom.specs.Nodes.{Node, Element, Text, parents_of, child_of, depth_at}
 use Rattle.dom.specs.Answers.{is_below_all}
 use Rattle.dom.specs.declared.dom.DomErr.TheVariants.{Nodes, Depth}
@@ -15,8 +16,7 @@ use Rattle.html_tree.specs.Rules.{rules, has_name, void_names}
 use Rattle.html_tree.specs.Texts.{name_of, text_of}
 use Rattle.html_tree.specs.Tree.{State, after_rule, without, is_blank, current, number_of, is_text_under, last_of, longer, appended, add_text, put_all, opened_after, add_element, after_start, is_escapable, current_name, after_kind}
 use Rattle.html_tree.specs.Open.{KindCloses, KindOpens, outside}
-use Rattle.html_tree.proofs.BuildLemmas.{get-keep}
-use Rattle.html_tree.proofs.OrderLemmas.{shape, Shape, shape-put_all, shape-change, get-push, get-last}
+use Rattle.html_tree.proofs.OrderLemmas.{shape, Shape, shape-put_all, shape-change}
 use Rattle.html_tree.proofs.ScopeLemmas.{AreApart, closed-stays, closed-not, closed-within, table-stays, table-not, table-within}
 
 -- what is open after a token's closings
@@ -81,11 +81,6 @@ pub data IsNext (kind : KindView) (bytes : List ℕ) (s next : State) : Type 0 w
   adds_none : next.opened ≡ left kind bytes s → parents_of next.nodes ≡ parents_of s.nodes → ((o : NodeId) → KindOpens kind s o → ⊥) → IsNext kind bytes s next
   adds_one : next.opened ≡ left kind bytes s → parents_of next.nodes ≡ parents_of s.nodes ++ Some (current (left kind bytes s)) ∷ [] → ((o : NodeId) → KindOpens kind s o → ⊥) → IsNext kind bytes s next
   opens_one : next.opened ≡ left kind bytes s ++ record { 0 = length s.nodes } ∷ [] → parents_of next.nodes ≡ parents_of s.nodes ++ Some (current (left kind bytes s)) ∷ [] → ((o : NodeId) → o.0 ≡ length s.nodes → KindOpens kind s o) → IsNext kind bytes s next
-
-pub get-at : {A : Type 0} (xs : List A) (k : ℕ) → k < length xs → (x : A) × (slice_get xs k ≡ Some x)
-get-at [] k h = absurd (omega arith)
-get-at (a ∷ xs) zero h = (a, refl)
-get-at (a ∷ xs) (suc k) h = get-at xs k (omega arith)
 
 parents-are : (nodes : List Node) → parents_of nodes ≡ map (λ (z : Shape). z.parent) (map shape nodes)
 parents-are [] = refl
@@ -242,7 +237,7 @@ next-parent kind bytes s next n k low high = by n
     one p =
         let l = one-more s next (Some (current (left kind bytes s))) p in
         let e : k ≡ length (parents_of s.nodes) = (let m = parents-length s.nodes in omega (arith, l, m)) in
-        ap (λ i. slice_get (parents_of next.nodes) i) e ∙ ap (λ x. slice_get x (length (parents_of s.nodes))) p ∙ get-last (parents_of s.nodes) (Some (current (left kind bytes s)))
+        ap (λ i. slice_get (parents_of next.nodes) i) e ∙ ap (λ x. slice_get x (length (parents_of s.nodes))) p ∙ get-end (parents_of s.nodes) (Some (current (left kind bytes s)))
 
     by : IsNext kind bytes s next → slice_get (parents_of next.nodes) k ≡ Some (Some (current (left kind bytes s)))
     by (adds_none e p not) = let l = sym (parents-length next.nodes) ∙ ap length p ∙ parents-length s.nodes in absurd (omega (arith, l))
@@ -256,7 +251,7 @@ IsPath nodes opened = (i : ℕ) (o : NodeId) → slice_get opened i ≡ Some o �
 
 outside-less : (less more : List NodeId) → ((k : ℕ) (o : NodeId) → slice_get less k ≡ Some o → slice_get more k ≡ Some o) → (i : ℕ) → i ≤ length less → outside less i ≡ outside more i
 outside-less less more f zero l = refl
-outside-less less more f (suc i) l = let w = get-at less i (omega arith) in ap number_of (w.1 ∙ sym (f i w.0 w.1))
+outside-less less more f (suc i) l = let w = slice_get_at less i (omega arith) in ap number_of (w.1 ∙ sym (f i w.0 w.1))
 
 path-less : (nodes : List Node) (less more : List NodeId) → ((k : ℕ) (o : NodeId) → slice_get less k ≡ Some o → slice_get more k ≡ Some o) → IsPath nodes more → IsPath nodes less
 path-less nodes less more f p i o h = p i o (f i o h) ∙ ap (λ n. Some (Some n)) (sym (outside-less less more f i (let l = slice_get_within less i o h in omega (arith, l))))
@@ -267,7 +262,7 @@ outside-end opened o = by (length opened) refl
   where
     by : (n : ℕ) → length opened ≡ n → outside (opened ++ o ∷ []) n ≡ number_of (slice_get opened (n - 1))
     by zero e = ap number_of (sym (slice_get_past opened (zero - 1) (omega arith)))
-    by (suc n) e = let w = get-at opened n (omega (arith, e)) in let m : suc n - 1 ≡ n = omega arith in ap number_of (get-keep opened (o ∷ []) n w.0 w.1 ∙ sym w.1 ∙ ap (slice_get opened) (sym m))
+    by (suc n) e = let w = slice_get_at opened n (omega (arith, e)) in let m : suc n - 1 ≡ n = omega arith in ap number_of (get-keep opened (o ∷ []) n w.0 w.1 ∙ sym w.1 ∙ ap (slice_get opened) (sym m))
 
 path-push : (nodes : List Node) (opened : List NodeId) (o : NodeId) → IsPath nodes opened → slice_get (parents_of nodes) o.0 ≡ Some (Some (current opened)) → IsPath nodes (opened ++ o ∷ [])
 path-push nodes opened o p h i q g = by (get-push opened o q i g)

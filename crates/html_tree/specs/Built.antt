@@ -22,12 +22,15 @@ abbrev pub waiting : List Node → ℕ → List ℕ → List Node
 waiting nodes parent [] = []
 waiting nodes parent (b ∷ bs) = child_of nodes parent (Text (b ∷ bs)) ∷ []
 
+-- the state that a builder keeps: its nodes with the text that waits, and its open elements
 abbrev pub state_of : Builder → State
 state_of b = record { nodes = b.dom ++ waiting b.dom b.parent.0 (cow_str_bytes b.text); opened = b.opened.items }
 
+-- each open node is an element that is there
 abbrev pub AreElements : List Node → List NodeId → Type 0
 AreElements nodes opened = (k : ℕ) (o : NodeId) → slice_get opened k ≡ Some o → is_element_at nodes o.0 ≡ true
 
+-- a builder: its open nodes are elements, it knows what they have in scope, and a text that waits finds room
 pub record IsBuilt (b : Builder) : Type 0 where
   pub root : is_element_at b.dom 0 ≡ true
   pub opened : AreElements b.dom b.opened.items

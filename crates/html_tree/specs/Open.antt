@@ -1,5 +1,5 @@
--- Which elements are open at a token, told by what tokens open and close (HTML, 13.2.4.2 "The stack of open elements"), and the laws that
--- join this to the tree's definition.
+-- Which elements are open at a token, told by what tokens open and close (HTML, 13.2.4.2 "The stack of open elements"),
+-- and the laws that join this to the tree's definition.
 use Rattle.std.specs.Prelude.{◌≡◌, ◌↔◌, ◌⊎◌, ℕ, zero, suc, ◌+◌, ◌<◌, ◌≤◌, Bool, true, false, List, [], ◌∷◌, None, Some, Ok, Contains, fold, length, take, slice_get, codes}
 use Rattle.std.specs.Str.{bytes_eq}
 use Rattle.bk_num.specs.declared.ids.NodeId.{NodeId}
@@ -12,33 +12,38 @@ use Rattle.html_tree.specs.Tree.{State, number_of, name_in, kept, after_rule, is
 
 -- ---- what closes among the open elements
 
--- the open element at place k is of `closes` and has none of `scope` inside it, among the first n (HTML, 13.2.4.2 "have a particular
--- element in a specific scope")
+-- the open element at place k is of `closes` and has none of `scope` inside it, among the first n (HTML, 13.2.4.2 "have
+-- a particular element in a specific scope")
 pub record IsInScope (closes scope : List ℕ → Bool) (nodes : List Node) (opened : List NodeId) (n k : ℕ) : Type 0 where
   pub within : k < n
   pub closed : closes (name_in nodes (slice_get opened k)) ≡ true
   pub free : (j : ℕ) → k < j → j < n → scope (name_in nodes (slice_get opened j)) ≡ false
 
 -- the innermost of them
-pub record IsInnermost (closes scope : List ℕ → Bool) (nodes : List Node) (opened : List NodeId) (n k : ℕ) : Type 0 where
+pub record IsInnermost (closes scope : List ℕ → Bool) (nodes : List Node) (opened : List NodeId)
+    (n k : ℕ) : Type 0 where
   pub in_scope : IsInScope closes scope nodes opened n k
   pub last : (j : ℕ) → IsInScope closes scope nodes opened n j → j ≤ k
 
 -- an open element closes where it is that one or stands inside it
-pub record ClosesInnermost (closes scope : List ℕ → Bool) (nodes : List Node) (opened : List NodeId) (o : NodeId) : Type 0 where
+pub record ClosesInnermost (closes scope : List ℕ → Bool) (nodes : List Node) (opened : List NodeId)
+    (o : NodeId) : Type 0 where
   pub innermost : ℕ
   pub place : ℕ
   pub found : IsInnermost closes scope nodes opened (length opened) innermost
   pub inside : innermost ≤ place
   pub here : slice_get opened place ≡ Some o
 
--- the rows of a table that name a start tag close in their order, each among the elements that the rows before it leave open
-pub record ClosesByRow (table : List Rule) (name : List ℕ) (nodes : List Node) (opened : List NodeId) (o : NodeId) : Type 0 where
+-- the rows of a table that name a start tag close in their order, each among the elements that the rows before it leave
+-- open
+pub record ClosesByRow (table : List Rule) (name : List ℕ) (nodes : List Node) (opened : List NodeId)
+    (o : NodeId) : Type 0 where
   pub number : ℕ
   pub row : Rule
   pub listed : slice_get table number ≡ Some row
   pub named : names_tag row name ≡ true
-  pub closes : ClosesInnermost (has_name row.closes) (has_name row.scope) nodes (fold (after_rule name nodes) opened (take number table)) o
+  pub closes : ClosesInnermost (has_name row.closes) (has_name row.scope) nodes
+      (fold (after_rule name nodes) opened (take number table)) o
 
 -- ---- what a token closes and opens
 
@@ -121,7 +126,8 @@ pub record IsLastOpened (tokens : List TokenView) (t : ℕ) (o : NodeId) : Type 
 
 -- the parent of what the t-th token adds: that element, or node 0 where none stays open
 abbrev pub IsParentAt : List TokenView → ℕ → ℕ → Type 0
-IsParentAt tokens t p = IsLastOpened tokens t (record { 0 = p }) ⊎ ((p ≡ 0) × ((u : ℕ) (q : NodeId) → StaysSince tokens u t q → ⊥))
+IsParentAt tokens t p =
+    IsLastOpened tokens t (record { 0 = p }) ⊎ ((p ≡ 0) × ((u : ℕ) (q : NodeId) → StaysSince tokens u t q → ⊥))
 
 -- ---- laws
 
@@ -142,17 +148,20 @@ OpenIsOpened = (tokens : List TokenView) (t : ℕ) (s : State) (o : NodeId) → 
 
 -- each open element is a child of the one outside of it: what stands further in lies inside it
 abbrev pub OpenIsPath : Type 0
-OpenIsPath = (tokens : List TokenView) (t : ℕ) (s : State) (i : ℕ) (o : NodeId) → IsStateAt tokens t s → slice_get s.opened i ≡ Some o →
+OpenIsPath = (tokens : List TokenView) (t : ℕ) (s : State) (i : ℕ) (o : NodeId) → IsStateAt tokens t s →
+    slice_get s.opened i ≡ Some o →
     parent_at (parents_of s.nodes) o.0 ≡ Some (outside s.opened i)
 
 -- each node but node 0 was added by an earlier token
 abbrev pub NodesAreAdded : Type 0
-NodesAreAdded = (tokens : List TokenView) (t : ℕ) (s : State) (k : ℕ) → IsStateAt tokens t s → 0 < k → k < length s.nodes →
+NodesAreAdded =
+    (tokens : List TokenView) (t : ℕ) (s : State) (k : ℕ) → IsStateAt tokens t s → 0 < k → k < length s.nodes →
     (u : ℕ) × (u < t) × Adds tokens u k
 
 -- the parent of a node that a token added is the last opened element that is open after that token's closings
 abbrev pub ParentIsLastOpened : Type 0
-ParentIsLastOpened = (tokens : List TokenView) (u t : ℕ) (s : State) (k : ℕ) (n : Node) → IsStateAt tokens t s → u < t → Adds tokens u k →
+ParentIsLastOpened = (tokens : List TokenView) (u t : ℕ) (s : State) (k : ℕ) (n : Node) → IsStateAt tokens t s → u < t →
+    Adds tokens u k →
     slice_get s.nodes k ≡ Some n →
     (p : ℕ) × (n.parent ≡ Some p) × IsParentAt tokens u p
 

@@ -4,20 +4,23 @@ use Rattle.std.specs.List.{list_any}
 use Rattle.std.specs.Str.{bytes_eq}
 use Rattle.std.specs.Borrow.{Bor}
 
+-- names as bytes
 abbrev pub texts : List (Bor (List ℕ)) → List (List ℕ)
 texts names = map (λ n. n.now) names
 
+-- whether a name is one of these
 abbrev pub has_name : List (List ℕ) → List ℕ → Bool
 has_name names name = list_any (λ n. bytes_eq n name) names
 
--- a row of the table: it counts for these start tags or for all but them, and closes an element of `closes` that has none of `scope`
--- inside it
+-- a row of the table: it counts for these start tags or for all but them, and closes an element of `closes` that has
+-- none of `scope` inside it
 pub record Rule : Type 0 where
   pub all_but : Bool
   pub tags : List (List ℕ)
   pub closes : List (List ℕ)
   pub scope : List (List ℕ)
 
+-- a row of the code's table
 abbrev pub rule_of : Bool × Bor (List (Bor (List ℕ))) × Bor (List (Bor (List ℕ))) × Bor (List (Bor (List ℕ))) → Rule
 rule_of r = record { all_but = r.0; tags = texts r.1.now; closes = texts r.2.now; scope = texts r.3.now }
 

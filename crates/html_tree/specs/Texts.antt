@@ -5,8 +5,10 @@ use Rattle.std.specs.Char.{is_digit, digit_value, to_ascii_lowercase}
 
 -- what a byte becomes before the next one: CR before LF goes, other CR are LF, and U+0000 is U+FFFD
 abbrev pub normalized_byte : ℕ → ℕ → List ℕ
-normalized_byte b next = if b == 13 then (if next == 10 then [] else 10 ∷ []) else if b == 0 then encode_utf8 0xFFFD else b ∷ []
+normalized_byte b next =
+    if b == 13 then (if next == 10 then [] else 10 ∷ []) else if b == 0 then encode_utf8 0xFFFD else b ∷ []
 
+-- bytes with their line ends and U+0000 replaced
 unfoldable pub normalized : List ℕ → List ℕ
 normalized [] = []
 normalized (b ∷ bs) = normalized_byte b (slice_index bs 0) ++ normalized bs
@@ -38,6 +40,7 @@ is_scalar n = nat_lt n 0xD800 || nat_le 0xE000 n && nat_lt n 0x11_0000
 abbrev pub character_of : ℕ → ℕ
 character_of n = if n == 0 || not (is_scalar n) then 0xFFFD else n
 
+-- how many digits of a base the bytes begin with
 abbrev pub digits_len : ℕ → List ℕ → ℕ
 digits_len base bs = position_or_len (λ b. not (is_digit b base)) bs
 
@@ -47,8 +50,10 @@ closing_len bs = if slice_index bs 0 == 59 then 1 else 0
 
 -- a number in this base after so many bytes
 abbrev pub counted : ℕ → ℕ → ℕ → List ℕ → Reference
-counted base lead n bs = record { code = character_of (number_of base (take n bs)); len = lead + n + closing_len (drop n bs) }
+counted base lead n bs =
+    record { code = character_of (number_of base (take n bs)); len = lead + n + closing_len (drop n bs) }
 
+-- a reference by number, where digits come; `&` with its lead else
 unfoldable pub numeric : ℕ → ℕ → List ℕ → Reference
 numeric base lead bs = if digits_len base bs == 0 then plain else counted base lead (digits_len base bs) bs
 
@@ -76,7 +81,8 @@ named_references =
 -- the reference at an `&`: a number in hexadecimal digits, one in decimal digits, or a name
 unfoldable pub reference_at : List ℕ → Reference
 reference_at bs = if slice_index bs 1 == 35 then
-    (if slice_index bs 2 == 120 || slice_index bs 2 == 88 then numeric 16 3 (drop 3 bs) else numeric 10 2 (drop 2 bs)) else
+    (if slice_index bs 2 == 120 || slice_index bs 2 == 88 then numeric 16 3 (drop 3 bs)
+    else numeric 10 2 (drop 2 bs)) else
     named named_references (drop 1 bs)
 
 -- the text with its references read, where the first n bytes belong to one that is read

@@ -2,6 +2,7 @@
 use Rattle.std.specs.Prelude.{ℕ, Bool, true, not, List, [], ◌∷◌, if◌then◌else◌, ◌==◌, ◌&&◌, ◌||◌}
 use Rattle.std.specs.Char.{to_ascii_lowercase}
 
+-- whether a name begins with a byte; the empty one begins with each
 abbrev pub begins_with : ℕ → List ℕ → Bool
 begins_with b [] = true
 begins_with b (a ∷ name) = b == a

@@ -3,22 +3,22 @@
 ghost use Rattle.html_tree.specs.Open.{KeptIsInnermost, AllIsKept, OpenIsOpened, OpenIsPath, NodesAreAdded, ParentIsLastOpened, TreeIsLastState};
 ghost use Rattle.html_tree.specs.Order.{TreeOrderIsNumberOrder};
 
-/// What closes is the innermost of a row's elements that has none of those inside it that keep it open; nothing closes exactly where
-/// there is none.
+/// What closes is the innermost of a row's elements that has none of those inside it that keep it open; nothing closes
+/// exactly where there is none.
 pub fn kept_is_innermost()
     ensures some { KeptIsInnermost }
     ensures none { AllIsKept }
 {}
 
-/// What is open at a token was opened by an earlier token and closed by none between, and what was opened so is open. Each open element
-/// is the parent of the next.
+/// What is open at a token was opened by an earlier token and closed by none between, and what was opened so is open.
+/// Each open element is the parent of the next.
 pub fn open_is_opened()
     ensures open { OpenIsOpened }
     ensures path { OpenIsPath }
 {}
 
-/// Each node but node 0 was added by a token, and its parent is the last opened element that is open after that token's closings, or node
-/// 0 where none is.
+/// Each node but node 0 was added by a token, and its parent is the last opened element that is open after that token's
+/// closings, or node 0 where none is.
 pub fn parent_is_last_opened()
     ensures added { NodesAreAdded }
     ensures parent { ParentIsLastOpened }

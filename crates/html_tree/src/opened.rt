@@ -25,7 +25,8 @@ pub(crate) fn name_of_element<'d>(dom: &'d Dom, node: NodeId) -> &'d str
 /// Closes the innermost open element of `closes` that has none of `scope` inside it, with all inside it.
 pub(crate) fn close_by(dom: &Dom, opened: &mut Vec<NodeId>, closes: &[&str], scope: &[&str])
     requires { AreElements dom.now opened.old.items }
-    ensures closed { opened.new.items ≡ closed_by (has_name (texts closes.now)) (has_name (texts scope.now)) dom.now opened.old.items }
+    ensures closed { opened.new.items ≡ closed_by (has_name (texts closes.now))
+        (has_name (texts scope.now)) dom.now opened.old.items }
     ensures elements { AreElements dom.now opened.new.items }
 {
     let mut at = opened.len();

@@ -266,7 +266,8 @@ fn find_name(bytes: &[u8], rows: &[(&str, char)]) -> Read
 }
 
 fn is_closed_name(bytes: &[u8], name: &[u8]) -> bool
-    ensures value { result ≡ (starts_with nat_eq bytes.now name.now && closing_len (drop (length name.now) bytes.now) == 1) }
+    ensures value { result ≡ (starts_with nat_eq bytes.now name.now
+        && closing_len (drop (length name.now) bytes.now) == 1) }
     ensures len { IsTrue result → length name.now < length bytes.now }
 {
     bytes.starts_with(name) && closing_len(&bytes[name.len()..]) == 1

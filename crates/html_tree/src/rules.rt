@@ -4,8 +4,8 @@ ghost use Rattle.std.specs.List.{list_any};
 ghost use Rattle.std.specs.Str.{bytes_eq};
 ghost use Rattle.html_tree.specs.Rules.{has_name, texts, rules, rule_of, void_names};
 
-/// A row has true where it counts for all start tags but those that it names; then the start tags, the elements of which the innermost
-/// closes, and those that keep it open from inside.
+/// A row has true where it counts for all start tags but those that it names; then the start tags, the elements of
+/// which the innermost closes, and those that keep it open from inside.
 const RULES: [(bool, &[&str], &[&str], &[&str]); 8] = [
     (
         true,

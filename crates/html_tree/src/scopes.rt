@@ -1,5 +1,5 @@
-//! Whether each row of the table has an element in scope, kept with each open element. So a token looks at open elements only
-//! where it closes some.
+//! Whether each row of the table has an element in scope, kept with each open element. So a token looks at open
+//! elements only where it closes some.
 ghost use Rattle.std.specs.Prelude.{◌≡◌, ℕ, Some, List, false, length, slice_get, slice_index_or};
 ghost use Rattle.bk_num.specs.declared.ids.NodeId.{NodeId};
 ghost use Rattle.dom.specs.Nodes.{Node};

@@ -25,8 +25,9 @@ use html_tok::{Attrs, Token, TokenKind, Tokens};
 use std::alloc::Global;
 use std::borrow::CowStr;
 
-/// A tree that is being built: its nodes, the open elements other than node 0, each with the rows that have an element in scope up
-/// to it, and the text that waits for more, with the element that it belongs to. A text of one piece waits where it stands.
+/// A tree that is being built: its nodes, the open elements other than node 0, each with the rows that have an element
+/// in scope up to it, and the text that waits for more, with the element that it belongs to. A text of one piece waits
+/// where it stands.
 #[derive(Drop)]
 pub(crate) struct Builder<'t> {
     pub(crate) dom: Dom,
@@ -105,7 +106,8 @@ impl<'t> Builder<'t> {
     pub(crate) fn read(&mut self, alloc: Global, token: Token<'t>) -> Result<(), DomErr>
         requires { IsBuilt self.old }
         ensures built { OnOk result (IsBuilt self.new) }
-        ensures state { Answers (after_kind (view_of token.entry).kind (view_of token.entry).slice (state_of self.old)) result
+        ensures state { Answers (after_kind (view_of token.entry).kind (view_of token.entry).slice
+            (state_of self.old)) result
             (λ _. state_of self.new) }
     {
         match token.kind {
@@ -134,7 +136,8 @@ impl<'t> Builder<'t> {
     fn read_text(&mut self, alloc: Global, slice: &'t str) -> Result<(), DomErr>
         requires { IsBuilt self.old }
         ensures built { OnOk result (IsBuilt self.new) }
-        ensures state { Answers (after_text (text_of true slice.entry.now) (state_of self.old)) result (λ _. state_of self.new) }
+        ensures state { Answers (after_text (text_of true slice.entry.now) (state_of self.old)) result
+            (λ _. state_of self.new) }
     {
         let Ok(text) = text_of(alloc, slice, true) else {
             return Err(DomErr::NoMemory);
@@ -148,7 +151,8 @@ impl<'t> Builder<'t> {
     fn read_raw(&mut self, alloc: Global, slice: &'t str) -> Result<(), DomErr>
         requires { IsBuilt self.old }
         ensures built { OnOk result (IsBuilt self.new) }
-        ensures state { Answers (add_text (text_of (is_escapable (current_name (state_of self.old))) slice.entry.now) (state_of self.old))
+        ensures state { Answers (add_text (text_of (is_escapable (current_name (state_of self.old))) slice.entry.now)
+            (state_of self.old))
             result (λ _. state_of self.new) }
     {
         let escapable = self.is_in_escapable();
@@ -161,7 +165,8 @@ impl<'t> Builder<'t> {
     fn read_start(&mut self, alloc: Global, name: &str, attrs: &str) -> Result<(), DomErr>
         requires { IsBuilt self.old }
         ensures built { OnOk result (IsBuilt self.new) }
-        ensures state { Answers (after_start (name_of name.now) attrs.now (state_of self.old)) result (λ _. state_of self.new) }
+        ensures state { Answers (after_start (name_of name.now) attrs.now (state_of self.old)) result
+            (λ _. state_of self.new) }
     {
         let Ok(name) = name_of(alloc, name) else {
             return Err(DomErr::NoMemory);
@@ -186,7 +191,10 @@ impl<'t> Builder<'t> {
         requires { IsBuilt self.old }
         ensures built { OnOk result (IsBuilt self.new) }
         ensures state { Answers
-            (Ok (record (state_of self.old) { opened = without (name_of name.now) (state_of self.old).nodes (state_of self.old).opened }))
+            (Ok (record (state_of self.old) {
+              opened = without (name_of name.now) (state_of self.old).nodes
+                  (state_of self.old).opened;
+            }))
             result (λ _. state_of self.new) }
     {
         let Ok(name) = name_of(alloc, name) else {
@@ -251,7 +259,10 @@ impl<'t> Builder<'t> {
         requires { IsBuilt self.old }
         ensures built { OnOk result (IsBuilt self.new) }
         ensures state { Answers
-            (Ok (record (state_of self.old) { nodes = put_all 0 (attributes_of attrs.now) (state_of self.old).nodes })) result
+            (Ok (record (state_of self.old) {
+              nodes = put_all 0 (attributes_of attrs.now)
+                  (state_of self.old).nodes;
+            })) result
             (λ _. state_of self.new) }
     {
         if put_attributes(&mut self.dom, alloc, NodeId(0), attrs).is_err() {
@@ -260,11 +271,13 @@ impl<'t> Builder<'t> {
         Ok(())
     }
 
-    /// Adds a text to the text that waits, where that belongs to the current element, and makes it the one that waits else.
+    /// Adds a text to the text that waits, where that belongs to the current element, and makes it the one that waits
+    /// else.
     fn add_text(&mut self, alloc: Global, text: CowStr<'t>) -> Result<(), DomErr>
         requires { IsBuilt self.old }
         ensures built { OnOk result (IsBuilt self.new) }
-        ensures state { Answers (add_text (cow_str_bytes text.entry) (state_of self.old)) result (λ _. state_of self.new) }
+        ensures state { Answers (add_text (cow_str_bytes text.entry) (state_of self.old)) result
+            (λ _. state_of self.new) }
     {
         if text.as_str().is_empty() {
             return Ok(());
@@ -311,7 +324,8 @@ impl<'t> Builder<'t> {
         requires parent { IsTrue (is_element_at self.old.dom parent.0) }
         requires some { 0 < length (cow_str_bytes text) }
         ensures built { OnOk result (IsBuilt self.new) }
-        ensures state { Answers (new_text parent.0 (cow_str_bytes text.entry) (state_of self.old)) result (λ _. state_of self.new) }
+        ensures state { Answers (new_text parent.0 (cow_str_bytes text.entry) (state_of self.old)) result
+            (λ _. state_of self.new) }
     {
         if put_text(&mut self.dom, alloc, self.parent, self.text.as_str()).is_err() {
             return Err(DomErr::NoMemory);
@@ -358,7 +372,8 @@ fn keep_open(
     node: NodeId,
 ) -> Result<(), NoMem>
     ensures opened { OnOk result (opened.new.items ≡ opened_after name.now node.0 opened.old.items) }
-    ensures scopes { (nodes : List Node) → HaveScopes nodes opened.old.items scopes.old.items → name_in nodes (Some node) ≡ name.now →
+    ensures scopes { (nodes : List Node) → HaveScopes nodes opened.old.items scopes.old.items →
+        name_in nodes (Some node) ≡ name.now →
         OnOk result (HaveScopes nodes opened.new.items scopes.new.items) }
 {
     if is_void(name) {
@@ -386,8 +401,8 @@ fn is_escapable(name: &str) -> bool
     name == "title" || name == "textarea"
 }
 
-/// The tree of an HTML text. Want of memory aside it answers Nodes or Depth exactly where the first token that adds too many nodes, or
-/// too deep an element, does.
+/// The tree of an HTML text. Want of memory aside it answers Nodes or Depth exactly where the first token that adds too
+/// many nodes, or too deep an element, does.
 #[tactic(auto, unfolding(crate::specs::Tree::tree_of))]
 pub fn read_html(alloc: Global, text: &str) -> Result<Dom, DomErr>
     ensures tree { Answers (tree_of text.now) result (λ dom. dom) }

@@ -1,6 +1,6 @@
 use Rattle.std.proofs.Common.{◌≡◌}
 use Rattle.std.specs.List.{position_or_len}
-use Rattle.html_tok.specs.Classes.{stops}
+use Rattle.html_tok.specs.Fields.{stops}
 use Rattle.html_tok.proofs.Places.{stop-boundary}
 use Rattle.html_tok.proofs.classes.skip_to.Goals as goal
 

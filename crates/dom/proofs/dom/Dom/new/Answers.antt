@@ -10,8 +10,8 @@ use Rattle.dom.proofs.dom.Dom.new.Goals as goal
 
 pub invariant_of-result : goal.invariant_of-result
 invariant_of-result c =
-    let whats : c.add_element.new.self ≡ root.what ∷ [] = grind (arith, common_steps) in
-    let rows : c.push.new.self.items ≡ root_row ∷ [] = grind (arith, common_steps) in
+    let whats : c.in_ok-store.store ≡ root.what ∷ [] = c.in_ok-store.ensures in
+    let rows : c.in_ok-rows.rows.items ≡ root_row ∷ [] = c.in_ok-rows.ensures in
     let none : (id : List ℕ) → first_in c.new.result id ≡ None = λ id. grind (arith, common_steps) in
     record {
       rows = rw (whats, rows) sound-root;

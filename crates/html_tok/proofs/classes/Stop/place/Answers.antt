@@ -1,5 +1,5 @@
 use Rattle.std.proofs.Common.{◌∙◌, unwrap_or, length, ap}
-use Rattle.html_tok.specs.Classes.{stops}
+use Rattle.html_tok.specs.Fields.{stops}
 use Rattle.html_tok.proofs.Places.{place-or}
 use Rattle.html_tok.proofs.classes.Stop.place.Goals as goal
 
