@@ -3,14 +3,14 @@ use Rattle.std.proofs.Common.{◌≡◌, ℕ, ◌+◌, ◌<◌, Bool, false, Lis
 use Rattle.css_tok.specs.Tokens.{Item}
 use Rattle.css_rules.specs.Pages.{PageOf}
 use Rattle.css_rules.specs.Sheet.{RuleOf, AreRules, IsSheet, rule_count, page_count, rules_in_step, pages_in_step, inside_after, GoesOn, none}
-use Rattle.css_rules.specs.declared.sheet.Step.{Step}
+use Rattle.css_rules.specs.declared.sheet.SheetStep.{SheetStep}
 use Rattle.css_rules.proofs.Unique.{rules_unique}
 use Rattle.css_rules.proofs.Total.{has_rules}
 
 abbrev Goes : List Item → Bool → List Item → List RuleOf → List PageOf → Type 0
 Goes all m ts rs ps = (qs : List RuleOf) (os : List PageOf) → AreRules m ts qs os → AreRules false all (rs ++ qs) (ps ++ os)
 
-pub step_goes : (s : Step) (m behind : Bool) (all ts us : List Item) (rs qs : List RuleOf) (ps os : List PageOf) → Goes all m ts rs ps → GoesOn s m ts us → behind ≡ inside_after m s → qs ≡ rs ++ rules_in_step s → os ≡ ps ++ pages_in_step s → Goes all behind us qs os
+pub step_goes : (s : SheetStep) (m behind : Bool) (all ts us : List Item) (rs qs : List RuleOf) (ps os : List PageOf) → Goes all m ts rs ps → GoesOn s m ts us → behind ≡ inside_after m s → qs ≡ rs ++ rules_in_step s → os ≡ ps ++ pages_in_step s → Goes all behind us qs os
 step_goes s m behind all ts us rs qs ps os goes step left rules pages = λ q o rest.
     let r : qs ++ q ≡ rs ++ (rules_in_step s ++ q) = ap (λ z. z ++ q) rules ∙ append_assoc rs (rules_in_step s) q in
     let p : os ++ o ≡ ps ++ (pages_in_step s ++ o) = ap (λ z. z ++ o) pages ∙ append_assoc ps (pages_in_step s) o in
@@ -27,7 +27,7 @@ count_append rs qs ps os =
     let s : page_count (ps ++ os) ≡ page_count ps + page_count os = pages_append ps os in
     omega (arith, l, s)
 
-pub step_counts : (s : Step) (rs qs : List RuleOf) (ps os : List PageOf) (count more : ℕ) → qs ≡ rs ++ rules_in_step s → os ≡ ps ++ pages_in_step s → count ≡ rule_count rs ps → more ≡ count + rule_count (rules_in_step s) (pages_in_step s) → more ≡ rule_count qs os
+pub step_counts : (s : SheetStep) (rs qs : List RuleOf) (ps os : List PageOf) (count more : ℕ) → qs ≡ rs ++ rules_in_step s → os ≡ ps ++ pages_in_step s → count ≡ rule_count rs ps → more ≡ count + rule_count (rules_in_step s) (pages_in_step s) → more ≡ rule_count qs os
 step_counts s rs qs ps os count more rules pages is adds =
     adds ∙ ap (λ z. z + rule_count (rules_in_step s) (pages_in_step s)) is ∙ sym (count_append rs (rules_in_step s) ps (pages_in_step s)) ∙ ap (λ z. rule_count z (ps ++ pages_in_step s)) (sym rules) ∙ ap (rule_count qs) (sym pages)
 

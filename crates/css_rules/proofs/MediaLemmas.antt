@@ -5,6 +5,7 @@ use Rattle.std.proofs.Common.{length-take}
 use Rattle.std.specs.List.{list_any, list_all, filter, prefix_len}
 use Rattle.std.proofs.lemmas.Bool.{cases_Bool, and_parts, eqb-true}
 use Rattle.std.proofs.lemmas.Bool.Decides.{nat_tests}
+use Rattle.std.proofs.Math.Bool.{and-false, or-false}
 use Rattle.css_tok.specs.Tokens.{Item, item_in}
 use Rattle.css_tok.specs.declared.tokens.CssToken.{CssToken}
 use Rattle.css_rules.specs.Views.{items_in}
@@ -41,11 +42,7 @@ one_medium t [] = and_true (is_medium t)
     and_true : (a : Bool) → a ≡ (a && true)
     and_true true = refl
     and_true false = refl
-one_medium t (u ∷ us) = elim (cases_Bool (is_gap u)) [ inl gap ↦ rw gap (one_medium t us) | inr other ↦ rw other (and_false (is_medium t)) ]
-  where
-    and_false : (a : Bool) → false ≡ (a && false)
-    and_false true = refl
-    and_false false = refl
+one_medium t (u ∷ us) = elim (cases_Bool (is_gap u)) [ inl gap ↦ rw gap (one_medium t us) | inr other ↦ rw other (sym (and-false (is_medium t))) ]
 
 first_medium : (t : Item) (p : Piece) → (is_medium t && list_all is_gap p) ≡ part_with (seen_first seen.Nothing (is_medium t)) p
 first_medium t p = elim (cases_Bool (is_medium t)) [ inl medium ↦ rw medium | inr other ↦ rw other ]
@@ -56,10 +53,6 @@ part_step seen.Nothing t p = elim (cases_Bool (is_gap t)) [ inl gap ↦ rw gap |
 part_step seen.Medium t p = elim (cases_Bool (is_gap t)) [ inl gap ↦ rw gap | inr other ↦ rw other ]
 part_step seen.Other t p = elim (cases_Bool (is_gap t)) [ inl gap ↦ rw gap | inr other ↦ rw other ]
 
-or_false : (a : Bool) → (a || false) ≡ a
-or_false true = refl
-or_false false = refl
-
 and_assoc : (a b c : Bool) → (a && (b && c)) ≡ ((a && b) && c)
 and_assoc true b c = refl
 and_assoc false b c = refl
@@ -69,7 +62,7 @@ shallow a d h = grind (arith, nat_tests)
 
 parts_step : (s : Seen) (b : List ℕ) (t : Item) (ps : List Piece) → length b ≤ 1024 → parts_with s b (with_tokens (t ∷ []) ps) ≡ parts_with (seen_after s t) (open_after b t) ps
 unfolding deepest
-parts_step s b t [] few = rw (shallow (length b) (length (open_after b t)) few, or_false (part_with s (t ∷ [])), part_step s t []) refl
+parts_step s b t [] few = rw (shallow (length b) (length (open_after b t)) few, or-false (part_with s (t ∷ [])), part_step s t []) refl
 parts_step s b t (p ∷ ps) few = rw (shallow (length b) (deepest (open_after b t) p) few, part_step s t p) refl
 
 pub other_step : (b : List ℕ) (s : Seen) (blank : Bool) (t : Item) (ts : List Item) → ends stop.Comma b t ≡ false → length b ≤ 1024
@@ -189,7 +182,7 @@ comma_step b s blank t ts stops =
 
 pub reads_none : (b : List ℕ) (s : Seen) (blank : Bool) → length b ≤ 1024 → (blank || is_medium_seen s) ≡ reads (record { brackets = b; seen = s; blank = blank }) []
 unfolding reads deepest parts_from
-reads_none b s blank few = let e : leb (length b) 1024 ≡ true = grind (arith, nat_tests) in rw (e, or_false (part_with s []), part_nothing s) (ends_sum blank (is_medium_seen s))
+reads_none b s blank few = let e : leb (length b) 1024 ≡ true = grind (arith, nat_tests) in rw (e, or-false (part_with s []), part_nothing s) (ends_sum blank (is_medium_seen s))
   where
     ends_sum : (a c : Bool) → (a || c) ≡ ((a && true) || c)
     ends_sum true c = refl

@@ -3,13 +3,16 @@ use Rattle.std.specs.Prelude.{ℕ, zero, suc, Bool, false, if◌then◌else◌, 
 use Rattle.css_tok.specs.Marks.{mark, closer_of}
 use Rattle.css_tok.specs.Tokens.{Item}
 
+-- whether the mark that is awaited is this one
 abbrev pub is_mark : Option ℕ → ℕ → Bool
 is_mark None b = false
 is_mark (Some c) b = c == b
 
+-- whether a token closes the innermost open bracket
 unfoldable pub closes : List ℕ → Item → Bool
 closes open' t = is_mark (slice_get open' (length open' - 1)) (mark t)
 
+-- the marks that close the open brackets, after a token that opens one or may close one
 abbrev pub opened : Option ℕ → List ℕ → Item → List ℕ
 opened (Some c) open' t = open' ++ c ∷ []
 opened None open' t = if closes open' t then take (length open' - 1) open' else open'
@@ -18,6 +21,7 @@ opened None open' t = if closes open' t then take (length open' - 1) open' else 
 unfoldable pub open_after : List ℕ → Item → List ℕ
 open_after open' t = opened (closer_of t) open' t
 
+-- whether no bracket is open
 unfoldable pub is_outside : List ℕ → Bool
 is_outside open' = length open' == 0
 

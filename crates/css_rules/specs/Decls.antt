@@ -12,21 +12,26 @@ use Rattle.css_rules.specs.Parts.{Piece, joined, parts_from, separator}
 use Rattle.css_rules.specs.declared.parts.Stop.{Stop}
 use Rattle.css_rules.specs.declared.decls.DeclSlice.{DeclSlice}
 
+-- a declaration: its name, the bytes of its value, and whether it is important
 pub record Decl : Type 0 where
   pub name : List ℕ
   pub value : List ℕ
   pub important : Bool
 
+-- a declaration of the reader as contracts see it
 abbrev pub decl_in : DeclSlice → Decl
 decl_in d = record { name = d.name.now; value = d.value.now; important = d.important }
 
+-- a string that its line ends
 abbrev pub is_bad_kind : CssKind → Bool
 is_bad_kind kind.BadStr = true
 is_bad_kind _ = false
 
+-- the word `important` in any case
 unfoldable pub is_bang_word : Item → Bool
 is_bang_word t = is_ident_kind t.kind && is_word t.slice (codes "important")
 
+-- the token before a place
 abbrev pub item_before : Piece → ℕ → Option Item
 item_before ts zero = None
 item_before ts (suc n) = slice_get ts n
@@ -35,6 +40,7 @@ item_before ts (suc n) = slice_get ts n
 abbrev pub before : (Item → Bool) → Piece → ℕ → Bool
 before test ts n = option_map_or test (item_before ts n) false
 
+-- the mark `!`
 abbrev pub is_bang : Item → Bool
 is_bang t = mark t == 33
 
@@ -55,20 +61,29 @@ bang_place ts n =
 unfoldable pub important_place : Bool → Piece → Option ℕ
 important_place closed ts = if closed then bang_place ts (length ts) else None
 
+-- how many tokens a value has, without `!important` and the gaps before it
 unfoldable pub value_len : Bool → Piece → ℕ
 value_len closed ts = gapless_len ts (unwrap_or (important_place closed ts) (length ts))
 
+-- the declaration of a name whose value these tokens begin
 unfoldable pub decl_from : Bool → List ℕ → Piece → Decl
 decl_from closed name ts =
-    record { name = name; value = joined (take (value_len closed ts) ts); important = is_some (important_place closed ts) }
+    record {
+      name = name;
+      value = joined (take (value_len closed ts) ts);
+      important = is_some (important_place closed ts);
+    }
 
+-- how many gaps the tokens begin with
 unfoldable pub gaps_len : Piece → ℕ
 gaps_len ts = prefix_len is_gap ts
 
+-- the declaration of a name, where `:` follows
 unfoldable pub after_name : Bool → List ℕ → Piece → Option Decl
 after_name closed name [] = None
 after_name closed name (t ∷ ts) = if mark t == 58 then Some (decl_from closed name (drop (gaps_len ts) ts)) else None
 
+-- the declaration that begins with a name (css-syntax, 5.4.6)
 unfoldable pub named : Bool → Piece → Option Decl
 named closed [] = None
 named closed (t ∷ ts) = if is_ident_kind t.kind then after_name closed t.slice (drop (gaps_len ts) ts) else None
@@ -82,6 +97,7 @@ pub record Covers (text : List ℕ) (ts : Piece) : Type 0 where
   pub rest : List ℕ
   pub is : text ≡ joined ts ++ rest
 
+-- what a reader found, as contracts see it
 abbrev pub found : Option DeclSlice → Option Decl
 found d = option_map decl_in d
 

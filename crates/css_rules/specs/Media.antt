@@ -1,4 +1,5 @@
--- A media list (CSS 2.1, 7.2; HTML's `media`), as far as it is read: it is empty, or a part of it is `all` or `print` alone.
+-- A media list (CSS 2.1, 7.2; HTML's `media`), as far as it is read: it is empty, or a part of it is `all` or `print`
+-- alone.
 use Rattle.std.specs.Prelude.{ℕ, Bool, false, not, ◌&&◌, ◌||◌, nat_le, List, [], ◌∷◌, take, length, max, codes}
 use Rattle.std.specs.List.{list_any, list_all, filter, prefix_len}
 use Rattle.css_tok.specs.Tokens.{Item}
@@ -12,6 +13,7 @@ use Rattle.css_rules.specs.declared.parts.Stop.TheVariants as stop
 unfoldable pub is_medium : Item → Bool
 is_medium t = is_ident_kind t.kind && (is_word t.slice (codes "all") || is_word t.slice (codes "print"))
 
+-- one token alone, a medium that counts
 abbrev pub is_one_medium : List Item → Bool
 is_one_medium [] = false
 is_one_medium (t ∷ []) = is_medium t
@@ -30,6 +32,7 @@ deepest open' (t ∷ ts) = max (length open') (deepest (open_after open' t) ts)
 abbrev pub most_brackets : ℕ
 most_brackets = 1024
 
+-- no more brackets are open at once than a reader keeps
 abbrev pub is_shallow : Piece → Bool
 is_shallow ts = nat_le (deepest [] ts) most_brackets
 

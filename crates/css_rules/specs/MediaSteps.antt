@@ -16,17 +16,21 @@ pub record MediaState : Type 0 where
   pub seen : Seen
   pub blank : Bool
 
+-- a reader of media as contracts see it
 abbrev pub state_in : MediaReader → MediaState
 state_in r = record { brackets = r.brackets; seen = r.seen; blank = r.blank }
 
+-- the part is a medium that counts
 abbrev pub is_medium_seen : Seen → Bool
 is_medium_seen seen.Medium = true
 is_medium_seen _ = false
 
+-- what a part is after its next token that is no gap
 abbrev pub seen_first : Seen → Bool → Seen
 seen_first seen.Nothing medium = if medium then seen.Medium else seen.Other
 seen_first _ medium = seen.Other
 
+-- what a part is after its next token
 unfoldable pub seen_after : Seen → Item → Seen
 seen_after s t = if is_gap t then s else seen_first s (is_medium t)
 
@@ -43,7 +47,8 @@ part_with seen.Other ts = false
 -- a part is a medium alone, where the beginning of the first one was read
 abbrev pub parts_with : Seen → List ℕ → List Piece → Bool
 parts_with s open' [] = nat_le (deepest open' []) most_brackets && part_with s []
-parts_with s open' (p ∷ ps) = nat_le (deepest open' p) most_brackets && (part_with s p || list_any is_medium_part (shallow_parts ps))
+parts_with s open' (p ∷ ps) =
+    nat_le (deepest open' p) most_brackets && (part_with s p || list_any is_medium_part (shallow_parts ps))
 
 -- the list is read, if these tokens are what is left of it
 unfoldable pub reads : MediaState → List Item → Bool

@@ -28,9 +28,11 @@ pub record PageOf : Type 0 where
   pub decls : List Decl
   pub boxes : List BoxOf
 
+-- a margin box of the reader as contracts see it
 abbrev pub box_in : {A : Type 0} → Bor (List ℕ) × Vec DeclSlice A → BoxOf
 box_in b = record { name = b.0.now; decls = map decl_in b.1.items }
 
+-- a page rule of the reader as contracts see it
 abbrev pub page_in : PageSlice → PageOf
 page_in p = record { selectors = p.selectors.now; decls = map decl_in p.decls.items; boxes = map box_in p.boxes.items }
 
@@ -38,13 +40,17 @@ page_in p = record { selectors = p.selectors.now; decls = map decl_in p.decls.it
 abbrev pub margin_names : List (List ℕ)
 margin_names =
     codes "top-left-corner" ∷ codes "top-left" ∷ codes "top-center" ∷ codes "top-right" ∷ codes "top-right-corner"
-    ∷ codes "right-top" ∷ codes "right-middle" ∷ codes "right-bottom" ∷ codes "bottom-right-corner" ∷ codes "bottom-right"
-    ∷ codes "bottom-center" ∷ codes "bottom-left" ∷ codes "bottom-left-corner" ∷ codes "left-bottom" ∷ codes "left-middle"
+    ∷ codes "right-top" ∷ codes "right-middle" ∷ codes "right-bottom" ∷ codes "bottom-right-corner"
+    ∷ codes "bottom-right"
+    ∷ codes "bottom-center" ∷ codes "bottom-left" ∷ codes "bottom-left-corner" ∷ codes "left-bottom"
+    ∷ codes "left-middle"
     ∷ codes "left-top" ∷ []
 
+-- the name of a margin box in any case (css-page, 5.3)
 unfoldable pub is_margin_name : List ℕ → Bool
 is_margin_name name = list_any (λ word. is_word name word) margin_names
 
+-- an at keyword
 abbrev pub is_at_kind : CssKind → Bool
 is_at_kind kind.At = true
 is_at_kind _ = false
@@ -58,13 +64,16 @@ page_lead t = if is_gap t then lead.Between else
 unfoldable pub at_prelude : List Item → List Item
 at_prelude ts = front_from stop.InnerAtRule [] ts
 
+-- what follows an at rule's prelude
 unfoldable pub at_end : List Item → List Item
 at_end ts = after_from stop.InnerAtRule [] ts
 
 -- An At token with the name of a margin box, no prelude, and a block (css-page-3, 5)
 unfoldable pub is_margin_box : Item → List Item → Bool
-is_margin_box t ts = is_margin_name (value_slice t.kind t.slice) && list_all is_gap (at_prelude ts) && first_mark (at_end ts) == 123
+is_margin_box t ts =
+    is_margin_name (value_slice t.kind t.slice) && list_all is_gap (at_prelude ts) && first_mark (at_end ts) == 123
 
+-- the margin box of an at keyword, with the declarations of the block that follows
 abbrev pub box_of : Item → List Item → BoxOf
 box_of t after = record { name = value_slice t.kind t.slice; decls = decls_of stop.BlockPiece (rest_of after) }
 
@@ -76,23 +85,29 @@ past_end after = if first_mark after == 123 then past_block (rest_of after) else
 unfoldable pub piece_at : List Item → List Item
 piece_at ts = front_from stop.BlockPiece [] ts
 
+-- what follows a declaration
 unfoldable pub piece_end : List Item → List Item
 piece_end ts = after_from stop.BlockPiece [] ts
 
+-- a page rule's block: its declarations, its margin boxes and what is left behind it (css-page, 4)
 pub data IsPageBlock : List Item → List Decl → List BoxOf → List Item → Type 0 where
   cut : IsPageBlock [] [] [] []
   closer : (t : Item) (ts : List Item) → page_lead t ≡ lead.Closer → IsPageBlock (t ∷ ts) [] [] ts
-  between : (t : Item) (ts : List Item) (ds : List Decl) (bs : List BoxOf) (rest : List Item) → page_lead t ≡ lead.Between →
+  between : (t : Item) (ts : List Item) (ds : List Decl) (bs : List BoxOf) (rest : List Item) →
+      page_lead t ≡ lead.Between →
       IsPageBlock ts ds bs rest → IsPageBlock (t ∷ ts) ds bs rest
-  margin_box : (t : Item) (ts : List Item) (ds : List Decl) (bs : List BoxOf) (rest : List Item) → page_lead t ≡ lead.At →
+  margin_box : (t : Item) (ts : List Item) (ds : List Decl) (bs : List BoxOf) (rest : List Item) →
+      page_lead t ≡ lead.At →
       is_margin_box t ts ≡ true
       → IsPageBlock (past_end (at_end ts)) ds bs rest → IsPageBlock (t ∷ ts) ds (box_of t (at_end ts) ∷ bs) rest
   at_rule : (t : Item) (ts : List Item) (ds : List Decl) (bs : List BoxOf) (rest : List Item) → page_lead t ≡ lead.At →
       is_margin_box t ts ≡ false → (first_mark (at_end ts) == 125) ≡ false
       → IsPageBlock (past_end (at_end ts)) ds bs rest → IsPageBlock (t ∷ ts) ds bs rest
-  at_closer : (t : Item) (ts : List Item) → page_lead t ≡ lead.At → is_margin_box t ts ≡ false → (first_mark (at_end ts) == 125) ≡ true →
+  at_closer : (t : Item) (ts : List Item) → page_lead t ≡ lead.At → is_margin_box t ts ≡ false →
+      (first_mark (at_end ts) == 125) ≡ true →
       IsPageBlock (t ∷ ts) [] [] (past_end (at_end ts))
-  piece : (t : Item) (ts : List Item) (ds : List Decl) (bs : List BoxOf) (rest : List Item) → page_lead t ≡ lead.Content →
+  piece : (t : Item) (ts : List Item) (ds : List Decl) (bs : List BoxOf) (rest : List Item) →
+      page_lead t ≡ lead.Content →
       (first_mark (piece_end (t ∷ ts)) == 59) ≡ true
       → IsPageBlock (rest_of (piece_end (t ∷ ts))) ds bs rest →
       IsPageBlock (t ∷ ts) (option_to_list (decl_of (piece_at (t ∷ ts))) ++ ds) bs rest
@@ -103,6 +118,7 @@ pub data IsPageBlock : List Item → List Decl → List BoxOf → List Item → 
 abbrev pub decls_in_part : PagePart → List Decl
 decls_in_part p = option_to_list (option_map decl_in p.decl)
 
+-- the margin box that a part of a page rule gives, if it gives one
 abbrev pub boxes_in_part : PagePart → List BoxOf
 boxes_in_part p = option_to_list (option_map box_in p.margin)
 

@@ -7,6 +7,7 @@ use Rattle.css_rules.specs.Brackets.{open_after, open_at, is_outside}
 use Rattle.css_rules.specs.declared.parts.Stop.{Stop}
 use Rattle.css_rules.specs.declared.parts.Stop.TheVariants as stop
 
+-- tokens in a row
 abbrev pub Piece : Type 0
 Piece = List Item
 
@@ -43,6 +44,7 @@ unfoldable pub after_from : Stop → List ℕ → List Item → List Item
 after_from s open' [] = []
 after_from s open' (t ∷ ts) = if ends s open' t then t ∷ ts else after_from s (open_after open' t) ts
 
+-- more tokens before the first piece
 abbrev pub with_tokens : Piece → List Piece → List Piece
 with_tokens ts [] = ts ∷ []
 with_tokens ts (p ∷ ps) = (ts ++ p) ∷ ps
@@ -66,8 +68,11 @@ past_block ts = past_from stop.BlockPiece [] ts
 
 -- the length of a part is the first place outside brackets whose token stops it
 pub record EndsFirst (s : Stop) (open' : List ℕ) (ts : List Item) : Type 0 where
-  pub before : (k : ℕ) (t : Item) → k < length (front_from s open' ts) → slice_get ts k ≡ Some t → ends s (open_at open' ts k) t ≡ false
-  pub here : (k : ℕ) (t : Item) → k ≡ length (front_from s open' ts) → slice_get ts k ≡ Some t → ends s (open_at open' ts k) t ≡ true
+  pub before : (k : ℕ) (t : Item) → k < length (front_from s open' ts) → slice_get ts k ≡ Some t →
+      ends s (open_at open' ts k) t ≡ false
+  pub here : (k : ℕ) (t : Item) → k ≡ length (front_from s open' ts) → slice_get ts k ≡ Some t →
+      ends s (open_at open' ts k) t ≡ true
 
+-- each part ends at the first token that may end it
 abbrev pub EachPartEndsFirst : Type 0
 EachPartEndsFirst = (s : Stop) (open' : List ℕ) (ts : List Item) → EndsFirst s open' ts

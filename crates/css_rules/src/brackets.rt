@@ -1,6 +1,6 @@
 //! Which brackets are open at a token.
 
-ghost use Rattle.std.specs.Prelude.{◌≡◌, [], OnOk};
+ghost use Rattle.std.specs.Prelude.{◌≡◌, [], OnErr, OnOk};
 ghost use Rattle.css_tok.specs.Tokens.{item_in};
 ghost use Rattle.css_rules.specs.Brackets as spec;
 
@@ -9,12 +9,13 @@ use css_tok::tokens::CssToken;
 use std::alloc::Global;
 use std::marker::Model;
 
+/// The brackets that are open. Contracts see the marks that close them, the innermost last.
 #[derive(Drop)]
-pub struct Open {
+pub struct OpenBrackets {
     closers: Vec<u8>,
 }
 
-impl Model for Open {
+impl Model for OpenBrackets {
     ghost use Rattle.std.specs.Prelude.{ℕ, List};
 
     ghost Value = { List ℕ };
@@ -22,15 +23,17 @@ impl Model for Open {
     ghost view = { λ o. o.closers.items };
 }
 
-impl Open {
-    pub fn new(alloc: Global) -> Open
+impl OpenBrackets {
+    /// No bracket is open.
+    pub fn new(alloc: Global) -> OpenBrackets
         ensures { result ≡ [] }
     {
-        Open {
+        OpenBrackets {
             closers: Vec::new(alloc),
         }
     }
 
+    /// Whether no bracket is open.
     #[tactic(auto, unfolding(crate::specs::Brackets::is_outside))]
     pub fn is_outside(&self) -> bool
         ensures { result ≡ spec.is_outside self.now }
@@ -48,9 +51,11 @@ impl Open {
         }
     }
 
+    /// Passes a token, which may open a bracket or close the innermost one.
     #[tactic(auto, unfolding(crate::specs::Brackets::open_after))]
     pub fn pass(&mut self, token: &CssToken<'_>) -> Result<(), NoMem>
-        ensures { OnOk result (self.new ≡ spec.open_after self.old (item_in token.now)) }
+        ensures ok { OnOk result (self.new ≡ spec.open_after self.old (item_in token.now)) }
+        ensures err { OnErr result (self.new ≡ self.old) }
     {
         if let Some(closer) = token.closer() {
             self.closers.push(closer)?;

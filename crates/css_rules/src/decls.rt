@@ -80,8 +80,9 @@ fn gap_before(tokens: &[CssToken<'_>], at: usize) -> bool
     }
 }
 
+/// How many of the first tokens are left without the white space and comments at their end.
 #[tactic(auto, unfolding(crate::specs::Decls::gapless_len))]
-fn gapless_len(tokens: &[CssToken<'_>], len: usize) -> usize
+pub fn gapless_len(tokens: &[CssToken<'_>], len: usize) -> usize
     requires { len ≤ length tokens.now }
     ensures value { result ≡ spec.gapless_len (items_in tokens.now) len }
     ensures within { result ≤ len }
@@ -122,8 +123,9 @@ fn gap_run(tokens: &[CssToken<'_>]) -> usize
     count
 }
 
+/// How many tokens of white space and comments stand before the others.
 #[tactic(auto, using(crate::proofs::PartLemmas::gap_run_is), unfolding(crate::specs::Decls::gaps_len))]
-fn gaps_len(tokens: &[CssToken<'_>]) -> usize
+pub fn gaps_len(tokens: &[CssToken<'_>]) -> usize
     ensures value { result ≡ spec.gaps_len (items_in tokens.now) }
     ensures within { result ≤ length tokens.now }
 {
@@ -131,7 +133,7 @@ fn gaps_len(tokens: &[CssToken<'_>]) -> usize
 }
 
 /// The text of tokens that a text begins with, and what follows them.
-pub(crate) fn split<'a>(text: &'a str, tokens: &[CssToken<'a>]) -> (&'a str, &'a str)
+pub fn split<'a>(text: &'a str, tokens: &[CssToken<'a>]) -> (&'a str, &'a str)
     requires { Covers text.now (items_in tokens.now) }
     ensures front { result.0.now ≡ joined (items_in tokens.now) }
     ensures back { text.now ≡ result.0.now ++ result.1.now }
@@ -144,7 +146,7 @@ pub(crate) fn split<'a>(text: &'a str, tokens: &[CssToken<'a>]) -> (&'a str, &'a
 }
 
 /// Passes a number of tokens of a text.
-fn skip<'t, 'a>(
+pub fn skip<'t, 'a>(
     text: &'a str,
     tokens: &'t [CssToken<'a>],
     count: usize,
@@ -243,12 +245,9 @@ fn has_bad(tokens: &[CssToken<'_>]) -> bool
     tokens.iter().any(|token| is_bad(token))
 }
 
+/// Reads a declaration from the tokens of a piece; None exactly where they are none.
 #[tactic(auto, using(crate::proofs::PartLemmas::bad_is), unfolding(crate::specs::Decls::decl_of))]
-pub(crate) fn decl_of<'a>(
-    closed: bool,
-    text: &'a str,
-    tokens: &[CssToken<'a>],
-) -> Option<DeclSlice<'a>>
+pub fn decl_of<'a>(closed: bool, text: &'a str, tokens: &[CssToken<'a>]) -> Option<DeclSlice<'a>>
     requires covers { Covers text.now (items_in tokens.now) }
     requires closed { closed ≡ is_closed (items_in tokens.now) }
     ensures { spec.found result ≡ spec.decl_of (items_in tokens.now) }
@@ -268,7 +267,8 @@ pub(crate) fn read_block<'a>(
 ) -> Result<Vec<DeclSlice<'a>>, NoMem>
     requires { spec.IsOfDecls stop }
     ensures decls { IfOk result (λ v. map spec.decl_in v.items ≡ spec.decls_of stop (tokens_of tokens.old.rest.now)) }
-    ensures rest { IfOk result (λ _. tokens_of tokens.new.rest.now ≡ past_from stop [] (tokens_of tokens.old.rest.now)) }
+    ensures rest { IfOk result (λ _. tokens_of tokens.new.rest.now
+        ≡ past_from stop [] (tokens_of tokens.old.rest.now)) }
     ensures within { IfOk result (λ _. length tokens.new.rest.now ≤ length tokens.old.rest.now) }
 {
     let mut part = Vec::new(alloc);

@@ -64,7 +64,8 @@ impl Shallow {
 
     /// Appends a closer where there is room.
     fn push(&mut self, closer: u8) -> bool
-        ensures { MatchBool result (self.new ≡ self.old ++ closer ∷ []) (most_brackets ≤ length self.old) }
+        ensures room { MatchBool result (self.new ≡ self.old ++ closer ∷ []) (most_brackets ≤ length self.old) }
+        ensures full { result ≡ false → self.new ≡ self.old }
     {
         if self.depth == MOST_BRACKETS {
             return false;
@@ -150,6 +151,7 @@ impl Shallow {
     fn pass(&mut self, token: &CssToken<'_>) -> bool
         ensures open { MatchBool result (self.new ≡ open_after self.old (item_in token.now))
             (most_brackets < length (open_after self.old (item_in token.now))) }
+        ensures full { result ≡ false → self.new ≡ self.old }
     {
         if let Some(closer) = token.closer() {
             return self.push(closer);
@@ -164,6 +166,7 @@ impl Shallow {
     fn within(&self)
         ensures { length self.now ≤ most_brackets }
     {
+        // by the invariant, which is known of what is looked at
         let _depth = self.depth;
     }
 }
@@ -212,7 +215,8 @@ impl MediaReader {
 
     fn end_part(&mut self) -> Option<bool>
         ensures { MatchOption result ((is_medium_seen self.old.seen ≡ false) ×
-            (spec.state_in self.new ≡ spec.next_part (spec.state_in self.old))) (λ answer. (is_medium_seen self.old.seen ≡ true) ×
+            (spec.state_in self.new ≡ spec.next_part (spec.state_in self.old)))
+            (λ answer. (is_medium_seen self.old.seen ≡ true) ×
             (answer ≡ true)) }
     {
         if is_medium_seen(self.seen) {
@@ -249,7 +253,7 @@ pub fn media_read(list: &str) -> bool
 }
 
 /// The same for a list whose tokens were taken.
-pub(crate) fn is_media_list(tokens: &[CssToken<'_>]) -> bool
+pub fn is_media_list(tokens: &[CssToken<'_>]) -> bool
     ensures { result ≡ is_media_list (items_in tokens.now) }
 {
     let mut reader = MediaReader::new();

@@ -67,8 +67,9 @@ pub(crate) fn is_at(token: &CssToken<'_>) -> bool
     matches!(token.kind, CssKind::At)
 }
 
+/// What stands where a declaration of a page rule could begin.
 #[tactic(auto, unfolding(crate::specs::Pages::page_lead))]
-fn page_lead(token: &CssToken<'_>) -> Lead
+pub fn page_lead(token: &CssToken<'_>) -> Lead
     ensures { result ≡ spec.page_lead (item_in token.now) }
 {
     if token.is_gap() {
@@ -90,7 +91,8 @@ pub struct PagePart<'a> {
     more: bool,
 }
 
-fn are_gaps(tokens: &[CssToken<'_>]) -> bool
+/// Whether all tokens are white space and comments.
+pub fn are_gaps(tokens: &[CssToken<'_>]) -> bool
     ensures { result ≡ list_all (λ t. is_gap_kind t.kind) tokens.now }
 {
     tokens.iter().all(|token| token.is_gap())
@@ -104,7 +106,8 @@ fn read_page_at<'a>(
     tokens: &mut CssTokens<'a>,
     found: &mut Vec<CssToken<'a>>,
 ) -> Result<PagePart<'a>, NoMem>
-    ensures part { IfOk result (λ p. spec.IsPageAt p (item_in token.now) (tokens_of tokens.old.rest.now) (tokens_of tokens.new.rest.now)) }
+    ensures part { IfOk result (λ p. spec.IsPageAt p (item_in token.now) (tokens_of tokens.old.rest.now)
+        (tokens_of tokens.new.rest.now)) }
     ensures within { IfOk result (λ _. length tokens.new.rest.now ≤ length tokens.old.rest.now) }
 {
     let end = take_until(alloc, tokens, Stop::InnerAtRule, found)?;
@@ -136,11 +139,14 @@ fn read_page_piece<'a>(
     tokens: &mut CssTokens<'a>,
     found: &mut Vec<CssToken<'a>>,
 ) -> Result<PagePart<'a>, NoMem>
-    ensures decl { IfOk result (λ p. option_map decl_in p.decl ≡ spec_decls.decl_of (spec.piece_at (tokens_of tokens.old.rest.now))) }
+    ensures decl { IfOk result (λ p. option_map decl_in p.decl
+        ≡ spec_decls.decl_of (spec.piece_at (tokens_of tokens.old.rest.now))) }
     ensures margin { IfOk result (λ p. option_map spec.box_in p.margin ≡ None) }
     ensures more { IfOk result (λ p. p.more ≡ (first_mark (spec.piece_end (tokens_of tokens.old.rest.now)) == 59)) }
-    ensures rest { IfOk result (λ _. tokens_of tokens.new.rest.now ≡ rest_of (spec.piece_end (tokens_of tokens.old.rest.now))) }
-    ensures takes { IfOk result (λ _. 0 < length tokens.old.rest.now → length tokens.new.rest.now < length tokens.old.rest.now) }
+    ensures rest { IfOk result (λ _. tokens_of tokens.new.rest.now
+        ≡ rest_of (spec.piece_end (tokens_of tokens.old.rest.now))) }
+    ensures takes { IfOk result (λ _. 0 < length tokens.old.rest.now →
+        length tokens.new.rest.now < length tokens.old.rest.now) }
 {
     let start = tokens.rest;
     let end = take_until(alloc, tokens, Stop::BlockPiece, found)?;
@@ -157,7 +163,8 @@ fn next_page_part<'a>(
     tokens: &mut CssTokens<'a>,
     found: &mut Vec<CssToken<'a>>,
 ) -> Result<PagePart<'a>, NoMem>
-    ensures part { IfOk result (λ p. spec.IsPartOfPage p (tokens_of tokens.old.rest.now) (tokens_of tokens.new.rest.now)) }
+    ensures part { IfOk result (λ p. spec.IsPartOfPage p (tokens_of tokens.old.rest.now)
+        (tokens_of tokens.new.rest.now)) }
     ensures within { IfOk result (λ _. length tokens.new.rest.now ≤ length tokens.old.rest.now) }
     ensures moves { IfOk result (λ p. IsTrue p.more → length tokens.new.rest.now < length tokens.old.rest.now) }
 {
@@ -215,7 +222,8 @@ pub(crate) fn read_page<'a>(
     found: &mut Vec<CssToken<'a>>,
 ) -> Result<PageSlice<'a>, NoMem>
     ensures block { IfOk result (λ p. ((spec.page_in p).selectors ≡ selectors.now) ×
-        spec.IsPageBlock (tokens_of tokens.old.rest.now) (spec.page_in p).decls (spec.page_in p).boxes (tokens_of tokens.new.rest.now)) }
+        spec.IsPageBlock (tokens_of tokens.old.rest.now) (spec.page_in p).decls (spec.page_in p).boxes
+        (tokens_of tokens.new.rest.now)) }
     ensures within { IfOk result (λ _. length tokens.new.rest.now ≤ length tokens.old.rest.now) }
 {
     let mut decls = Vec::new(alloc);

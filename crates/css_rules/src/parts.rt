@@ -7,7 +7,7 @@ ghost use Rattle.css_rules.specs.Views.{items_in};
 ghost use Rattle.css_rules.specs.Brackets.{is_closed};
 ghost use Rattle.css_rules.specs.Parts as spec;
 
-use crate::brackets::Open;
+use crate::brackets::OpenBrackets;
 use bk_num::name::NoMem;
 use css_tok::tokens::{CssToken, CssTokens};
 use std::alloc::Global;
@@ -46,7 +46,7 @@ fn is_stop(stop: Stop, mark: u8) -> bool
 }
 
 #[tactic(auto, unfolding(crate::specs::Parts::ends))]
-fn ends(stop: Stop, open: &Open, token: &CssToken<'_>) -> bool
+fn ends(stop: Stop, open: &OpenBrackets, token: &CssToken<'_>) -> bool
     ensures { result ≡ spec.ends stop open.now (item_in token.now) }
 {
     open.is_outside() && is_stop(stop, token.mark())
@@ -69,17 +69,21 @@ pub(crate) fn take_until<'a>(
     stop: Stop,
     found: &mut Vec<CssToken<'a>>,
 ) -> Result<PartEnd, NoMem>
-    ensures found { IfOk result (λ _. items_in found.new.items ≡ spec.front_from stop [] (tokens_of tokens.old.rest.now)) }
+    ensures found { IfOk result (λ _. items_in found.new.items
+        ≡ spec.front_from stop [] (tokens_of tokens.old.rest.now)) }
     ensures end { IfOk result (λ e. e.mark ≡ first_mark (spec.after_from stop [] (tokens_of tokens.old.rest.now))) }
     ensures closed { IfOk result (λ e. e.closed ≡ is_closed (items_in found.new.items)) }
-    ensures rest { IfOk result (λ _. tokens_of tokens.new.rest.now ≡ rest_of (spec.after_from stop [] (tokens_of tokens.old.rest.now))) }
-    ensures front { IfOk result (λ _. (rest : List ℕ) × (tokens.old.rest.now ≡ spec.joined (items_in found.new.items) ++ rest)) }
+    ensures rest { IfOk result (λ _. tokens_of tokens.new.rest.now
+        ≡ rest_of (spec.after_from stop [] (tokens_of tokens.old.rest.now))) }
+    ensures front { IfOk result (λ _. (rest : List ℕ) × (tokens.old.rest.now
+        ≡ spec.joined (items_in found.new.items) ++ rest)) }
     ensures within { length tokens.new.rest.now ≤ length tokens.old.rest.now }
     ensures moves { IfOk result (λ e. e.mark ≢ 0 → length tokens.new.rest.now < length tokens.old.rest.now) }
-    ensures takes { IfOk result (λ _. 0 < length tokens.old.rest.now → length tokens.new.rest.now < length tokens.old.rest.now) }
+    ensures takes { IfOk result (λ _. 0 < length tokens.old.rest.now →
+        length tokens.new.rest.now < length tokens.old.rest.now) }
 {
     found.clear();
-    let mut open = Open::new(alloc);
+    let mut open = OpenBrackets::new(alloc);
     while let Some(token) = tokens.next() {
         if ends(stop, &open, &token) {
             return Ok(PartEnd {
@@ -104,13 +108,15 @@ pub(crate) fn next_part<'a>(
     stop: Stop,
     part: &mut Vec<CssToken<'a>>,
 ) -> Result<PartEnd, NoMem>
-    ensures parted { IfOk result (λ e. spec.parts_from stop [] (tokens_of tokens.old.rest.now) ≡ items_in part.new.items ∷
+    ensures parted { IfOk result (λ e. spec.parts_from stop [] (tokens_of tokens.old.rest.now)
+        ≡ items_in part.new.items ∷
         (if e.mark == spec.separator stop then spec.parts_from stop [] (tokens_of tokens.new.rest.now) else [])) }
     ensures past { IfOk result (λ e. spec.past_from stop [] (tokens_of tokens.old.rest.now) ≡
         (if e.mark == spec.separator stop then spec.past_from stop [] (tokens_of tokens.new.rest.now) else
         tokens_of tokens.new.rest.now)) }
     ensures closed { IfOk result (λ e. e.closed ≡ is_closed (items_in part.new.items)) }
-    ensures front { IfOk result (λ _. (rest : List ℕ) × (tokens.old.rest.now ≡ spec.joined (items_in part.new.items) ++ rest)) }
+    ensures front { IfOk result (λ _. (rest : List ℕ) × (tokens.old.rest.now
+        ≡ spec.joined (items_in part.new.items) ++ rest)) }
     ensures within { length tokens.new.rest.now ≤ length tokens.old.rest.now }
     ensures moves { IfOk result (λ e. e.mark ≢ 0 → length tokens.new.rest.now < length tokens.old.rest.now) }
 {

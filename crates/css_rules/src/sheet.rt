@@ -18,6 +18,7 @@ use css_tok::kind::CssKind;
 use css_tok::tokens::{CssToken, CssTokens};
 use css_tok::words::is_word;
 use std::alloc::Global;
+use thiserror::Error;
 
 /// What an at-rule gives.
 #[derive(Clone, Copy, Debug)]
@@ -46,8 +47,9 @@ fn is_between(token: &CssToken<'_>) -> bool
     )
 }
 
+/// What stands where a rule could begin, where an `@media` block is open or not.
 #[tactic(auto, unfolding(crate::specs::Sheet::lead_of))]
-fn lead(inside: bool, token: &CssToken<'_>) -> Lead
+pub fn lead(inside: bool, token: &CssToken<'_>) -> Lead
     ensures { result ≡ spec.lead_of inside (item_in token.now) }
 {
     if is_between(token) {
@@ -61,7 +63,8 @@ fn lead(inside: bool, token: &CssToken<'_>) -> Lead
     }
 }
 
-fn prelude_stop(inside: bool) -> Stop
+/// Where the prelude of a ruleset ends, where an `@media` block is open or not.
+pub fn prelude_stop(inside: bool) -> Stop
     ensures { result ≡ spec.prelude_stop inside }
 {
     if inside {
@@ -71,7 +74,8 @@ fn prelude_stop(inside: bool) -> Stop
     }
 }
 
-fn at_stop(inside: bool) -> Stop
+/// Where the prelude of an at-rule ends, where an `@media` block is open or not.
+pub fn at_stop(inside: bool) -> Stop
     ensures { result ≡ spec.at_stop inside }
 {
     if inside {
@@ -88,7 +92,8 @@ fn is_at_word(token: &CssToken<'_>, word: &str) -> bool
     is_word(token.value_slice(), word)
 }
 
-fn at_kind(inside: bool, token: &CssToken<'_>, prelude: &[CssToken<'_>], end: u8) -> AtKind
+/// What an at-rule gives, by its At, its prelude and what ends that.
+pub fn at_kind(inside: bool, token: &CssToken<'_>, prelude: &[CssToken<'_>], end: u8) -> AtKind
     ensures { result ≡ spec.kind_of_at inside (item_in token.now) (items_in prelude.now) end }
 {
     if end != b'{' {
@@ -104,7 +109,7 @@ fn at_kind(inside: bool, token: &CssToken<'_>, prelude: &[CssToken<'_>], end: u8
 
 /// One step of the reader of a sheet.
 #[derive(Drop)]
-enum Step<'a> {
+enum SheetStep<'a> {
     /// The end of the text.
     End,
     /// Nothing that is kept; whether an `@media` block is open behind it.
@@ -139,7 +144,7 @@ fn read_at<'a>(
     token: &CssToken<'a>,
     tokens: &mut CssTokens<'a>,
     found: &mut Vec<CssToken<'a>>,
-) -> Result<Step<'a>, NoMem>
+) -> Result<SheetStep<'a>, NoMem>
     ensures goes { IfOk result (λ s. spec.lead_of inside (item_in token.now) ≡ Lead.At →
         spec.GoesOn s inside (item_in token.now ∷ tokens_of tokens.old.rest.now) (tokens_of tokens.new.rest.now)) }
     ensures within { IfOk result (λ _. length tokens.new.rest.now ≤ length tokens.old.rest.now) }
@@ -148,15 +153,15 @@ fn read_at<'a>(
     let start = tokens.rest;
     let end = take_until(alloc, tokens, at_stop(inside), found)?;
     match at_kind(inside, token, found, end.mark) {
-        AtKind::Media => Ok(Step::Skipped(true)),
+        AtKind::Media => Ok(SheetStep::Skipped(true)),
         AtKind::Page => {
             let selectors = split(start, found).0;
             let page = read_page(alloc, selectors, tokens, found)?;
-            Ok(Step::Page(page))
+            Ok(SheetStep::Page(page))
         }
         AtKind::Other => {
             skip_block(alloc, tokens, end.mark)?;
-            Ok(Step::Skipped(stays(inside, end.mark)))
+            Ok(SheetStep::Skipped(stays(inside, end.mark)))
         }
     }
 }
@@ -167,20 +172,22 @@ fn read_ruleset<'a>(
     inside: bool,
     tokens: &mut CssTokens<'a>,
     found: &mut Vec<CssToken<'a>>,
-) -> Result<Step<'a>, NoMem>
+) -> Result<SheetStep<'a>, NoMem>
     ensures goes { IfOk result (λ s. (t : Item) (us : List Item) → tokens_of tokens.old.rest.now ≡ t ∷ us →
-        spec.lead_of inside t ≡ Lead.Content → spec.GoesOn s inside (tokens_of tokens.old.rest.now) (tokens_of tokens.new.rest.now)) }
-    ensures takes { IfOk result (λ _. 0 < length tokens.old.rest.now → length tokens.new.rest.now < length tokens.old.rest.now) }
+        spec.lead_of inside t ≡ Lead.Content → spec.GoesOn s inside (tokens_of tokens.old.rest.now)
+        (tokens_of tokens.new.rest.now)) }
+    ensures takes { IfOk result (λ _. 0 < length tokens.old.rest.now →
+        length tokens.new.rest.now < length tokens.old.rest.now) }
     ensures goes_on { IfOk result (λ s. spec.is_end s ≡ false) }
 {
     let start = tokens.rest;
     let end = take_until(alloc, tokens, prelude_stop(inside), found)?;
     if end.mark != b'{' {
-        return Ok(Step::Skipped(stays(inside, end.mark)));
+        return Ok(SheetStep::Skipped(stays(inside, end.mark)));
     }
     let selectors = split(start, found).0;
     let decls = read_block(alloc, tokens, Stop::BlockPiece)?;
-    Ok(Step::Rule(Rule { selectors, decls }))
+    Ok(SheetStep::Rule(Rule { selectors, decls }))
 }
 
 /// Makes the next step.
@@ -189,23 +196,24 @@ fn next_rule<'a>(
     inside: bool,
     tokens: &mut CssTokens<'a>,
     found: &mut Vec<CssToken<'a>>,
-) -> Result<Step<'a>, NoMem>
-    ensures goes { IfOk result (λ s. spec.GoesOn s inside (tokens_of tokens.old.rest.now) (tokens_of tokens.new.rest.now)) }
+) -> Result<SheetStep<'a>, NoMem>
+    ensures goes { IfOk result (λ s. spec.GoesOn s inside (tokens_of tokens.old.rest.now)
+        (tokens_of tokens.new.rest.now)) }
     ensures end { IfOk result (λ s. spec.is_end s ≡ true → tokens_of tokens.old.rest.now ≡ []) }
     ensures moves { IfOk result (λ s. spec.is_end s ≡ false → length tokens.new.rest.now < length tokens.old.rest.now) }
 {
     let mut ahead = *tokens;
     let Some(token) = ahead.next() else {
-        return Ok(Step::End);
+        return Ok(SheetStep::End);
     };
     match lead(inside, &token) {
         Lead::Between => {
             *tokens = ahead;
-            Ok(Step::Skipped(inside))
+            Ok(SheetStep::Skipped(inside))
         }
         Lead::Closer => {
             *tokens = ahead;
-            Ok(Step::Skipped(false))
+            Ok(SheetStep::Skipped(false))
         }
         Lead::At => {
             *tokens = ahead;
@@ -232,17 +240,19 @@ pub fn one_reading()
 {}
 
 /// Why a sheet isn't read.
-#[derive(Clone, Copy, Debug, PartialEq, Eq)]
+#[derive(Clone, Copy, Debug, PartialEq, Eq, Error)]
 pub enum SheetErr {
     /// It has more than 20,000 rules: rulesets, page rules and margin boxes.
+    #[error("too many rules")]
     Rules,
+    #[error("no memory")]
     NoMemory,
 }
 
-fn is_end(step: &Step<'_>) -> bool
+fn is_end(step: &SheetStep<'_>) -> bool
     ensures { result ≡ spec.is_end step.now }
 {
-    matches!(step, Step::End)
+    matches!(step, SheetStep::End)
 }
 
 /// Keeps what a step gave. Answers whether an `@media` block is open behind it, and the number of rules.
@@ -251,22 +261,25 @@ fn keep<'a>(
     pages: &mut Vec<PageSlice<'a>>,
     inside: bool,
     count: usize,
-    step: Step<'a>,
+    step: SheetStep<'a>,
 ) -> Result<(bool, usize), NoMem>
     requires { count ≤ most_rules }
-    ensures rules { OnOk result (map spec.rule_in rules.new.items ≡ map spec.rule_in rules.old.items ++ spec.rules_in_step step.entry) }
-    ensures pages { OnOk result (map page_in pages.new.items ≡ map page_in pages.old.items ++ spec.pages_in_step step.entry) }
+    ensures rules { OnOk result (map spec.rule_in rules.new.items
+        ≡ map spec.rule_in rules.old.items ++ spec.rules_in_step step.entry) }
+    ensures pages { OnOk result (map page_in pages.new.items
+        ≡ map page_in pages.old.items ++ spec.pages_in_step step.entry) }
     ensures inside { IfOk result (λ r. r.0 ≡ spec.inside_after inside step.entry) }
-    ensures count { IfOk result (λ r. r.1 ≡ count + spec.rule_count (spec.rules_in_step step.entry) (spec.pages_in_step step.entry)) }
+    ensures count { IfOk result (λ r. r.1 ≡ count + spec.rule_count (spec.rules_in_step step.entry)
+        (spec.pages_in_step step.entry)) }
 {
     match step {
-        Step::End => Ok((inside, count)),
-        Step::Skipped(behind) => Ok((behind, count)),
-        Step::Rule(rule) => {
+        SheetStep::End => Ok((inside, count)),
+        SheetStep::Skipped(behind) => Ok((behind, count)),
+        SheetStep::Rule(rule) => {
             rules.push(rule)?;
             Ok((inside, count + 1))
         }
-        Step::Page(page) => {
+        SheetStep::Page(page) => {
             let more = count + 1 + page.boxes.len();
             pages.push(page)?;
             Ok((inside, more))
@@ -276,9 +289,11 @@ fn keep<'a>(
 
 /// Reads a sheet; None where it has more than 20,000 rules.
 fn read_rules<'a>(alloc: Global, text: &'a str) -> Result<Option<Sheet<'a>>, NoMem>
-    ensures sheet { IfOk result (λ o. IfSome o (λ s. spec.IsSheet (tokens_of text.now) (spec.rules_in s) (spec.pages_in s))) }
+    ensures sheet { IfOk result (λ o. IfSome o (λ s. spec.IsSheet (tokens_of text.now) (spec.rules_in s)
+        (spec.pages_in s))) }
     ensures few { IfOk result (λ o. IfSome o (λ s. spec.rule_count (spec.rules_in s) (spec.pages_in s) ≤ most_rules)) }
-    ensures many { IfOk result (λ o. IfNone o ((rs : List spec.RuleOf) (ps : List PageOf) → spec.IsSheet (tokens_of text.now) rs ps →
+    ensures many { IfOk result (λ o. IfNone o ((rs : List spec.RuleOf) (ps : List PageOf) →
+        spec.IsSheet (tokens_of text.now) rs ps →
         most_rules < spec.rule_count rs ps)) }
 {
     let mut tokens = CssTokens::new(text);

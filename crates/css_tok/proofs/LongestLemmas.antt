@@ -1,6 +1,6 @@
 -- No kind has a longer reading than the token at the start of a text.
 use Rattle.std.proofs.Common.{◌≡◌, ◌⊎◌, inl, inr, ℕ, zero, suc, ◌+◌, ◌<◌, ◌≤◌, Bool, true, false, not, cond, ◌&&◌, ◌||◌, eqb, ltb, List, [], ◌∷◌, ◌++◌, drop, take, length, get_or, refl, sym, ◌∙◌, ap, subst, arith, codes, ◌==◌, zero-le, get_or-drop}
-use Rattle.std.proofs.lemmas.Bool.{cases_lt, cases_Bool, cond_both, and_parts, eqb-true, ne_eqb, eq-eqb}
+use Rattle.std.proofs.lemmas.Bool.{cases_lt, cases_Bool, cond_both, and_parts, eqb-true, ne_eqb, eq-eqb, not-true}
 use Rattle.std.proofs.lemmas.Bool.Decides.{nat_tests}
 use Rattle.std.proofs.lemmas.List.{get_or_past, take-append-drop}
 use Rattle.std.proofs.lemmas.Slice.Eq.{bytes_eq-Decides}
@@ -64,10 +64,6 @@ number_token bs h =
     let more : ltb 0 (number_len bs) ≡ true = grind (arith, nat_tests) in
     rw (blank, quote, slash, more) refl
 
-not_true : (b : Bool) → not b ≡ true → b ≡ false
-not_true true h = cc
-not_true false h = refl
-
 -- a name begins with a letter, `_`, a `\` or a byte from 128 on
 start_high : (b : ℕ) → is_name b ≡ true ⊎ (b ≡ 92) → (is_ascii_digit b || eqb b 45) ≡ false → 65 ≤ b
 start_high b (inl name) other = grind (arith, nat_tests, name, other)
@@ -82,7 +78,7 @@ begins_high (b ∷ bs) h = by (is_name b) (eqb b 92) refl refl both.1
     both = and_parts (not (is_ascii_digit b || eqb b 45)) (ltb 0 (cond (is_name b) 1 (cond (eqb b 92) (with_backslash (escape_len bs)) 0))) h
 
     other : (is_ascii_digit b || eqb b 45) ≡ false
-    other = let x = both.0 in not_true (is_ascii_digit b || eqb b 45) x
+    other = let x = both.0 in not-true (is_ascii_digit b || eqb b 45) x
 
     by : (n e : Bool) → is_name b ≡ n → eqb b 92 ≡ e → ltb 0 (cond n 1 (cond e (with_backslash (escape_len bs)) 0)) ≡ true → 65 ≤ b
     by true e name slash k = start_high b (inl name) other

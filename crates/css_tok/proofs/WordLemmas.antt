@@ -5,6 +5,7 @@ use Rattle.std.proofs.lemmas.Bool.Decides.{nat_tests}
 use Rattle.std.proofs.Common.{rules, append-nil, ◌≡◌, ℕ, suc, ◌<◌, ◌≤◌, Bool, true, false, ◌&&◌, List, [], ◌∷◌, ◌++◌, take, drop, length, refl, ap, arith, map, eqb, ◌∙◌, sym}
 use Rattle.std.specs.Str.{str_eq_ignore_ascii_case}
 use Rattle.std.specs.Char.{to_ascii_lowercase}
+use Rattle.std.proofs.Math.Bool.{and-false}
 
 and_assoc : (a b c : Bool) → (a && (b && c)) ≡ ((a && b) && c)
 and_assoc true b c = refl
@@ -13,11 +14,7 @@ and_assoc false b c = refl
 pub long_part : (part word rest : List ℕ) → length word < length part → str_eq_ignore_ascii_case (part ++ rest) word ≡ false
 long_part [] word rest long = absurd (omega arith)
 long_part (p ∷ ps) [] rest long = refl
-long_part (p ∷ ps) (w ∷ ws) rest long = ap (λ z. eqb (to_ascii_lowercase p) (to_ascii_lowercase w) && z) (long_part ps ws rest (omega arith)) ∙ and_false (eqb (to_ascii_lowercase p) (to_ascii_lowercase w))
-  where
-    and_false : (a : Bool) → (a && false) ≡ false
-    and_false true = refl
-    and_false false = refl
+long_part (p ∷ ps) (w ∷ ws) rest long = ap (λ z. eqb (to_ascii_lowercase p) (to_ascii_lowercase w) && z) (long_part ps ws rest (omega arith)) ∙ and-false (eqb (to_ascii_lowercase p) (to_ascii_lowercase w))
 
 pub parted : (part word rest : List ℕ) → length part ≤ length word → str_eq_ignore_ascii_case (part ++ rest) word ≡ (str_eq_ignore_ascii_case part (take (length part) word) && str_eq_ignore_ascii_case rest (drop (length part) word))
 parted [] word rest fits = refl

@@ -7,6 +7,7 @@ use Rattle.css_tok.specs.declared.kind.CssKind.TheVariants as kind
 use Rattle.css_tok.specs.declared.lengths.Class.TheVariants as class
 use Rattle.css_tok.specs.Lengths.{run_len, sign_len, number_len}
 
+-- a number, a percentage or a dimension
 abbrev pub is_numeric_kind : CssKind → Bool
 is_numeric_kind kind.Number = true
 is_numeric_kind kind.Percent = true
@@ -17,6 +18,7 @@ is_numeric_kind _ = false
 abbrev pub digits_at : List ℕ → List ℕ
 digits_at bs = take (run_len class.Digit bs) bs
 
+-- what follows the digits at the start
 abbrev pub past_digits : List ℕ → List ℕ
 past_digits bs = drop (run_len class.Digit bs) bs
 
@@ -28,15 +30,19 @@ decimals bs = if slice_index (past_digits bs) 0 == 46 then take 6 (digits_at (dr
 abbrev pub most_whole : ℕ
 most_whole = 999999999
 
+-- the value of digits, up to the most that is held
 abbrev pub whole_of : List ℕ → ℕ
 whole_of digits = min most_whole (digits_value 10 digits)
 
+-- whether the sign is `-`
 abbrev pub is_minus : List ℕ → Bool
 is_minus bs = slice_index bs 0 == 45
 
+-- what follows the sign
 abbrev pub unsigned : List ℕ → List ℕ
 unsigned bs = drop (sign_len bs) bs
 
+-- a number with its sign
 abbrev pub signed : Bool → ℕ → ℤ
 signed minus n = if minus then neg_ℤ (pos n) else pos n
 
@@ -46,7 +52,10 @@ scaled whole part = whole_of whole * 10 ^ length part + digits_value 10 part
 
 -- The number at the start of a text. It has as many places as decimals are written, up to six.
 unfoldable pub decimal_of : List ℕ → Number
-decimal_of bs = record { units = signed (is_minus bs) (scaled (digits_at (unsigned bs)) (decimals (unsigned bs))); places = length (decimals (unsigned bs)) }
+decimal_of bs = record {
+  units = signed (is_minus bs) (scaled (digits_at (unsigned bs)) (decimals (unsigned bs)));
+  places = length (decimals (unsigned bs));
+}
 
 -- what follows the number: the unit of a Dimension, its escapes as they stand
 unfoldable pub unit_of : List ℕ → List ℕ

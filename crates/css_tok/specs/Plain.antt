@@ -14,7 +14,8 @@ code_point n = if n == 0 || is_in_range 0xD800 0xDFFF n || nat_lt 0x10FFFF n the
 -- and else the first byte of the character after it. A `\` at the end stands for itself.
 unfoldable pub escaped : List ℕ → List ℕ
 escaped [] = 92 ∷ []
-escaped (b ∷ bs) = if is_newline b then [] else (if is_ascii_hexdigit b then encode_utf8 (code_point (digits_value 16 (take (hex_len (b ∷ bs)) (b ∷ bs)))) else b ∷ [])
+escaped (b ∷ bs) = if is_newline b then [] else (if is_ascii_hexdigit b
+    then encode_utf8 (code_point (digits_value 16 (take (hex_len (b ∷ bs)) (b ∷ bs)))) else b ∷ [])
 
 -- The number counts the bytes that are left of an escape.
 unfoldable pub plain_from : ℕ → List ℕ → List ℕ
@@ -37,4 +38,5 @@ is_word bs word = str_eq_ignore_ascii_case (plain_of bs) word
 
 -- what is left of a word after a part of a text, or none where the part isn't its beginning, ASCII case aside
 abbrev pub Strips : Option (List ℕ) → List ℕ → List ℕ → Type 0
-Strips left part word = MatchOption left ((rest : List ℕ) → str_eq_ignore_ascii_case (part ++ rest) word ≡ false) (λ more. (rest : List ℕ) → str_eq_ignore_ascii_case (part ++ rest) word ≡ str_eq_ignore_ascii_case rest more)
+Strips left part word = MatchOption left ((rest : List ℕ) → str_eq_ignore_ascii_case (part ++ rest) word ≡ false)
+    (λ more. (rest : List ℕ) → str_eq_ignore_ascii_case (part ++ rest) word ≡ str_eq_ignore_ascii_case rest more)

@@ -1,4 +1,5 @@
--- How long a reading of each kind at the start of a text is, each by its own grammar, and 0 where none stands there (CSS 2.1, 4.1.1). Of these the longest counts.
+-- How long a reading of each kind at the start of a text is, each by its own grammar, and 0 where none stands there
+-- (CSS 2.1, 4.1.1). Of these the longest counts.
 use Rattle.std.specs.Prelude.{◌≡◌, ◌⊎◌, ℕ, ◌+◌, ◌<◌, ◌≤◌, ◌&&◌, ◌||◌, if◌then◌else◌, ◌==◌, List, drop, take, length, slice_index, codes}
 use Rattle.std.specs.Str.{bytes_eq}
 use Rattle.css_tok.specs.declared.kind.CssKind.{CssKind}
@@ -29,15 +30,19 @@ quoted_run bs = run_len (class.Quoted (slice_index bs 0)) (drop 1 bs)
 
 -- through the closing quote, or to the end
 abbrev pub string_len : List ℕ → ℕ
-string_len bs = if is_quote (slice_index bs 0) then (if quoted_run bs + 1 == length bs then quoted_run bs + 1 else if slice_index bs (quoted_run bs + 1) == slice_index bs 0 then quoted_run bs + 2 else 0) else 0
+string_len bs = if is_quote (slice_index bs 0) then (if quoted_run bs + 1 == length bs then quoted_run bs + 1
+    else if slice_index bs (quoted_run bs + 1) == slice_index bs 0 then quoted_run bs + 2 else 0) else 0
 
 -- up to a bare newline
 abbrev pub bad_string_len : List ℕ → ℕ
-bad_string_len bs = if is_quote (slice_index bs 0) && is_newline (slice_index bs (quoted_run bs + 1)) then quoted_run bs + 1 else 0
+bad_string_len bs =
+    if is_quote (slice_index bs 0) && is_newline (slice_index bs (quoted_run bs + 1)) then quoted_run bs + 1 else 0
 
+-- how many bytes a token of this kind has, told of each kind by itself; 0, where none begins
 abbrev pub reading_len : CssKind → List ℕ → ℕ
 reading_len kind.Space bs = run_len class.Blank bs
-reading_len kind.Comment bs = if slice_index bs 0 == 47 && slice_index bs 1 == 42 then 2 + comment_len (drop 2 bs) else 0
+reading_len kind.Comment bs =
+    if slice_index bs 0 == 47 && slice_index bs 1 == 42 then 2 + comment_len (drop 2 bs) else 0
 reading_len kind.Str bs = string_len bs
 reading_len kind.BadStr bs = bad_string_len bs
 reading_len kind.Ident bs = ident_len bs
@@ -64,4 +69,5 @@ TokenIsReading = (bs : List ℕ) → 0 < length bs → reading_len (token_at bs)
 
 -- no other kind has a reading of its length, but for a single character, which is a `Delim` where it is nothing else
 abbrev pub OnlyDelimTies : Type 0
-OnlyDelimTies = (k : CssKind) (bs : List ℕ) → 0 < length bs → reading_len k bs ≡ (token_at bs).1 → (k ≡ (token_at bs).0) ⊎ (k ≡ kind.Delim)
+OnlyDelimTies = (k : CssKind) (bs : List ℕ) → 0 < length bs → reading_len k bs ≡ (token_at bs).1 →
+    (k ≡ (token_at bs).0) ⊎ (k ≡ kind.Delim)

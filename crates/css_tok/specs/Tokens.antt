@@ -9,6 +9,7 @@ pub record Item : Type 0 where
   pub kind : CssKind
   pub slice : List ℕ
 
+-- the token at the start, with its bytes
 abbrev pub item_of : List ℕ → Item
 item_of bs = record { kind = (token_at bs).0; slice = take (token_at bs).1 bs }
 
@@ -18,9 +19,11 @@ tokens_from left [] = []
 tokens_from (suc left) (b ∷ bs) = tokens_from left bs
 tokens_from zero (b ∷ bs) = item_of (b ∷ bs) ∷ tokens_from ((token_at (b ∷ bs)).1 - 1) bs
 
+-- the tokens of a text (css-syntax, 4)
 unfoldable pub tokens_of : List ℕ → List Item
 tokens_of bs = tokens_from 0 bs
 
+-- a token of the reader as contracts see it
 abbrev pub item_in : CssToken → Item
 item_in t = record { kind = t.kind; slice = t.slice.now }
 

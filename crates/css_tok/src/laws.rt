@@ -2,7 +2,8 @@
 
 ghost use Rattle.css_tok.specs.Readings.{NoneIsLonger, TokenIsReading, OnlyDelimTies};
 
-/// The token at the start of a text is its longest reading, and no other kind has one of that length, but for a single character.
+/// The token at the start of a text is its longest reading, and no other kind has one of that length, but for a single
+/// character.
 pub fn longest_reading_counts()
     ensures longest { NoneIsLonger }
     ensures reading { TokenIsReading }

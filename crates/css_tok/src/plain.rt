@@ -13,7 +13,9 @@ use std::alloc::Global;
 
 /// The text up to the first `\`, and what follows that, if there is one.
 pub(crate) fn until_escape(text: &str) -> (&str, Option<&str>)
-    ensures parts { MatchOption result.1 (spec.plain_of text.now ≡ result.0.now) (λ after. spec.plain_of text.now ≡ result.0.now ++ (spec.escaped after.now ++ spec.plain_from (lengths.quoted_len after.now) after.now)) }
+    ensures parts { MatchOption result.1 (spec.plain_of text.now ≡ result.0.now)
+        (λ after. spec.plain_of text.now ≡ result.0.now ++ (spec.escaped after.now
+        ++ spec.plain_from (lengths.quoted_len after.now) after.now)) }
     ensures shorter { MatchOption result.1 (0 ≤ length text.now) (λ after. length after.now < length text.now) }
 {
     let (prefix, rest) = text.split_at(run_len(Class::Plain, text.as_bytes()));
@@ -51,7 +53,8 @@ fn hex_escape(text: &str) -> (usize, usize)
 
 /// What a `\` and the text after it stand for, and the place in that text where the plain text goes on.
 pub(crate) fn escape(after: &str) -> (Option<char>, usize)
-    ensures value { spec.escaped after.now ++ spec.plain_from (lengths.quoted_len after.now) after.now ≡ spec.bytes_of result.0 ++ spec.plain_of (drop result.1 after.now) }
+    ensures value { spec.escaped after.now ++ spec.plain_from (lengths.quoted_len after.now) after.now
+        ≡ spec.bytes_of result.0 ++ spec.plain_of (drop result.1 after.now) }
     ensures cut { IsCharBoundary after.now result.1 }
 {
     let b = byte(after.as_bytes(), 0);
@@ -73,7 +76,9 @@ pub(crate) fn escape(after: &str) -> (Option<char>, usize)
 
 /// Appends what a `\` and the text after it stand for, and answers the plain text that goes on.
 fn push_escape<'a>(into: &mut String, after: &'a str) -> Result<&'a str, NoMem>
-    ensures value { IfOk result (λ rest. string_bytes into.old ++ (spec.escaped after.now ++ spec.plain_from (lengths.quoted_len after.now) after.now) ≡ string_bytes into.new ++ spec.plain_of rest.now) }
+    ensures value { IfOk result (λ rest. string_bytes into.old
+        ++ (spec.escaped after.now ++ spec.plain_from (lengths.quoted_len after.now) after.now)
+        ≡ string_bytes into.new ++ spec.plain_of rest.now) }
     ensures within { IfOk result (λ rest. length rest.now ≤ length after.now) }
     ensures utf8 { IfOk result (λ rest. IsUtf8 rest.now) }
 {

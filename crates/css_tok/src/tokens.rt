@@ -47,7 +47,8 @@ impl<'a> CssTokens<'a> {
     pub fn next(&mut self) -> Option<CssToken<'a>>
         ensures none { IsNone result ↔ (self.old.rest.now ≡ []) }
         ensures end { IfNone result (self.new ≡ self.old) }
-        ensures tokens { MatchOption result (tokens_of self.old.rest.now ≡ []) (λ t. IsFirstToken t self.old.rest.now self.new.rest.now) }
+        ensures tokens { MatchOption result (tokens_of self.old.rest.now ≡ [])
+            (λ t. IsFirstToken t self.old.rest.now self.new.rest.now) }
         ensures some { IfSome result (λ t. 0 < length t.slice.now) }
         ensures joined { IfSome result (λ t. self.old.rest.now ≡ t.slice.now ++ self.new.rest.now) }
         ensures place { IfSome result (λ t. (t.at ≡ self.old.at) × (self.new.at ≡ self.old.at + length t.slice.now)) }

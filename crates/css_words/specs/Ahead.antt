@@ -10,6 +10,7 @@ abbrev pub before : Option CssToken → List Item → List Item
 before None ts = ts
 before (Some t) ts = item_in t ∷ ts
 
+-- the tokens that are left: the next, the one after it, and those of the text behind them
 unfoldable pub ahead : Skipped → Option CssToken → Option CssToken → List ℕ → List Item
 ahead s next later text = before next (before later (kept s (tokens_of text)))
 
@@ -18,6 +19,7 @@ abbrev pub NoneEnds : Option CssToken → List Item → Type 0
 NoneEnds None ts = ts ≡ []
 NoneEnds (Some t) ts = Unit {0}
 
+-- a reader has two tokens at hand, as long as there are two
 pub record IsFilled (s : Skipped) (next later : Option CssToken) (text : List ℕ) : Type 0 where
   pub after_next : NoneEnds next (before later (kept s (tokens_of text)))
   pub after_later : NoneEnds later (kept s (tokens_of text))

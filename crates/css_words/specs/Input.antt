@@ -20,6 +20,7 @@ kept s ts = filter (λ t. not (is_skipped s t.kind)) ts
 unfoldable pub past_spaces : List Item → List Item
 past_spaces ts = drop (prefix_len (λ t. is_space_kind t.kind) ts) ts
 
+-- whether a token is there and is white space
 abbrev pub is_space : Option Item → Bool
 is_space None = false
 is_space (Some t) = is_space_kind t.kind

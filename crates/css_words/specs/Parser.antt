@@ -6,6 +6,7 @@ use Rattle.css_words.specs.Input.{past_spaces}
 use Rattle.css_words.specs.declared.unread.Unread.{Unread}
 use Rattle.css_words.specs.declared.unread.Unread.TheVariants.{NoReading, NoMemory}
 
+-- the tokens that are left
 abbrev pub Input : Type 0
 Input = List Item
 
@@ -13,9 +14,11 @@ Input = List Item
 abbrev pub Outcome : Type 0 → Type 0
 Outcome A = Option (A × Input)
 
+-- a grammar, as what it reads of the tokens that are left
 abbrev pub Parser : Type 0 → Type 0
 Parser A = Input → Outcome A
 
+-- what follows a reading; nothing follows where there is none
 abbrev pub and_then : {A B : Type 0} → Outcome A → (A → Parser B) → Outcome B
 and_then None f = None
 and_then (Some p) f = f p.0 p.1
@@ -33,9 +36,11 @@ p >> q = p >>= (λ _. q)
 abbrev pub pure : {A : Type 0} → A → Parser A
 pure a = λ i. Some (a, i)
 
+-- no reading
 abbrev pub refuse : {A : Type 0} → Parser A
 refuse = λ i. None
 
+-- a grammar by a value, or another where there is none
 abbrev pub on_some : {A B : Type 0} → Option A → Parser B → (A → Parser B) → Parser B
 on_some None p f = p
 on_some (Some x) p f = f x
@@ -44,6 +49,7 @@ on_some (Some x) p f = f x
 abbrev pub peek : Parser (Option Item)
 peek = λ i. Some (first_of i, i)
 
+-- the token after the next, if there is one; both stay
 abbrev pub second : Parser (Option Item)
 second = λ i. Some (first_of (rest_of i), i)
 
@@ -51,6 +57,7 @@ second = λ i. Some (first_of (rest_of i), i)
 abbrev pub advance : Parser (Unit {0})
 advance = λ i. Some (tt, rest_of i)
 
+-- passes white space
 abbrev pub spaces : Parser (Unit {0})
 spaces = λ i. Some (tt, past_spaces i)
 

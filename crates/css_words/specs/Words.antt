@@ -8,6 +8,7 @@ use Rattle.css_tok.specs.Plain.{plain_of, is_word}
 use Rattle.css_tok.specs.Value.{value_slice}
 use Rattle.css_words.specs.Parser.{Parser, ◌>>=◌, ◌>>◌, pure, refuse, peek, advance}
 
+-- whether two kinds of tokens are the same
 abbrev pub is_kind : CssKind → CssKind → Bool
 is_kind kind.Space kind.Space = true
 is_kind kind.Comment kind.Comment = true
@@ -31,6 +32,7 @@ abbrev pub of_kind : CssKind → Option Item → Bool
 of_kind k None = false
 of_kind k (Some t) = is_kind k t.kind
 
+-- whether no token is left
 abbrev pub is_none : Option Item → Bool
 is_none None = true
 is_none (Some t) = false
@@ -59,6 +61,7 @@ ident = do
   t ← peek
   if of_kind kind.Ident t then (advance >> pure (value t)) else refuse
 
+-- an Ident in lower case
 unfoldable pub lower_ident : Parser (List ℕ)
 lower_ident = do
   t ← peek

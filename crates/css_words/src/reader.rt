@@ -28,7 +28,8 @@ fn is_skipped(skipped: Skipped, kind: CssKind) -> bool
 
 /// The next token that isn't passed over.
 fn next_kept<'a>(tokens: &mut CssTokens<'a>, skipped: Skipped) -> Option<CssToken<'a>>
-    ensures kept { spec.kept skipped (tokens_of tokens.old.rest.now) ≡ before result (spec.kept skipped (tokens_of tokens.new.rest.now)) }
+    ensures kept { spec.kept skipped (tokens_of tokens.old.rest.now)
+        ≡ before result (spec.kept skipped (tokens_of tokens.new.rest.now)) }
     ensures end { NoneEnds result (spec.kept skipped (tokens_of tokens.new.rest.now)) }
 {
     while let Some(token) = tokens.next() {

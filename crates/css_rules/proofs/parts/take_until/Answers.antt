@@ -15,9 +15,9 @@ loop-token-preserved c =
     let front = c.loop-token.invariant.front ∙ ap (λ z. joined (items_in c.loop-token.found.items) ++ z) c.in-Some.ensures.joined ∙ sym (append_assoc (joined (items_in c.loop-token.found.items)) c.in-Some.token.slice.now c.next.new.self.rest.now) ∙ ap (λ z. z ++ c.next.new.self.rest.now) (sym (joined_push c.loop-token.found.items c.in-Some.token)) in
     record {
       front = rw c.in_ok-push.ensures.items front;
-      before = c.loop-token.invariant.before ∙ rw (c.in-Some.ensures.tokens, c.in_ok-push.ensures.items, c.in_ok-pass.ensures) (front_goes c.args.stop c.loop-token.open c.loop-token.found.items c.in-Some.token (tokens_of c.next.new.self.rest.now) inside);
-      opened = c.in_ok-pass.ensures ∙ ap (λ o. open_after o (item_in c.in-Some.token)) c.loop-token.invariant.opened ∙ rw c.in_ok-push.ensures.items (sym (opened_push c.loop-token.found.items c.in-Some.token));
-      after = c.loop-token.invariant.after ∙ rw (c.in-Some.ensures.tokens, c.in_ok-pass.ensures) (after_goes c.args.stop c.loop-token.open c.in-Some.token (tokens_of c.next.new.self.rest.now) inside);
+      before = c.loop-token.invariant.before ∙ rw (c.in-Some.ensures.tokens, c.in_ok-push.ensures.items, c.in_ok-pass.ensures.ok) (front_goes c.args.stop c.loop-token.open c.loop-token.found.items c.in-Some.token (tokens_of c.next.new.self.rest.now) inside);
+      opened = c.in_ok-pass.ensures.ok ∙ ap (λ o. open_after o (item_in c.in-Some.token)) c.loop-token.invariant.opened ∙ rw c.in_ok-push.ensures.items (sym (opened_push c.loop-token.found.items c.in-Some.token));
+      after = c.loop-token.invariant.after ∙ rw (c.in-Some.ensures.tokens, c.in_ok-pass.ensures.ok) (after_goes c.args.stop c.loop-token.open c.in-Some.token (tokens_of c.next.new.self.rest.now) inside);
     }
 
 pub returns-then-ends-clause-found : goal.returns-then-ends-clause-found
