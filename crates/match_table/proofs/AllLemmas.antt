@@ -7,7 +7,7 @@ use Rattle.std.proofs.lemmas.Bool.{cases_eq, cases_lt}
 use Rattle.std.proofs.lemmas.Bool.Decides.{nat_tests}
 use Rattle.std.proofs.lemmas.List.{get_or-set_same, get_or-set_other, get_or_past, take_more}
 use Rattle.std.proofs.lemmas.List.Elements.{All-nil, All-head, All-tail, All-push, All-get_or, All-from_get_or, Contains-get_or, Contains-push, Contains-push_cases, Contains-append_left}
-use Rattle.std.proofs.lemmas.Option.{slice_get-get_or, get_or_from_slice_get, slice_get_within}
+use Rattle.std.proofs.lemmas.Option.{slice_get-get_or, get_or_from_slice_get, slice_get_within, same_Some}
 use Rattle.bk_num.proofs.ListLemmas.{get-end}
 use Rattle.selectors.specs.Selectors.{SelectorView}
 use Rattle.selectors.specs.Sets.{has}
@@ -122,9 +122,6 @@ rows-none dom ss rows empty n within = subst (λ ks. IsRow dom ss 0 n ks) (sym (
   each = λ j. (λ has. absurd (omega (arith, has.1)), λ h. absurd (omega (arith, h.0)));
 })
 
-some_same : {A : Type 0} (a b : A) → Some a ≡ Some b → a ≡ b
-some_same a b e = cc
-
 row-more : (dom : Tree) (ss : List SelectorView) (s : SelectorView) (k n : ℕ) (old new : List ℕ) → slice_get ss k ≡ Some s → IsRow dom ss k n old → IsMarked dom s n k old new → IsRow dom ss (suc k) n new
 row-more dom ss s k n old new is row (inl h) = subst (λ ks. IsRow dom ss (suc k) n ks) (sym h.1) (record {
   ascending = ascending-push old k row.ascending (row-below dom ss k n old row);
@@ -144,7 +141,7 @@ row-more dom ss s k n old new is row (inr h) = subst (λ ks. IsRow dom ss (suc k
   each = λ j. (
     λ has. (let at = (row.each j).0 has in (omega (arith, at.0), at.1)),
     λ at. elim (cases_eq j k) [
-      | inl e ↦ (let there = subst (λ z. MatchesAt dom ss z n) e at.1 in absurd (h.0 (subst (λ z. Matches dom z n) (some_same there.0 s (sym there.1 ∙ is)) there.2)))
+      | inl e ↦ (let there = subst (λ z. MatchesAt dom ss z n) e at.1 in absurd (h.0 (subst (λ z. Matches dom z n) (same_Some there.0 s (sym there.1 ∙ is)) there.2)))
       | inr other ↦ (row.each j).1 (omega (arith, at.0, other), at.1)
     ],
   );

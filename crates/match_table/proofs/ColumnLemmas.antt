@@ -1,5 +1,7 @@
 -- What reaches a node, by the cells of its parent and of the element sibling before it.
 use Rattle.std.proofs.Common.{◌≡◌, ◌↔◌, ℕ, zero, suc, Bool, true, false, ◌&&◌, ◌||◌, Some, None, Option, refl, sym, ◌∙◌, ap, subst, ◌⊎◌, inl, inr, List, ◌++◌, ◌∷◌, [], length, option_map, IfNone, IfSome}
+use Rattle.bk_num.proofs.ListLemmas.{get-push}
+use Rattle.std.proofs.lemmas.Option.{same_Some}
 use Rattle.std.specs.Prelude.{slice_get}
 use Rattle.std.proofs.lemmas.Bool.{and_parts, and_from, or_cases, or_left, or_right}
 use Rattle.selectors.specs.declared.types.Join.{Join}
@@ -14,9 +16,6 @@ use Rattle.match_table.specs.Columns.{ReachFrom, IsCell, AreCells}
 use Rattle.selectors.proofs.SetLemmas.{has_none}
 use Rattle.selectors.proofs.Pending.{joins_is, joined_by}
 
-some_same : {A : Type 0} (a b : A) → Some a ≡ Some b → a ≡ b
-some_same a b e = cc
-
 -- ---- the nodes that a node lies in
 
 abbrev pub IsOuter : Tree → SelectorView → ℕ → Cell → Type 0
@@ -24,15 +23,15 @@ IsOuter dom s n c = ((parent_of dom n ≡ None) × (c.reach ≡ 0) × (c.above �
 
 pub child-is : (dom : Tree) (s : SelectorView) (n : ℕ) (c : Cell) (k : ℕ) → IsOuter dom s n c → (has c.reach k ≡ true) ↔ ReachFrom dom s (λ m. Stands dom Child m n) k
 child-is dom s n c k (inl (none, reach, above)) = (λ h. absurd (let f : true ≡ false = sym h ∙ ap (λ x. has x k) reach ∙ has_none k in cc), λ r. absurd (let f : ◌≡◌ {A = Option ℕ} None (Some r.0) = sym none ∙ r.1 in cc))
-child-is dom s n c k (inr (p, at, is)) = (λ h. (p, at, (is.reach k).0 h), λ r. (is.reach k).1 (subst (λ m. Reaches dom s k m) (some_same r.0 p (sym r.1 ∙ at)) r.2))
+child-is dom s n c k (inr (p, at, is)) = (λ h. (p, at, (is.reach k).0 h), λ r. (is.reach k).1 (subst (λ m. Reaches dom s k m) (same_Some r.0 p (sym r.1 ∙ at)) r.2))
 
 no-above : (dom : Tree) (m n : ℕ) → parent_of dom n ≡ None → IsAbove dom m n → ⊥
 no-above dom m n none (nearest e) = let f : ◌≡◌ {A = Option ℕ} None (Some m) = sym none ∙ e in cc
 no-above dom m n none (further p e a) = let f : ◌≡◌ {A = Option ℕ} None (Some p) = sym none ∙ e in cc
 
 above-step : (dom : Tree) (m n p : ℕ) → parent_of dom n ≡ Some p → IsAbove dom m n → (m ≡ p) ⊎ IsAbove dom m p
-above-step dom m n p at (nearest e) = inl (some_same m p (sym e ∙ at))
-above-step dom m n p at (further q e a) = inr (subst (λ x. IsAbove dom m x) (some_same q p (sym e ∙ at)) a)
+above-step dom m n p at (nearest e) = inl (same_Some m p (sym e ∙ at))
+above-step dom m n p at (further q e a) = inr (subst (λ x. IsAbove dom m x) (same_Some q p (sym e ∙ at)) a)
 
 pub inside-is : (dom : Tree) (s : SelectorView) (n : ℕ) (c : Cell) (k : ℕ) (above : ℕ) → has above k ≡ (has c.above k || has c.reach k) → IsOuter dom s n c → (has above k ≡ true) ↔ ReachFrom dom s (λ m. IsAbove dom m n) k
 inside-is dom s n c k above union (inl (none, reach, empty)) =
@@ -58,15 +57,15 @@ IsBeside dom s n c = ((prev_element dom n ≡ None) × (c.reach ≡ 0) × (c.bef
 
 pub next-is : (dom : Tree) (s : SelectorView) (n : ℕ) (c : Cell) (k : ℕ) → IsBeside dom s n c → (has c.reach k ≡ true) ↔ ReachFrom dom s (λ m. Stands dom Next m n) k
 next-is dom s n c k (inl (none, reach, before)) = (λ h. absurd (let f : true ≡ false = sym h ∙ ap (λ x. has x k) reach ∙ has_none k in cc), λ r. absurd (let f : ◌≡◌ {A = Option ℕ} None (Some r.0) = sym none ∙ r.1 in cc))
-next-is dom s n c k (inr (p, at, is)) = (λ h. (p, at, (is.reach k).0 h), λ r. (is.reach k).1 (subst (λ m. Reaches dom s k m) (some_same r.0 p (sym r.1 ∙ at)) r.2))
+next-is dom s n c k (inr (p, at, is)) = (λ h. (p, at, (is.reach k).0 h), λ r. (is.reach k).1 (subst (λ m. Reaches dom s k m) (same_Some r.0 p (sym r.1 ∙ at)) r.2))
 
 no-earlier : (dom : Tree) (m n : ℕ) → prev_element dom n ≡ None → IsEarlier dom m n → ⊥
 no-earlier dom m n none (just_before e) = let f : ◌≡◌ {A = Option ℕ} None (Some m) = sym none ∙ e in cc
 no-earlier dom m n none (long_before p e a) = let f : ◌≡◌ {A = Option ℕ} None (Some p) = sym none ∙ e in cc
 
 earlier-step : (dom : Tree) (m n p : ℕ) → prev_element dom n ≡ Some p → IsEarlier dom m n → (m ≡ p) ⊎ IsEarlier dom m p
-earlier-step dom m n p at (just_before e) = inl (some_same m p (sym e ∙ at))
-earlier-step dom m n p at (long_before q e a) = inr (subst (λ x. IsEarlier dom m x) (some_same q p (sym e ∙ at)) a)
+earlier-step dom m n p at (just_before e) = inl (same_Some m p (sym e ∙ at))
+earlier-step dom m n p at (long_before q e a) = inr (subst (λ x. IsEarlier dom m x) (same_Some q p (sym e ∙ at)) a)
 
 pub later-is : (dom : Tree) (s : SelectorView) (n : ℕ) (c : Cell) (k : ℕ) (before : ℕ) → has before k ≡ (has c.before k || has c.reach k) → IsBeside dom s n c → (has before k ≡ true) ↔ ReachFrom dom s (λ m. IsEarlier dom m n) k
 later-is dom s n c k before union (inl (none, reach, empty)) =
@@ -161,16 +160,6 @@ outer-from dom s cells n (Some p) c are at none some = inr (p.0, sym at, are p.0
 pub beside-from : (dom : Tree) (s : SelectorView) (cells : List Cell) (n : ℕ) (o : Option NodeId) (c : Cell) → AreCells dom s cells → option_map (λ k. k.0) o ≡ prev_element dom n → IfNone o (c ≡ record { reach = 0; above = 0; before = 0 }) → IfSome o (λ p. slice_get cells p.0 ≡ Some c) → IsBeside dom s n c
 beside-from dom s cells n None c are at none some = inl (sym at, ap (λ (x : Cell). x.reach) none, ap (λ (x : Cell). x.before) none)
 beside-from dom s cells n (Some p) c are at none some = inr (p.0, sym at, are p.0 c some)
-
-get-push : {A : Type 0} (xs : List A) (y x : A) (k : ℕ) → slice_get (xs ++ y ∷ []) k ≡ Some x → ((k ≡ length xs) × (x ≡ y)) ⊎ (slice_get xs k ≡ Some x)
-get-push [] y x zero h = inl (refl, cc)
-get-push [] y x (suc k) h = cc
-get-push (a ∷ xs) y x zero h = inr h
-get-push (a ∷ xs) y x (suc k) h = up (get-push xs y x k h)
-  where
-    up : (((k ≡ length xs) × (x ≡ y)) ⊎ (slice_get xs k ≡ Some x)) → ((suc k ≡ suc (length xs)) × (x ≡ y)) ⊎ (slice_get xs k ≡ Some x)
-    up (inl (e, v)) = inl (ap (λ n. suc n) e, v)
-    up (inr g) = inr g
 
 pub cells-push : (dom : Tree) (s : SelectorView) (cells : List Cell) (c : Cell) (n : ℕ) → length cells ≡ n → AreCells dom s cells → IsCell dom s n c → AreCells dom s (cells ++ c ∷ [])
 cells-push dom s cells c n len are is m d g = by (get-push cells c d m g)

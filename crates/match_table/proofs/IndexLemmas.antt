@@ -1,14 +1,14 @@
 -- The index loses no node.
-use Rattle.std.proofs.Common.{◌≡◌, ◌⊎◌, ℕ, zero, suc, ◌+◌, ◌<◌, ◌≤◌, Bool, true, false, not, ◌==◌, inl, inr, List, [], ◌∷◌, ◌++◌, Option, None, Some, get_or, length, take, map, cond, position, refl, sym, ◌∙◌, ap, subst, arith, rules}
+use Rattle.std.proofs.Common.{◌≡◌, ◌⊎◌, ℕ, zero, suc, ◌+◌, ◌<◌, ◌≤◌, Bool, true, false, not, ◌==◌, inl, inr, List, [], ◌∷◌, ◌++◌, Option, None, Some, get_or, length, take, map, cond, if◌then◌else◌, nat_lt, position, refl, sym, ◌∙◌, ap, subst, arith, rules}
 use Rattle.std.specs.Prelude.{slice_get, slice_set, codes, IfSome}
-use Rattle.std.specs.List.{prefix_len}
-use Rattle.std.specs.List.{Contains, list_all, slice_split}
+use Rattle.std.proofs.lemmas.Option.{same_Some}
+use Rattle.bk_num.proofs.ListLemmas.{bytes_same, get-push, prefix_len-map, take-next}
+use Rattle.std.specs.List.{Contains, list_all, list_any, slice_split}
 use Rattle.std.specs.Str.{bytes_eq}
-use Rattle.std.proofs.lemmas.Bool.{and_parts, cases_eq}
-use Rattle.std.proofs.lemmas.List.{take_more, length-map, get_or-set_same, get_or-set_other}
+use Rattle.std.proofs.lemmas.Bool.{and_parts, cases_eq, or_cases, ltb-true, ltb-false}
+use Rattle.std.proofs.lemmas.List.{take_more, length-map, map-append, get_or-set_same, get_or-set_other}
 use Rattle.std.proofs.lemmas.List.Elements.{Contains-push_cases, Contains-append_left, Contains-append_right, Contains-push}
 use Rattle.std.proofs.lemmas.List.Folds.{list_all_at}
-use Rattle.std.proofs.lemmas.Slice.Eq.{bytes_eq-Decides}
 use Rattle.dom.specs.Nodes.{name_at, attribute_at}
 use Rattle.selectors.specs.declared.types.Test.{Test}
 use Rattle.selectors.specs.declared.types.Test.TheVariants as test
@@ -18,7 +18,7 @@ use Rattle.selectors.specs.Selectors.{SelectorView}
 use Rattle.selectors.specs.Fits.{fits_compound, fits_plain, passes_test, value_passes, has_type}
 use Rattle.selectors.specs.Match.{Tree, Matches, Reaches, fits, fits_part}
 use Rattle.match_table.proofs.WordLemmas.{word-among-parts, word-some, contains-filter, words-same}
-use Rattle.match_table.specs.Index.{words_at, words_in, words_of, separates, IsWordNoted, listed, IsKeyBy, by_id, by_class, by_type, IsKey, IsWordOf, IsNumberIn, IsNumberFor, IsKeyNumber, IsNoted, AreNoted, Keeps}
+use Rattle.match_table.specs.Index.{words_at, words_in, words_of, separates, IsWordNoted, listed, IsKeyBy, by_id, by_class, by_type, IsKey, last_part, word_of, number_of, rarer, IsRarest, KeepsWords, HasWord, HaveWords, HasKeys, HaveKeys, IsNumberIn, IsNumberFor, IsKeyNumber, IsNoted, AreNoted, Keeps}
 
 -- ---- noting the words of a node
 
@@ -44,9 +44,6 @@ are-noted-more dom words old new count noted keeps last n within =
     ]
 
 -- ---- a node that fits has the word
-
-bytes_same : (xs ys : List ℕ) → bytes_eq xs ys ≡ true → xs ≡ ys
-bytes_same xs ys e = (bytes_eq-Decides xs ys).0 e
 
 all-pass : {A : Type 0} (p : A → Bool) (xs : List A) (x : A) → list_all p xs ≡ true → Contains xs x → p x ≡ true
 all-pass p xs x all has = subst (λ z. p z ≡ true) has.2 (by (p (get_or xs has.0 x)) refl)
@@ -120,43 +117,179 @@ candidates dom words lists count i n s noted key within m =
 
 -- ---- the word that a selector is looked up by
 
-pub test-key : (c : Compound) (t : Test) (w : List ℕ) → Contains c.plain.tests t → IsWordOf t w → IsKeyBy c w
-test-key c t w has (inl e) = by_id (subst (λ z. Contains c.plain.tests z) e has)
-test-key c t w has (inr e) = by_class (subst (λ z. Contains c.plain.tests z) e has)
+-- one of two is taken, and what holds of both holds of it
+pub rarer-one : (lists : List (List ℕ)) (a b : Option ℕ) → (rarer lists a b ≡ a) ⊎ (rarer lists a b ≡ b)
+rarer-one lists None b = inr refl
+rarer-one lists (Some i) None = inl refl
+rarer-one lists (Some i) (Some k) = by (nat_lt (length (get_or lists k [])) (length (get_or lists i [])))
+  where
+    by : (v : Bool) → (cond v (Some k) (Some i) ≡ Some i) ⊎ (cond v (Some k) (Some i) ≡ Some k)
+    by true = inr refl
+    by false = inl refl
 
-pub number-for : (c : Compound) (tests : List Test) (words : List (List ℕ)) (i : ℕ) → tests ≡ c.plain.tests → IsNumberIn tests words i → IsNumberFor c words i
-number-for c tests words i is n = record {
-  word = n.numbered.word;
-  key = test-key c n.one n.numbered.word (subst (λ z. Contains z n.one) is n.among) n.numbered.asked;
-  number = n.numbered.number;
-}
-
-pub key-number : (s : SelectorView) (c : Compound) (words : List (List ℕ)) (i : ℕ) → Some c ≡ slice_get s.parts (length s.joins) → IsNumberFor c words i → IsKeyNumber s words i
-key-number s c words i is n = (n.word, subst (λ o. IsKey o n.word) is n.key, n.number)
-
-pub some-by : (P Q : ℕ → Type 0) (o : Option ℕ) → ((i : ℕ) → P i → Q i) → IfSome o P → IfSome o Q
-some-by P Q None f h = h
-some-by P Q (Some i) f h = f i h
-
--- what holds of two numbers holds of the one that is taken
 pub one-of : (P : ℕ → Type 0) (r a b : Option ℕ) → (r ≡ a) ⊎ (r ≡ b) → IfSome a P → IfSome b P → IfSome r P
 one-of P r a b (inl e) f g = subst (λ o. IfSome o P) (sym e) f
 one-of P r a b (inr e) f g = subst (λ o. IfSome o P) (sym e) g
 
--- ---- the number of a word
+-- one word
+pub one-rarest : (lists : List (List ℕ)) (o : Option ℕ) → IsRarest lists (λ i. o ≡ Some i) o
+one-rarest lists None = λ i e. let z : ◌≡◌ {A = Option ℕ} None (Some i) = e in absurd (cc)
+one-rarest lists (Some i) = (refl, λ k e. let s : i ≡ k = same_Some i k e in subst (λ z. length (get_or lists i []) ≤ length (get_or lists z [])) s (omega arith))
 
-prefix_len-map : {A B : Type 0} (f : A → B) (p : B → Bool) (xs : List A) → prefix_len p (map f xs) ≡ prefix_len (λ x. p (f x)) xs
-prefix_len-map f p [] = refl
-prefix_len-map f p (x ∷ xs) = ap (λ n. cond (p (f x)) (1 + n) 0) (prefix_len-map f p xs)
+-- the same words, told otherwise
+pub rarest-told : (lists : List (List ℕ)) (P Q : ℕ → Type 0) (o : Option ℕ) → ((i : ℕ) → P i → Q i) → ((i : ℕ) → Q i → P i) → IsRarest lists P o → IsRarest lists Q o
+rarest-told lists P Q None to from h = λ i q. h i (from i q)
+rarest-told lists P Q (Some i) to from h = (to i h.0, λ k q. h.1 k (from k q))
+
+-- the rarer one of two is the rarest of all
+pub rarest-both : (lists : List (List ℕ)) (P Q R : ℕ → Type 0) (a b : Option ℕ) → ((i : ℕ) → P i → R i) → ((i : ℕ) → Q i → R i) → ((i : ℕ) → R i → P i ⊎ Q i)
+    → IsRarest lists P a → IsRarest lists Q b → IsRarest lists R (rarer lists a b)
+rarest-both lists P Q R None None p q r f g = λ i h. elim (r i h) [
+  | inl x ↦ f i x
+  | inr y ↦ g i y
+]
+rarest-both lists P Q R None (Some k) p q r f g = (
+  q k g.0,
+  λ j h. elim (r j h) [
+    | inl x ↦ absurd (f j x)
+    | inr y ↦ g.1 j y
+  ],
+)
+rarest-both lists P Q R (Some i) None p q r f g = (
+  p i f.0,
+  λ j h. elim (r j h) [
+    | inl x ↦ f.1 j x
+    | inr y ↦ absurd (g j y)
+  ],
+)
+rarest-both lists P Q R (Some i) (Some k) p q r f g = by (nat_lt (length (get_or lists k [])) (length (get_or lists i []))) refl
+  where
+    by : (v : Bool) → nat_lt (length (get_or lists k [])) (length (get_or lists i [])) ≡ v → IsRarest lists R (cond v (Some k) (Some i))
+    by true e = let low = ltb-true (length (get_or lists k [])) (length (get_or lists i [])) e in (
+      q k g.0,
+      λ j h. elim (r j h) [
+        | inl x ↦ let m = f.1 j x in omega (arith, low, m)
+        | inr y ↦ g.1 j y
+      ],
+    )
+    by false e = let low = ltb-false (length (get_or lists k [])) (length (get_or lists i [])) e in (
+      p i f.0,
+      λ j h. elim (r j h) [
+        | inl x ↦ f.1 j x
+        | inr y ↦ let m = g.1 j y in omega (arith, low, m)
+      ],
+    )
+
+-- one more test
+pub rarest-none : (lists words : List (List ℕ)) (tests : List Test) → IsRarest lists (IsNumberIn (take 0 tests) words) None
+rarest-none lists words [] i n = let h = n.among.1 in absurd (omega (arith, h))
+rarest-none lists words (t ∷ ts) i n = let h = n.among.1 in absurd (omega (arith, h))
+
+pub rarest-more : (lists words : List (List ℕ)) (tests : List Test) (k : ℕ) (t : Test) (best : Option ℕ) → k < length tests → t ≡ get_or tests k t
+    → IsRarest lists (IsNumberIn (take k tests) words) best → IsRarest lists (IsNumberIn (take (k + 1) tests) words) (rarer lists best (number_of words (word_of t)))
+rarest-more lists words tests k t best within is h =
+    let whole : take (k + 1) tests ≡ take k tests ++ t ∷ [] = take_more tests k t within ∙ ap (λ x. take k tests ++ x ∷ []) (sym is) in
+    rarest-both lists (IsNumberIn (take k tests) words) (λ i. number_of words (word_of t) ≡ Some i) (IsNumberIn (take (k + 1) tests) words) best (number_of words (word_of t))
+    (λ i n. record { one = n.one; among = subst (λ l. Contains l n.one) (sym whole) (Contains-append_left (take k tests) (t ∷ []) n.one n.among); numbered = n.numbered })
+    (λ i e. record { one = t; among = subst (λ l. Contains l t) (sym whole) (Contains-push (take k tests) t); numbered = e })
+    (λ i n. elim (Contains-push_cases (take k tests) t n.one (subst (λ l. Contains l n.one) whole n.among)) [
+      | inl has ↦ inl (record { one = n.one; among = has; numbered = n.numbered })
+      | inr e ↦ inr (subst (λ (x : Test). number_of words (word_of x) ≡ Some i) (sym e) n.numbered)
+    ])
+    h (one-rarest lists (number_of words (word_of t)))
+
+-- the id or class that a test asks for is a key of its compound
+number-by-test : (c : Compound) (words : List (List ℕ)) (i : ℕ) (t : Test) → Contains c.plain.tests t → number_of words (word_of t) ≡ Some i → IsNumberFor c words i
+number-by-test c words i (test.Id w) has e = record { word = w; key = by_id has; number = e }
+number-by-test c words i (test.Class w) has e = record { word = w; key = by_class has; number = e }
+number-by-test c words i t has e = absurd (cc)
+
+number-by-type : (c : Compound) (words : List (List ℕ)) (i : ℕ) (o : Option (List ℕ)) → c.plain.name ≡ o → number_of words o ≡ Some i → IsNumberFor c words i
+number-by-type c words i None is e = absurd (cc)
+number-by-type c words i (Some w) is e = record { word = w; key = by_type is; number = e }
+
+number-back : (c : Compound) (words : List (List ℕ)) (i : ℕ) (w : List ℕ) → IsKeyBy c w → position (bytes_eq w) words ≡ Some i → IsNumberIn c.plain.tests words i ⊎ (number_of words c.plain.name ≡ Some i)
+number-back c words i w (by_id has) e = inl (record { one = test.Id w; among = has; numbered = e })
+number-back c words i w (by_class has) e = inl (record { one = test.Class w; among = has; numbered = e })
+number-back c words i w (by_type is) e = inr (subst (λ o. number_of words o ≡ Some i) (sym is) e)
+
+-- the rarest of a compound's tests, and its type
+pub rarest-for : (lists words : List (List ℕ)) (c : Compound) (a : Option ℕ) → IsRarest lists (IsNumberIn c.plain.tests words) a → IsRarest lists (IsNumberFor c words) (rarer lists a (number_of words c.plain.name))
+rarest-for lists words c a h =
+    rarest-both lists (IsNumberIn c.plain.tests words) (λ i. number_of words c.plain.name ≡ Some i) (IsNumberFor c words) a (number_of words c.plain.name)
+    (λ i n. number-by-test c words i n.one n.among n.numbered) (λ i e. number-by-type c words i c.plain.name refl e) (λ i n. number-back c words i n.word n.key n.number)
+    h (one-rarest lists (number_of words c.plain.name))
+
+pub key-number : (s : SelectorView) (c : Compound) (words : List (List ℕ)) (i : ℕ) → Some c ≡ last_part s → IsNumberFor c words i → IsKeyNumber s words i
+key-number s c words i is n = (n.word, subst (λ o. IsKey o n.word) is n.key, n.number)
+
+pub key-for : (s : SelectorView) (c : Compound) (words : List (List ℕ)) (i : ℕ) → Some c ≡ last_part s → IsKeyNumber s words i → IsNumberFor c words i
+key-for s c words i is n = record { word = n.0; key = subst (λ o. IsKey o n.0) (sym is) n.1; number = n.2 }
+
+pub no-key : (lists words : List (List ℕ)) (s : SelectorView) → None ≡ last_part s → IsRarest lists (IsKeyNumber s words) None
+no-key lists words s is i n = absurd (subst (λ o. IsKey o n.0) (sym is) n.1)
+
+-- ---- the words of keys
+
+any-has : {K : Type 0} (f : K → List ℕ) (w : List ℕ) (keys : List K) → list_any (λ k. bytes_eq w (f k)) keys ≡ true → Contains (map f keys) w
+any-has f w [] e = absurd (cc)
+any-has f w (k ∷ ks) e = elim (or_cases (bytes_eq w (f k)) (list_any (λ j. bytes_eq w (f j)) ks) e) [
+  | inl h ↦ (0, omega arith, sym (bytes_same w (f k) h))
+  | inr h ↦ let r = any-has f w ks h in let low = r.1 in (suc r.0, omega (arith, low), r.2)
+]
+
+-- a word is added where it isn't there
+pub word-added : {K : Type 0} (f : K → List ℕ) (keys new : List K) (v : K) → new ≡ (if list_any (λ k. bytes_eq (f v) (f k)) keys then keys else keys ++ v ∷ []) → Contains (map f new) (f v) × KeepsWords (map f keys) (map f new)
+word-added f keys new v is = by (list_any (λ k. bytes_eq (f v) (f k)) keys) refl
+  where
+    by : (b : Bool) → list_any (λ k. bytes_eq (f v) (f k)) keys ≡ b → Contains (map f new) (f v) × KeepsWords (map f keys) (map f new)
+    by true e =
+        let same : new ≡ keys = rw e at is in
+        (subst (λ l. Contains (map f l) (f v)) (sym same) (any-has f (f v) keys e), λ w h. subst (λ l. Contains (map f l) w) (sym same) h)
+    by false e =
+        let put : new ≡ keys ++ v ∷ [] = rw e at is in
+        let more : map f new ≡ map f keys ++ f v ∷ [] = ap (map f) put ∙ map-append f keys (v ∷ []) in
+        (subst (λ l. Contains l (f v)) (sym more) (Contains-push (map f keys) (f v)), λ w h. subst (λ l. Contains l w) (sym more) (Contains-append_left (map f keys) (f v ∷ []) w h))
+
+pub keeps-words : (a b c : List (List ℕ)) → KeepsWords a b → KeepsWords b c → KeepsWords a c
+keeps-words a b c f g w h = g w (f w h)
+
+pub words-none : (words : List (List ℕ)) (tests : List Test) → HaveWords words (take 0 tests)
+words-none words [] t has = let h = has.1 in absurd (omega (arith, h))
+words-none words (x ∷ xs) t has = let h = has.1 in absurd (omega (arith, h))
+
+pub words-more : (old new : List (List ℕ)) (tests : List Test) (k : ℕ) (x : Test) → k < length tests → x ≡ get_or tests k x → HaveWords old (take k tests) → KeepsWords old new → HasWord new (word_of x) → HaveWords new (take (k + 1) tests)
+words-more old new tests k x within is have keeps here t has w e =
+    let whole : take (k + 1) tests ≡ take k tests ++ x ∷ [] = take_more tests k x within ∙ ap (λ y. take k tests ++ y ∷ []) (sym is) in
+    elim (Contains-push_cases (take k tests) x t (subst (λ l. Contains l t) whole has)) [
+      | inl h ↦ keeps w (have t h w e)
+      | inr s ↦ here w (subst (λ (y : Test). word_of y ≡ Some w) (sym s) e)
+    ]
+
+pub compound-keys : (old new : List (List ℕ)) (c : Compound) → HaveWords old c.plain.tests → KeepsWords old new → HasWord new c.plain.name → HasKeys new (Some c)
+compound-keys old new c have keeps named w (by_id has) = keeps w (have (test.Id w) has w refl)
+compound-keys old new c have keeps named w (by_class has) = keeps w (have (test.Class w) has w refl)
+compound-keys old new c have keeps named w (by_type is) = named w is
+
+pub keys-none : (words : List (List ℕ)) (ss : List SelectorView) → HaveKeys words (take 0 ss)
+keys-none words [] k s h = absurd (cc)
+keys-none words (x ∷ xs) k s h = absurd (cc)
+
+pub keys-more : (old new : List (List ℕ)) (ss : List SelectorView) (k : ℕ) (x : SelectorView) → slice_get ss k ≡ Some x → HaveKeys old (take k ss) → KeepsWords old new → HasKeys new (last_part x) → HaveKeys new (take (k + 1) ss)
+keys-more old new ss k x at have keeps here j s h w key =
+    let n : suc k ≡ k + 1 = omega arith in
+    elim (get-push (take k ss) x s j (subst (λ l. slice_get l j ≡ Some s) (ap (λ i. take i ss) (sym n) ∙ take-next ss k x at) h)) [
+      | inl e ↦ here w (subst (λ (y : SelectorView). IsKey (last_part y) w) e.1 key)
+      | inr before ↦ keeps w (have j s before w key)
+    ]
+
+-- ---- the number of a word
 
 pub position-map : {A B : Type 0} (f : A → B) (test : B → Bool) (xs : List A) → position test (map f xs) ≡ position (λ x. test (f x)) xs
 position-map f test xs = rw (prefix_len-map f (λ x. not (test x)) xs, length-map xs f) refl
 
-some_same : (a b : ℕ) → Some a ≡ Some b → a ≡ b
-some_same a b e = cc
-
 pub word-put : (words lists : List (List ℕ)) (w : List ℕ) (place n : ℕ) → Some place ≡ position (bytes_eq w) words → Contains (get_or lists place []) n → IsWordNoted words lists w n
-word-put words lists w place n is has i at = subst (λ z. Contains (get_or lists z []) n) (some_same place i (is ∙ at)) has
+word-put words lists w place n is has i at = subst (λ z. Contains (get_or lists z []) n) (same_Some place i (is ∙ at)) has
 
 pub word-none : (words lists : List (List ℕ)) (w : List ℕ) (n : ℕ) → None ≡ position (bytes_eq w) words → IsWordNoted words lists w n
 word-none words lists w n is i at = absurd (let e : ◌≡◌ {A = Option ℕ} None (Some i) = is ∙ at in cc)

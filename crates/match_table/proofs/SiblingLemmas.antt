@@ -1,5 +1,6 @@
 -- The siblings of a node are the nodes of its parent: those of lesser numbers before it, and those of greater after it.
 use Rattle.std.proofs.Common.{◌≡◌, ℕ, zero, suc, ◌+◌, ◌-◌, ◌<◌, ◌≤◌, Bool, true, false, List, [], ◌∷◌, take, drop, length, cond, refl, ap, sym, ◌∙◌, subst, arith, inl, inr, Option, Some, None}
+use Rattle.std.proofs.lemmas.Option.{same_Some}
 use Rattle.std.specs.Prelude.{is_some, slice_get}
 use Rattle.std.proofs.lemmas.Bool.{cases_Bool, cases_eq, true≢false}
 use Rattle.std.proofs.lemmas.Map.Views.{exact_unsigned_eq}
@@ -8,9 +9,6 @@ use Rattle.dom.proofs.DomLemmas.{last-low, last-next, eqb-self}
 use Rattle.selectors.specs.Walk.{chain, first_such, beside, siblings_before, siblings_after}
 use Rattle.selectors.specs.declared.walk.Way.TheVariants as way
 use Rattle.selectors.proofs.WalkLemmas.{prev_in, Row, chain_row}
-
-some_same : {A : Type 0} (a b : A) → Some a ≡ Some b → a ≡ b
-some_same a b e = cc
 
 -- ---- nodes in lists of parents
 
@@ -54,7 +52,7 @@ first-found p (q ∷ qs) k j at = by (λ j. first-found p qs (k + 1) j) (is_at p
     is (Some r) e = ap (λ z. Some z) (exact_unsigned_eq r p e)
 
     other : (i : ℕ) → is_at p q ≡ false → slice_get (q ∷ qs) i ≡ Some (Some p) → (h : ℕ) × (i ≡ suc h) × (slice_get qs h ≡ Some (Some p))
-    other zero lacks e = absurd (true≢false (sym (eqb-self p) ∙ ap (is_at p) (sym (some_same q (Some p) e)) ∙ lacks))
+    other zero lacks e = absurd (true≢false (sym (eqb-self p) ∙ ap (is_at p) (sym (same_Some q (Some p) e)) ∙ lacks))
     other (suc h) lacks e = (h, refl, e)
 
     by : ((j : ℕ) → slice_get qs j ≡ Some (Some p) → (i : ℕ) × (first_from p qs (k + 1) ≡ Some (k + 1 + i)) × (i ≤ j) × (slice_get qs i ≡ Some (Some p))) → (b : Bool) → is_at p q ≡ b
@@ -82,7 +80,7 @@ first-is p (q ∷ qs) k l e = by (λ f. first-is p qs (k + 1) l f) (is_at p q) r
     is (Some r) e = ap (λ z. Some z) (exact_unsigned_eq r p e)
 
     by : (first_from p qs (k + 1) ≡ Some l → (i : ℕ) × (l ≡ k + 1 + i) × (slice_get qs i ≡ Some (Some p))) → (b : Bool) → is_at p q ≡ b → (i : ℕ) × (l ≡ k + i) × (slice_get (q ∷ qs) i ≡ Some (Some p))
-    by again true h = let f : Some k ≡ Some l = rw h at e in let g = some_same k l f in (0, omega (arith, g), ap (λ z. Some z) (is q h))
+    by again true h = let f : Some k ≡ Some l = rw h at e in let g = same_Some k l f in (0, omega (arith, g), ap (λ z. Some z) (is q h))
     by again false h =
         let f : first_from p qs (k + 1) ≡ Some l = rw h at e in
         let g = again f in
@@ -103,7 +101,7 @@ next_row ps n m e = next_row' ps n m (parent_at ps n) e
 pub passes-such : (f : ℕ → Bool) (xs : List ℕ) (m : ℕ) → first_such f xs ≡ Some m → f m ≡ true
 passes-such f [] m e = absurd (cc)
 passes-such f (x ∷ xs) m e = elim (cases_Bool (f x)) [
-  | inl here ↦ (let h : Some x ≡ Some m = rw here at e in subst (λ z. f z ≡ true) (some_same x m h) here)
+  | inl here ↦ (let h : Some x ≡ Some m = rw here at e in subst (λ z. f z ≡ true) (same_Some x m h) here)
   | inr other ↦ (let h : first_such f xs ≡ Some m = rw other at e in passes-such f xs m h)
 ]
 
@@ -146,7 +144,7 @@ after-row : (nodes : List Node) (f : ℕ → Bool) (steps n m : ℕ) (o : Option
 after-row nodes f zero n m o rows e = absurd (cc)
 after-row nodes f (suc steps) n m None rows e = absurd (cc)
 after-row nodes f (suc steps) n m (Some k) rows e = elim (cases_Bool (f k)) [
-  | inl here ↦ (let h : Some k ≡ Some m = rw here at e in subst (λ z. (n < z) × (parent_at (parents_of nodes) z ≡ parent_at (parents_of nodes) n)) (some_same k m h) (rows k refl))
+  | inl here ↦ (let h : Some k ≡ Some m = rw here at e in subst (λ z. (n < z) × (parent_at (parents_of nodes) z ≡ parent_at (parents_of nodes) n)) (same_Some k m h) (rows k refl))
   | inr other ↦ (let h : first_such f (chain (beside nodes way.After) steps (next_of (parents_of nodes) k)) ≡ Some m = rw other at e in
       after-row nodes f steps n m (next_of (parents_of nodes) k) (λ j is. let a = next_row (parents_of nodes) k j is in let b = rows k refl in (omega (arith, a.0, b.0), a.1 ∙ b.1)) h)
 ]

@@ -1,5 +1,6 @@
 -- The places of nodes among the siblings of their types, from the types that nodes before and after them have.
 use Rattle.std.proofs.Common.{◌≡◌, ◌⊎◌, ◌<◌, ◌≤◌, ℕ, zero, suc, ◌+◌, Bool, true, false, not, ◌||◌, ◌==◌, List, [], ◌∷◌, ◌++◌, Option, None, Some, length, map, refl, sym, ◌∙◌, ap, subst, arith, inl, inr}
+use Rattle.bk_num.proofs.ListLemmas.{get-set, get-push}
 use Rattle.std.specs.Prelude.{is_some, slice_get, slice_set, if◌then◌else◌}
 use Rattle.std.specs.List.{list_any}
 use Rattle.std.specs.Str.{bytes_eq}
@@ -7,27 +8,26 @@ use Rattle.std.proofs.lemmas.Bool.{and_parts, and_from, or_cases, or_left, or_ri
 use Rattle.std.proofs.lemmas.Map.Views.{exact_unsigned_eq}
 use Rattle.std.proofs.lemmas.List.Folds.{list_any-append}
 use Rattle.std.proofs.lemmas.List.{map-append}
-use Rattle.std.proofs.lemmas.Option.{slice_get_within}
+use Rattle.std.proofs.lemmas.Option.{slice_get_within, same_Some}
 use Rattle.std.proofs.lemmas.Slice.Eq.{bytes_eq-Decides}
+use Rattle.bk_num.proofs.ListLemmas.{get-set, get-push}
 use Rattle.dom.specs.Nodes.{name_at}
-use Rattle.dom.proofs.DomLemmas.{eqb-self, get-set, get-push}
+use Rattle.dom.proofs.DomLemmas.{eqb-self}
 use Rattle.selectors.specs.Walk.{first_such, siblings_before, siblings_after, same_type, name_is}
 use Rattle.selectors.specs.Fits.{is_first_of_type, is_last_of_type}
 use Rattle.selectors.specs.Match.{Tree, parent_of}
 use Rattle.selectors.specs.declared.document.TypePlace.{TypePlace}
 use Rattle.selectors.specs.TypePlaces.{AreTypePlaces}
-use Rattle.match_table.specs.Types.{Kind, is_kind, has_kind, with_kind, kind_of, kind_at, is_new, with_any, AreKindsOf, AreFirsts}
+use Rattle.match_table.specs.Types.{Kind, is_kind, has_kind, with_kind, kind_of, kind_at, is_new, with_any, AreFirsts}
+use Rattle.match_table.proofs.TypeRanges.{AreKindsOf}
 use Rattle.match_table.proofs.SiblingLemmas.{passes-such, before-sound, before-complete, after-sound, after-complete}
-
-some_same : {A : Type 0} (a b : A) → Some a ≡ Some b → a ≡ b
-some_same a b e = cc
 
 -- ---- parents with types
 
 kind-split : (o : Option ℕ) (w : Option (List ℕ)) (k : Kind) → kind_of o w ≡ Some k → (o ≡ Some k.0) × (w ≡ Some k.1)
 kind-split None w k e = absurd (cc)
 kind-split (Some p) None k e = absurd (cc)
-kind-split (Some p) (Some v) k e = let s : (p, v) ≡ k = some_same (p, v) k e in (ap (λ z. Some z.0) s, ap (λ z. Some z.1) s)
+kind-split (Some p) (Some v) k e = let s : (p, v) ≡ k = same_Some (p, v) k e in (ap (λ z. Some z.0) s, ap (λ z. Some z.1) s)
 
 kind-join : (o : Option ℕ) (w : Option (List ℕ)) (p : ℕ) (v : List ℕ) → o ≡ Some p → w ≡ Some v → kind_of o w ≡ Some (p, v)
 kind-join o w p v e f = rw (e, f) refl
@@ -110,7 +110,7 @@ kinds-more dom Old New kinds n cases keeps new are = by (kind_at dom n) refl
       ],
       λ r. elim (cases r.0 r.1) [
         | inl old ↦ has-old kinds q k ((are k).1 (r.0, old, r.2))
-        | inr same ↦ (let s : q ≡ k = some_same q k (sym is ∙ ap (kind_at dom) (sym same) ∙ r.2) in subst (λ z. has_kind (with_kind kinds q) z ≡ true) s (has-new kinds q))
+        | inr same ↦ (let s : q ≡ k = same_Some q k (sym is ∙ ap (kind_at dom) (sym same) ∙ r.2) in subst (λ z. has_kind (with_kind kinds q) z ≡ true) s (has-new kinds q))
       ],
     )
 

@@ -4,6 +4,7 @@ use Rattle.std.specs.List.{All, Contains}
 use Rattle.selectors.specs.Selectors.{SelectorView}
 use Rattle.selectors.specs.Match.{Tree, Matches}
 
+-- the last number of a list is this one
 abbrev pub is_same : ℕ → Option ℕ → Bool
 is_same k None = false
 is_same k (Some m) = m == k
@@ -16,9 +17,11 @@ with_last ks k = if is_same k (slice_get ks (length ks - 1)) then ks else ks ++ 
 unfoldable pub with_place : List (List ℕ) → ℕ → ℕ → List (List ℕ)
 with_place rows n k = slice_set rows n (with_last (get_or rows n []) k)
 
+-- a node that is hit has a number at the end of its list
 abbrev pub placed_if : Bool → List (List ℕ) → ℕ → ℕ → List (List ℕ)
 placed_if hit rows n k = if hit then with_place rows n k else rows
 
+-- the numbers in all lists are below one
 abbrev pub AreBelow : ℕ → List (List ℕ) → Type 0
 AreBelow k rows = (n : ℕ) → All (λ m. m < k) (get_or rows n [])
 
@@ -26,6 +29,7 @@ AreBelow k rows = (n : ℕ) → All (λ m. m < k) (get_or rows n [])
 abbrev pub IsMarked : Tree → SelectorView → ℕ → ℕ → List ℕ → List ℕ → Type 0
 IsMarked dom s n k old new = (Matches dom s n × (new ≡ old ++ k ∷ [])) ⊎ ((Matches dom s n → ⊥) × (new ≡ old))
 
+-- the lists of all nodes after one more selector
 abbrev pub AreMarked : Tree → SelectorView → ℕ → List (List ℕ) → List (List ℕ) → Type 0
 AreMarked dom s k old new = (n : ℕ) → n < length old → IsMarked dom s n k (get_or old n []) (get_or new n [])
 

@@ -3,7 +3,9 @@
 ghost use Rattle.std.specs.Prelude.{◌≡◌, ◌<◌, ◌-◌, ◌↔◌, ℕ, length, map, slice_get, Some, IfOk, OnOk, IsTrue};
 ghost use Rattle.match_table.specs.All.{AreMatchLists};
 ghost use Rattle.match_table.specs.Index.{AreNoted};
-ghost use Rattle.selectors.specs.Match.{Matches};
+ghost use Rattle.std.specs.List.{list_any};
+ghost use Rattle.selectors.specs.Match.{Matches, is_join};
+ghost use Rattle.selectors.specs.declared.types.Join.TheVariants as join;
 ghost use Rattle.match_table.specs.Rows as spec;
 
 use crate::columns::{all_cells, cell_of};
@@ -13,7 +15,7 @@ use bk_num::ids::NodeId;
 use bk_num::items::Items;
 use bk_num::name::NoMem;
 use dom::Dom;
-use selectors::document::Document;
+use selectors::document::TypedDocument;
 use selectors::matching::matches_in;
 use selectors::sets::has;
 use selectors::types::{Join, Selector};
@@ -86,7 +88,7 @@ fn put_if(rows: &mut Vec<Items<u32>>, hit: bool, node: usize, place: u32) -> Res
 }
 
 /// Whether there is a node of this number which a selector matches.
-fn is_matched(document: &Document<'_>, node: u32, selector: &Selector) -> bool
+fn is_matched(document: &TypedDocument<'_>, node: u32, selector: &Selector) -> bool
     ensures { IsTrue result ↔ ((node < length document.now) × Matches document.now selector.now node) }
 {
     if node < document.dom().len() {
@@ -99,7 +101,7 @@ fn is_matched(document: &Document<'_>, node: u32, selector: &Selector) -> bool
 /// Puts a selector's place into the lists of those nodes, among some candidates, that it matches.
 fn mark_listed(
     rows: &mut Vec<Items<u32>>,
-    document: &Document<'_>,
+    document: &TypedDocument<'_>,
     selector: &Selector,
     place: u32,
     nodes: &[u32],
@@ -121,7 +123,7 @@ fn mark_listed(
 fn mark_column(
     alloc: Global,
     rows: &mut Vec<Items<u32>>,
-    document: &Document<'_>,
+    document: &TypedDocument<'_>,
     selector: &Selector,
     place: u32,
 ) -> Result<(), NoMem>
@@ -141,7 +143,9 @@ fn mark_column(
 }
 
 /// Whether a selector goes back over all siblings before a node.
-fn has_later(selector: &Selector) -> bool {
+fn has_later(selector: &Selector) -> bool
+    ensures { result ≡ list_any (is_join join.Later) selector.now.joins }
+{
     selector
         .joins()
         .iter()
@@ -149,12 +153,12 @@ fn has_later(selector: &Selector) -> bool {
 }
 
 /// Puts a selector's place into the lists of the nodes that it matches. A selector whose last compound asks
-/// for ids, classes or a type tries the nodes that have the rarest of them, and any other goes over all nodes, as does one
-/// with a `~`, which would else go back over all siblings of each candidate.
+/// for ids, classes or a type tries the nodes that have the rarest of them, and any other goes over all nodes, as does
+/// one with a `~`, which would else go back over all siblings of each candidate.
 fn mark(
     alloc: Global,
     rows: &mut Vec<Items<u32>>,
-    document: &Document<'_>,
+    document: &TypedDocument<'_>,
     selector: &Selector,
     place: u32,
     words: &Words<'_>,
@@ -178,7 +182,7 @@ fn mark(
 /// For each node the places of the selectors that match it, by the nodes that have the words of the selectors.
 fn rows_by_words(
     alloc: Global,
-    document: &Document<'_>,
+    document: &TypedDocument<'_>,
     selectors: &[&Selector],
     words: &Words<'_>,
     lists: &[Items<u32>],
@@ -202,7 +206,7 @@ fn rows_by_words(
 /// For each node the places of the selectors that match it.
 fn rows_of(
     alloc: Global,
-    document: &Document<'_>,
+    document: &TypedDocument<'_>,
     selectors: &[&Selector],
 ) -> Result<Vec<Items<u32>>, NoMem>
     ensures count { IfOk result (λ v. length v.items ≡ length document.now) }
@@ -213,14 +217,14 @@ fn rows_of(
     rows_by_words(alloc, document, selectors, &words, &lists)
 }
 
-/// For each node the places of the selectors that match it (Selectors 3, 8), each once and in ascending order. Selectors
-/// find the nodes that they may match by id, class or type, so that the work is in proportion to the nodes and
-/// to those candidates.
+/// For each node the places of the selectors that match it (Selectors 3, 8), each once and in ascending order.
+/// Selectors find the nodes that they may match by id, class or type, so that the work is in proportion to the nodes
+/// and to those candidates.
 pub fn match_all(alloc: Global, dom: &Dom, selectors: &[&Selector]) -> Result<MatchTable, NoMem>
     ensures count { IfOk result (λ t. length t ≡ length dom.now) }
     ensures lists { IfOk result (λ t. AreMatchLists dom.now (map (λ s. s.now) selectors.now) t) }
 {
     let places = wanted_places(alloc, dom, selectors)?;
-    let rows = rows_of(alloc, &Document::with_places(dom, &places), selectors)?;
+    let rows = rows_of(alloc, &TypedDocument::with_places(dom, &places), selectors)?;
     Ok(MatchTable { rows })
 }

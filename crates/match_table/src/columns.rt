@@ -8,14 +8,15 @@ ghost use Rattle.match_table.specs.Columns.{IsCell, AreCells};
 
 use bk_num::ids::NodeId;
 use bk_num::name::NoMem;
-use selectors::document::Document;
+use selectors::document::TypedDocument;
 use selectors::matching::{count, fitting, joins_by};
 use selectors::sets::{has, union, with};
 use selectors::types::{Join, Selector};
 use selectors::walk::{parent, prev_element};
 use std::alloc::Global;
 
-/// What reaches a node of a selector's compounds, what reaches a node that it lies in, and what an earlier element sibling.
+/// What reaches a node of a selector's compounds, what reaches a node that it lies in, and what an earlier element
+/// sibling.
 #[derive(Clone, Copy)]
 pub(crate) struct Cell {
     pub(crate) reach: u16,
@@ -58,18 +59,19 @@ pub(crate) fn cell_of(cells: &[Cell], node: Option<NodeId>) -> Cell
 }
 
 /// The element sibling just before a node, which has a lesser number.
-fn prev(document: &Document<'_>, node: NodeId) -> Option<NodeId>
+fn prev(document: &TypedDocument<'_>, node: NodeId) -> Option<NodeId>
     requires { node.0 < length document.now }
     ensures value { option_map (λ n. n.0) result ≡ prev_element document.now node.0 }
     ensures below { IfSome result (λ p. p.0 < node.0) }
 {
     let dom = document.dom();
+    // Its clause says that the nodes are a tree, so that siblings before have lesser numbers.
     let _len = dom.len();
     prev_element(dom, node)
 }
 
 /// The parent of a node, which has a lesser number.
-fn outer(document: &Document<'_>, node: NodeId) -> Option<NodeId>
+fn outer(document: &TypedDocument<'_>, node: NodeId) -> Option<NodeId>
     requires { node.0 < length document.now }
     ensures value { option_map (λ n. n.0) result ≡ parent_of document.now node.0 }
     ensures below { IfSome result (λ p. p.0 < node.0) }
@@ -78,7 +80,12 @@ fn outer(document: &Document<'_>, node: NodeId) -> Option<NodeId>
 }
 
 /// What reaches a node, by the cells of the nodes before it.
-fn reach_node(document: &Document<'_>, selector: &Selector, cells: &[Cell], node: NodeId) -> Cell
+fn reach_node(
+    document: &TypedDocument<'_>,
+    selector: &Selector,
+    cells: &[Cell],
+    node: NodeId,
+) -> Cell
     requires node { node.0 < length document.now }
     requires count { length cells.now ≡ node.0 }
     requires cells { AreCells document.now selector.now cells.now }
@@ -107,7 +114,7 @@ fn reach_node(document: &Document<'_>, selector: &Selector, cells: &[Cell], node
 /// The cells of all nodes.
 pub(crate) fn all_cells(
     alloc: Global,
-    document: &Document<'_>,
+    document: &TypedDocument<'_>,
     selector: &Selector,
 ) -> Result<Vec<Cell>, NoMem>
     ensures count { IfOk result (λ v. length v.items ≡ length document.now) }

@@ -1,6 +1,6 @@
 //! An index of nodes by their ids, classes and types.
 
-ghost use Rattle.std.specs.Prelude.{◌≡◌, ◌⊎◌, ◌<◌, [], get_or, length, map, option_map, position, slice_get, ℕ, IfOk, IfSome, OnOk};
+ghost use Rattle.std.specs.Prelude.{◌≡◌, ◌<◌, [], Some, get_or, length, map, option_map, position, ℕ, IfOk, IfSome, OnOk};
 ghost use Rattle.std.specs.List.{Contains};
 ghost use Rattle.std.specs.Str.{bytes_eq};
 ghost use Rattle.match_table.specs.Index as spec;
@@ -30,13 +30,19 @@ impl<'s> Model for Words<'s> {
 }
 
 impl<'s> Words<'s> {
-    fn new(alloc: Global) -> Words<'s> {
+    fn new(alloc: Global) -> Words<'s>
+        ensures { result ≡ [] }
+    {
         Words {
             set: IndexSet::new(alloc),
         }
     }
 
-    fn add(&mut self, word: &'s [u8]) -> Result<(), NoMem> {
+    /// Adds a word, unless it is there.
+    fn add(&mut self, word: &'s [u8]) -> Result<(), NoMem>
+        ensures added { OnOk result (Contains self.new word.entry.now) }
+        ensures keeps { OnOk result (spec.KeepsWords self.old self.new) }
+    {
         self.set.insert(word)?;
         Ok(())
     }
@@ -58,7 +64,7 @@ impl<'s> Words<'s> {
 
 /// A word that each node has which passes a test, if the test asks for an id or a class.
 fn word_of(test: &Test) -> Option<&[u8]>
-    ensures { IfSome result (λ w. spec.IsWordOf test.now w.now) }
+    ensures { option_map (λ w. w.now) result ≡ spec.word_of test.now }
 {
     match test {
         Test::Id(id) => Some(id.as_str().as_bytes()),
@@ -67,36 +73,76 @@ fn word_of(test: &Test) -> Option<&[u8]>
     }
 }
 
-/// Adds the words that each node has which fits a compound: the ids, classes and type that it asks for.
-fn add_words<'s>(words: &mut Words<'s>, compound: &'s Compound) -> Result<(), NoMem> {
-    for test in compound.plain.tests.as_slice() {
-        if let Some(word) = word_of(test) {
-            words.add(word)?;
-        }
+/// Adds a word, if there is one.
+fn add_some<'s>(words: &mut Words<'s>, word: Option<&'s [u8]>) -> Result<(), NoMem>
+    ensures added { OnOk result (spec.HasWord words.new (option_map (λ w. w.now) word.entry)) }
+    ensures keeps { OnOk result (spec.KeepsWords words.old words.new) }
+{
+    match word {
+        Some(word) => words.add(word),
+        None => Ok(()),
     }
-    if let Some(name) = &compound.plain.name {
-        words.add(name.as_str().as_bytes())?;
+}
+
+/// Adds the ids and classes that some tests ask for.
+fn add_tests<'s>(words: &mut Words<'s>, tests: &'s [Test]) -> Result<(), NoMem>
+    ensures added { OnOk result (spec.HaveWords words.new tests.entry.now) }
+    ensures keeps { OnOk result (spec.KeepsWords words.old words.new) }
+{
+    for test in tests {
+        add_some(words, word_of(test))?;
     }
     Ok(())
 }
 
-/// The words that selectors look for.
+/// The type that a compound asks for.
+fn type_of(compound: &Compound) -> Option<&[u8]>
+    ensures { option_map (λ w. w.now) result ≡ compound.now.plain.name }
+{
+    match &compound.plain.name {
+        Some(name) => Some(name.as_str().as_bytes()),
+        None => None,
+    }
+}
+
+/// Adds the words that each node has which fits a compound: the ids, classes and type that it asks for.
+fn add_words<'s>(words: &mut Words<'s>, compound: &'s Compound) -> Result<(), NoMem>
+    ensures added { OnOk result (spec.HasKeys words.new (Some compound.entry.now)) }
+    ensures keeps { OnOk result (spec.KeepsWords words.old words.new) }
+{
+    add_tests(words, compound.plain.tests.as_slice())?;
+    add_some(words, type_of(compound))?;
+    Ok(())
+}
+
+/// Adds the words that each node has which a selector matches: those that its last compound asks for.
+fn add_keys<'s>(words: &mut Words<'s>, selector: &'s Selector) -> Result<(), NoMem>
+    ensures added { OnOk result (spec.HasKeys words.new (spec.last_part selector.entry.now)) }
+    ensures keeps { OnOk result (spec.KeepsWords words.old words.new) }
+{
+    match last_compound(selector) {
+        Some(compound) => add_words(words, compound),
+        None => Ok(()),
+    }
+}
+
+/// The words that selectors look for: the ids, classes and types that their last compounds ask for.
 pub(crate) fn words_of_keys<'s>(
     alloc: Global,
     selectors: &'s [&'s Selector],
-) -> Result<Words<'s>, NoMem> {
+) -> Result<Words<'s>, NoMem>
+    ensures { IfOk result (λ v. spec.HaveKeys v (map (λ s. s.now) selectors.entry.now)) }
+{
     let mut words = Words::new(alloc);
     for selector in selectors {
-        if let Some(compound) = last_compound(selector) {
-            add_words(&mut words, compound)?;
-        }
+        add_keys(&mut words, selector)?;
     }
     Ok(words)
 }
 
-/// The number of the id or class that a test asks for.
+/// The number of the id or class that a test asks for, if it asks for one.
 fn number_of_test(test: &Test, words: &Words<'_>) -> Option<usize>
-    ensures key { IfSome result (λ i. spec.IsTestNumber test.now words.now i) }
+    ensures value { result ≡ spec.number_of words.now (spec.word_of test.now) }
     ensures within { IfSome result (λ i. i < length words.now) }
 {
     match word_of(test) {
@@ -105,13 +151,13 @@ fn number_of_test(test: &Test, words: &Words<'_>) -> Option<usize>
     }
 }
 
-/// The number of the type that a compound asks for.
+/// The number of the type that a compound asks for, if it asks for one.
 fn number_of_type(compound: &Compound, words: &Words<'_>) -> Option<usize>
-    ensures key { IfSome result (λ i. spec.IsNumberFor compound.now words.now i) }
+    ensures value { result ≡ spec.number_of words.now compound.now.plain.name }
     ensures within { IfSome result (λ i. i < length words.now) }
 {
-    match &compound.plain.name {
-        Some(name) => words.number(name.as_str().as_bytes()),
+    match type_of(compound) {
+        Some(name) => words.number(name),
         None => None,
     }
 }
@@ -120,7 +166,7 @@ fn number_of_type(compound: &Compound, words: &Words<'_>) -> Option<usize>
 fn rarer(lists: &[Items<u32>], a: Option<usize>, b: Option<usize>) -> Option<usize>
     requires a { IfSome a (λ i. i < length lists.now) }
     requires b { IfSome b (λ i. i < length lists.now) }
-    ensures { (result ≡ a) ⊎ (result ≡ b) }
+    ensures { result ≡ spec.rarer lists.now a b }
 {
     match (a, b) {
         (Some(i), Some(k)) => {
@@ -135,10 +181,10 @@ fn rarer(lists: &[Items<u32>], a: Option<usize>, b: Option<usize>) -> Option<usi
     }
 }
 
-/// The number of the rarest id or class that some tests ask for.
+/// The number of the rarest id or class that some tests ask for, and none exactly where they ask for none.
 fn rarest(tests: &[Test], words: &Words<'_>, lists: &[Items<u32>]) -> Option<usize>
     requires { length lists.now ≡ length words.now }
-    ensures key { IfSome result (λ i. spec.IsNumberIn tests.now words.now i) }
+    ensures key { spec.IsRarest lists.now (spec.IsNumberIn tests.now words.now) result }
     ensures within { IfSome result (λ i. i < length words.now) }
 {
     let mut best = None;
@@ -148,10 +194,11 @@ fn rarest(tests: &[Test], words: &Words<'_>, lists: &[Items<u32>]) -> Option<usi
     best
 }
 
-/// The number of the rarest word that each node has which fits a compound, if it asks for an id, a class or a type.
+/// The number of the rarest word that each node has which fits a compound: an id, a class or a type that it asks for.
+/// None exactly where it asks for none that is looked for.
 fn number_for(compound: &Compound, words: &Words<'_>, lists: &[Items<u32>]) -> Option<usize>
     requires { length lists.now ≡ length words.now }
-    ensures key { IfSome result (λ i. spec.IsNumberFor compound.now words.now i) }
+    ensures key { spec.IsRarest lists.now (spec.IsNumberFor compound.now words.now) result }
     ensures within { IfSome result (λ i. i < length words.now) }
 {
     let tests = compound.plain.tests.as_slice();
@@ -161,19 +208,20 @@ fn number_for(compound: &Compound, words: &Words<'_>, lists: &[Items<u32>]) -> O
 
 /// The last compound of a selector.
 fn last_compound(selector: &Selector) -> Option<&Compound>
-    ensures { option_map (λ c. c.now) result ≡ slice_get selector.now.parts (length selector.now.joins) }
+    ensures { option_map (λ c. c.now) result ≡ spec.last_part selector.now }
 {
     selector.parts().last()
 }
 
-/// The number of the rarest word that each node has which a selector matches, if its last compound asks for an id, a class or a type.
+/// The number of the rarest word that each node has which a selector matches: an id, a class or a type that its last
+/// compound asks for. None exactly where it asks for none that is looked for.
 pub(crate) fn number_of_key(
     selector: &Selector,
     words: &Words<'_>,
     lists: &[Items<u32>],
 ) -> Option<usize>
     requires { length lists.now ≡ length words.now }
-    ensures key { IfSome result (λ i. spec.IsKeyNumber selector.now words.now i) }
+    ensures key { spec.IsRarest lists.now (spec.IsKeyNumber selector.now words.now) result }
     ensures within { IfSome result (λ i. i < length words.now) }
 {
     match last_compound(selector) {

@@ -1,6 +1,7 @@
 //! Which nodes are the first and the last of their type among their siblings: one pass over the nodes from each end.
 
-ghost use Rattle.std.specs.Prelude.{◌≡◌, ◌<◌, [], length, map, not, Some, IfOk, OnOk};
+ghost use Rattle.std.specs.Prelude.{◌≡◌, ◌<◌, [], length, map, not, true, Some, IfOk, OnOk};
+ghost use Rattle.std.specs.List.{list_any};
 ghost use Rattle.match_table.specs.Types as spec;
 ghost use Rattle.selectors.specs.TypePlaces.{AreTypePlaces};
 ghost use Rattle.selectors.specs.declared.document.TypePlace.{TypePlace};
@@ -91,28 +92,44 @@ pub(crate) fn type_places(alloc: Global, dom: &Dom) -> Result<Vec<TypePlace>, No
     Ok(places)
 }
 
-fn is_of_type(test: &Test) -> bool {
+fn is_of_type(test: &Test) -> bool
+    ensures { result ≡ spec.is_of_type test.now }
+{
     matches!(test, Test::FirstOfType | Test::LastOfType)
 }
 
-fn plain_asks(plain: &Plain) -> bool {
+fn plain_asks(plain: &Plain) -> bool
+    ensures { result ≡ spec.plain_asks plain.now }
+{
     plain.tests.as_slice().iter().any(|test| is_of_type(test))
 }
 
-fn compound_asks(compound: &Compound) -> bool {
-    plain_asks(&compound.plain)
-        || compound
-            .nots
-            .as_slice()
-            .iter()
-            .any(|plain| plain_asks(plain))
+fn some_asks(plains: &[Plain]) -> bool
+    ensures { result ≡ list_any spec.plain_asks plains.now }
+{
+    plains.iter().any(|plain| plain_asks(plain))
 }
 
-fn selector_asks(selector: &Selector) -> bool {
+fn compound_asks(compound: &Compound) -> bool
+    ensures { result ≡ spec.compound_asks compound.now }
+{
+    plain_asks(&compound.plain) || some_asks(compound.nots.as_slice())
+}
+
+fn selector_asks(selector: &Selector) -> bool
+    ensures { result ≡ spec.selector_asks selector.now }
+{
     selector
         .parts()
         .iter()
         .any(|compound| compound_asks(compound))
+}
+
+/// Whether one of some selectors asks for a place among siblings of a type.
+fn are_asked(selectors: &[&Selector]) -> bool
+    ensures { result ≡ list_any (λ s. spec.selector_asks s.now) selectors.now }
+{
+    selectors.iter().any(|selector| selector_asks(selector))
 }
 
 /// The type places of all nodes, or none where no selector asks for a place among siblings of a type.
@@ -121,9 +138,11 @@ pub(crate) fn wanted_places(
     dom: &Dom,
     selectors: &[&Selector],
 ) -> Result<Vec<TypePlace>, NoMem>
-    ensures { IfOk result (λ v. AreTypePlaces dom.now v.items) }
+    ensures places { IfOk result (λ v. AreTypePlaces dom.now v.items) }
+    ensures known { list_any (λ s. spec.selector_asks s.now) selectors.now ≡ true →
+        IfOk result (λ v. length v.items ≡ length dom.now) }
 {
-    if selectors.iter().any(|selector| selector_asks(selector)) {
+    if are_asked(selectors) {
         type_places(alloc, dom)
     } else {
         Ok(Vec::new(alloc))

@@ -2,7 +2,7 @@
 use Rattle.std.proofs.Common.{◌≡◌, ℕ, zero, suc, ◌+◌, ◌-◌, ◌<◌, Bool, false, List, [], ◌∷◌, take, drop, length, refl, ap, sym, ◌∙◌, subst, arith, inl, inr, length-drop, Option, Some, None}
 use Rattle.std.specs.Prelude.{option_map, IfSome, slice_get}
 use Rattle.std.proofs.lemmas.Bool.{cases_Bool}
-use Rattle.std.proofs.lemmas.Option.{slice_get-map}
+use Rattle.std.proofs.lemmas.Option.{slice_get-map, same_Some}
 use Rattle.bk_num.specs.declared.ids.NodeId.{NodeId}
 use Rattle.dom.specs.Nodes.{Node, is_at, first_from, parents_of, parent_at, flat, first_child_of, next_under, prev_under, next_of, prev_of, IsTree, HasPlace}
 use Rattle.dom.proofs.DomLemmas.{last-is}
@@ -10,13 +10,10 @@ use Rattle.selectors.specs.Walk.{chain, first_such, beside, siblings_before, pre
 use Rattle.selectors.specs.declared.walk.Way.TheVariants as way
 use Rattle.dom.specs.Nodes.{is_element_at}
 
-some_same : {A : Type 0} (a b : A) → Some a ≡ Some b → a ≡ b
-some_same a b e = cc
-
 pub first_in : (p : ℕ) (qs : List (Option ℕ)) (k m : ℕ) → first_from p qs k ≡ Some m → m < k + length qs
 first_in p [] k m e = cc
 first_in p (q ∷ qs) k m e = elim (cases_Bool (is_at p q)) [
-  | inl here ↦ (let h : Some k ≡ Some m = rw here at e in let s : k ≡ m = some_same k m h in omega arith)
+  | inl here ↦ (let h : Some k ≡ Some m = rw here at e in let s : k ≡ m = same_Some k m h in omega arith)
   | inr other ↦ (let h : first_from p qs (k + 1) ≡ Some m = rw other at e in omega (arith, first_in p qs (k + 1) m h))
 ]
 
@@ -75,7 +72,7 @@ pub chain_row : (nodes : List Node) (f : ℕ → Bool) (steps n m : ℕ) (o : Op
 chain_row nodes f zero n m o rows e = absurd (cc)
 chain_row nodes f (suc steps) n m None rows e = absurd (cc)
 chain_row nodes f (suc steps) n m (Some k) rows e = elim (cases_Bool (f k)) [
-  | inl here ↦ (let h : Some k ≡ Some m = rw here at e in subst (Row (parents_of nodes) n) (some_same k m h) (rows k refl))
+  | inl here ↦ (let h : Some k ≡ Some m = rw here at e in subst (Row (parents_of nodes) n) (same_Some k m h) (rows k refl))
   | inr other ↦ (let h : first_such f (chain (beside nodes way.Before) steps (prev_of (parents_of nodes) k)) ≡ Some m = rw other at e in
       chain_row nodes f steps n m (prev_of (parents_of nodes) k) (λ j is. let a = prev_in (parents_of nodes) k j is in let b = rows k refl in (omega (arith, a.0, b.0), a.1 ∙ b.1)) h)
 ]

@@ -24,15 +24,17 @@ use Rattle.selectors.specs.declared.types.Join.{Join}
 use Rattle.selectors.specs.declared.types.Join.TheVariants as join
 use Rattle.selectors.specs.declared.grammar.Kinship.{Kinship}
 use Rattle.selectors.specs.declared.grammar.Kinship.TheVariants.{Named, Any, Bare}
-use Rattle.selectors.specs.declared.grammar.Part.{Part}
-use Rattle.selectors.specs.declared.grammar.Part.TheVariants as part
+use Rattle.selectors.specs.declared.grammar.SimpleSelector.{SimpleSelector}
+use Rattle.selectors.specs.declared.grammar.SimpleSelector.TheVariants as part
 
+-- an id selector: a Hash token
 unfoldable pub id : Parser Test
 id = do
   t ← peek
   advance
   pure (test.Id (value t))
 
+-- a class selector: `.` and a name
 unfoldable pub class : Parser Test
 class = do
   advance
@@ -42,19 +44,24 @@ class = do
 -- `~`, `|`, `^`, `$` and `*` before `=`
 unfoldable pub attr_mark : Option Item → Option AttrTest
 attr_mark t =
-    if is_mark 126 t then Some by.Word else (if is_mark 124 t then Some by.Dash else (if is_mark 94 t then Some by.Starts
+    if is_mark 126 t then Some by.Word else (if is_mark 124 t then Some by.Dash
+    else (if is_mark 94 t then Some by.Starts
     else (if is_mark 36 t then Some by.Ends else (if is_mark 42 t then Some by.Holds else None))))
 
+-- what stands between an attribute's name and its value
 unfoldable pub attr_test : Parser AttrTest
 attr_test = do
   t ← peek
-  if is_mark 61 t then (advance >> pure by.Equals) else on_some (attr_mark t) refuse (λ o. advance >> (expect 61 >> pure o))
+  if is_mark 61 t then (advance >> pure by.Equals)
+      else on_some (attr_mark t) refuse (λ o. advance >> (expect 61 >> pure o))
 
+-- the value of an attribute selector: a name or a string
 unfoldable pub attr_value : Parser (List ℕ)
 attr_value = do
   t ← peek
   if of_kind kind.Ident t || of_kind kind.Str t then (advance >> pure (value t)) else refuse
 
+-- the test, the value and the `]` of an attribute selector
 unfoldable pub attr_rest : List ℕ → Parser Test
 attr_rest key = do
   o ← attr_test
@@ -74,6 +81,7 @@ attribute = do
   t ← peek
   if is_mark 93 t then (advance >> pure (test.Attr key by.Has [])) else attr_rest key
 
+-- a token is this name, in any case of letters
 abbrev pub is_word : Option Item → List ℕ → Bool
 is_word t word = is_named kind.Ident t word
 
@@ -85,6 +93,7 @@ place_class t =
     else (if is_word t (codes "last-child") then Some test.LastChild
     else (if is_word t (codes "only-child") then Some test.OnlyChild else None)))
 
+-- the other pseudo-classes without an argument
 unfoldable pub other_class : Option Item → Option Test
 other_class t =
     if is_word t (codes "first-of-type") then Some test.FirstOfType
@@ -92,10 +101,12 @@ other_class t =
     else (if is_word t (codes "empty") then Some test.Empty
     else (if is_word t (codes "link") then Some test.Link else None)))
 
+-- the first of two that is there
 abbrev pub or_else : Option Test → Option Test → Option Test
 or_else None b = b
 or_else (Some a) b = Some a
 
+-- a pseudo-class without an argument
 unfoldable pub simple_of : Option Item → Option Test
 simple_of t = or_else (place_class t) (other_class t)
 
@@ -110,26 +121,35 @@ nth = do
   _ ← expect 41
   pure (test.Nth p.0 p.1)
 
+-- `:` and the function of a name
 abbrev pub is_function : Option Item → Option Item → List ℕ → Bool
 is_function t s name = is_mark 58 t && is_named kind.Func s name
 
+-- a test is there
 abbrev pub some_test : Parser Test → Parser (Option Test)
 some_test p = p >>= (λ x. pure (Some x))
 
+-- a pseudo-class without an argument, of two tokens, if it is one
 abbrev pub simple : Option Test → Parser (Option Test)
 simple o = on_some o (pure None) (λ x. advance >> (advance >> pure (Some x)))
+
+-- a pseudo-class other than `:not`, or none
+unfoldable pub pseudo_class : Parser (Option Test)
+pseudo_class = do
+  t ← peek
+  s ← second
+  if is_function t s (codes "nth-child") then some_test nth
+      else (if is_mark 58 t then simple (simple_of s) else pure None)
 
 -- a simple selector other than a type and `:not`, or none of these
 unfoldable pub next_test : Parser (Option Test)
 next_test = do
   t ← peek
-  s ← second
   if of_kind kind.Hash t then some_test id
       else (if is_mark 46 t then some_test class
-      else (if is_mark 91 t then some_test attribute
-      else (if is_function t s (codes "nth-child") then some_test nth
-      else (if is_mark 58 t then simple (simple_of s) else pure None))))
+      else (if is_mark 91 t then some_test attribute else pseudo_class))
 
+-- simple selectors other than types and `:not`, as many as come
 unfoldable pub all_tests : Parser (List Test)
 all_tests = many next_test
 
@@ -137,12 +157,15 @@ all_tests = many next_test
 unfoldable pub type_name : Parser Kinship
 type_name = do
   t ← peek
-  if of_kind kind.Ident t then (lower_ident >>= (λ n. pure (Named n))) else (if is_mark 42 t then (advance >> pure Any) else pure Bare)
+  if of_kind kind.Ident t then (lower_ident >>= (λ n. pure (Named n)))
+      else (if is_mark 42 t then (advance >> pure Any) else pure Bare)
 
+-- nothing says a type
 abbrev pub is_bare : Kinship → Bool
 is_bare Bare = true
 is_bare _ = false
 
+-- the type that is asked for, if one is
 abbrev pub name_of : Kinship → Option (List ℕ)
 name_of (Named n) = Some n
 name_of _ = None
@@ -154,6 +177,7 @@ plain = do
   found ← all_tests
   if is_bare kin && length found == 0 then refuse else pure (record { name = name_of kin; tests = found })
 
+-- the argument of `:not`: one compound without a `:not` (Selectors 3, 6.6.7)
 unfoldable pub negation : Parser Plain
 negation = do
   advance
@@ -165,7 +189,7 @@ negation = do
   pure p
 
 -- a simple selector other than a type, or none
-unfoldable pub next_part : Parser (Option Part)
+unfoldable pub next_part : Parser (Option SimpleSelector)
 next_part = do
   t ← peek
   s ← second
@@ -176,24 +200,30 @@ next_part = do
 abbrev pub Parts : Type 0
 Parts = List Test × List Plain
 
-abbrev pub tests_of : Part → List Test
+-- the test that a simple selector is
+abbrev pub tests_of : SimpleSelector → List Test
 tests_of (part.Test x) = x ∷ []
 tests_of (part.Not x) = []
 
-abbrev pub nots_of : Part → List Plain
+-- the argument of a `:not`
+abbrev pub nots_of : SimpleSelector → List Plain
 nots_of (part.Test x) = []
 nots_of (part.Not x) = x ∷ []
 
-abbrev pub parts_of : List Part → Parts
+-- tests and arguments of `:not`, each in their order
+abbrev pub parts_of : List SimpleSelector → Parts
 parts_of ps = (flat_map tests_of ps, flat_map nots_of ps)
 
-abbrev pub with_part : Parts → Part → Parts
+-- one more of them
+abbrev pub with_part : Parts → SimpleSelector → Parts
 with_part p (part.Test x) = (p.0 ++ x ∷ [], p.1)
 with_part p (part.Not x) = (p.0, p.1 ++ x ∷ [])
 
+-- simple selectors other than types, as many as come
 unfoldable pub all_parts : Parser Parts
 all_parts = many next_part >>= (λ ps. pure (parts_of ps))
 
+-- neither a test nor a `:not`
 abbrev pub has_none : Parts → Bool
 has_none p = length p.0 == 0 && length p.1 == 0
 
@@ -212,14 +242,17 @@ old_pseudo t =
     if is_word t (codes "before") then Some pseudo.Before
     else (if is_word t (codes "after") then Some pseudo.After else None)
 
+-- a pseudo-element after `::`
 unfoldable pub new_pseudo : Option Item → Option Pseudo
 new_pseudo t =
     if is_word t (codes "footnote-call") then Some pseudo.Call
     else (if is_word t (codes "footnote-marker") then Some pseudo.Marker else old_pseudo t)
 
+-- a pseudo-element after one `:` or after two
 abbrev pub pseudo_of : Bool → Option Item → Option Pseudo
 pseudo_of old t = if old then old_pseudo t else new_pseudo t
 
+-- the name of a pseudo-element
 unfoldable pub pseudo_name : Bool → Parser Pseudo
 pseudo_name old = do
   t ← peek
@@ -230,9 +263,11 @@ unfoldable pub pseudo_element : Parser Pseudo
 pseudo_element = do
   t ← peek
   s ← second
-  if is_mark 58 t then (if is_mark 58 s then (advance >> (advance >> pseudo_name false)) else (advance >> pseudo_name true))
+  if is_mark 58 t then (if is_mark 58 s then (advance >> (advance >> pseudo_name false))
+      else (advance >> pseudo_name true))
       else pure pseudo.Element
 
+-- the combinator that a mark is
 unfoldable pub combinator_of : Option Item → Option Join
 combinator_of t =
     if is_mark 62 t then Some join.Child
@@ -244,6 +279,7 @@ unfoldable pub is_over : Option Item → Bool
 is_over None = true
 is_over (Some t) = is_mark 44 (Some t)
 
+-- white space alone is a combinator, but not before the end of a selector
 abbrev pub space_join : Bool → Bool → Parser (Option Join)
 space_join over space = if over then pure None else (if space then pure (Some join.Inside) else refuse)
 
@@ -260,6 +296,13 @@ abbrev pub next_compound : Pseudo → Parser (Option (Join × Compound))
 next_compound p = do
   j ← combinator
   on_some j (pure None) (λ k. if is_pseudo p then refuse else (compound >>= (λ c. pure (Some (k, c)))))
+
+-- what follows a compound: the pseudo-element that ends the selector, or one more combinator and compound
+abbrev pub next_turn : List Compound → List Join → Parser (Option Pseudo × List Compound × List Join)
+next_turn parts joins = do
+  p ← pseudo_element
+  c ← next_compound p
+  on_some c (pure (Some p, parts, joins)) (λ k. pure (None, parts ++ k.1 ∷ [], joins ++ k.0 ∷ []))
 
 -- The number bounds the compounds, of which one was read.
 unfoldable pub rest_from : ℕ → List Compound → List Join → Parser SelectorView
@@ -287,6 +330,7 @@ next_selector = do
 unfoldable pub selectors : Parser (List SelectorView)
 selectors = first_and selector (many next_selector)
 
+-- what was read, without what is left
 abbrev pub read_of : Outcome (List SelectorView) → Option (List SelectorView)
 read_of None = None
 read_of (Some p) = Some p.0

@@ -9,9 +9,11 @@ use Rattle.selectors.specs.declared.types.Join.TheVariants.{Child, Inside, Next,
 use Rattle.selectors.specs.declared.types.Compound.{Compound}
 use Rattle.selectors.specs.Selectors.{SelectorView}
 
+-- a document: its nodes, the root first
 abbrev pub Tree : Type 0
 Tree = List Node
 
+-- the parent of a node
 abbrev pub parent_of : Tree → ℕ → Option ℕ
 parent_of dom n = parent_at (parents_of dom) n
 
@@ -25,6 +27,7 @@ pub data IsEarlier (dom : Tree) (m : ℕ) : ℕ → Type 0 where
   just_before : {n : ℕ} → prev_element dom n ≡ Some m → IsEarlier dom m n
   long_before : {n : ℕ} (p : ℕ) → prev_element dom n ≡ Some p → IsEarlier dom m p → IsEarlier dom m n
 
+-- a node fits a compound, if there is one
 abbrev pub fits_part : Tree → ℕ → Option Compound → Bool
 fits_part dom n None = false
 fits_part dom n (Some c) = fits_compound dom n c
@@ -40,6 +43,7 @@ Stands dom Inside m n = IsAbove dom m n
 Stands dom Next m n = prev_element dom n ≡ Some m
 Stands dom Later m n = IsEarlier dom m n
 
+-- the left node and the right one of a join, if there is one
 abbrev pub StandBy : Tree → Option Join → ℕ → ℕ → Type 0
 StandBy dom None m n = ⊥
 StandBy dom (Some j) m n = Stands dom j m n
@@ -47,11 +51,14 @@ StandBy dom (Some j) m n = Stands dom j m n
 -- there are nodes for the compounds up to the k-th, each fits, neighbours stand by their join, and the last is n
 abbrev pub Reaches : Tree → SelectorView → ℕ → ℕ → Type 0
 Reaches dom s zero n = fits dom s 0 n ≡ true
-Reaches dom s (suc k) n = (fits dom s (suc k) n ≡ true) × ((m : ℕ) × StandBy dom (slice_get s.joins k) m n × Reaches dom s k m)
+Reaches dom s (suc k) n =
+    (fits dom s (suc k) n ≡ true) × ((m : ℕ) × StandBy dom (slice_get s.joins k) m n × Reaches dom s k m)
 
+-- a selector matches a node (Selectors 3, 8): its compounds reach the node
 abbrev pub Matches : Tree → SelectorView → ℕ → Type 0
 Matches dom s n = Reaches dom s (length s.joins) n
 
+-- two joins are the same
 abbrev pub is_join : Join → Join → Bool
 is_join Child Child = true
 is_join Inside Inside = true

@@ -4,6 +4,7 @@ use Rattle.bk_num.specs.declared.values.Pseudo.{Pseudo}
 use Rattle.selectors.specs.declared.types.Join.{Join}
 use Rattle.selectors.specs.declared.types.Compound.{Compound}
 
+-- what a selector is: compounds, one join fewer, and a pseudo-element or none
 pub record SelectorView : Type 0 where
   pub parts : List Compound
   pub joins : List Join

@@ -10,13 +10,16 @@ use Rattle.selectors.specs.declared.specificity.Count.{Count}
 use Rattle.selectors.specs.declared.specificity.Count.TheVariants as count
 use Rattle.selectors.specs.Selectors.{SelectorView}
 
+-- an id selector
 abbrev pub is_id : Test → Bool
 is_id (test.Id v) = true
 is_id _ = false
 
+-- a class, an attribute or a pseudo-class
 abbrev pub is_other : Test → Bool
 is_other t = not (is_id t)
 
+-- 1 for what is there
 abbrev pub one_if : Bool → ℕ
 one_if true = 1
 one_if false = 0
@@ -27,6 +30,7 @@ in_plain count.Ids p = count_by is_id p.tests
 in_plain count.Others p = count_by is_other p.tests
 in_plain count.Types p = one_if (is_some p.name)
 
+-- how many of a kind stand in the arguments of `:not`
 abbrev pub in_plains : Count → List Plain → ℕ
 in_plains c [] = 0
 in_plains c (p ∷ ps) = in_plain c p + in_plains c ps
@@ -35,10 +39,12 @@ in_plains c (p ∷ ps) = in_plain c p + in_plains c ps
 abbrev pub in_compound : Count → Compound → ℕ
 in_compound c k = in_plain c k.plain + in_plains c k.nots
 
+-- how many of a kind stand in compounds
 abbrev pub in_parts : Count → List Compound → ℕ
 in_parts c [] = 0
 in_parts c (k ∷ ks) = in_compound c k + in_parts c ks
 
+-- a pseudo-element, not the element itself
 abbrev pub is_pseudo : Pseudo → Bool
 is_pseudo pseudo.Element = false
 is_pseudo _ = true
@@ -47,6 +53,7 @@ is_pseudo _ = true
 abbrev pub held : ℕ → ℕ
 held n = min n 4294967295
 
+-- the specificity of a selector: ids; classes, attributes and pseudo-classes; types and pseudo-elements
 abbrev pub specificity_of : SelectorView → ℕ × ℕ × ℕ
 specificity_of s = (
   held (in_parts count.Ids s.parts),

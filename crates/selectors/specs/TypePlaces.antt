@@ -4,6 +4,7 @@ use Rattle.dom.specs.Nodes.{Node}
 use Rattle.selectors.specs.Fits.{is_first_of_type, is_last_of_type}
 use Rattle.selectors.specs.declared.document.TypePlace.{TypePlace}
 
+-- both answers are right for a node
 pub record IsTypePlace (nodes : List Node) (n : ℕ) (place : TypePlace) : Type 0 where
   pub first : place.first ≡ is_first_of_type nodes n
   pub last : place.last ≡ is_last_of_type nodes n

@@ -24,19 +24,24 @@ abbrev pub beside : List Node → Way → ℕ → Option ℕ
 beside nodes way.Before n = prev_of (parents_of nodes) n
 beside nodes way.After n = next_of (parents_of nodes) n
 
--- the siblings before a node, nearest first, those after it, and its children; each step leads to a lesser or a greater number
+-- the siblings before a node, nearest first, those after it, and its children; each step leads to a lesser or a greater
+-- number
 unfoldable pub siblings_before : List Node → ℕ → List ℕ
 siblings_before nodes n = chain (beside nodes way.Before) n (beside nodes way.Before n)
 
+-- the siblings after a node, in their order
 unfoldable pub siblings_after : List Node → ℕ → List ℕ
 siblings_after nodes n = chain (beside nodes way.After) (length nodes) (beside nodes way.After n)
 
+-- the children of a node, in their order
 unfoldable pub children : List Node → ℕ → List ℕ
 children nodes n = chain (beside nodes way.After) (length nodes) (first_child_of (parents_of nodes) n)
 
+-- a text of at least one character
 abbrev pub has_text : List ℕ → Bool
 has_text v = not (length v == 0)
 
+-- two names that are there and the same
 abbrev pub name_is : Option (List ℕ) → Option (List ℕ) → Bool
 name_is None o = false
 name_is (Some a) None = false
@@ -51,6 +56,7 @@ abbrev pub is_some_text : Option (List ℕ) → Bool
 is_some_text None = false
 is_some_text (Some t) = has_text t
 
+-- an element, or a text of at least one character
 abbrev pub is_content : List Node → ℕ → Bool
 is_content nodes m = is_element_at nodes m || is_some_text (text_at nodes m)
 
@@ -68,6 +74,7 @@ first_asked nodes ask n way steps first = first_such (asks nodes ask n) (chain (
 unfoldable pub prev_element : List Node → ℕ → Option ℕ
 prev_element nodes n = first_such (is_element_at nodes) (siblings_before nodes n)
 
+-- the siblings of a node along a way, nearest first
 abbrev pub siblings : List Node → Way → ℕ → List ℕ
 siblings nodes way.Before n = siblings_before nodes n
 siblings nodes way.After n = siblings_after nodes n

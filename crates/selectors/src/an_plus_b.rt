@@ -290,26 +290,14 @@ fn named_n(reader: &mut Reader<'_>, text: &[u8]) -> Result<(i64, i64), Unread>
     }
 }
 
-/// Reads `odd`, `even`, a whole number, or An+B (css-syntax, 6): A and B. A number above 999,999,999 is read as that.
-#[tactic(auto, unfolding(crate::specs::AnPlusB::an_plus_b))]
-pub(crate) fn an_plus_b(alloc: Global, reader: &mut Reader<'_>) -> Result<(i64, i64), Unread>
-    ensures reads { Reads (λ x. (x.0, x.1)) (spec.an_plus_b reader.old) result reader.new }
+/// Reads An+B that doesn't begin with a name, or a whole number.
+#[tactic(auto, unfolding(crate::specs::AnPlusB::marked_n))]
+fn marked_n(alloc: Global, reader: &mut Reader<'_>) -> Result<(i64, i64), Unread>
+    ensures reads { Reads (λ x. (x.0, x.1)) (spec.marked_n reader.old) result reader.new }
     ensures within { length reader.new ≤ length reader.old }
 {
     let token = reader.peek();
     let second = reader.second();
-    if is_named(CssKind::Ident, token, "odd") {
-        reader.advance();
-        return Ok((2, 1));
-    }
-    if is_named(CssKind::Ident, token, "even") {
-        reader.advance();
-        return Ok((2, 0));
-    }
-    if of_kind(CssKind::Ident, token) {
-        let name = value(alloc, token)?;
-        return named_n(reader, name.as_str().as_bytes());
-    }
     if is_mark(b'+', token) && of_kind(CssKind::Ident, second) {
         let name = value(alloc, second)?;
         reader.advance();
@@ -324,4 +312,26 @@ pub(crate) fn an_plus_b(alloc: Global, reader: &mut Reader<'_>) -> Result<(i64, 
         return Ok((0, integer(token)));
     }
     Err(Unread::NoReading)
+}
+
+/// Reads `odd`, `even`, a whole number, or An+B (css-syntax, 6): A and B. A number above 999,999,999 is read as that.
+#[tactic(auto, unfolding(crate::specs::AnPlusB::an_plus_b))]
+pub(crate) fn an_plus_b(alloc: Global, reader: &mut Reader<'_>) -> Result<(i64, i64), Unread>
+    ensures reads { Reads (λ x. (x.0, x.1)) (spec.an_plus_b reader.old) result reader.new }
+    ensures within { length reader.new ≤ length reader.old }
+{
+    let token = reader.peek();
+    if is_named(CssKind::Ident, token, "odd") {
+        reader.advance();
+        return Ok((2, 1));
+    }
+    if is_named(CssKind::Ident, token, "even") {
+        reader.advance();
+        return Ok((2, 0));
+    }
+    if of_kind(CssKind::Ident, token) {
+        let name = value(alloc, token)?;
+        return named_n(reader, name.as_str().as_bytes());
+    }
+    marked_n(alloc, reader)
 }

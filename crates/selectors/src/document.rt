@@ -18,12 +18,12 @@ pub struct TypePlace {
 
 /// A document with the type places of its first nodes, as far as they are known. Contracts see the document alone.
 #[derive(Drop)]
-pub struct Document<'d> {
+pub struct TypedDocument<'d> {
     dom: &'d Dom,
     places: &'d [TypePlace],
 }
 
-impl<'d> Model for Document<'d> {
+impl<'d> Model for TypedDocument<'d> {
     ghost use Rattle.selectors.specs.Match.{Tree};
     ghost use Rattle.selectors.specs.TypePlaces.{AreTypePlaces};
 
@@ -34,20 +34,20 @@ impl<'d> Model for Document<'d> {
     ghost invariant = { λ d. AreTypePlaces d.dom.now d.places.now };
 }
 
-impl<'d> Document<'d> {
+impl<'d> TypedDocument<'d> {
     /// A document of which no type place is known, so that each is found among the siblings. It takes no memory.
-    pub fn new(dom: &'d Dom) -> Document<'d>
+    pub fn new(dom: &'d Dom) -> TypedDocument<'d>
         ensures { result ≡ dom.entry.now }
     {
-        Document { dom, places: &[] }
+        TypedDocument { dom, places: &[] }
     }
 
     /// A document with its type places.
-    pub fn with_places(dom: &'d Dom, places: &'d [TypePlace]) -> Document<'d>
+    pub fn with_places(dom: &'d Dom, places: &'d [TypePlace]) -> TypedDocument<'d>
         requires { AreTypePlaces dom.now places.now }
         ensures { result ≡ dom.entry.now }
     {
-        Document { dom, places }
+        TypedDocument { dom, places }
     }
 
     /// The nodes.

@@ -8,7 +8,7 @@ ghost use Rattle.dom.specs.Nodes.{name_at, attribute_at};
 ghost use Rattle.selectors.specs.Fits as spec;
 ghost use Rattle.selectors.specs.Walk.{name_is};
 
-use crate::document::Document;
+use crate::document::TypedDocument;
 use crate::types::{AttrTest, Compound, Plain, Test};
 use crate::walk::{has_content, is_element, parent};
 use bk_num::ids::NodeId;
@@ -164,13 +164,14 @@ fn has_type(wanted: Option<&str>, name: Option<&str>) -> bool
 
 fn is_link(dom: &Dom, node: NodeId) -> bool
     requires { node.0 < length dom.now }
-    ensures { result ≡ (name_is (Some (codes "a")) (name_at dom.now node.0) && is_some (attribute_at dom.now node.0 (codes "href"))) }
+    ensures { result ≡ (name_is (Some (codes "a")) (name_at dom.now node.0) &&
+        is_some (attribute_at dom.now node.0 (codes "href"))) }
 {
     has_type(Some("a"), dom.name(node)) && dom.attr(node, "href").is_some()
 }
 
 #[tactic(auto, unfolding(crate::specs::Fits::passes_test))]
-fn passes_test(document: &Document<'_>, node: NodeId, test: &Test) -> bool
+fn passes_test(document: &TypedDocument<'_>, node: NodeId, test: &Test) -> bool
     requires { node.0 < length document.now }
     ensures { result ≡ spec.passes_test document.now node.0 test.now }
 {
@@ -212,14 +213,14 @@ fn has_name(dom: &Dom, node: NodeId, name: &Option<Name>) -> bool
     }
 }
 
-fn passes_all(document: &Document<'_>, node: NodeId, tests: &[Test]) -> bool
+fn passes_all(document: &TypedDocument<'_>, node: NodeId, tests: &[Test]) -> bool
     requires { node.0 < length document.now }
     ensures { result ≡ list_all (spec.passes_test document.now node.0) tests.now }
 {
     tests.iter().all(|test| passes_test(document, node, test))
 }
 
-fn fits_any(document: &Document<'_>, node: NodeId, plains: &[Plain]) -> bool
+fn fits_any(document: &TypedDocument<'_>, node: NodeId, plains: &[Plain]) -> bool
     requires { node.0 < length document.now }
     ensures { result ≡ list_any (spec.fits_plain document.now node.0) plains.now }
 {
@@ -227,7 +228,7 @@ fn fits_any(document: &Document<'_>, node: NodeId, plains: &[Plain]) -> bool
 }
 
 #[tactic(auto, unfolding(crate::specs::Fits::fits_plain))]
-fn fits_plain(document: &Document<'_>, node: NodeId, plain: &Plain) -> bool
+fn fits_plain(document: &TypedDocument<'_>, node: NodeId, plain: &Plain) -> bool
     requires { node.0 < length document.now }
     ensures { result ≡ spec.fits_plain document.now node.0 plain.now }
 {
@@ -237,7 +238,7 @@ fn fits_plain(document: &Document<'_>, node: NodeId, plain: &Plain) -> bool
 
 /// Whether an element fits what a compound asks for, and nothing that it excludes.
 #[tactic(auto, unfolding(crate::specs::Fits::fits_compound))]
-pub(crate) fn fits_compound(document: &Document<'_>, node: NodeId, compound: &Compound) -> bool
+pub(crate) fn fits_compound(document: &TypedDocument<'_>, node: NodeId, compound: &Compound) -> bool
     requires { node.0 < length document.now }
     ensures { result ≡ spec.fits_compound document.now node.0 compound.now }
 {

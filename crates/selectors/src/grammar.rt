@@ -1,6 +1,6 @@
 //! Reads selectors.
 
-ghost use Rattle.std.specs.Prelude.{◌≡◌, ◌∷◌, ◌≤◌, ◌<◌, [], length, option_map, IfOk, IfSome};
+ghost use Rattle.std.specs.Prelude.{◌≡◌, ◌∷◌, ◌+◌, ◌≤◌, ◌<◌, [], length, option_map, IfOk, IfSome, IfNone};
 ghost use Rattle.css_tok.specs.Tokens.{item_in};
 ghost use Rattle.css_words.specs.Parser.{Reads, Owns};
 ghost use Rattle.css_words.specs.Repeat.{many, with_prefix};
@@ -30,7 +30,7 @@ pub enum Kinship {
 
 /// A simple selector other than a type.
 #[derive(Drop)]
-pub enum Part {
+pub enum SimpleSelector {
     Test(Test),
     Not(Plain),
 }
@@ -98,17 +98,17 @@ fn negation(alloc: Global, reader: &mut Reader<'_>) -> Result<Plain, Unread>
 
 /// The next simple selector other than a type; None where none comes.
 #[tactic(auto, unfolding(crate::specs::Grammar::next_part, css_words::specs::Words::is_mark))]
-fn next_part(alloc: Global, reader: &mut Reader<'_>) -> Result<Option<Part>, Unread>
+fn next_part(alloc: Global, reader: &mut Reader<'_>) -> Result<Option<SimpleSelector>, Unread>
     ensures reads { Reads (λ x. x) (spec.next_part reader.old) result reader.new }
     ensures within { length reader.new ≤ length reader.old }
     ensures taken { IfOk result (λ o. IfSome o (λ _. length reader.new < length reader.old)) }
 {
     let token = reader.peek();
     if token.is_some() && is_function(token, reader.second(), "not") {
-        return Ok(Some(Part::Not(negation(alloc, reader)?)));
+        return Ok(Some(SimpleSelector::Not(negation(alloc, reader)?)));
     }
     match next_test(alloc, reader)? {
-        Some(test) => Ok(Some(Part::Test(test))),
+        Some(test) => Ok(Some(SimpleSelector::Test(test))),
         None => Ok(None),
     }
 }
@@ -117,17 +117,17 @@ fn next_part(alloc: Global, reader: &mut Reader<'_>) -> Result<Option<Part>, Unr
 fn keep(
     alloc: Global,
     found: (Few<Test>, Few<Plain>),
-    part: Part,
+    part: SimpleSelector,
 ) -> Result<(Few<Test>, Few<Plain>), Unread>
     ensures { Owns (spec.with_part found part) result }
 {
     let (mut tests, mut nots) = found;
     match part {
-        Part::Test(test) => {
+        SimpleSelector::Test(test) => {
             tests.push(alloc, test)?;
             Ok((tests, nots))
         }
-        Part::Not(plain) => {
+        SimpleSelector::Not(plain) => {
             nots.push(alloc, plain)?;
             Ok((tests, nots))
         }
@@ -304,28 +304,57 @@ fn next_compound(
     Ok(Some((join, compound)))
 }
 
+/// The compounds of a selector, and the combinators between them.
+#[derive(Drop)]
+pub(crate) struct Joined {
+    parts: Few<Compound>,
+    joins: Few<Join>,
+}
+
+/// Reads what follows a compound: the pseudo-element that ends the selector, or one more combinator and compound, which
+/// are appended.
+fn next_turn(
+    alloc: Global,
+    reader: &mut Reader<'_>,
+    found: &mut Joined,
+) -> Result<Option<Pseudo>, Unread>
+    ensures reads { Reads (λ o. (o, found.new.parts, found.new.joins))
+        (spec.next_turn found.old.parts found.old.joins reader.old) result reader.new }
+    ensures more { IfOk result (λ o. IfNone o ((length found.new.parts ≡ length found.old.parts + 1) ×
+        (length found.new.joins ≡ length found.old.joins + 1))) }
+    ensures last { IfOk result (λ o. IfSome o (λ _. (length found.new.parts ≡ length found.old.parts) ×
+        (length found.new.joins ≡ length found.old.joins))) }
+    ensures within { length reader.new ≤ length reader.old }
+{
+    let pseudo = pseudo_element(reader)?;
+    match next_compound(alloc, reader, pseudo)? {
+        None => Ok(Some(pseudo)),
+        Some((join, compound)) => {
+            found.parts.push(alloc, compound)?;
+            found.joins.push(alloc, join)?;
+            Ok(None)
+        }
+    }
+}
+
 /// What follows the first compound of a selector.
 fn rest(alloc: Global, reader: &mut Reader<'_>, first: Compound) -> Result<Selector, Unread>
     ensures reads { Reads (λ x. x) (spec.rest_from 16 (first ∷ []) [] reader.old) result reader.new }
     ensures within { length reader.new ≤ length reader.old }
 {
-    let mut parts = Few::new();
-    let mut joins = Few::new();
-    parts.push(alloc, first)?;
+    let mut found = Joined {
+        parts: Few::new(),
+        joins: Few::new(),
+    };
+    found.parts.push(alloc, first)?;
     for turn in 0..16u32 {
-        let pseudo = pseudo_element(reader)?;
-        match next_compound(alloc, reader, pseudo)? {
-            None => {
-                return Ok(Selector {
-                    parts,
-                    joins,
-                    pseudo,
-                });
-            }
-            Some((join, compound)) => {
-                parts.push(alloc, compound)?;
-                joins.push(alloc, join)?;
-            }
+        if let Some(pseudo) = next_turn(alloc, reader, &mut found)? {
+            let Joined { parts, joins } = found;
+            return Ok(Selector {
+                parts,
+                joins,
+                pseudo,
+            });
         }
     }
     Err(Unread::NoReading)

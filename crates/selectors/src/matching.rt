@@ -1,12 +1,12 @@
 //! Whether a selector matches a node: one pass from the node to the root, over sets of compounds.
 
 ghost use Rattle.std.specs.Prelude.{◌≡◌, ◌<◌, ◌≤◌, ◌+◌, ◌&&◌, ◌↔◌, ℕ, suc, true};
-ghost use Rattle.std.specs.Prelude.{length, option_map, Some, None, IsTrue, IfNone, IfSome};
-ghost use Rattle.selectors.specs.Match.{Matches, fits, joins_by, parent_of};
+ghost use Rattle.std.specs.Prelude.{length, option_map, Some, None, if◌then◌else◌, ◌==◌, IsTrue, IfNone, IfSome};
+ghost use Rattle.selectors.specs.Match.{Matches, fits, is_join, joins_by, parent_of};
 ghost use Rattle.selectors.specs.Sets as sets;
 ghost use Rattle.selectors.specs.Walk.{prev_element};
 
-use crate::document::Document;
+use crate::document::TypedDocument;
 use crate::fits::fits_compound;
 use crate::sets::{has, union, with};
 use crate::types::{Join, Selector};
@@ -14,8 +14,9 @@ use crate::walk::{parent, prev_element};
 use bk_num::ids::NodeId;
 use dom::Dom;
 
+/// Whether a node fits the compound at a place.
 #[tactic(auto, unfolding(crate::specs::Match::fits))]
-fn fits(selector: &Selector, at: usize, document: &Document<'_>, node: NodeId) -> bool
+fn fits(selector: &Selector, at: usize, document: &TypedDocument<'_>, node: NodeId) -> bool
     requires within { at < length selector.now.parts }
     requires node { node.0 < length document.now }
     ensures { result ≡ fits document.now selector.now at node.0 }
@@ -26,16 +27,26 @@ fn fits(selector: &Selector, at: usize, document: &Document<'_>, node: NodeId) -
     }
 }
 
+/// Whether two combinators are the same.
+fn is_join(join: Join, other: Join) -> bool
+    ensures { result ≡ is_join join other }
+{
+    match join {
+        Join::Child => matches!(other, Join::Child),
+        Join::Inside => matches!(other, Join::Inside),
+        Join::Next => matches!(other, Join::Next),
+        Join::Later => matches!(other, Join::Later),
+    }
+}
+
+/// Whether this combinator comes after a compound.
 #[tactic(auto, unfolding(crate::specs::Match::joins_by))]
 pub fn joins_by(selector: &Selector, join: Join, at: usize) -> bool
     ensures { result ≡ joins_by selector.now join at }
 {
-    match (selector.joins().get(at), join) {
-        (Some(Join::Child), Join::Child) => true,
-        (Some(Join::Inside), Join::Inside) => true,
-        (Some(Join::Next), Join::Next) => true,
-        (Some(Join::Later), Join::Later) => true,
-        _ => false,
+    match selector.joins().get(at) {
+        Some(found) => is_join(join, *found),
+        None => false,
     }
 }
 
@@ -50,7 +61,7 @@ pub fn count(selector: &Selector) -> usize
 
 /// The wanted compounds that a node fits.
 #[tactic(auto, using(crate::proofs::SetLemmas::has_none))]
-pub fn fitting(selector: &Selector, document: &Document<'_>, node: NodeId, wanted: u16) -> u16
+pub fn fitting(selector: &Selector, document: &TypedDocument<'_>, node: NodeId, wanted: u16) -> u16
     requires { node.0 < length document.now }
     ensures { (k : ℕ) → sets.has result k ≡ (sets.has wanted k && fits document.now selector.now k node.0) }
 {
@@ -79,10 +90,11 @@ fn before(selector: &Selector, join: Join, found: u16) -> u16
 
 /// The element sibling before a node, if a compound is wanted there.
 #[tactic(auto, using(crate::proofs::SetLemmas::has_none))]
-fn wanted_prev(document: &Document<'_>, node: NodeId, wanted: u16) -> Option<NodeId>
+fn wanted_prev(document: &TypedDocument<'_>, node: NodeId, wanted: u16) -> Option<NodeId>
     requires { node.0 < length document.now }
     ensures none { IfNone result ((k : ℕ) → sets.has wanted k ≡ true → prev_element document.now node.0 ≡ None) }
     ensures some { IfSome result (λ p. prev_element document.now node.0 ≡ Some p.0) }
+    ensures value { option_map (λ n. n.0) result ≡ (if wanted == 0 then None else prev_element document.now node.0) }
     ensures below { IfSome result (λ p. p.0 < node.0) }
     ensures row { IfSome result (λ p. parent_of document.now p.0 ≡ parent_of document.now node.0) }
 {
@@ -94,7 +106,7 @@ fn wanted_prev(document: &Document<'_>, node: NodeId, wanted: u16) -> Option<Nod
 }
 
 /// The parent of a node, which has a lesser number.
-fn parent_of(document: &Document<'_>, node: NodeId) -> Option<NodeId>
+fn parent_of(document: &TypedDocument<'_>, node: NodeId) -> Option<NodeId>
     requires { node.0 < length document.now }
     ensures value { option_map (λ n. n.0) result ≡ parent_of document.now node.0 }
     ensures below { IfSome result (λ p. p.0 < node.0) }
@@ -109,7 +121,7 @@ fn parent_of(document: &Document<'_>, node: NodeId) -> Option<NodeId>
 /// sixteen compounds. So a `~` over a row
 /// of n siblings costs at most n steps a node. `:nth-child` and its kin read places that the document
 /// keeps, and so do `:first-of-type` and `:last-of-type` where type places are known.
-pub fn matches_in(document: &Document<'_>, node: NodeId, selector: &Selector) -> bool
+pub fn matches_in(document: &TypedDocument<'_>, node: NodeId, selector: &Selector) -> bool
     requires { node.0 < length document.now }
     ensures { IsTrue result ↔ Matches document.now selector.now node.0 }
 {
@@ -144,11 +156,11 @@ pub fn matches_in(document: &Document<'_>, node: NodeId, selector: &Selector) ->
     }
 }
 
-/// Whether a selector matches a node (Selectors 3, 8), as `matches_in` does where no type place is known: `:first-of-type` and
-/// `:last-of-type` go to the nearest sibling of the type. It takes no memory.
+/// Whether a selector matches a node (Selectors 3, 8), as `matches_in` does where no type place is known:
+/// `:first-of-type` and `:last-of-type` go to the nearest sibling of the type. It takes no memory.
 pub fn matches(dom: &Dom, node: NodeId, selector: &Selector) -> bool
     requires { node.0 < length dom.now }
     ensures { IsTrue result ↔ Matches dom.now selector.now node.0 }
 {
-    matches_in(&Document::new(dom), node, selector)
+    matches_in(&TypedDocument::new(dom), node, selector)
 }

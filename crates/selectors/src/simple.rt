@@ -187,10 +187,10 @@ pub(crate) fn is_function(
     is_mark(b':', token) && is_named(CssKind::Func, second, name)
 }
 
-/// The next simple selector other than a type and `:not`; None where none comes.
-#[tactic(auto, unfolding(crate::specs::Grammar::next_test, css_words::specs::Words::is_mark))]
-pub(crate) fn next_test(alloc: Global, reader: &mut Reader<'_>) -> Result<Option<Test>, Unread>
-    ensures reads { Reads (λ x. x) (spec.next_test reader.old) result reader.new }
+/// The next pseudo-class other than `:not`; None where none comes.
+#[tactic(auto, unfolding(crate::specs::Grammar::pseudo_class, css_words::specs::Words::is_mark))]
+fn pseudo_class(alloc: Global, reader: &mut Reader<'_>) -> Result<Option<Test>, Unread>
+    ensures reads { Reads (λ x. x) (spec.pseudo_class reader.old) result reader.new }
     ensures within { length reader.new ≤ length reader.old }
     ensures taken { IfOk result (λ o. IfSome o (λ _. length reader.new < length reader.old)) }
 {
@@ -198,15 +198,6 @@ pub(crate) fn next_test(alloc: Global, reader: &mut Reader<'_>) -> Result<Option
     let second = reader.second();
     if token.is_none() {
         return Ok(None);
-    }
-    if of_kind(CssKind::Hash, token) {
-        return Ok(Some(id(alloc, reader)?));
-    }
-    if is_mark(b'.', token) {
-        return Ok(Some(class(alloc, reader)?));
-    }
-    if is_mark(b'[', token) {
-        return Ok(Some(attribute(alloc, reader)?));
     }
     if is_function(token, second, "nth-child") {
         return Ok(Some(nth(alloc, reader)?));
@@ -220,6 +211,26 @@ pub(crate) fn next_test(alloc: Global, reader: &mut Reader<'_>) -> Result<Option
     reader.advance();
     reader.advance();
     Ok(Some(test))
+}
+
+/// The next simple selector other than a type and `:not`; None where none comes.
+#[tactic(auto, unfolding(crate::specs::Grammar::next_test, css_words::specs::Words::is_mark))]
+pub(crate) fn next_test(alloc: Global, reader: &mut Reader<'_>) -> Result<Option<Test>, Unread>
+    ensures reads { Reads (λ x. x) (spec.next_test reader.old) result reader.new }
+    ensures within { length reader.new ≤ length reader.old }
+    ensures taken { IfOk result (λ o. IfSome o (λ _. length reader.new < length reader.old)) }
+{
+    let token = reader.peek();
+    if token.is_some() && of_kind(CssKind::Hash, token) {
+        return Ok(Some(id(alloc, reader)?));
+    }
+    if token.is_some() && is_mark(b'.', token) {
+        return Ok(Some(class(alloc, reader)?));
+    }
+    if token.is_some() && is_mark(b'[', token) {
+        return Ok(Some(attribute(alloc, reader)?));
+    }
+    pseudo_class(alloc, reader)
 }
 
 /// The simple selectors that come next.

@@ -60,6 +60,7 @@ pub fn parent(dom: &Dom, node: NodeId) -> Option<NodeId>
     ensures value { option_map (λ n. n.0) result ≡ parent_at (parents_of dom.now) node.0 }
     ensures below { IfSome result (λ p. p.0 < node.0) }
 {
+    // Its clause says that the nodes are a tree, so that a parent has a lesser number.
     let _len = dom.len();
     dom.parent(node)
 }
@@ -107,7 +108,8 @@ fn first_such(
 ) -> Option<NodeId>
     requires node { node.0 < length dom.now }
     requires first { IfSome first (λ m. m.0 < length dom.now) }
-    ensures value { option_map (λ n. n.0) result ≡ spec.first_asked dom.now ask node.0 way steps (option_map (λ n. n.0) first) }
+    ensures value { option_map (λ n. n.0) result ≡
+        spec.first_asked dom.now ask node.0 way steps (option_map (λ n. n.0) first) }
     ensures within { IfSome result (λ m. m.0 < length dom.now) }
 {
     let mut left = first;

@@ -1,6 +1,7 @@
 use Rattle.std.proofs.Common.{◌≡◌, ◌<◌, ◌+◌, ◌∙◌, ◌++◌, ◌∷◌, [], false, length, inl, inr, sym, ap, subst, arith}
 use Rattle.std.proofs.lemmas.Bool.{cases_eq}
-use Rattle.match_table.specs.Types.{AreKindsOf, AreFirsts}
+use Rattle.match_table.specs.Types.{AreFirsts}
+use Rattle.match_table.proofs.TypeRanges.{AreKindsOf}
 use Rattle.match_table.proofs.TypeLemmas.{kinds-none, kinds-more, first-is, firsts-none, firsts-push}
 use Rattle.match_table.proofs.types.first_places.Goals as goal
 

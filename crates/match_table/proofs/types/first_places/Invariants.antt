@@ -1,5 +1,6 @@
 use Rattle.std.proofs.Common.{◌≡◌, ◌<◌, length}
-use Rattle.match_table.specs.Types.{AreKindsOf, AreFirsts}
+use Rattle.match_table.specs.Types.{AreFirsts}
+use Rattle.match_table.proofs.TypeRanges.{AreKindsOf}
 use Rattle.match_table.proofs.types.first_places.Given as goal
 
 abbrev pub invariant-loop-node : goal.invariant-loop-node

@@ -3,7 +3,7 @@ use Rattle.std.specs.Prelude.{slice_get, Some}
 use Rattle.std.proofs.lemmas.Bool.{cases_eq}
 use Rattle.std.proofs.lemmas.List.{length-set}
 use Rattle.std.proofs.lemmas.Option.{slice_get_read}
-use Rattle.match_table.specs.Types.{AreKindsOf}
+use Rattle.match_table.proofs.TypeRanges.{AreKindsOf}
 use Rattle.match_table.proofs.TypeLemmas.{kinds-none, kinds-more, kind-within, last-is, firsts-set, lasts-set, lasts-none, places-are, AreLasts}
 use Rattle.match_table.proofs.types.type_places.Goals as goal
 

@@ -1,5 +1,6 @@
 use Rattle.std.proofs.Common.{◌≡◌, ◌≤◌, length}
-use Rattle.match_table.specs.Types.{AreKindsOf, AreFirsts}
+use Rattle.match_table.specs.Types.{AreFirsts}
+use Rattle.match_table.proofs.TypeRanges.{AreKindsOf}
 use Rattle.match_table.proofs.TypeLemmas.{AreLasts}
 use Rattle.match_table.proofs.types.type_places.Given as goal
 

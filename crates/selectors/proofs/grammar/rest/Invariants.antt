@@ -4,8 +4,8 @@ use Rattle.selectors.proofs.grammar.rest.Given as goal
 
 abbrev pub invariant-loop-turn : goal.invariant-loop-turn
 invariant-loop-turn l = record {
-  parts : length l.parts ≡ l.turn + 1;
-  joins : length l.joins ≡ l.turn;
-  read : rest_from 16 (l.fn.first ∷ []) [] l.fn.reader ≡ rest_from (16 - l.turn) l.parts l.joins l.reader;
+  parts : length l.found.parts ≡ l.turn + 1;
+  joins : length l.found.joins ≡ l.turn;
+  read : rest_from 16 (l.fn.first ∷ []) [] l.fn.reader ≡ rest_from (16 - l.turn) l.found.parts l.found.joins l.reader;
   within : length l.reader ≤ length l.fn.reader;
 }
