@@ -1,2 +1,3 @@
 mod NodeLemmas
 mod NameLemmas
+pub mod RankingLemmas

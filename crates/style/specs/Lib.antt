@@ -1,7 +1,10 @@
 pub mod Counters
+pub mod Initial
 pub mod Longhands
 pub mod Longs
-pub mod Styles
-pub mod Nodes
 pub mod NodeFields
+pub mod Nodes
 pub mod PageNames
+pub mod Ranking
+pub mod Sides
+pub mod Styles

@@ -1,45 +1,18 @@
 -- The longhands in their order, and which of them are inherited (CSS 2.1, 6.2.1 and appendix F).
-use Rattle.std.specs.Prelude.{ℕ, Bool, true, false, List, [], ◌∷◌}
+use Rattle.std.specs.Prelude.{ℕ, ◌+◌, Bool, true, false}
+use Rattle.bk_num.specs.Sides.{place_of}
 use Rattle.style.specs.declared.longhand.Longhand.{Longhand}
 use Rattle.style.specs.declared.longhand.Longhand.TheVariants as longhand
 
--- all longhands
-unfoldable pub longhands : List Longhand
-longhands =
-    longhand.Display ∷ longhand.Float ∷ longhand.MarginTop ∷ longhand.MarginRight ∷ longhand.MarginBottom ∷ longhand.MarginLeft ∷
-    longhand.PaddingTop ∷ longhand.PaddingRight ∷ longhand.PaddingBottom ∷ longhand.PaddingLeft ∷ longhand.BorderTopWidth ∷
-    longhand.BorderRightWidth ∷ longhand.BorderBottomWidth ∷ longhand.BorderLeftWidth ∷ longhand.BorderTopStyle ∷
-    longhand.BorderRightStyle ∷ longhand.BorderBottomStyle ∷ longhand.BorderLeftStyle ∷ longhand.BorderTopColor ∷
-    longhand.BorderRightColor ∷ longhand.BorderBottomColor ∷ longhand.BorderLeftColor ∷ longhand.Width ∷ longhand.Color ∷
-    longhand.BackgroundColor ∷ longhand.FontFamily ∷ longhand.FontSize ∷ longhand.FontStyle ∷ longhand.FontWeight ∷
-    longhand.LineHeight ∷ longhand.TextAlign ∷ longhand.TextIndent ∷ longhand.WhiteSpace ∷ longhand.OverflowWrap ∷
-    longhand.ListStyleType ∷ longhand.Content ∷ longhand.CounterReset ∷ longhand.CounterIncrement ∷ longhand.StringSet ∷
-    longhand.BreakBefore ∷ longhand.BreakAfter ∷ longhand.BreakInside ∷ longhand.Widows ∷ longhand.Orphans ∷ longhand.Page ∷ []
-
--- the place of each in that list
+-- the place of each among all 45, those of a box by side: top, right, bottom, left
 abbrev pub number_of : Longhand → ℕ
 number_of longhand.Display = 0
 number_of longhand.Float = 1
-number_of longhand.MarginTop = 2
-number_of longhand.MarginRight = 3
-number_of longhand.MarginBottom = 4
-number_of longhand.MarginLeft = 5
-number_of longhand.PaddingTop = 6
-number_of longhand.PaddingRight = 7
-number_of longhand.PaddingBottom = 8
-number_of longhand.PaddingLeft = 9
-number_of longhand.BorderTopWidth = 10
-number_of longhand.BorderRightWidth = 11
-number_of longhand.BorderBottomWidth = 12
-number_of longhand.BorderLeftWidth = 13
-number_of longhand.BorderTopStyle = 14
-number_of longhand.BorderRightStyle = 15
-number_of longhand.BorderBottomStyle = 16
-number_of longhand.BorderLeftStyle = 17
-number_of longhand.BorderTopColor = 18
-number_of longhand.BorderRightColor = 19
-number_of longhand.BorderBottomColor = 20
-number_of longhand.BorderLeftColor = 21
+number_of (longhand.Margin s) = 2 + place_of s
+number_of (longhand.Padding s) = 6 + place_of s
+number_of (longhand.BorderWidth s) = 10 + place_of s
+number_of (longhand.BorderStyle s) = 14 + place_of s
+number_of (longhand.BorderColor s) = 18 + place_of s
 number_of longhand.Width = 22
 number_of longhand.Color = 23
 number_of longhand.BackgroundColor = 24
@@ -68,26 +41,11 @@ number_of longhand.Page = 44
 abbrev pub is_inherited : Longhand → Bool
 is_inherited longhand.Display = false
 is_inherited longhand.Float = false
-is_inherited longhand.MarginTop = false
-is_inherited longhand.MarginRight = false
-is_inherited longhand.MarginBottom = false
-is_inherited longhand.MarginLeft = false
-is_inherited longhand.PaddingTop = false
-is_inherited longhand.PaddingRight = false
-is_inherited longhand.PaddingBottom = false
-is_inherited longhand.PaddingLeft = false
-is_inherited longhand.BorderTopWidth = false
-is_inherited longhand.BorderRightWidth = false
-is_inherited longhand.BorderBottomWidth = false
-is_inherited longhand.BorderLeftWidth = false
-is_inherited longhand.BorderTopStyle = false
-is_inherited longhand.BorderRightStyle = false
-is_inherited longhand.BorderBottomStyle = false
-is_inherited longhand.BorderLeftStyle = false
-is_inherited longhand.BorderTopColor = false
-is_inherited longhand.BorderRightColor = false
-is_inherited longhand.BorderBottomColor = false
-is_inherited longhand.BorderLeftColor = false
+is_inherited (longhand.Margin s) = false
+is_inherited (longhand.Padding s) = false
+is_inherited (longhand.BorderWidth s) = false
+is_inherited (longhand.BorderStyle s) = false
+is_inherited (longhand.BorderColor s) = false
 is_inherited longhand.Width = false
 is_inherited longhand.Color = true
 is_inherited longhand.BackgroundColor = false

@@ -3,15 +3,17 @@ use Rattle.std.specs.Prelude.{◌≡◌, ℕ, ◌<◌, List, Option, None, Some,
 use Rattle.bk_num.specs.declared.values.Pseudo.{Pseudo}
 use Rattle.bk_num.specs.declared.values.Pseudo.TheVariants as pseudo
 use Rattle.style.specs.declared.style.Style.{Style}
-use Rattle.style.specs.declared.styles.Row.{Row}
+use Rattle.style.specs.declared.styles.NodeRow.{NodeRow}
 use Rattle.style.specs.declared.styles.Styles.TheInside.{Inside}
 use Rattle.style.specs.Nodes.{NodeStyles}
 
+-- the style of a number, if there is one
 abbrev pub numbered : List Style → Option ℕ → Option Style
 numbered styles None = None
 numbered styles (Some i) = slice_get styles i
 
-abbrev pub node_of : List Style → Row → NodeStyles
+-- what a row of numbers stands for
+abbrev pub node_of : List Style → NodeRow → NodeStyles
 node_of styles r = record {
   own = numbered styles r.own;
   before = numbered styles r.before;
@@ -24,10 +26,12 @@ node_of styles r = record {
   in_note = r.in_note;
 }
 
+-- what each node has
 abbrev pub nodes_of : Inside → List NodeStyles
 nodes_of a = map (node_of a.styles.items) a.rows.items
 
-abbrev pub number_in : Row → Pseudo → Option ℕ
+-- the number of a node's own style, or of a pseudo-element's
+abbrev pub number_in : NodeRow → Pseudo → Option ℕ
 number_in r pseudo.Element = r.own
 number_in r pseudo.Before = r.before
 number_in r pseudo.After = r.after
@@ -35,7 +39,7 @@ number_in r pseudo.Call = r.call
 number_in r pseudo.Marker = r.marker
 
 -- a row with a number more
-abbrev pub with_number : Pseudo → ℕ → Row → Row
+abbrev pub with_number : Pseudo → ℕ → NodeRow → NodeRow
 with_number pseudo.Element i r = record r { own = Some i }
 with_number pseudo.Before i r = record r { before = Some i }
 with_number pseudo.After i r = record r { after = Some i }
@@ -47,7 +51,8 @@ abbrev pub IsNumber : ℕ → Option ℕ → Type 0
 IsNumber count None = Unit {0}
 IsNumber count (Some i) = i < count
 
-pub record HasNumbers (count : ℕ) (r : Row) : Type 0 where
+-- each number of a row is below a count
+pub record HasNumbers (count : ℕ) (r : NodeRow) : Type 0 where
   pub own : IsNumber count r.own
   pub before : IsNumber count r.before
   pub after : IsNumber count r.after
@@ -55,8 +60,9 @@ pub record HasNumbers (count : ℕ) (r : Row) : Type 0 where
   pub marker : IsNumber count r.marker
 
 -- each row's numbers are below a count
-abbrev pub AreNumbered : ℕ → List Row → Type 0
-AreNumbered count rows = (k : ℕ) (r : Row) → slice_get rows k ≡ Some r → HasNumbers count r
+abbrev pub AreNumbered : ℕ → List NodeRow → Type 0
+AreNumbered count rows = (k : ℕ) (r : NodeRow) → slice_get rows k ≡ Some r → HasNumbers count r
 
-abbrev pub IsSound : Inside → Type 0
-IsSound a = AreNumbered (length a.styles.items) a.rows.items
+-- each number of a row is that of a style
+abbrev pub RowsHaveStyles : Inside → Type 0
+RowsHaveStyles a = AreNumbered (length a.styles.items) a.rows.items

@@ -4,8 +4,8 @@ use Rattle.bk_num.specs.declared.values.Pseudo.{Pseudo}
 use Rattle.bk_num.specs.declared.values.Pseudo.TheVariants as pseudo
 use Rattle.style.specs.declared.style.Style.{Style}
 
--- what a node has: its own style, those of its pseudo-elements, whether it is shown, whether it is a note element, and whether it is one
--- or stands in one
+-- what a node has: its own style, those of its pseudo-elements, whether it is shown, whether it is a note element, and
+-- whether it is one or stands in one
 pub record NodeStyles : Type 0 where
   pub own : Option Style
   pub before : Option Style
@@ -18,13 +18,23 @@ pub record NodeStyles : Type 0 where
 
 -- what a text has
 abbrev pub no_styles : NodeStyles
-no_styles = record { own = None; before = None; after = None; call = None; marker = None; shown = false; note = false; in_note = false }
+no_styles = record {
+  own = None;
+  before = None;
+  after = None;
+  call = None;
+  marker = None;
+  shown = false;
+  note = false;
+  in_note = false;
+}
 
 -- what an element without pseudo-elements has
 abbrev pub own_style : Style → Bool → Bool → Bool → NodeStyles
 own_style style shown note in_note =
-    record { own = Some style; before = None; after = None; call = None; marker = None; shown = shown; note = note; in_note = in_note }
+    record no_styles { own = Some style; shown = shown; note = note; in_note = in_note }
 
+-- a node's own style, or that of a pseudo-element
 abbrev pub style_in : NodeStyles → Pseudo → Option Style
 style_in n pseudo.Element = n.own
 style_in n pseudo.Before = n.before
@@ -32,6 +42,7 @@ style_in n pseudo.After = n.after
 style_in n pseudo.Call = n.call
 style_in n pseudo.Marker = n.marker
 
+-- the same of a node that may not be there
 abbrev pub style_of : Option NodeStyles → Pseudo → Option Style
 style_of None p = None
 style_of (Some n) p = style_in n p
@@ -54,14 +65,17 @@ change_last f [] = []
 change_last f (x ∷ []) = f x ∷ []
 change_last f (x ∷ (y ∷ ys)) = x ∷ change_last f (y ∷ ys)
 
+-- whether a node is there and is shown
 abbrev pub is_shown_in : Option NodeStyles → Bool
 is_shown_in None = false
 is_shown_in (Some n) = n.shown
 
+-- whether a node is there and is a note element
 abbrev pub is_note_in : Option NodeStyles → Bool
 is_note_in None = false
 is_note_in (Some n) = n.note
 
+-- whether a node is there and is a note element or stands in one
 abbrev pub is_in_note_in : Option NodeStyles → Bool
 is_in_note_in None = false
 is_in_note_in (Some n) = n.in_note

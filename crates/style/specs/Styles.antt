@@ -1,6 +1,8 @@
 -- The initial style, and that of a child without declarations.
-use Rattle.std.specs.Prelude.{pos, None, [], ◌∷◌, false, codes, if◌then◌else◌}
+use Rattle.std.specs.Prelude.{ℕ, pos, None, List, [], ◌∷◌, false, codes, if◌then◌else◌}
+use Rattle.bk_num.specs.Limits.{root_size}
 use Rattle.bk_num.specs.declared.length.Len.{Len}
+use Rattle.bk_num.specs.declared.sides.BoxSide.TheVariants as side
 use Rattle.bk_num.specs.declared.length.Len.TheVariants as len
 use Rattle.bk_num.specs.declared.values.Color.{Color}
 use Rattle.bk_num.specs.declared.values.Align.TheVariants as align
@@ -13,17 +15,20 @@ use Rattle.style.specs.declared.values.LineHeight.TheVariants as height
 use Rattle.style.specs.declared.longhand.Longhand.{Longhand}
 use Rattle.style.specs.declared.longhand.Longhand.TheVariants as longhand
 use Rattle.style.specs.declared.style.Style.{Style}
+use Rattle.style.specs.Initial.{normal_height, normal_weight}
 use Rattle.style.specs.Longhands.{is_inherited}
 
+-- the initial color (CSS 2.1, 14.1, leaves it open)
 abbrev pub black : Color
 black = record { red = 0; green = 0; blue = 0 }
 
+-- no length
 abbrev pub zero_len : Len
 zero_len = len.Px (pos 0)
 
--- the initial values (CSS 2.1, appendix F): `medium` is 16 px, `normal` 1.25 of the font size, and a border's color is the element's
-abbrev pub initial_style : Style
-initial_style = record {
+-- the initial values (CSS 2.1, appendix F) beside these families and this color, which a border's color is
+abbrev pub initial_with : List (List ℕ) → Color → Style
+initial_with families color = record {
   display = display.Inline;
   float = false;
   margin_top = zero_len;
@@ -42,18 +47,18 @@ initial_style = record {
   border_right_style = border.Off;
   border_bottom_style = border.Off;
   border_left_style = border.Off;
-  border_top_color = black;
-  border_right_color = black;
-  border_bottom_color = black;
-  border_left_color = black;
+  border_top_color = color;
+  border_right_color = color;
+  border_bottom_color = color;
+  border_left_color = color;
   width = len.Auto;
-  color = black;
+  color = color;
   background_color = None;
-  font_family = (codes "serif" ∷ []);
-  font_size = pos 1024;
+  font_family = families;
+  font_size = root_size;
   font_style = false;
-  font_weight = 400;
-  line_height = (height.Number (record { units = pos 125; places = 2 }));
+  font_weight = normal_weight;
+  line_height = height.Number normal_height;
   text_align = align.Left;
   text_indent = zero_len;
   white_space = space.Normal;
@@ -68,35 +73,41 @@ initial_style = record {
   break_inside = false;
   widows = 2;
   orphans = 2;
-  page = (record { 0 = 0 });
+  page = record { 0 = 0 };
 }
+
+-- the initial style
+abbrev pub initial_style : Style
+initial_style = initial_with (codes "serif" ∷ []) black
 
 -- what an element without a declaration of a longhand has
 abbrev pub passed : {T : Type 0} → Longhand → T → T → T
 passed h inherited initial = if is_inherited h then inherited else initial
 
--- the style of a child without declarations: a border's color is the child's own, and the page name is the parent's, which `auto` stands
--- for
+-- the style of a child without declarations: a border's color is the child's own, and the page name is the parent's,
+-- which `auto` stands for
 abbrev pub child_style : Style → Style
 child_style p = record {
   display = passed longhand.Display p.display initial_style.display;
   float = passed longhand.Float p.float initial_style.float;
-  margin_top = passed longhand.MarginTop p.margin_top initial_style.margin_top;
-  margin_right = passed longhand.MarginRight p.margin_right initial_style.margin_right;
-  margin_bottom = passed longhand.MarginBottom p.margin_bottom initial_style.margin_bottom;
-  margin_left = passed longhand.MarginLeft p.margin_left initial_style.margin_left;
-  padding_top = passed longhand.PaddingTop p.padding_top initial_style.padding_top;
-  padding_right = passed longhand.PaddingRight p.padding_right initial_style.padding_right;
-  padding_bottom = passed longhand.PaddingBottom p.padding_bottom initial_style.padding_bottom;
-  padding_left = passed longhand.PaddingLeft p.padding_left initial_style.padding_left;
-  border_top_width = passed longhand.BorderTopWidth p.border_top_width initial_style.border_top_width;
-  border_right_width = passed longhand.BorderRightWidth p.border_right_width initial_style.border_right_width;
-  border_bottom_width = passed longhand.BorderBottomWidth p.border_bottom_width initial_style.border_bottom_width;
-  border_left_width = passed longhand.BorderLeftWidth p.border_left_width initial_style.border_left_width;
-  border_top_style = passed longhand.BorderTopStyle p.border_top_style initial_style.border_top_style;
-  border_right_style = passed longhand.BorderRightStyle p.border_right_style initial_style.border_right_style;
-  border_bottom_style = passed longhand.BorderBottomStyle p.border_bottom_style initial_style.border_bottom_style;
-  border_left_style = passed longhand.BorderLeftStyle p.border_left_style initial_style.border_left_style;
+  margin_top = passed (longhand.Margin side.Top) p.margin_top initial_style.margin_top;
+  margin_right = passed (longhand.Margin side.Right) p.margin_right initial_style.margin_right;
+  margin_bottom = passed (longhand.Margin side.Bottom) p.margin_bottom initial_style.margin_bottom;
+  margin_left = passed (longhand.Margin side.Left) p.margin_left initial_style.margin_left;
+  padding_top = passed (longhand.Padding side.Top) p.padding_top initial_style.padding_top;
+  padding_right = passed (longhand.Padding side.Right) p.padding_right initial_style.padding_right;
+  padding_bottom = passed (longhand.Padding side.Bottom) p.padding_bottom initial_style.padding_bottom;
+  padding_left = passed (longhand.Padding side.Left) p.padding_left initial_style.padding_left;
+  border_top_width = passed (longhand.BorderWidth side.Top) p.border_top_width initial_style.border_top_width;
+  border_right_width = passed (longhand.BorderWidth side.Right) p.border_right_width initial_style.border_right_width;
+  border_bottom_width =
+      passed (longhand.BorderWidth side.Bottom) p.border_bottom_width initial_style.border_bottom_width;
+  border_left_width = passed (longhand.BorderWidth side.Left) p.border_left_width initial_style.border_left_width;
+  border_top_style = passed (longhand.BorderStyle side.Top) p.border_top_style initial_style.border_top_style;
+  border_right_style = passed (longhand.BorderStyle side.Right) p.border_right_style initial_style.border_right_style;
+  border_bottom_style =
+      passed (longhand.BorderStyle side.Bottom) p.border_bottom_style initial_style.border_bottom_style;
+  border_left_style = passed (longhand.BorderStyle side.Left) p.border_left_style initial_style.border_left_style;
   border_top_color = p.color;
   border_right_color = p.color;
   border_bottom_color = p.color;

@@ -1,6 +1,6 @@
 //! Lists of content (CSS 2.1, 12.2; css-gcpm-3): what `content` and `string-set` print.
 
-ghost use Rattle.std.specs.Prelude.{◌≡◌, [], ◌∷◌, ◌++◌, IfOk, OnOk, OnErr};
+ghost use Rattle.std.specs.Prelude.{◌≡◌, IfOk};
 
 use bk_num::name::{Name, NoMem};
 use bk_num::values::NumStyle;
@@ -96,15 +96,6 @@ impl Model for Content {
 }
 
 impl Content {
-    /// The list without parts.
-    pub fn new(alloc: Global) -> Content
-        ensures { result ≡ [] }
-    {
-        Content {
-            parts: Vec::new(alloc),
-        }
-    }
-
     /// The list of these parts. It takes no memory.
     pub fn of(parts: Vec<Part>) -> Content
         ensures { result ≡ parts.items }
@@ -117,17 +108,6 @@ impl Content {
         ensures { result.now ≡ self.now }
     {
         self.parts.as_slice()
-    }
-
-    /// Adds a part at the end.
-    pub fn push(&mut self, part: Part) -> Result<(), NoMem>
-        ensures ok { OnOk result (self.new ≡ self.old ++ part ∷ []) }
-        ensures err { OnErr result (self.new ≡ self.old) }
-    {
-        match self.parts.push(part) {
-            Ok(_) => Ok(()),
-            Err(_) => Err(NoMem),
-        }
     }
 
     /// An equal list.

@@ -58,7 +58,8 @@ impl Families {
     }
 }
 
-/// Counters with numbers, as `counter-reset` and `counter-increment` have them: at most 64, each number within plus or minus 999999999.
+/// Counters with numbers, as `counter-reset` and `counter-increment` have them: at most 64, each number within plus or
+/// minus 999999999.
 /// Contracts see the list.
 #[derive(Drop)]
 pub struct CounterList {

@@ -1,26 +1,27 @@
 //! Declared values, one of each longhand.
 
-ghost use Rattle.std.specs.Prelude.{◌≡◌, IfOk};
-ghost use Rattle.style.specs.Longs.{longhand_of};
+ghost use Rattle.std.specs.Prelude.{◌≡◌, false, IfOk, IfSome};
+ghost use Rattle.style.specs.Longs.{long_of, longhand_of, on_side, side_long, takes_memory};
 
 use crate::content::Content;
 use crate::lists::{CounterList, Families, StringSets};
 use crate::longhand::Longhand;
 use crate::values::{BorderStyle, Display, FontSize, GivenHeight, Measure, Weight};
 use bk_num::name::{Name, NoMem};
+use bk_num::sides::BoxSide;
 use bk_num::values::{Align, BreakAt, Color, NumStyle, WhiteSpace};
 use std::alloc::Global;
 
 /// What a declaration gives: a value, the parent's, or the initial one (CSS 2.1, 6.1.2; css-cascade-3, 7).
-#[derive(Drop)]
+#[derive(Clone, Copy, Drop)]
 pub enum Given<T> {
     Value(T),
     Inherit,
     Initial,
 }
 
-/// A declaration of a longhand. Of `bool`: `float` is `footnote`, `font-style` is italic, `overflow-wrap` breaks anywhere, and
-/// `break-inside` avoids. `None` is `currentcolor`, `transparent`, no content, and the page name `auto`.
+/// A declaration of a longhand. Of `bool`: `float` is `footnote`, `font-style` is italic, `overflow-wrap` breaks
+/// anywhere, and `break-inside` avoids. `None` is `currentcolor`, `transparent`, no content, and the page name `auto`.
 #[derive(Drop)]
 pub enum Long {
     Display(Given<Display>),
@@ -70,34 +71,123 @@ pub enum Long {
     Page(Given<Option<Name>>),
 }
 
+/// A declaration of a longhand that there is for each side of a box.
+#[derive(Clone, Copy)]
+pub enum SideLong {
+    Margin(BoxSide, Given<Measure>),
+    Padding(BoxSide, Given<Measure>),
+    BorderWidth(BoxSide, Given<Measure>),
+    BorderStyle(BoxSide, Given<BorderStyle>),
+    BorderColor(BoxSide, Given<Option<Color>>),
+}
+
+impl SideLong {
+    /// Which longhand it declares.
+    pub fn longhand(&self) -> Longhand
+        ensures { result ≡ longhand_of (long_of self.now) }
+    {
+        match self {
+            SideLong::Margin(side, _) => Longhand::Margin(*side),
+            SideLong::Padding(side, _) => Longhand::Padding(*side),
+            SideLong::BorderWidth(side, _) => Longhand::BorderWidth(*side),
+            SideLong::BorderStyle(side, _) => Longhand::BorderStyle(*side),
+            SideLong::BorderColor(side, _) => Longhand::BorderColor(*side),
+        }
+    }
+
+    /// The same for another side.
+    pub fn on(self, side: BoxSide) -> SideLong
+        ensures { result ≡ on_side side self }
+    {
+        match self {
+            SideLong::Margin(_, given) => SideLong::Margin(side, given),
+            SideLong::Padding(_, given) => SideLong::Padding(side, given),
+            SideLong::BorderWidth(_, given) => SideLong::BorderWidth(side, given),
+            SideLong::BorderStyle(_, given) => SideLong::BorderStyle(side, given),
+            SideLong::BorderColor(_, given) => SideLong::BorderColor(side, given),
+        }
+    }
+}
+
 impl Long {
+    /// What it gives to which side of a box; None exactly where its longhand has no sides. It takes no memory.
+    pub fn at_side(&self) -> Option<SideLong>
+        ensures given { result ≡ side_long self.now }
+        ensures same { IfSome result (λ a. long_of a ≡ self.now) }
+    {
+        match self {
+            Long::MarginTop(given) => Some(SideLong::Margin(BoxSide::Top, *given)),
+            Long::MarginRight(given) => Some(SideLong::Margin(BoxSide::Right, *given)),
+            Long::MarginBottom(given) => Some(SideLong::Margin(BoxSide::Bottom, *given)),
+            Long::MarginLeft(given) => Some(SideLong::Margin(BoxSide::Left, *given)),
+            Long::PaddingTop(given) => Some(SideLong::Padding(BoxSide::Top, *given)),
+            Long::PaddingRight(given) => Some(SideLong::Padding(BoxSide::Right, *given)),
+            Long::PaddingBottom(given) => Some(SideLong::Padding(BoxSide::Bottom, *given)),
+            Long::PaddingLeft(given) => Some(SideLong::Padding(BoxSide::Left, *given)),
+            Long::BorderTopWidth(given) => Some(SideLong::BorderWidth(BoxSide::Top, *given)),
+            Long::BorderRightWidth(given) => Some(SideLong::BorderWidth(BoxSide::Right, *given)),
+            Long::BorderBottomWidth(given) => Some(SideLong::BorderWidth(BoxSide::Bottom, *given)),
+            Long::BorderLeftWidth(given) => Some(SideLong::BorderWidth(BoxSide::Left, *given)),
+            Long::BorderTopStyle(given) => Some(SideLong::BorderStyle(BoxSide::Top, *given)),
+            Long::BorderRightStyle(given) => Some(SideLong::BorderStyle(BoxSide::Right, *given)),
+            Long::BorderBottomStyle(given) => Some(SideLong::BorderStyle(BoxSide::Bottom, *given)),
+            Long::BorderLeftStyle(given) => Some(SideLong::BorderStyle(BoxSide::Left, *given)),
+            Long::BorderTopColor(given) => Some(SideLong::BorderColor(BoxSide::Top, *given)),
+            Long::BorderRightColor(given) => Some(SideLong::BorderColor(BoxSide::Right, *given)),
+            Long::BorderBottomColor(given) => Some(SideLong::BorderColor(BoxSide::Bottom, *given)),
+            Long::BorderLeftColor(given) => Some(SideLong::BorderColor(BoxSide::Left, *given)),
+            _ => None,
+        }
+    }
+
+    /// The declaration of a side's longhand.
+    pub fn of_side(given: SideLong) -> Long
+        ensures { result ≡ long_of given }
+    {
+        match given {
+            SideLong::Margin(side, given) => match side {
+                BoxSide::Top => Long::MarginTop(given),
+                BoxSide::Right => Long::MarginRight(given),
+                BoxSide::Bottom => Long::MarginBottom(given),
+                BoxSide::Left => Long::MarginLeft(given),
+            },
+            SideLong::Padding(side, given) => match side {
+                BoxSide::Top => Long::PaddingTop(given),
+                BoxSide::Right => Long::PaddingRight(given),
+                BoxSide::Bottom => Long::PaddingBottom(given),
+                BoxSide::Left => Long::PaddingLeft(given),
+            },
+            SideLong::BorderWidth(side, given) => match side {
+                BoxSide::Top => Long::BorderTopWidth(given),
+                BoxSide::Right => Long::BorderRightWidth(given),
+                BoxSide::Bottom => Long::BorderBottomWidth(given),
+                BoxSide::Left => Long::BorderLeftWidth(given),
+            },
+            SideLong::BorderStyle(side, given) => match side {
+                BoxSide::Top => Long::BorderTopStyle(given),
+                BoxSide::Right => Long::BorderRightStyle(given),
+                BoxSide::Bottom => Long::BorderBottomStyle(given),
+                BoxSide::Left => Long::BorderLeftStyle(given),
+            },
+            SideLong::BorderColor(side, given) => match side {
+                BoxSide::Top => Long::BorderTopColor(given),
+                BoxSide::Right => Long::BorderRightColor(given),
+                BoxSide::Bottom => Long::BorderBottomColor(given),
+                BoxSide::Left => Long::BorderLeftColor(given),
+            },
+        }
+    }
+
     /// Which longhand it declares.
     pub fn longhand(&self) -> Longhand
         ensures { result ≡ longhand_of self.now }
     {
+        if let Some(at) = self.at_side() {
+            return at.longhand();
+        }
         match self {
             Long::Display(_) => Longhand::Display,
             Long::Float(_) => Longhand::Float,
-            Long::MarginTop(_) => Longhand::MarginTop,
-            Long::MarginRight(_) => Longhand::MarginRight,
-            Long::MarginBottom(_) => Longhand::MarginBottom,
-            Long::MarginLeft(_) => Longhand::MarginLeft,
-            Long::PaddingTop(_) => Longhand::PaddingTop,
-            Long::PaddingRight(_) => Longhand::PaddingRight,
-            Long::PaddingBottom(_) => Longhand::PaddingBottom,
-            Long::PaddingLeft(_) => Longhand::PaddingLeft,
-            Long::BorderTopWidth(_) => Longhand::BorderTopWidth,
-            Long::BorderRightWidth(_) => Longhand::BorderRightWidth,
-            Long::BorderBottomWidth(_) => Longhand::BorderBottomWidth,
-            Long::BorderLeftWidth(_) => Longhand::BorderLeftWidth,
-            Long::BorderTopStyle(_) => Longhand::BorderTopStyle,
-            Long::BorderRightStyle(_) => Longhand::BorderRightStyle,
-            Long::BorderBottomStyle(_) => Longhand::BorderBottomStyle,
-            Long::BorderLeftStyle(_) => Longhand::BorderLeftStyle,
-            Long::BorderTopColor(_) => Longhand::BorderTopColor,
-            Long::BorderRightColor(_) => Longhand::BorderRightColor,
-            Long::BorderBottomColor(_) => Longhand::BorderBottomColor,
-            Long::BorderLeftColor(_) => Longhand::BorderLeftColor,
             Long::Width(_) => Longhand::Width,
             Long::Color(_) => Longhand::Color,
             Long::BackgroundColor(_) => Longhand::BackgroundColor,
@@ -121,6 +211,39 @@ impl Long {
             Long::Widows(_) => Longhand::Widows,
             Long::Orphans(_) => Longhand::Orphans,
             Long::Page(_) => Longhand::Page,
+            _ => unreachable!(),
+        }
+    }
+
+    /// An equal declaration of one that takes no memory.
+    fn plain(&self) -> Long
+        requires { takes_memory self.now ≡ false }
+        ensures { result ≡ self.now }
+    {
+        if let Some(at) = self.at_side() {
+            return Long::of_side(at);
+        }
+        match self {
+            Long::Display(given) => Long::Display(*given),
+            Long::Float(given) => Long::Float(*given),
+            Long::Width(given) => Long::Width(*given),
+            Long::Color(given) => Long::Color(*given),
+            Long::BackgroundColor(given) => Long::BackgroundColor(*given),
+            Long::FontSize(given) => Long::FontSize(*given),
+            Long::FontStyle(given) => Long::FontStyle(*given),
+            Long::FontWeight(given) => Long::FontWeight(*given),
+            Long::LineHeight(given) => Long::LineHeight(*given),
+            Long::TextAlign(given) => Long::TextAlign(*given),
+            Long::TextIndent(given) => Long::TextIndent(*given),
+            Long::WhiteSpace(given) => Long::WhiteSpace(*given),
+            Long::OverflowWrap(given) => Long::OverflowWrap(*given),
+            Long::ListStyleType(given) => Long::ListStyleType(*given),
+            Long::BreakBefore(given) => Long::BreakBefore(*given),
+            Long::BreakAfter(given) => Long::BreakAfter(*given),
+            Long::BreakInside(given) => Long::BreakInside(*given),
+            Long::Widows(given) => Long::Widows(*given),
+            Long::Orphans(given) => Long::Orphans(*given),
+            _ => unreachable!(),
         }
     }
 
@@ -128,63 +251,15 @@ impl Long {
     pub fn copy(&self, alloc: Global) -> Result<Long, NoMem>
         ensures { IfOk result (λ long. long ≡ self.now) }
     {
-        Ok(match self {
-            Long::Display(given) => Long::Display(plain(given)),
-            Long::Float(given) => Long::Float(plain(given)),
-            Long::MarginTop(given) => Long::MarginTop(plain(given)),
-            Long::MarginRight(given) => Long::MarginRight(plain(given)),
-            Long::MarginBottom(given) => Long::MarginBottom(plain(given)),
-            Long::MarginLeft(given) => Long::MarginLeft(plain(given)),
-            Long::PaddingTop(given) => Long::PaddingTop(plain(given)),
-            Long::PaddingRight(given) => Long::PaddingRight(plain(given)),
-            Long::PaddingBottom(given) => Long::PaddingBottom(plain(given)),
-            Long::PaddingLeft(given) => Long::PaddingLeft(plain(given)),
-            Long::BorderTopWidth(given) => Long::BorderTopWidth(plain(given)),
-            Long::BorderRightWidth(given) => Long::BorderRightWidth(plain(given)),
-            Long::BorderBottomWidth(given) => Long::BorderBottomWidth(plain(given)),
-            Long::BorderLeftWidth(given) => Long::BorderLeftWidth(plain(given)),
-            Long::BorderTopStyle(given) => Long::BorderTopStyle(plain(given)),
-            Long::BorderRightStyle(given) => Long::BorderRightStyle(plain(given)),
-            Long::BorderBottomStyle(given) => Long::BorderBottomStyle(plain(given)),
-            Long::BorderLeftStyle(given) => Long::BorderLeftStyle(plain(given)),
-            Long::BorderTopColor(given) => Long::BorderTopColor(plain(given)),
-            Long::BorderRightColor(given) => Long::BorderRightColor(plain(given)),
-            Long::BorderBottomColor(given) => Long::BorderBottomColor(plain(given)),
-            Long::BorderLeftColor(given) => Long::BorderLeftColor(plain(given)),
-            Long::Width(given) => Long::Width(plain(given)),
-            Long::Color(given) => Long::Color(plain(given)),
-            Long::BackgroundColor(given) => Long::BackgroundColor(plain(given)),
-            Long::FontFamily(given) => Long::FontFamily(families(given, alloc)?),
-            Long::FontSize(given) => Long::FontSize(plain(given)),
-            Long::FontStyle(given) => Long::FontStyle(plain(given)),
-            Long::FontWeight(given) => Long::FontWeight(plain(given)),
-            Long::LineHeight(given) => Long::LineHeight(plain(given)),
-            Long::TextAlign(given) => Long::TextAlign(plain(given)),
-            Long::TextIndent(given) => Long::TextIndent(plain(given)),
-            Long::WhiteSpace(given) => Long::WhiteSpace(plain(given)),
-            Long::OverflowWrap(given) => Long::OverflowWrap(plain(given)),
-            Long::ListStyleType(given) => Long::ListStyleType(plain(given)),
-            Long::Content(given) => Long::Content(content(given, alloc)?),
-            Long::CounterReset(given) => Long::CounterReset(counters(given, alloc)?),
-            Long::CounterIncrement(given) => Long::CounterIncrement(counters(given, alloc)?),
-            Long::StringSet(given) => Long::StringSet(strings(given, alloc)?),
-            Long::BreakBefore(given) => Long::BreakBefore(plain(given)),
-            Long::BreakAfter(given) => Long::BreakAfter(plain(given)),
-            Long::BreakInside(given) => Long::BreakInside(plain(given)),
-            Long::Widows(given) => Long::Widows(plain(given)),
-            Long::Orphans(given) => Long::Orphans(plain(given)),
-            Long::Page(given) => Long::Page(page_name(given)?),
-        })
-    }
-}
-
-fn plain<T: Copy>(given: &Given<T>) -> Given<T>
-    ensures { result ≡ given.now }
-{
-    match given {
-        Given::Value(value) => Given::Value(*value),
-        Given::Inherit => Given::Inherit,
-        Given::Initial => Given::Initial,
+        match self {
+            Long::FontFamily(given) => Ok(Long::FontFamily(families(given, alloc)?)),
+            Long::Content(given) => Ok(Long::Content(content(given, alloc)?)),
+            Long::CounterReset(given) => Ok(Long::CounterReset(counters(given, alloc)?)),
+            Long::CounterIncrement(given) => Ok(Long::CounterIncrement(counters(given, alloc)?)),
+            Long::StringSet(given) => Ok(Long::StringSet(strings(given, alloc)?)),
+            Long::Page(given) => Ok(Long::Page(page_name(given)?)),
+            _ => Ok(self.plain()),
+        }
     }
 }
 

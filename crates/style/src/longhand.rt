@@ -1,33 +1,20 @@
 //! The longhands that this program has.
 
 ghost use Rattle.std.specs.Prelude.{◌≡◌};
-ghost use Rattle.style.specs.Longhands.{number_of, is_inherited};
+ghost use Rattle.style.specs.Longhands.{number_of};
 
-/// A property that isn't a shorthand.
+use bk_num::sides::BoxSide;
+
+/// A property that isn't a shorthand. Those that there are for each side of a box have the side.
 #[derive(Clone, Copy, Debug, PartialEq, Eq)]
 pub enum Longhand {
     Display,
     Float,
-    MarginTop,
-    MarginRight,
-    MarginBottom,
-    MarginLeft,
-    PaddingTop,
-    PaddingRight,
-    PaddingBottom,
-    PaddingLeft,
-    BorderTopWidth,
-    BorderRightWidth,
-    BorderBottomWidth,
-    BorderLeftWidth,
-    BorderTopStyle,
-    BorderRightStyle,
-    BorderBottomStyle,
-    BorderLeftStyle,
-    BorderTopColor,
-    BorderRightColor,
-    BorderBottomColor,
-    BorderLeftColor,
+    Margin(BoxSide),
+    Padding(BoxSide),
+    BorderWidth(BoxSide),
+    BorderStyle(BoxSide),
+    BorderColor(BoxSide),
     Width,
     Color,
     BackgroundColor,
@@ -54,33 +41,18 @@ pub enum Longhand {
 }
 
 impl Longhand {
-    /// Its place in the list of all 45, from 0.
+    /// Its place in the list of all 45, from 0: first the display and the box by its sides, then the rest.
     pub fn number(self) -> u8
         ensures { result ≡ number_of self }
     {
         match self {
             Longhand::Display => 0,
             Longhand::Float => 1,
-            Longhand::MarginTop => 2,
-            Longhand::MarginRight => 3,
-            Longhand::MarginBottom => 4,
-            Longhand::MarginLeft => 5,
-            Longhand::PaddingTop => 6,
-            Longhand::PaddingRight => 7,
-            Longhand::PaddingBottom => 8,
-            Longhand::PaddingLeft => 9,
-            Longhand::BorderTopWidth => 10,
-            Longhand::BorderRightWidth => 11,
-            Longhand::BorderBottomWidth => 12,
-            Longhand::BorderLeftWidth => 13,
-            Longhand::BorderTopStyle => 14,
-            Longhand::BorderRightStyle => 15,
-            Longhand::BorderBottomStyle => 16,
-            Longhand::BorderLeftStyle => 17,
-            Longhand::BorderTopColor => 18,
-            Longhand::BorderRightColor => 19,
-            Longhand::BorderBottomColor => 20,
-            Longhand::BorderLeftColor => 21,
+            Longhand::Margin(side) => 2 + side.place() as u8,
+            Longhand::Padding(side) => 6 + side.place() as u8,
+            Longhand::BorderWidth(side) => 10 + side.place() as u8,
+            Longhand::BorderStyle(side) => 14 + side.place() as u8,
+            Longhand::BorderColor(side) => 18 + side.place() as u8,
             Longhand::Width => 22,
             Longhand::Color => 23,
             Longhand::BackgroundColor => 24,
@@ -105,27 +77,5 @@ impl Longhand {
             Longhand::Orphans => 43,
             Longhand::Page => 44,
         }
-    }
-
-    /// Whether an element without a declaration of it has its parent's value.
-    pub fn is_inherited(self) -> bool
-        ensures { result ≡ is_inherited self }
-    {
-        matches!(
-            self,
-            Longhand::Color
-                | Longhand::FontFamily
-                | Longhand::FontSize
-                | Longhand::FontStyle
-                | Longhand::FontWeight
-                | Longhand::LineHeight
-                | Longhand::TextAlign
-                | Longhand::TextIndent
-                | Longhand::WhiteSpace
-                | Longhand::OverflowWrap
-                | Longhand::ListStyleType
-                | Longhand::Widows
-                | Longhand::Orphans
-        )
     }
 }

@@ -11,8 +11,8 @@ use indexmap::IndexSet;
 use std::alloc::Global;
 use std::marker::Model;
 
-/// The names of pages, in the order in which they were first seen. Contracts see the list of their texts; the first one is empty, for no
-/// name.
+/// The names of pages, in the order in which they were first seen. Contracts see the list of their texts; the first one
+/// is empty, for no name.
 #[derive(Drop)]
 pub struct Names {
     names: IndexSet<String>,
@@ -88,7 +88,7 @@ const MOST_NAMES: usize = 4294967294;
 
 /// The place of a text among the keys, where it is added if it isn't there.
 fn insert(names: &mut IndexSet<String>, text: String) -> Result<usize, NoMem>
-    ensures place { IfOk result (λ i. slice_get (map (λ s. string_bytes s) names.new.keys) i ≡ Some (string_bytes text)) }
+    ensures at { IfOk result (λ i. slice_get (map (λ s. string_bytes s) names.new.keys) i ≡ Some (string_bytes text)) }
     ensures within { IfOk result (λ i. i < length names.new.keys) }
     ensures keys { OnOk result (names.new.keys ≡ insert_key string_eq names.old.keys text) }
     ensures len { length names.new.keys ≤ length names.old.keys + 1 }

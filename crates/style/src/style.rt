@@ -1,29 +1,24 @@
 //! Computed styles, with a field for each longhand.
 
 ghost use Rattle.std.specs.Prelude.{◌≡◌, pos, IfOk};
-ghost use Rattle.style.specs.Styles.{initial_style, child_style, zero_len};
+ghost use Rattle.style.specs.Sides as sides;
+ghost use Rattle.style.specs.Styles.{black, child_style, initial_style, initial_with, zero_len};
 
 use crate::content::Content;
+use crate::initial::{medium_size, normal_height, normal_weight};
 use crate::lists::{CounterList, Families, StringSets};
 use crate::values::{BorderStyle, Display, LineHeight};
-use bk_num::decimal::Decimal;
 use bk_num::ids::NameId;
 use bk_num::length::Len;
 use bk_num::name::NoMem;
 use bk_num::px::Px;
+use bk_num::sides::{BoxSide, Sides};
 use bk_num::values::{Align, BreakAt, Color, NumStyle, WhiteSpace};
 use std::alloc::Global;
 
-/// The initial colour of texts.
-const BLACK: Color = Color {
-    red: 0,
-    green: 0,
-    blue: 0,
-};
-
-/// A computed style. `page` is the number of the used page name. Of `bool`: `float` is `footnote`, `font_style` is italic,
-/// `overflow_wrap` breaks anywhere, and `break_inside` avoids. Colours of borders are those that are painted, and a border whose style is
-/// none or hidden has the width 0.
+/// A computed style. `page` is the number of the used page name. Of `bool`: `float` is `footnote`, `font_style` is
+/// italic, `overflow_wrap` breaks anywhere, and `break_inside` avoids. Colours of borders are those that are painted,
+/// and a border whose style is none or hidden has the width 0.
 #[derive(Drop)]
 pub struct Style {
     pub display: Display,
@@ -78,109 +73,232 @@ impl Style {
     pub fn initial(alloc: Global) -> Result<Style, NoMem>
         ensures { IfOk result (λ style. style ≡ initial_style) }
     {
-        let families = Families::serif(alloc)?;
-        Ok(Style {
-            display: Display::Inline,
-            float: false,
-            margin_top: zero_len(),
-            margin_right: zero_len(),
-            margin_bottom: zero_len(),
-            margin_left: zero_len(),
-            padding_top: zero_len(),
-            padding_right: zero_len(),
-            padding_bottom: zero_len(),
-            padding_left: zero_len(),
-            border_top_width: no_px(),
-            border_right_width: no_px(),
-            border_bottom_width: no_px(),
-            border_left_width: no_px(),
-            border_top_style: BorderStyle::Off,
-            border_right_style: BorderStyle::Off,
-            border_bottom_style: BorderStyle::Off,
-            border_left_style: BorderStyle::Off,
-            border_top_color: BLACK,
-            border_right_color: BLACK,
-            border_bottom_color: BLACK,
-            border_left_color: BLACK,
-            width: Len::Auto,
-            color: BLACK,
-            background_color: None,
-            font_family: families,
-            font_size: medium(),
-            font_style: false,
-            font_weight: 400,
-            line_height: LineHeight::Number(Decimal::new(125, 2)),
-            text_align: Align::Left,
-            text_indent: zero_len(),
-            white_space: WhiteSpace::Normal,
-            overflow_wrap: false,
-            list_style_type: NumStyle::Disc,
-            content: None,
-            counter_reset: CounterList::new(alloc),
-            counter_increment: CounterList::new(alloc),
-            string_set: StringSets::new(alloc),
-            break_before: BreakAt::Auto,
-            break_after: BreakAt::Auto,
-            break_inside: false,
-            widows: 2,
-            orphans: 2,
-            page: NameId(0),
-        })
+        let black = Color {
+            red: 0,
+            green: 0,
+            blue: 0,
+        };
+        Ok(initial_with(alloc, Families::serif(alloc)?, black))
     }
 
-    /// The style of an element without declarations below one with this style: what is inherited comes from the parent, and else it is
-    /// initial. So its borders' colours are its own colour, and its page name is the parent's.
+    /// The style of an element without declarations below one with this style: what is inherited comes from the parent,
+    /// and else it is initial. So its borders' colours are its own colour, and its page name is the parent's.
     pub fn child(parent: &Style, alloc: Global) -> Result<Style, NoMem>
         ensures { IfOk result (λ style. style ≡ child_style parent.now) }
     {
-        let families = parent.font_family.copy(alloc)?;
-        Ok(Style {
-            display: Display::Inline,
-            float: false,
-            margin_top: zero_len(),
-            margin_right: zero_len(),
-            margin_bottom: zero_len(),
-            margin_left: zero_len(),
-            padding_top: zero_len(),
-            padding_right: zero_len(),
-            padding_bottom: zero_len(),
-            padding_left: zero_len(),
-            border_top_width: no_px(),
-            border_right_width: no_px(),
-            border_bottom_width: no_px(),
-            border_left_width: no_px(),
-            border_top_style: BorderStyle::Off,
-            border_right_style: BorderStyle::Off,
-            border_bottom_style: BorderStyle::Off,
-            border_left_style: BorderStyle::Off,
-            border_top_color: parent.color,
-            border_right_color: parent.color,
-            border_bottom_color: parent.color,
-            border_left_color: parent.color,
-            width: Len::Auto,
-            color: parent.color,
-            background_color: None,
-            font_family: families,
-            font_size: parent.font_size,
-            font_style: parent.font_style,
-            font_weight: parent.font_weight,
-            line_height: parent.line_height,
-            text_align: parent.text_align,
-            text_indent: parent.text_indent,
-            white_space: parent.white_space,
-            overflow_wrap: parent.overflow_wrap,
-            list_style_type: parent.list_style_type,
-            content: None,
-            counter_reset: CounterList::new(alloc),
-            counter_increment: CounterList::new(alloc),
-            string_set: StringSets::new(alloc),
-            break_before: BreakAt::Auto,
-            break_after: BreakAt::Auto,
-            break_inside: false,
-            widows: parent.widows,
-            orphans: parent.orphans,
-            page: parent.page,
-        })
+        let mut style = initial_with(alloc, parent.font_family.copy(alloc)?, parent.color);
+        style.font_size = parent.font_size;
+        style.font_style = parent.font_style;
+        style.font_weight = parent.font_weight;
+        style.line_height = parent.line_height;
+        style.text_align = parent.text_align;
+        style.text_indent = parent.text_indent;
+        style.white_space = parent.white_space;
+        style.overflow_wrap = parent.overflow_wrap;
+        style.list_style_type = parent.list_style_type;
+        style.widows = parent.widows;
+        style.orphans = parent.orphans;
+        style.page = parent.page;
+        Ok(style)
+    }
+
+    /// The margins, by side.
+    pub fn margins(&self) -> Sides<Len>
+        ensures { result ≡ sides.margins self.now }
+    {
+        Sides {
+            top: self.margin_top,
+            right: self.margin_right,
+            bottom: self.margin_bottom,
+            left: self.margin_left,
+        }
+    }
+
+    /// Sets the margins.
+    pub fn set_margins(&mut self, margins: Sides<Len>)
+        ensures { self.new ≡ sides.with_margins margins self.old }
+    {
+        self.margin_top = margins.top;
+        self.margin_right = margins.right;
+        self.margin_bottom = margins.bottom;
+        self.margin_left = margins.left;
+    }
+
+    /// Sets the margin on a side.
+    pub fn set_margin(&mut self, side: BoxSide, margin: Len)
+        ensures { self.new ≡ sides.with_margin side margin self.old }
+    {
+        let mut margins = self.margins();
+        margins.put(side, margin);
+        self.set_margins(margins);
+    }
+
+    /// The paddings, by side.
+    pub fn paddings(&self) -> Sides<Len>
+        ensures { result ≡ sides.paddings self.now }
+    {
+        Sides {
+            top: self.padding_top,
+            right: self.padding_right,
+            bottom: self.padding_bottom,
+            left: self.padding_left,
+        }
+    }
+
+    /// Sets the paddings.
+    pub fn set_paddings(&mut self, paddings: Sides<Len>)
+        ensures { self.new ≡ sides.with_paddings paddings self.old }
+    {
+        self.padding_top = paddings.top;
+        self.padding_right = paddings.right;
+        self.padding_bottom = paddings.bottom;
+        self.padding_left = paddings.left;
+    }
+
+    /// Sets the padding on a side.
+    pub fn set_padding(&mut self, side: BoxSide, padding: Len)
+        ensures { self.new ≡ sides.with_padding side padding self.old }
+    {
+        let mut paddings = self.paddings();
+        paddings.put(side, padding);
+        self.set_paddings(paddings);
+    }
+
+    /// The widths of the borders, by side.
+    pub fn border_widths(&self) -> Sides<Px>
+        ensures { result ≡ sides.border_widths self.now }
+    {
+        Sides {
+            top: self.border_top_width,
+            right: self.border_right_width,
+            bottom: self.border_bottom_width,
+            left: self.border_left_width,
+        }
+    }
+
+    /// Sets the widths of the borders.
+    pub fn set_border_widths(&mut self, border_widths: Sides<Px>)
+        ensures { self.new ≡ sides.with_border_widths border_widths self.old }
+    {
+        self.border_top_width = border_widths.top;
+        self.border_right_width = border_widths.right;
+        self.border_bottom_width = border_widths.bottom;
+        self.border_left_width = border_widths.left;
+    }
+
+    /// Sets the width of the border on a side.
+    pub fn set_border_width(&mut self, side: BoxSide, border_width: Px)
+        ensures { self.new ≡ sides.with_border_width side border_width self.old }
+    {
+        let mut border_widths = self.border_widths();
+        border_widths.put(side, border_width);
+        self.set_border_widths(border_widths);
+    }
+
+    /// The styles of the borders, by side.
+    pub fn border_styles(&self) -> Sides<BorderStyle>
+        ensures { result ≡ sides.border_styles self.now }
+    {
+        Sides {
+            top: self.border_top_style,
+            right: self.border_right_style,
+            bottom: self.border_bottom_style,
+            left: self.border_left_style,
+        }
+    }
+
+    /// Sets the styles of the borders.
+    pub fn set_border_styles(&mut self, border_styles: Sides<BorderStyle>)
+        ensures { self.new ≡ sides.with_border_styles border_styles self.old }
+    {
+        self.border_top_style = border_styles.top;
+        self.border_right_style = border_styles.right;
+        self.border_bottom_style = border_styles.bottom;
+        self.border_left_style = border_styles.left;
+    }
+
+    /// The colours of the borders, by side.
+    pub fn border_colors(&self) -> Sides<Color>
+        ensures { result ≡ sides.border_colors self.now }
+    {
+        Sides {
+            top: self.border_top_color,
+            right: self.border_right_color,
+            bottom: self.border_bottom_color,
+            left: self.border_left_color,
+        }
+    }
+
+    /// Sets the colours of the borders.
+    pub fn set_border_colors(&mut self, border_colors: Sides<Color>)
+        ensures { self.new ≡ sides.with_border_colors border_colors self.old }
+    {
+        self.border_top_color = border_colors.top;
+        self.border_right_color = border_colors.right;
+        self.border_bottom_color = border_colors.bottom;
+        self.border_left_color = border_colors.left;
+    }
+
+    /// Sets the colour of the border on a side.
+    pub fn set_border_color(&mut self, side: BoxSide, border_color: Color)
+        ensures { self.new ≡ sides.with_border_color side border_color self.old }
+    {
+        let mut border_colors = self.border_colors();
+        border_colors.put(side, border_color);
+        self.set_border_colors(border_colors);
+    }
+}
+
+/// The style that has initial values but for its families and its colour, which is that of its borders.
+fn initial_with(alloc: Global, families: Families, color: Color) -> Style
+    ensures { result ≡ initial_with families color }
+{
+    Style {
+        display: Display::Inline,
+        float: false,
+        margin_top: zero_len(),
+        margin_right: zero_len(),
+        margin_bottom: zero_len(),
+        margin_left: zero_len(),
+        padding_top: zero_len(),
+        padding_right: zero_len(),
+        padding_bottom: zero_len(),
+        padding_left: zero_len(),
+        border_top_width: no_px(),
+        border_right_width: no_px(),
+        border_bottom_width: no_px(),
+        border_left_width: no_px(),
+        border_top_style: BorderStyle::Off,
+        border_right_style: BorderStyle::Off,
+        border_bottom_style: BorderStyle::Off,
+        border_left_style: BorderStyle::Off,
+        border_top_color: color,
+        border_right_color: color,
+        border_bottom_color: color,
+        border_left_color: color,
+        width: Len::Auto,
+        color,
+        background_color: None,
+        font_family: families,
+        font_size: medium_size(),
+        font_style: false,
+        font_weight: normal_weight(),
+        line_height: LineHeight::Number(normal_height()),
+        text_align: Align::Left,
+        text_indent: zero_len(),
+        white_space: WhiteSpace::Normal,
+        overflow_wrap: false,
+        list_style_type: NumStyle::Disc,
+        content: None,
+        counter_reset: CounterList::new(alloc),
+        counter_increment: CounterList::new(alloc),
+        string_set: StringSets::new(alloc),
+        break_before: BreakAt::Auto,
+        break_after: BreakAt::Auto,
+        break_inside: false,
+        widows: 2,
+        orphans: 2,
+        page: NameId(0),
     }
 }
 
@@ -195,12 +313,4 @@ fn no_px() -> Px
     ensures { result ≡ pos 0 }
 {
     Px::from_units(0)
-}
-
-/// `medium`.
-#[tactic(auto, unfolding(bk_num::specs::Units::clamped))]
-fn medium() -> Px
-    ensures { result ≡ pos 1024 }
-{
-    Px::from_units(1024)
 }

@@ -13,7 +13,7 @@ use std::marker::Model;
 
 /// A node's styles, by their numbers.
 #[derive(Clone, Copy)]
-pub(crate) struct Row {
+pub(crate) struct NodeRow {
     own: Option<u32>,
     before: Option<u32>,
     after: Option<u32>,
@@ -28,7 +28,7 @@ pub(crate) struct Row {
 #[derive(Drop)]
 pub struct Styles {
     styles: Vec<Style>,
-    rows: Vec<Row>,
+    rows: Vec<NodeRow>,
 }
 
 impl Model for Styles {
@@ -37,11 +37,11 @@ impl Model for Styles {
 
     ghost Value = { List NodeStyles };
 
-    ghost use Rattle.style.specs.NodeFields.{nodes_of, IsSound};
+    ghost use Rattle.style.specs.NodeFields.{nodes_of, RowsHaveStyles};
 
     ghost view = { nodes_of };
 
-    ghost invariant = { IsSound };
+    ghost invariant = { RowsHaveStyles };
 }
 
 impl Styles {
@@ -98,7 +98,7 @@ impl Styles {
         ensures ok { OnOk result (self.new ≡ self.old ++ no_styles ∷ []) }
         ensures err { OnErr result (self.new ≡ self.old) }
     {
-        let row = Row {
+        let row = NodeRow {
             own: None,
             before: None,
             after: None,
@@ -133,7 +133,7 @@ impl Styles {
         ensures err { OnErr result (self.new ≡ self.old) }
     {
         let number = push_style(&mut self.styles, style)?;
-        let row = Row {
+        let row = NodeRow {
             own: Some(number),
             before: None,
             after: None,
@@ -173,7 +173,7 @@ fn push_style(styles: &mut Vec<Style>, style: Style) -> Result<u32, NoMem>
     }
 }
 
-fn push_row(rows: &mut Vec<Row>, row: Row) -> Result<(), NoMem>
+fn push_row(rows: &mut Vec<NodeRow>, row: NodeRow) -> Result<(), NoMem>
     ensures ok { OnOk result (rows.new.items ≡ rows.old.items ++ row ∷ []) }
     ensures err { OnErr result (rows.new.items ≡ rows.old.items) }
 {
@@ -183,7 +183,7 @@ fn push_row(rows: &mut Vec<Row>, row: Row) -> Result<(), NoMem>
     }
 }
 
-fn put_last(rows: &mut Vec<Row>, pseudo: Pseudo, number: u32)
+fn put_last(rows: &mut Vec<NodeRow>, pseudo: Pseudo, number: u32)
     requires { 0 < length rows.old.items }
     ensures { rows.new.items ≡ change_last (with_number pseudo number) rows.old.items }
 {
@@ -192,7 +192,7 @@ fn put_last(rows: &mut Vec<Row>, pseudo: Pseudo, number: u32)
     row.put(pseudo, number);
 }
 
-impl Row {
+impl NodeRow {
     fn number(&self, pseudo: Pseudo) -> Option<u32>
         ensures { result ≡ number_in self.now pseudo }
     {

@@ -1,0 +1,15 @@
+-- Initial values that more than one rule names (CSS 2.1, appendix F).
+use Rattle.std.specs.Prelude.{ℕ, ℤ, pos}
+use Rattle.bk_num.specs.Numbers.{Number}
+
+-- the weight of a font that is `normal` (CSS 2.1, 15.6)
+abbrev pub normal_weight : ℕ
+normal_weight = 400
+
+-- the height of lines that is `normal`, of the font size: 1.25 (CSS 2.1, 10.8.1, leaves the number open)
+abbrev pub normal_height : Number
+normal_height = record { units = pos 125; places = 2 }
+
+-- the width of a border that is `medium`: 3 px (CSS 2.1, 8.5.1, leaves the number open)
+abbrev pub medium_width : ℤ
+medium_width = pos 192
