@@ -24,3 +24,6 @@ pub entries_full : {A : Type 0} (p : Parser (Option A)) (xs : List A) (at : ℕ)
 entries_full p xs at i j x high low is =
     let turn : 64 - at ≡ suc 0 = omega arith in
     ap (λ n. with_prefix xs (fewer_than n p i)) turn ∙ fewer_goes p 0 xs i j x is ∙ fewer_ends p (xs ++ x ∷ []) j
+
+-- a turn of the loop over the entries
+pub ruleset entry_turns = (entries_go, entries_stop, entries_fail, entries_full)

@@ -16,8 +16,10 @@ word_in rows = do
 -- a whole number: a Number without a point, and so without decimals (css-syntax, 4.3.12)
 unfoldable pub whole_of : Option Item → Option ℤ
 whole_of None = None
-whole_of (Some t) = if of_kind kind.Number (Some t) && (decimal_of t.slice).places == 0 then Some (decimal_of t.slice).units else None
+whole_of (Some t) =
+    if of_kind kind.Number (Some t) && (decimal_of t.slice).places == 0 then Some (decimal_of t.slice).units else None
 
+-- a whole number
 unfoldable pub whole : Parser ℤ
 whole = do
   t ← peek

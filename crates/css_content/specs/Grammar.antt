@@ -6,7 +6,7 @@ use Rattle.bk_num.specs.declared.values.NumStyle.TheVariants as style
 use Rattle.css_tok.specs.declared.kind.CssKind.TheVariants as kind
 use Rattle.css_tok.specs.Tokens.{Item}
 use Rattle.css_words.specs.Parser.{Parser, ◌>>=◌, ◌>>◌, pure, refuse, on_some, peek, second, advance}
-use Rattle.css_words.specs.Repeat.{first_and, many, fewer_than}
+use Rattle.css_words.specs.Repeat.{first_and, many, fewer_than, comma_list}
 use Rattle.css_words.specs.Table.{find_word}
 use Rattle.css_words.specs.Words.{of_kind, is_none, is_mark, is_named, slice_of, value, ident, lower_ident, string, expect, close}
 use Rattle.style.specs.declared.content.Link.{Link}
@@ -15,17 +15,18 @@ use Rattle.style.specs.declared.content.Part.{Part}
 use Rattle.style.specs.declared.content.Part.TheVariants as part
 use Rattle.css_content.specs.Basics.{word_in, whole}
 use Rattle.css_content.specs.Numerals.{styles}
-use Rattle.css_content.specs.declared.content.Place.{Place}
-use Rattle.css_content.specs.declared.content.Place.TheVariants as place
-use Rattle.css_content.specs.declared.content.Function.{Function}
-use Rattle.css_content.specs.declared.content.Function.TheVariants as function
+use Rattle.css_content.specs.declared.content.ContentPlace.{ContentPlace}
+use Rattle.css_content.specs.declared.content.ContentPlace.TheVariants as place
+use Rattle.css_content.specs.declared.content.ContentFunction.{ContentFunction}
+use Rattle.css_content.specs.declared.content.ContentFunction.TheVariants as function
 
 -- ---- parts of content
 
-unfoldable pub functions : List (List ℕ × Function)
+-- the functions of content by their names (CSS 2.1, 12.2; css-gcpm-3, 1.1; css-content-3, 4)
+unfoldable pub functions : List (List ℕ × ContentFunction)
 functions =
-    (codes "attr", function.Attr) ∷ (codes "counter", function.Counter) ∷ (codes "counters", function.Counters)
-    ∷ (codes "target-counter", function.Target) ∷ (codes "content", function.Own) ∷ []
+    (codes "attr", function.Attr) ∷ (codes "counter", function.Counter) ∷ (codes "counters", function.Counters) ∷
+    (codes "target-counter", function.Target) ∷ (codes "content", function.Own) ∷ []
 
 -- a comma and a style, or `decimal`
 unfoldable pub style_argument : Parser NumStyle
@@ -33,6 +34,7 @@ style_argument = do
   t ← peek
   if is_mark 44 t then (advance >> word_in styles) else pure style.Decimal
 
+-- the arguments of attr(), a name in lower case (CSS 2.1, 12.2)
 unfoldable pub attr_arguments : Parser Part
 attr_arguments = do
   name ← lower_ident
@@ -43,6 +45,7 @@ attr_arguments = do
 abbrev pub is_of_pages : List ℕ → Bool
 is_of_pages name = pointwise nat_eq name (codes "page") || pointwise nat_eq name (codes "pages")
 
+-- the arguments of counter(): a name, and a style of numerals (CSS 2.1, 12.2)
 unfoldable pub counter_arguments : Parser Part
 counter_arguments = do
   name ← ident
@@ -50,6 +53,7 @@ counter_arguments = do
   _ ← close
   if is_of_pages name then refuse else pure (part.Counter name s)
 
+-- the arguments of counters(): a name, the text between the numbers, and a style (CSS 2.1, 12.2)
 unfoldable pub counters_arguments : Parser Part
 counters_arguments = do
   name ← ident
@@ -64,20 +68,24 @@ unfoldable pub link_attr : Parser Link
 link_attr = do
   name ← lower_ident
   t ← peek
-  if is_named kind.Ident t (codes "url") then (advance >> close >> pure (link.Attr name)) else (close >> pure (link.Attr name))
+  if is_named kind.Ident t (codes "url") then (advance >> close >> pure (link.Attr name))
+      else (close >> pure (link.Attr name))
 
+-- the rest of `url("..")`
 unfoldable pub link_url : Parser Link
 link_url = do
   address ← string
   _ ← close
   pure (link.Url address)
 
+-- a link that begins with this token: a string, an address, or an attribute (css-content-3, 4)
 unfoldable pub link_of : Option Item → Parser Link
 link_of t =
     if of_kind kind.Str t || of_kind kind.Url t then pure (link.Url (value t))
     else (if is_named kind.Func t (codes "url") then link_url
     else (if is_named kind.Func t (codes "attr") then link_attr else refuse))
 
+-- the arguments of target-counter(): a link, a name, and a style (css-content-3, 4)
 unfoldable pub target_arguments : Parser Part
 target_arguments = do
   t ← peek
@@ -96,7 +104,7 @@ own_arguments = do
   if is_named kind.Ident t (codes "text") then (advance >> close >> pure part.Own) else (close >> pure part.Own)
 
 -- target-counter() is of `content` alone, and content() of `string-set` alone
-unfoldable pub arguments : Place → Function → Parser Part
+unfoldable pub arguments : ContentPlace → ContentFunction → Parser Part
 arguments p function.Attr = attr_arguments
 arguments p function.Counter = counter_arguments
 arguments p function.Counters = counters_arguments
@@ -105,23 +113,25 @@ arguments place.StringSet function.Own = own_arguments
 arguments _ _ = refuse
 
 -- what a part says that begins with this token
-unfoldable pub part_of : Place → Option Item → Parser Part
+unfoldable pub part_of : ContentPlace → Option Item → Parser Part
 part_of p t =
     if of_kind kind.Str t then pure (part.Text (value t))
     else on_some (if of_kind kind.Func t then find_word functions (slice_of t) else None) refuse (arguments p)
 
-unfoldable pub one_part : Place → Parser Part
+-- a part of a list of content
+unfoldable pub one_part : ContentPlace → Parser Part
 one_part p = do
   t ← peek
   if is_none t then refuse else (advance >> part_of p t)
 
 -- parts end at a comma and at the end
-unfoldable pub next_part : Place → Parser (Option Part)
+unfoldable pub next_part : ContentPlace → Parser (Option Part)
 next_part p = do
   t ← peek
   if is_none t || is_mark 44 t then pure None else (one_part p >>= (λ x. pure (Some x)))
 
-unfoldable pub content_list : Place → Parser (List Part)
+-- one part or more (CSS 2.1, 12.2)
+unfoldable pub content_list : ContentPlace → Parser (List Part)
 content_list p = first_and (one_part p) (many (next_part p))
 
 -- `normal`, `none`, or a list
@@ -140,10 +150,15 @@ entry other = do
   t ← peek
   if of_kind kind.Number t then (whole >>= (λ n. pure (name, n))) else pure (name, other)
 
+-- the next counter; none at the end
 unfoldable pub next_entry : ℤ → Parser (Option (List ℕ × ℤ))
 next_entry other = do
   t ← peek
   if is_none t then pure None else (entry other >>= (λ e. pure (Some e)))
+
+-- the counters after a first one: there are at most 64
+abbrev pub further_entries : ℤ → Parser (List (List ℕ × ℤ))
+further_entries other = fewer_than 64 (next_entry other)
 
 -- `none` alone, or one to 64 entries
 unfoldable pub counter_list : ℤ → Parser (List (List ℕ × ℤ))
@@ -151,24 +166,20 @@ counter_list other = do
   t ← peek
   s ← second
   if is_named kind.Ident t (codes "none") && is_none s then (advance >> pure []) else
-      first_and (entry other) (fewer_than 64 (next_entry other))
+      first_and (entry other) (further_entries other)
 
 -- ---- named strings
 
+-- a name and a list of content (css-gcpm-3, 1.1.1)
 unfoldable pub string_entry : Parser (List ℕ × List Part)
 string_entry = do
   name ← ident
   parts ← content_list place.StringSet
   pure (name, parts)
 
-unfoldable pub next_string : Parser (Option (List ℕ × List Part))
-next_string = do
-  t ← peek
-  if is_mark 44 t then (advance >> string_entry >>= (λ e. pure (Some e))) else pure None
-
 -- `none` alone, or a comma list
 unfoldable pub string_sets : Parser (List (List ℕ × List Part))
 string_sets = do
   t ← peek
   s ← second
-  if is_named kind.Ident t (codes "none") && is_none s then (advance >> pure []) else first_and string_entry (many next_string)
+  if is_named kind.Ident t (codes "none") && is_none s then (advance >> pure []) else comma_list string_entry

@@ -1,9 +1,8 @@
 //! Lists of content (CSS 2.1, 12.2; css-gcpm-3, 1.1).
 
-ghost use Rattle.std.specs.Prelude.{◌≡◌, ◌≤◌, ◌<◌, ◌∷◌, [], length, option_map, IfOk, IfSome};
+ghost use Rattle.std.specs.Prelude.{◌≡◌, ◌≤◌, ◌<◌, length, option_map, IfOk};
 ghost use Rattle.css_tok.specs.Tokens.{item_in};
 ghost use Rattle.css_words.specs.Parser.{Reads};
-ghost use Rattle.css_words.specs.Repeat.{many, with_prefix};
 ghost use Rattle.css_words.specs.Table.{find_word};
 ghost use Rattle.css_content.specs.Grammar as spec;
 
@@ -11,6 +10,7 @@ use crate::words::num_style;
 use bk_num::values::NumStyle;
 use css_tok::kind::CssKind;
 use css_tok::tokens::CssToken;
+use css_words::lists::{ReadNext, read_after};
 use css_words::reader::Reader;
 use css_words::table::find_word;
 use css_words::unread::Unread;
@@ -22,7 +22,7 @@ use style::content::{Content, Link, Part};
 
 /// Where a list of content stands.
 #[derive(Clone, Copy, Debug, PartialEq, Eq)]
-pub enum Place {
+pub enum ContentPlace {
     /// In `content`, where `target-counter()` may stand.
     Content,
     /// In `string-set`, where `content()` may stand.
@@ -31,7 +31,7 @@ pub enum Place {
 
 /// The functions of content.
 #[derive(Clone, Copy, Debug, PartialEq, Eq)]
-pub enum Function {
+pub enum ContentFunction {
     Attr,
     Counter,
     Counters,
@@ -40,16 +40,16 @@ pub enum Function {
 }
 
 #[tactic(auto, unfolding(crate::specs::Grammar::functions))]
-fn function_of(name: &str) -> Option<Function>
+fn function_of(name: &str) -> Option<ContentFunction>
     ensures { result ≡ find_word spec.functions name.now }
 {
     find_word(
         &[
-            ("attr", Function::Attr),
-            ("counter", Function::Counter),
-            ("counters", Function::Counters),
-            ("target-counter", Function::Target),
-            ("content", Function::Own),
+            ("attr", ContentFunction::Attr),
+            ("counter", ContentFunction::Counter),
+            ("counters", ContentFunction::Counters),
+            ("target-counter", ContentFunction::Target),
+            ("content", ContentFunction::Own),
         ],
         name,
     )
@@ -188,18 +188,18 @@ fn own_arguments(reader: &mut Reader<'_>) -> Result<Part, Unread>
 fn arguments(
     alloc: Global,
     reader: &mut Reader<'_>,
-    place: Place,
-    function: Function,
+    place: ContentPlace,
+    function: ContentFunction,
 ) -> Result<Part, Unread>
     ensures reads { Reads (λ x. x) (spec.arguments place function reader.old) result reader.new }
     ensures within { length reader.new ≤ length reader.old }
 {
     match (place, function) {
-        (_, Function::Attr) => attr_arguments(alloc, reader),
-        (_, Function::Counter) => counter_arguments(alloc, reader),
-        (_, Function::Counters) => counters_arguments(alloc, reader),
-        (Place::Content, Function::Target) => target_arguments(alloc, reader),
-        (Place::StringSet, Function::Own) => own_arguments(reader),
+        (_, ContentFunction::Attr) => attr_arguments(alloc, reader),
+        (_, ContentFunction::Counter) => counter_arguments(alloc, reader),
+        (_, ContentFunction::Counters) => counters_arguments(alloc, reader),
+        (ContentPlace::Content, ContentFunction::Target) => target_arguments(alloc, reader),
+        (ContentPlace::StringSet, ContentFunction::Own) => own_arguments(reader),
         (_, _) => Err(Unread::NoReading),
     }
 }
@@ -209,7 +209,7 @@ fn arguments(
 fn part_of(
     alloc: Global,
     reader: &mut Reader<'_>,
-    place: Place,
+    place: ContentPlace,
     token: Option<CssToken<'_>>,
 ) -> Result<Part, Unread>
     ensures reads { Reads (λ x. x) (spec.part_of place (option_map item_in token.entry) reader.old) result reader.new }
@@ -228,7 +228,7 @@ fn part_of(
 }
 
 #[tactic(auto, unfolding(crate::specs::Grammar::one_part))]
-fn one_part(alloc: Global, reader: &mut Reader<'_>, place: Place) -> Result<Part, Unread>
+fn one_part(alloc: Global, reader: &mut Reader<'_>, place: ContentPlace) -> Result<Part, Unread>
     ensures reads { Reads (λ x. x) (spec.one_part place reader.old) result reader.new }
     ensures within { length reader.new ≤ length reader.old }
     ensures taken { IfOk result (λ _. length reader.new < length reader.old) }
@@ -242,48 +242,41 @@ fn one_part(alloc: Global, reader: &mut Reader<'_>, place: Place) -> Result<Part
 }
 
 /// The next part; None at a comma and at the end.
-#[tactic(auto, unfolding(crate::specs::Grammar::next_part))]
-fn next_part(alloc: Global, reader: &mut Reader<'_>, place: Place) -> Result<Option<Part>, Unread>
-    ensures reads { Reads (λ x. x) (spec.next_part place reader.old) result reader.new }
-    ensures within { length reader.new ≤ length reader.old }
-    ensures taken { IfOk result (λ o. IfSome o (λ _. length reader.new < length reader.old)) }
-{
-    let token = reader.peek();
-    if token.is_none() || is_mark(b',', token) {
-        return Ok(None);
-    }
-    Ok(Some(one_part(alloc, reader, place)?))
+#[derive(Drop)]
+struct NextPart {
+    place: ContentPlace,
 }
 
-/// Reads the parts that follow a first one.
-#[tactic(auto, using(css_words::proofs::RepeatLemmas::many_turns))]
-fn more_parts(
-    alloc: Global,
-    reader: &mut Reader<'_>,
-    place: Place,
-    first: Part,
-) -> Result<Content, Unread>
-    ensures reads { Reads (λ x. x) (with_prefix (first ∷ []) (many (spec.next_part place) reader.old)) result reader.new }
-    ensures within { length reader.new ≤ length reader.old }
-{
-    let mut found = Content::new(alloc);
-    found.push(first)?;
-    'parts: loop {
-        match next_part(alloc, reader, place)? {
-            Some(next) => found.push(next)?,
-            None => return Ok(found),
+impl ReadNext for NextPart {
+    type Item = Part;
+
+    ghost use Rattle.css_content.specs.Grammar.{next_part};
+
+    ghost parser = { λ n. next_part n.place };
+
+    #[tactic(auto, unfolding(crate::specs::Grammar::next_part))]
+    fn next(&self, alloc: Global, reader: &mut Reader<'_>) -> Result<Option<Part>, Unread> {
+        let token = reader.peek();
+        if token.is_none() || is_mark(b',', token) {
+            return Ok(None);
         }
+        Ok(Some(one_part(alloc, reader, self.place)?))
     }
 }
 
 /// Reads one part or more, up to a comma or the end.
 #[tactic(auto, unfolding(crate::specs::Grammar::content_list))]
-pub fn content_list(alloc: Global, reader: &mut Reader<'_>, place: Place) -> Result<Content, Unread>
+pub fn content_list(
+    alloc: Global,
+    reader: &mut Reader<'_>,
+    place: ContentPlace,
+) -> Result<Content, Unread>
     ensures reads { Reads (λ x. x) (spec.content_list place reader.old) result reader.new }
     ensures within { length reader.new ≤ length reader.old }
 {
     let first = one_part(alloc, reader, place)?;
-    more_parts(alloc, reader, place, first)
+    let parts = read_after(alloc, reader, first, &NextPart { place })?;
+    Ok(Content::of(parts.into_vec()))
 }
 
 /// Reads a value of `content`: None for `normal` and `none`.
@@ -297,5 +290,5 @@ pub fn content(alloc: Global, reader: &mut Reader<'_>) -> Result<Option<Content>
         reader.advance();
         return Ok(None);
     }
-    Ok(Some(content_list(alloc, reader, Place::Content)?))
+    Ok(Some(content_list(alloc, reader, ContentPlace::Content)?))
 }

@@ -2,7 +2,7 @@
 
 ghost use Rattle.std.specs.Prelude.{◌≤◌, ◌∷◌, [], length, pos, unsigned_abs, IfOk, IfSome};
 ghost use Rattle.css_words.specs.Parser.{Reads};
-ghost use Rattle.css_words.specs.Repeat.{fewer_than, with_prefix};
+ghost use Rattle.css_words.specs.Repeat.{with_prefix};
 ghost use Rattle.css_content.specs.Grammar as spec;
 
 use crate::words::whole;
@@ -48,7 +48,7 @@ fn next_entry(
 }
 
 /// Reads the entries that follow a first one, fewer than 64.
-#[tactic(auto, using(crate::proofs::EntryLemmas::entries_go, crate::proofs::EntryLemmas::entries_stop, crate::proofs::EntryLemmas::entries_fail, crate::proofs::EntryLemmas::entries_full))]
+#[tactic(auto, using(crate::proofs::EntryLemmas::entry_turns))]
 fn more_entries(
     alloc: Global,
     reader: &mut Reader<'_>,
@@ -56,7 +56,8 @@ fn more_entries(
     first: (Name, i64),
 ) -> Result<CounterList, Unread>
     requires small { unsigned_abs first.1 ≤ 999999999 }
-    ensures reads { Reads (λ x. x) (with_prefix (first ∷ []) (fewer_than 64 (spec.next_entry (pos other)) reader.old)) result reader.new }
+    ensures reads { Reads (λ x. x) (with_prefix (first ∷ []) (spec.further_entries (pos other) reader.old)) result
+        reader.new }
     ensures within { length reader.new ≤ length reader.old }
 {
     let mut found = CounterList::new(alloc);

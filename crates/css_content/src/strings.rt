@@ -1,65 +1,36 @@
 //! Lists of named strings (css-gcpm-3, 1.1.1).
 
-ghost use Rattle.std.specs.Prelude.{◌≤◌, ◌<◌, ◌∷◌, [], length, IfOk, IfSome};
+ghost use Rattle.std.specs.Prelude.{◌≤◌, length};
 ghost use Rattle.css_words.specs.Parser.{Reads};
-ghost use Rattle.css_words.specs.Repeat.{many, with_prefix};
 ghost use Rattle.css_content.specs.Grammar as spec;
 
-use crate::content::{Place, content_list};
+use crate::content::{ContentPlace, content_list};
 use bk_num::name::Name;
 use css_tok::kind::CssKind;
+use css_words::lists::{ReadOne, read_comma_list};
 use css_words::reader::Reader;
 use css_words::unread::Unread;
-use css_words::words::{ident, is_mark, is_named};
+use css_words::words::{ident, is_named};
 use std::alloc::Global;
 use style::content::Content;
 use style::lists::StringSets;
 
-#[tactic(auto, unfolding(crate::specs::Grammar::string_entry))]
-fn string_entry(alloc: Global, reader: &mut Reader<'_>) -> Result<(Name, Content), Unread>
-    ensures reads { Reads (λ x. x) (spec.string_entry reader.old) result reader.new }
-    ensures within { length reader.new ≤ length reader.old }
-{
-    let name = ident(alloc, reader)?;
-    let parts = content_list(alloc, reader, Place::StringSet)?;
-    Ok((name, parts))
-}
+/// A name and a list of content.
+#[derive(Drop)]
+struct StringEntry;
 
-/// The entry after a comma; None where no comma comes.
-#[tactic(auto, unfolding(crate::specs::Grammar::next_string, css_words::specs::Words::is_mark))]
-fn next_string(alloc: Global, reader: &mut Reader<'_>) -> Result<Option<(Name, Content)>, Unread>
-    ensures reads { Reads (λ x. x) (spec.next_string reader.old) result reader.new }
-    ensures within { length reader.new ≤ length reader.old }
-    ensures taken { IfOk result (λ o. IfSome o (λ _. length reader.new < length reader.old)) }
-{
-    let token = reader.peek();
-    if token.is_none() || !is_mark(b',', token) {
-        return Ok(None);
-    }
-    reader.advance();
-    let next = string_entry(alloc, reader)?;
-    Ok(Some(next))
-}
+impl ReadOne for StringEntry {
+    type Item = (Name, Content);
 
-/// Reads the entries that follow a first one.
-#[tactic(auto, using(css_words::proofs::RepeatLemmas::many_turns))]
-fn more_strings(
-    alloc: Global,
-    reader: &mut Reader<'_>,
-    first: (Name, Content),
-) -> Result<StringSets, Unread>
-    ensures reads { Reads (λ x. x) (with_prefix (first ∷ []) (many spec.next_string reader.old)) result reader.new }
-    ensures within { length reader.new ≤ length reader.old }
-{
-    let mut found = Vec::new(alloc);
-    found.push(first)?;
-    'strings: loop {
-        match next_string(alloc, reader)? {
-            Some(next) => {
-                found.push(next)?;
-            }
-            None => return Ok(StringSets::of(found)),
-        }
+    ghost use Rattle.css_content.specs.Grammar.{string_entry};
+
+    ghost parser = { λ _. string_entry };
+
+    #[tactic(auto, unfolding(crate::specs::Grammar::string_entry))]
+    fn read(&self, alloc: Global, reader: &mut Reader<'_>) -> Result<(Name, Content), Unread> {
+        let name = ident(alloc, reader)?;
+        let parts = content_list(alloc, reader, ContentPlace::StringSet)?;
+        Ok((name, parts))
     }
 }
 
@@ -73,6 +44,6 @@ pub fn string_sets(alloc: Global, reader: &mut Reader<'_>) -> Result<StringSets,
         reader.advance();
         return Ok(StringSets::new(alloc));
     }
-    let first = string_entry(alloc, reader)?;
-    more_strings(alloc, reader, first)
+    let found = read_comma_list(alloc, reader, &StringEntry)?;
+    Ok(StringSets::of(found.into_vec()))
 }

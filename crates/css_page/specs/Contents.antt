@@ -14,14 +14,18 @@ use Rattle.style.specs.declared.content.Part.{Part}
 use Rattle.style.specs.declared.content.Part.TheVariants as part
 use Rattle.css_content.specs.Basics.{word_in}
 use Rattle.css_content.specs.Grammar.{style_argument}
-use Rattle.css_page.specs.declared.contents.Function.{Function}
-use Rattle.css_page.specs.declared.contents.Function.TheVariants as function
+use Rattle.css_page.specs.declared.contents.MarginFunction.{MarginFunction}
+use Rattle.css_page.specs.declared.contents.MarginFunction.TheVariants as function
 
-unfoldable pub functions : List (List ℕ × Function)
+-- the functions of a margin box's content
+unfoldable pub functions : List (List ℕ × MarginFunction)
 functions = (codes "string", function.Running) ∷ (codes "counter", function.Counter) ∷ []
 
+-- which value of a running string is printed (css-gcpm-3, 1.1.2)
 unfoldable pub keywords : List (List ℕ × Keyword)
-keywords = (codes "first", keyword.First) ∷ (codes "start", keyword.Start) ∷ (codes "last", keyword.Last) ∷ (codes "first-except", keyword.FirstExcept) ∷ []
+keywords =
+    (codes "first", keyword.First) ∷ (codes "start", keyword.Start) ∷ (codes "last", keyword.Last) ∷
+    (codes "first-except", keyword.FirstExcept) ∷ []
 
 -- a comma, which is 44, and a keyword, or `first`
 unfoldable pub keyword_argument : Parser Keyword
@@ -29,6 +33,7 @@ keyword_argument = do
   t ← peek
   if is_mark 44 t then (advance >> word_in keywords) else pure keyword.First
 
+-- the arguments of string(): a name, and a keyword
 unfoldable pub running_arguments : Parser Part
 running_arguments = do
   name ← ident
@@ -38,8 +43,11 @@ running_arguments = do
 
 -- `page` counts the page's number, and `pages` how many pages there are; no other name counts here
 abbrev pub page_counter : List ℕ → NumStyle → Option Part
-page_counter name s = if pointwise nat_eq name (codes "page") then Some (part.Page s) else (if pointwise nat_eq name (codes "pages") then Some (part.Pages s) else None)
+page_counter name s =
+    if pointwise nat_eq name (codes "page") then Some (part.Page s)
+    else (if pointwise nat_eq name (codes "pages") then Some (part.Pages s) else None)
 
+-- the arguments of counter(): a name, and a style of numerals
 unfoldable pub counter_arguments : Parser Part
 counter_arguments = do
   name ← ident
@@ -47,7 +55,8 @@ counter_arguments = do
   _ ← close
   on_some (page_counter name s) refuse pure
 
-abbrev pub arguments : Function → Parser Part
+-- the arguments of a function
+abbrev pub arguments : MarginFunction → Parser Part
 arguments function.Running = running_arguments
 arguments function.Counter = counter_arguments
 
@@ -57,16 +66,19 @@ part_of t =
     if of_kind kind.Str t then pure (part.Text (value t))
     else on_some (if of_kind kind.Func t then find_word functions (slice_of t) else None) refuse arguments
 
+-- a part of a list of content
 unfoldable pub one_part : Parser Part
 one_part = do
   t ← peek
   if is_none t then refuse else (advance >> part_of t)
 
+-- the next part; none at the end
 unfoldable pub next_part : Parser (Option Part)
 next_part = do
   t ← peek
   if is_none t then pure None else (one_part >>= (λ x. pure (Some x)))
 
+-- one part or more
 unfoldable pub parts : Parser (List Part)
 parts = first_and one_part (many next_part)
 
@@ -74,4 +86,5 @@ parts = first_and one_part (many next_part)
 unfoldable pub content : Parser (Option (List Part))
 content = do
   t ← peek
-  if is_named kind.Ident t (codes "normal") || is_named kind.Ident t (codes "none") then (advance >> pure None) else (parts >>= (λ ps. pure (Some ps)))
+  if is_named kind.Ident t (codes "normal") || is_named kind.Ident t (codes "none") then (advance >> pure None)
+      else (parts >>= (λ ps. pure (Some ps)))

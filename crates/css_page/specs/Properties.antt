@@ -1,4 +1,5 @@
--- The properties that pages and margin boxes take (css-page-3, 4 and 5), and the values of those that elements don't have so.
+-- The properties that pages and margin boxes take (css-page-3, 4 and 5), and the values of those that elements don't
+-- have so.
 use Rattle.std.specs.Prelude.{ℕ, if◌then◌else◌, List, [], ◌∷◌, codes}
 use Rattle.bk_num.specs.declared.values.Align.{Align}
 use Rattle.bk_num.specs.declared.values.Align.TheVariants as align
@@ -16,8 +17,8 @@ use Rattle.css_page.specs.declared.values.PageLong.{PageLong}
 use Rattle.css_page.specs.declared.values.PageLong.TheVariants as long
 use Rattle.css_page.specs.declared.values.Upright.{Upright}
 use Rattle.css_page.specs.declared.values.Upright.TheVariants as upright
-use Rattle.css_page.specs.declared.properties.Context.{Context}
-use Rattle.css_page.specs.declared.properties.Context.TheVariants as context
+use Rattle.css_page.specs.declared.properties.PageContext.{PageContext}
+use Rattle.css_page.specs.declared.properties.PageContext.TheVariants as context
 use Rattle.css_page.specs.declared.properties.PageProperty.{PageProperty}
 use Rattle.css_page.specs.declared.properties.PageProperty.TheVariants as property
 use Rattle.css_page.specs.declared.properties.OwnProperty.{OwnProperty}
@@ -26,24 +27,32 @@ use Rattle.css_page.specs.declared.properties.OwnProperty.TheVariants as own
 -- what a page takes
 unfoldable pub page_properties : List (List ℕ × PageProperty)
 page_properties =
-    (codes "size", property.Own own.Size) ∷ (codes "margin", property.Shared) ∷ (codes "margin-top", property.Shared) ∷ (codes "margin-right", property.Shared)
-    ∷ (codes "margin-bottom", property.Shared) ∷ (codes "margin-left", property.Shared) ∷ (codes "color", property.Shared) ∷ (codes "font-family", property.Shared)
-    ∷ (codes "font-size", property.Shared) ∷ (codes "font-style", property.Shared) ∷ (codes "font-weight", property.Shared) ∷ (codes "line-height", property.Shared) ∷ []
+    (codes "size", property.Own own.Size) ∷ (codes "margin", property.Shared) ∷
+    (codes "margin-top", property.Shared) ∷ (codes "margin-right", property.Shared) ∷
+    (codes "margin-bottom", property.Shared) ∷ (codes "margin-left", property.Shared) ∷
+    (codes "color", property.Shared) ∷ (codes "font-family", property.Shared) ∷
+    (codes "font-size", property.Shared) ∷ (codes "font-style", property.Shared) ∷
+    (codes "font-weight", property.Shared) ∷ (codes "line-height", property.Shared) ∷ []
 
 -- what a margin box takes
 unfoldable pub box_properties : List (List ℕ × PageProperty)
 box_properties =
-    (codes "content", property.Own own.Content) ∷ (codes "text-align", property.Own own.TextAlign) ∷ (codes "vertical-align", property.Own own.VerticalAlign)
-    ∷ (codes "color", property.Shared) ∷ (codes "font-family", property.Shared) ∷ (codes "font-size", property.Shared) ∷ (codes "font-style", property.Shared)
-    ∷ (codes "font-weight", property.Shared) ∷ (codes "line-height", property.Shared) ∷ []
+    (codes "content", property.Own own.Content) ∷ (codes "text-align", property.Own own.TextAlign) ∷
+    (codes "vertical-align", property.Own own.VerticalAlign) ∷ (codes "color", property.Shared) ∷
+    (codes "font-family", property.Shared) ∷ (codes "font-size", property.Shared) ∷
+    (codes "font-style", property.Shared) ∷ (codes "font-weight", property.Shared) ∷
+    (codes "line-height", property.Shared) ∷ []
 
-abbrev pub properties : Context → List (List ℕ × PageProperty)
+-- what a page or a margin box takes
+abbrev pub properties : PageContext → List (List ℕ × PageProperty)
 properties context.Page = page_properties
 properties context.MarginBox = box_properties
 
+-- the values of `text-align` in a margin box
 unfoldable pub aligns : List (List ℕ × Align)
 aligns = (codes "left", align.Left) ∷ (codes "center", align.Center) ∷ (codes "right", align.Right) ∷ []
 
+-- the values of `vertical-align` in a margin box (css-page-3, 5.3)
 unfoldable pub uprights : List (List ℕ × Upright)
 uprights = (codes "top", upright.Top) ∷ (codes "middle", upright.Middle) ∷ (codes "bottom", upright.Bottom) ∷ []
 
@@ -51,6 +60,7 @@ uprights = (codes "top", upright.Top) ∷ (codes "middle", upright.Middle) ∷ (
 abbrev pub as_long : {A : Type 0} → (Given A → PageLong) → Parser A → Parser PageLong
 as_long make p = p >>= (λ x. pure (make (given.Value x)))
 
+-- a value of each property of their own
 abbrev pub read_value : OwnProperty → Parser PageLong
 read_value own.Size = as_long long.Size size
 read_value own.Content = as_long long.Content content
@@ -64,6 +74,7 @@ wide_long own.Content w = long.Content (given_by w)
 wide_long own.TextAlign w = long.TextAlign (given_by w)
 wide_long own.VerticalAlign w = long.VerticalAlign (given_by w)
 
+-- the same, or one of the two words of every property
 unfoldable pub read_given : OwnProperty → Parser PageLong
 read_given p = do
   t ← peek

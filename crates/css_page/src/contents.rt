@@ -1,9 +1,8 @@
 //! The content of margin boxes (css-gcpm-3, 1.2; css-page-3, 7.1).
 
-ghost use Rattle.std.specs.Prelude.{◌≡◌, ◌≤◌, ◌<◌, ◌∷◌, [], length, option_map, IfOk, IfSome};
+ghost use Rattle.std.specs.Prelude.{◌≡◌, ◌≤◌, ◌<◌, length, option_map, IfOk};
 ghost use Rattle.css_tok.specs.Tokens.{item_in};
 ghost use Rattle.css_words.specs.Parser.{Reads};
-ghost use Rattle.css_words.specs.Repeat.{many, with_prefix};
 ghost use Rattle.css_words.specs.Table.{find_word};
 ghost use Rattle.css_content.specs.Basics.{word_in};
 ghost use Rattle.css_page.specs.Contents as spec;
@@ -14,6 +13,7 @@ use css_content::content::style_argument;
 use css_content::words::word_in;
 use css_tok::kind::CssKind;
 use css_tok::tokens::CssToken;
+use css_words::lists::{ReadNext, read_after};
 use css_words::reader::Reader;
 use css_words::table::find_word;
 use css_words::unread::Unread;
@@ -23,7 +23,7 @@ use style::content::{Content, Keyword, Part};
 
 /// The functions of a margin box's content.
 #[derive(Clone, Copy)]
-pub enum Function {
+pub enum MarginFunction {
     /// `string()`.
     Running,
     /// `counter()`, of `page` or `pages`.
@@ -31,13 +31,13 @@ pub enum Function {
 }
 
 #[tactic(auto, unfolding(crate::specs::Contents::functions))]
-fn function_of(name: &str) -> Option<Function>
+fn function_of(name: &str) -> Option<MarginFunction>
     ensures { result ≡ find_word spec.functions name.now }
 {
     find_word(
         &[
-            ("string", Function::Running),
-            ("counter", Function::Counter),
+            ("string", MarginFunction::Running),
+            ("counter", MarginFunction::Counter),
         ],
         name,
     )
@@ -111,13 +111,17 @@ fn counter_arguments(alloc: Global, reader: &mut Reader<'_>) -> Result<Part, Unr
     }
 }
 
-fn arguments(alloc: Global, reader: &mut Reader<'_>, function: Function) -> Result<Part, Unread>
+fn arguments(
+    alloc: Global,
+    reader: &mut Reader<'_>,
+    function: MarginFunction,
+) -> Result<Part, Unread>
     ensures reads { Reads (λ x. x) (spec.arguments function reader.old) result reader.new }
     ensures within { length reader.new ≤ length reader.old }
 {
     match function {
-        Function::Running => running_arguments(alloc, reader),
-        Function::Counter => counter_arguments(alloc, reader),
+        MarginFunction::Running => running_arguments(alloc, reader),
+        MarginFunction::Counter => counter_arguments(alloc, reader),
     }
 }
 
@@ -158,30 +162,22 @@ fn one_part(alloc: Global, reader: &mut Reader<'_>) -> Result<Part, Unread>
 }
 
 /// The next part; None at the end.
-#[tactic(auto, unfolding(crate::specs::Contents::next_part))]
-fn next_part(alloc: Global, reader: &mut Reader<'_>) -> Result<Option<Part>, Unread>
-    ensures reads { Reads (λ x. x) (spec.next_part reader.old) result reader.new }
-    ensures within { length reader.new ≤ length reader.old }
-    ensures taken { IfOk result (λ o. IfSome o (λ _. length reader.new < length reader.old)) }
-{
-    if reader.peek().is_none() {
-        return Ok(None);
-    }
-    Ok(Some(one_part(alloc, reader)?))
-}
+#[derive(Drop)]
+struct NextPart;
 
-/// Reads the parts that follow a first one.
-#[tactic(auto, using(css_words::proofs::RepeatLemmas::many_turns))]
-fn more_parts(alloc: Global, reader: &mut Reader<'_>, first: Part) -> Result<Content, Unread>
-    ensures { Reads (λ x. x) (with_prefix (first ∷ []) (many spec.next_part reader.old)) result reader.new }
-{
-    let mut found = Content::new(alloc);
-    found.push(first)?;
-    'parts: loop {
-        match next_part(alloc, reader)? {
-            Some(next) => found.push(next)?,
-            None => return Ok(found),
+impl ReadNext for NextPart {
+    type Item = Part;
+
+    ghost use Rattle.css_page.specs.Contents.{next_part};
+
+    ghost parser = { λ _. next_part };
+
+    #[tactic(auto, unfolding(crate::specs::Contents::next_part))]
+    fn next(&self, alloc: Global, reader: &mut Reader<'_>) -> Result<Option<Part>, Unread> {
+        if reader.peek().is_none() {
+            return Ok(None);
         }
+        Ok(Some(one_part(alloc, reader)?))
     }
 }
 
@@ -190,7 +186,8 @@ fn parts(alloc: Global, reader: &mut Reader<'_>) -> Result<Content, Unread>
     ensures { Reads (λ x. x) (spec.parts reader.old) result reader.new }
 {
     let first = one_part(alloc, reader)?;
-    more_parts(alloc, reader, first)
+    let found = read_after(alloc, reader, first, &NextPart)?;
+    Ok(Content::of(found.into_vec()))
 }
 
 /// Reads a value of `content` of a margin box: None for `normal` and `none`; else strings, running strings and

@@ -5,7 +5,7 @@ ghost use Rattle.std.specs.List.{filter_map};
 ghost use Rattle.css_rules.specs.Decls.{decl_in};
 ghost use Rattle.css_page.specs.Decls as spec;
 
-use crate::properties::{Context, OwnProperty, PageProperty, property_of, read_own};
+use crate::properties::{OwnProperty, PageContext, PageProperty, property_of, read_own};
 use crate::values::{PageDecl, PageLong};
 use bk_num::items::Items;
 use bk_num::name::NoMem;
@@ -89,7 +89,7 @@ fn read_other(
 
 fn read_longs(
     alloc: Global,
-    context: Context,
+    context: PageContext,
     slice: &DeclSlice<'_>,
 ) -> Result<Option<Items<PageLong>>, NoMem>
     ensures { IfOk result (λ longs. longs ≡ spec.longs_of context (decl_in slice.now)) }
@@ -103,7 +103,7 @@ fn read_longs(
 
 fn read_one(
     alloc: Global,
-    context: Context,
+    context: PageContext,
     slice: &DeclSlice<'_>,
 ) -> Result<Option<PageDecl>, NoMem>
     ensures { IfOk result (λ decl. decl ≡ spec.decl_of context (decl_in slice.now)) }
@@ -117,43 +117,31 @@ fn read_one(
     }
 }
 
-fn read_page_decl(alloc: Global, slice: &DeclSlice<'_>) -> Result<Option<PageDecl>, NoMem>
+/// Reads a declaration of a page; None exactly where it has no reading.
+pub fn read_page_decl(alloc: Global, slice: &DeclSlice<'_>) -> Result<Option<PageDecl>, NoMem>
     ensures { IfOk result (λ decl. decl ≡ spec.page_decl (decl_in slice.now)) }
 {
-    read_one(alloc, Context::Page, slice)
+    read_one(alloc, PageContext::Page, slice)
 }
 
-fn read_box_decl(alloc: Global, slice: &DeclSlice<'_>) -> Result<Option<PageDecl>, NoMem>
+/// Reads a declaration of a margin box; None exactly where it has no reading.
+pub fn read_box_decl(alloc: Global, slice: &DeclSlice<'_>) -> Result<Option<PageDecl>, NoMem>
     ensures { IfOk result (λ decl. decl ≡ spec.box_decl (decl_in slice.now)) }
 {
-    read_one(alloc, Context::MarginBox, slice)
+    read_one(alloc, PageContext::MarginBox, slice)
 }
 
-/// Reads the declarations of a page, without those that have no reading.
-pub(crate) fn read_page_decls(
+/// Reads the declarations of a page or of a margin box, without those that have no reading.
+pub(crate) fn read_decls(
     alloc: Global,
+    context: PageContext,
     slices: &[DeclSlice<'_>],
 ) -> Result<Items<PageDecl>, NoMem>
-    ensures { IfOk result (λ decls. decls ≡ filter_map spec.page_decl (map decl_in slices.now)) }
+    ensures { IfOk result (λ decls. decls ≡ filter_map (spec.decl_of context) (map decl_in slices.now)) }
 {
     let mut decls = Items::new(alloc);
     for slice in slices {
-        let decl = read_page_decl(alloc, slice)?;
-        push_some(&mut decls, decl)?;
-    }
-    Ok(decls)
-}
-
-/// The same of a margin box.
-pub(crate) fn read_box_decls(
-    alloc: Global,
-    slices: &[DeclSlice<'_>],
-) -> Result<Items<PageDecl>, NoMem>
-    ensures { IfOk result (λ decls. decls ≡ filter_map spec.box_decl (map decl_in slices.now)) }
-{
-    let mut decls = Items::new(alloc);
-    for slice in slices {
-        let decl = read_box_decl(alloc, slice)?;
+        let decl = read_one(alloc, context, slice)?;
         push_some(&mut decls, decl)?;
     }
     Ok(decls)

@@ -1,12 +1,9 @@
 //! The properties that pages and margin boxes take, and the words that are values of them.
 
-ghost use Rattle.std.specs.Prelude.{◌≡◌, option_map};
-ghost use Rattle.css_tok.specs.Tokens.{item_in};
+ghost use Rattle.std.specs.Prelude.{◌≡◌};
 ghost use Rattle.css_words.specs.Parser.{Reads};
 ghost use Rattle.css_words.specs.Table.{find_word};
 ghost use Rattle.css_content.specs.Basics.{word_in};
-ghost use Rattle.css_values.specs.Decls.{wide_of, wides};
-ghost use Rattle.css_values.specs.Values.{given_by};
 ghost use Rattle.css_page.specs.Properties as spec;
 
 use crate::contents::content;
@@ -14,19 +11,17 @@ use crate::sizes::size;
 use crate::values::{PageLong, Upright};
 use bk_num::values::Align;
 use css_content::words::word_in;
-use css_tok::kind::CssKind;
-use css_tok::tokens::CssToken;
-use css_values::values::Wide;
+use css_values::decls::wide_of;
+use css_values::values::{Wide, given_by};
 use css_words::reader::Reader;
 use css_words::table::find_word;
 use css_words::unread::Unread;
-use css_words::words::{of_kind, slice_of};
 use std::alloc::Global;
 use style::long::Given;
 
 /// Whose declarations they are.
 #[derive(Clone, Copy)]
-pub enum Context {
+pub enum PageContext {
     Page,
     MarginBox,
 }
@@ -96,12 +91,12 @@ fn property_of_box(name: &str) -> Option<PageProperty>
 }
 
 /// The property of a name, ASCII case aside, where pages or margin boxes have it.
-pub(crate) fn property_of(context: Context, name: &str) -> Option<PageProperty>
+pub(crate) fn property_of(context: PageContext, name: &str) -> Option<PageProperty>
     ensures { result ≡ find_word (spec.properties context) name.now }
 {
     match context {
-        Context::Page => property_of_page(name),
-        Context::MarginBox => property_of_box(name),
+        PageContext::Page => property_of_page(name),
+        PageContext::MarginBox => property_of_box(name),
     }
 }
 
@@ -133,36 +128,6 @@ fn vertical_align(reader: &mut Reader<'_>) -> Result<Upright, Unread>
             ("bottom", Upright::Bottom),
         ],
     )
-}
-
-#[tactic(auto, unfolding(css_values::specs::Decls::wides))]
-fn find_wide(word: &str) -> Option<Wide>
-    ensures { result ≡ find_word wides word.now }
-{
-    find_word(
-        &[("inherit", Wide::Inherit), ("initial", Wide::Initial)],
-        word,
-    )
-}
-
-/// `inherit` or `initial` alone.
-#[tactic(auto, unfolding(css_values::specs::Decls::wide_of))]
-fn wide_of(token: Option<CssToken<'_>>, second: Option<CssToken<'_>>) -> Option<Wide>
-    ensures { result ≡ wide_of (option_map item_in token.entry) (option_map item_in second.entry) }
-{
-    if second.is_some() || !of_kind(CssKind::Ident, token) {
-        return None;
-    }
-    find_wide(slice_of(token))
-}
-
-fn given_by<T: Drop>(wide: Wide) -> Given<T>
-    ensures { result ≡ given_by wide }
-{
-    match wide {
-        Wide::Inherit => Given::Inherit,
-        Wide::Initial => Given::Initial,
-    }
 }
 
 fn wide_long(property: OwnProperty, wide: Wide) -> PageLong

@@ -6,7 +6,8 @@ ghost use Rattle.css_rules.specs.Pages.{box_in, page_in};
 ghost use Rattle.css_words.specs.Table.{find_word};
 ghost use Rattle.css_page.specs.Rules as spec;
 
-use crate::decls::{push_some, read_box_decls, read_page_decls};
+use crate::decls::{push_some, read_decls};
+use crate::properties::PageContext;
 use crate::selectors::{PageSelector, read_selectors};
 use crate::values::PageDecl;
 use bk_num::items::Items;
@@ -61,7 +62,7 @@ fn read_box(alloc: Global, slice: &(&str, Vec<DeclSlice<'_>>)) -> Result<Option<
 {
     match box_number(slice.0) {
         Some(number) => {
-            let decls = read_box_decls(alloc, &slice.1)?;
+            let decls = read_decls(alloc, PageContext::MarginBox, &slice.1)?;
             Ok(Some((number, decls)))
         }
         None => Ok(None),
@@ -91,7 +92,7 @@ pub fn read_page_rule(alloc: Global, slice: &PageSlice<'_>) -> Result<Option<Pag
     let Some(selectors) = read_selectors(alloc, slice.selectors)? else {
         return Ok(None);
     };
-    let decls = read_page_decls(alloc, &slice.decls)?;
+    let decls = read_decls(alloc, PageContext::Page, &slice.decls)?;
     let boxes = read_boxes(alloc, &slice.boxes)?;
     Ok(Some(PageRule {
         selectors,

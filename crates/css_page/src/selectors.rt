@@ -1,15 +1,14 @@
 //! Page selectors (css-page-3, 3).
 
-ghost use Rattle.std.specs.Prelude.{◌≡◌, ◌≤◌, ◌<◌, ◌∷◌, [], length, count_by, IfOk, IfSome};
+ghost use Rattle.std.specs.Prelude.{◌≡◌, ◌≤◌, length, count_by, IfOk};
 ghost use Rattle.css_words.specs.Parser.{Reads, Owns};
-ghost use Rattle.css_words.specs.Repeat.{many, with_prefix};
-ghost use Rattle.css_content.specs.Basics.{word_in};
 ghost use Rattle.css_page.specs.Selectors as spec;
 
 use bk_num::items::Items;
 use bk_num::name::{Name, NoMem};
 use css_content::words::word_in;
 use css_tok::kind::CssKind;
+use css_words::lists::{AfterMark, ReadOne, read_comma_list, read_more};
 use css_words::reader::{Reader, Skipped};
 use css_words::unread::Unread;
 use css_words::words::{ident, is_mark, of_kind};
@@ -35,50 +34,29 @@ pub struct PageSelector {
     pub rights: u32,
 }
 
-/// Reads the name of a pseudo-class.
-#[tactic(auto, unfolding(crate::specs::Selectors::pseudo_pages))]
-fn pseudo_page(reader: &mut Reader<'_>) -> Result<PseudoPage, Unread>
-    ensures reads { Reads (λ x. x) (word_in spec.pseudo_pages reader.old) result reader.new }
-    ensures within { length reader.new ≤ length reader.old }
-{
-    word_in(
-        reader,
-        &[
-            ("first", PseudoPage::First),
-            ("left", PseudoPage::Left),
-            ("right", PseudoPage::Right),
-            ("blank", PseudoPage::Blank),
-        ],
-    )
-}
+/// The name of a pseudo-class.
+#[derive(Drop)]
+struct PseudoName;
 
-/// The pseudo-class after a colon; None where no colon comes.
-#[tactic(auto, unfolding(crate::specs::Selectors::next_pseudo, css_words::specs::Words::is_mark))]
-fn next_pseudo(reader: &mut Reader<'_>) -> Result<Option<PseudoPage>, Unread>
-    ensures reads { Reads (λ x. x) (spec.next_pseudo reader.old) result reader.new }
-    ensures within { length reader.new ≤ length reader.old }
-    ensures taken { IfOk result (λ o. IfSome o (λ _. length reader.new < length reader.old)) }
-{
-    let token = reader.peek();
-    if token.is_none() || !is_mark(b':', token) {
-        return Ok(None);
-    }
-    reader.advance();
-    Ok(Some(pseudo_page(reader)?))
-}
+impl ReadOne for PseudoName {
+    type Item = PseudoPage;
 
-/// Reads the pseudo-classes that follow one another.
-#[tactic(auto, using(css_words::proofs::RepeatLemmas::many_turns))]
-fn pseudos(alloc: Global, reader: &mut Reader<'_>) -> Result<Vec<PseudoPage>, Unread>
-    ensures reads { Reads (λ v. v.items) (with_prefix [] (many spec.next_pseudo reader.old)) result reader.new }
-    ensures within { length reader.new ≤ length reader.old }
-{
-    let mut found = Vec::new(alloc);
-    'pseudos: loop {
-        match next_pseudo(reader)? {
-            Some(next) => found.push(next)?,
-            None => return Ok(found),
-        }
+    ghost use Rattle.css_content.specs.Basics.{word_in};
+    ghost use Rattle.css_page.specs.Selectors.{pseudo_pages};
+
+    ghost parser = { λ _. word_in pseudo_pages };
+
+    #[tactic(auto, unfolding(crate::specs::Selectors::pseudo_pages))]
+    fn read(&self, _alloc: Global, reader: &mut Reader<'_>) -> Result<PseudoPage, Unread> {
+        word_in(
+            reader,
+            &[
+                ("first", PseudoPage::First),
+                ("left", PseudoPage::Left),
+                ("right", PseudoPage::Right),
+                ("blank", PseudoPage::Blank),
+            ],
+        )
     }
 }
 
@@ -142,56 +120,34 @@ fn name_and_pseudos(alloc: Global, reader: &mut Reader<'_>) -> Result<PageSelect
     ensures within { length reader.new ≤ length reader.old }
 {
     let name = page_name(alloc, reader)?;
-    let found = pseudos(alloc, reader)?;
+    let colon = AfterMark {
+        mark: b':',
+        value: &PseudoName,
+    };
+    let found = read_more(alloc, reader, Vec::new(alloc), &colon)?;
     reader.pass_spaces();
     Ok(selector_of(name, found.as_slice()))
 }
 
-/// Reads a selector, which isn't empty.
-#[tactic(auto, unfolding(crate::specs::Selectors::selector))]
-fn selector(alloc: Global, reader: &mut Reader<'_>) -> Result<PageSelector, Unread>
-    ensures reads { Reads (λ x. x) (spec.selector reader.old) result reader.new }
-    ensures within { length reader.new ≤ length reader.old }
-{
-    reader.pass_spaces();
-    let token = reader.peek();
-    if of_kind(CssKind::Ident, token) || is_mark(b':', token) {
-        name_and_pseudos(alloc, reader)
-    } else {
-        Err(Unread::NoReading)
-    }
-}
+/// A selector, which isn't empty.
+#[derive(Drop)]
+struct Selector;
 
-/// The selector after a comma; None where no comma comes.
-#[tactic(auto, unfolding(crate::specs::Selectors::next_selector, css_words::specs::Words::is_mark))]
-fn next_selector(alloc: Global, reader: &mut Reader<'_>) -> Result<Option<PageSelector>, Unread>
-    ensures reads { Reads (λ x. x) (spec.next_selector reader.old) result reader.new }
-    ensures within { length reader.new ≤ length reader.old }
-    ensures taken { IfOk result (λ o. IfSome o (λ _. length reader.new < length reader.old)) }
-{
-    let token = reader.peek();
-    if token.is_none() || !is_mark(b',', token) {
-        return Ok(None);
-    }
-    reader.advance();
-    Ok(Some(selector(alloc, reader)?))
-}
+impl ReadOne for Selector {
+    type Item = PageSelector;
 
-/// Reads the selectors that follow a first one.
-#[tactic(auto, using(css_words::proofs::RepeatLemmas::many_turns))]
-fn more_selectors(
-    alloc: Global,
-    reader: &mut Reader<'_>,
-    first: PageSelector,
-) -> Result<Items<PageSelector>, Unread>
-    ensures { Reads (λ x. x) (with_prefix (first ∷ []) (many spec.next_selector reader.old)) result reader.new }
-{
-    let mut found = Items::new(alloc);
-    found.push(first)?;
-    'selectors: loop {
-        match next_selector(alloc, reader)? {
-            Some(next) => found.push(next)?,
-            None => return Ok(found),
+    ghost use Rattle.css_page.specs.Selectors.{selector};
+
+    ghost parser = { λ _. selector };
+
+    #[tactic(auto, unfolding(crate::specs::Selectors::selector))]
+    fn read(&self, alloc: Global, reader: &mut Reader<'_>) -> Result<PageSelector, Unread> {
+        reader.pass_spaces();
+        let token = reader.peek();
+        if of_kind(CssKind::Ident, token) || is_mark(b':', token) {
+            name_and_pseudos(alloc, reader)
+        } else {
+            Err(Unread::NoReading)
         }
     }
 }
@@ -213,8 +169,7 @@ fn selectors(alloc: Global, reader: &mut Reader<'_>) -> Result<Items<PageSelecto
     if reader.peek().is_none() {
         return every_page(alloc);
     }
-    let first = selector(alloc, reader)?;
-    more_selectors(alloc, reader, first)
+    read_comma_list(alloc, reader, &Selector)
 }
 
 /// A reading that leaves nothing.

@@ -1,12 +1,14 @@
 //! Sizes of page boxes (css-page-3, `size`).
 
 ghost use Rattle.std.specs.Prelude.{◌≡◌};
+ghost use Rattle.bk_num.specs.Limits.{page_height, page_width};
 ghost use Rattle.css_words.specs.Parser.{Reads};
 ghost use Rattle.css_content.specs.Basics.{word_in};
 ghost use Rattle.css_values.specs.Measures.{read_measure, lengths};
-ghost use Rattle.css_values.specs.Shorthands.{optional};
+ghost use Rattle.css_values.specs.Sides.{optional};
 ghost use Rattle.css_page.specs.Sizes as spec;
 
+use bk_num::limits::{PAGE_HEIGHT, PAGE_WIDTH};
 use bk_num::px::Px;
 use css_content::words::word_in;
 use css_tok::kind::CssKind;
@@ -32,31 +34,34 @@ pub enum Orientation {
 
 /// A word of `size`: a sheet of paper by its shorter and its longer side, in 1/64 px, or an orientation.
 #[derive(Clone, Copy)]
-pub enum SizeWord {
+pub enum PaperWord {
     Sheet(i64, i64),
     Turned(Orientation),
 }
 
 #[tactic(auto, unfolding(crate::specs::Sizes::size_words))]
-fn size_word(reader: &mut Reader<'_>) -> Result<SizeWord, Unread>
+fn size_word(reader: &mut Reader<'_>) -> Result<PaperWord, Unread>
     ensures { Reads (λ x. x) (word_in spec.size_words reader.old) result reader.new }
 {
     word_in(
         reader,
         &[
-            ("a3", SizeWord::Sheet(71841, 101594)),
-            ("a4", SizeWord::Sheet(50797, 71841)),
-            ("a5", SizeWord::Sheet(35800, 50797)),
-            ("letter", SizeWord::Sheet(52224, 67584)),
-            ("legal", SizeWord::Sheet(52224, 86016)),
-            ("portrait", SizeWord::Turned(Orientation::Portrait)),
-            ("landscape", SizeWord::Turned(Orientation::Landscape)),
+            ("a3", PaperWord::Sheet(71841, 101594)),
+            ("a4", PaperWord::Sheet(50797, 71841)),
+            (
+                "a5",
+                PaperWord::Sheet(PAGE_WIDTH as i64, PAGE_HEIGHT as i64),
+            ),
+            ("letter", PaperWord::Sheet(52224, 67584)),
+            ("legal", PaperWord::Sheet(52224, 86016)),
+            ("portrait", PaperWord::Turned(Orientation::Portrait)),
+            ("landscape", PaperWord::Turned(Orientation::Landscape)),
         ],
     )
 }
 
-#[tactic(auto, unfolding(css_values::specs::Shorthands::optional))]
-fn second_word(reader: &mut Reader<'_>) -> Result<Option<SizeWord>, Unread>
+#[tactic(auto, unfolding(css_values::specs::Sides::optional))]
+fn second_word(reader: &mut Reader<'_>) -> Result<Option<PaperWord>, Unread>
     ensures { Reads (λ x. x) (optional (word_in spec.size_words) reader.old) result reader.new }
 {
     if reader.peek().is_none() {
@@ -74,6 +79,13 @@ fn sheet(width: i64, height: i64) -> PageSize
     }
 }
 
+/// A sheet of the default page: a5.
+fn default_sheet() -> PageSize
+    ensures { result ≡ spec.sheet page_width page_height }
+{
+    sheet(PAGE_WIDTH as i64, PAGE_HEIGHT as i64)
+}
+
 /// A sheet with the side across that the orientation asks for.
 fn turned(orientation: Orientation, shorter: i64, longer: i64) -> PageSize
     ensures { result ≡ spec.turned orientation shorter longer }
@@ -85,25 +97,29 @@ fn turned(orientation: Orientation, shorter: i64, longer: i64) -> PageSize
 }
 
 /// The size that a word gives alone. An orientation alone is of a5.
-fn alone(word: SizeWord) -> PageSize
+fn alone(word: PaperWord) -> PageSize
     ensures { result ≡ spec.alone word }
 {
     match word {
-        SizeWord::Sheet(shorter, longer) => sheet(shorter, longer),
-        SizeWord::Turned(orientation) => turned(orientation, 35800, 50797),
+        PaperWord::Sheet(shorter, longer) => sheet(shorter, longer),
+        PaperWord::Turned(orientation) => turned(
+            orientation,
+            PAGE_WIDTH as i64,
+            PAGE_HEIGHT as i64,
+        ),
     }
 }
 
 /// The size that one or two words give: of two, one is a sheet and the other an orientation.
-fn chosen(first: SizeWord, second: Option<SizeWord>) -> Option<PageSize>
+fn chosen(first: PaperWord, second: Option<PaperWord>) -> Option<PageSize>
     ensures { result ≡ spec.chosen first second }
 {
     match (first, second) {
         (word, None) => Some(alone(word)),
-        (SizeWord::Sheet(shorter, longer), Some(SizeWord::Turned(orientation))) => {
+        (PaperWord::Sheet(shorter, longer), Some(PaperWord::Turned(orientation))) => {
             Some(turned(orientation, shorter, longer))
         }
-        (SizeWord::Turned(orientation), Some(SizeWord::Sheet(shorter, longer))) => {
+        (PaperWord::Turned(orientation), Some(PaperWord::Sheet(shorter, longer))) => {
             Some(turned(orientation, shorter, longer))
         }
         _ => None,
@@ -122,7 +138,7 @@ fn named(reader: &mut Reader<'_>) -> Result<PageSize, Unread>
     }
 }
 
-#[tactic(auto, unfolding(css_values::specs::Shorthands::optional))]
+#[tactic(auto, unfolding(css_values::specs::Sides::optional))]
 fn second_length(reader: &mut Reader<'_>) -> Result<Option<Measure>, Unread>
     ensures { Reads (λ x. x) (optional (read_measure lengths) reader.old) result reader.new }
 {
@@ -166,7 +182,7 @@ pub fn size(reader: &mut Reader<'_>) -> Result<PageSize, Unread>
     let token = reader.peek();
     if is_named(CssKind::Ident, token, "auto") {
         reader.advance();
-        return Ok(sheet(35800, 50797));
+        return Ok(default_sheet());
     }
     if of_kind(CssKind::Ident, token) {
         return named(reader);

@@ -3,8 +3,9 @@ use Rattle.std.specs.Prelude.{ℕ, ◌==◌, ◌%◌, ◌||◌, if◌then◌else
 use Rattle.bk_num.specs.Units.{clamped}
 use Rattle.css_tok.specs.declared.kind.CssKind.TheVariants as kind
 use Rattle.css_words.specs.Parser.{Parser, ◌>>=◌, ◌>>◌, pure, refuse, on_some, peek, advance}
-use Rattle.css_words.specs.Repeat.{first_and, many}
-use Rattle.css_words.specs.Words.{of_kind, is_mark, is_named, ident, string}
+use Rattle.css_words.specs.Repeat.{comma_list, many}
+use Rattle.css_words.specs.Words.{of_kind, is_named, ident, string}
+use Rattle.style.specs.Initial.{normal_height}
 use Rattle.style.specs.declared.values.Measure.TheVariants as measure
 use Rattle.style.specs.declared.values.FontSize.{FontSize}
 use Rattle.style.specs.declared.values.FontSize.TheVariants as size
@@ -25,43 +26,52 @@ unfoldable pub spaced : List (List ℕ) → List ℕ
 spaced [] = []
 spaced (w ∷ ws) = (32 ∷ w) ++ spaced ws
 
+-- an Ident, if one comes
 unfoldable pub next_ident : Parser (Option (List ℕ))
 next_ident = do
   t ← peek
   if of_kind kind.Ident t then (ident >>= (λ w. pure (Some w))) else pure None
 
--- a string, or Idents joined by one space
+-- Idents joined by one space
+unfoldable pub words : Parser (List ℕ)
+words = do
+  first ← ident
+  more ← many next_ident
+  pure (first ++ spaced more)
+
+-- a family: a string, or Idents (CSS 2.1, 15.3)
 unfoldable pub family : Parser (List ℕ)
 family = do
   t ← peek
-  if of_kind kind.Str t then string else (ident >>= (λ first. many next_ident >>= (λ more. pure (first ++ spaced more))))
+  if of_kind kind.Str t then string else words
 
-unfoldable pub next_family : Parser (Option (List ℕ))
-next_family = do
-  t ← peek
-  if is_mark 44 t then (advance >> family >>= (λ f. pure (Some f))) else pure None
-
+-- families, the wanted one first
 unfoldable pub families : Parser (List (List ℕ))
-families = first_and family (many next_family)
+families = comma_list family
 
 -- ---- sizes, weights and heights of lines
 
+-- the size that a word names
 abbrev pub size_of : SizeWord → FontSize
 size_of (word.Units u) = size.Size (measure.Px (clamped u))
 size_of word.Smaller = size.Smaller
 size_of word.Larger = size.Larger
 
+-- a size: a word, or a length or percentage (CSS 2.1, 15.7)
 unfoldable pub font_size : Parser FontSize
 font_size = do
   t ← peek
-  if of_kind kind.Ident t then (word_in sizes >>= (λ w. pure (size_of w))) else (read_measure paddings >>= (λ m. pure (size.Size m)))
+  if of_kind kind.Ident t then (word_in sizes >>= (λ w. pure (size_of w)))
+      else (read_measure paddings >>= (λ m. pure (size.Size m)))
 
 -- 100, 200 and so on to 900
 unfoldable pub hundred : Parser ℕ
 hundred = do
   n ← whole
-  if int_lt n (pos 100) || int_lt (pos 900) n then refuse else (if unsigned_abs n % 100 == 0 then pure (unsigned_abs n) else refuse)
+  if int_lt n (pos 100) || int_lt (pos 900) n then refuse
+      else (if unsigned_abs n % 100 == 0 then pure (unsigned_abs n) else refuse)
 
+-- a weight: a word or a number (CSS 2.1, 15.6)
 unfoldable pub font_weight : Parser Weight
 font_weight = do
   t ← peek
@@ -71,7 +81,10 @@ font_weight = do
 unfoldable pub line_height : Parser GivenHeight
 line_height = do
   t ← peek
-  if is_named kind.Ident t (codes "normal") then (advance >> pure (height.Number (record { units = pos 125; places = 2 }))) else (if of_kind kind.Number t then (if is_negative t then refuse else on_some (number_of t) refuse (λ n. advance >> pure (height.Number n))) else (read_measure paddings >>= (λ m. pure (height.Size m))))
+  if is_named kind.Ident t (codes "normal") then (advance >> pure (height.Number normal_height))
+      else (if of_kind kind.Number t
+      then (if is_negative t then refuse else on_some (number_of t) refuse (λ n. advance >> pure (height.Number n)))
+      else (read_measure paddings >>= (λ m. pure (height.Size m))))
 
 -- a whole number from 1 to 1000
 unfoldable pub count : Parser ℕ

@@ -3,7 +3,7 @@ pub mod Measures
 pub mod Colors
 pub mod Fonts
 pub mod Borders
-pub mod Kinds
+pub mod Sides
 pub mod Values
 pub mod Shorthands
 pub mod Properties

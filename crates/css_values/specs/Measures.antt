@@ -27,9 +27,11 @@ measured scale.Em n = measure.Em n
 measured scale.Rem n = measure.Rem n
 measured scale.Ex n = measure.Ex n
 
+-- whether a number is 0
 abbrev pub is_zero : Number → Bool
 is_zero n = unsigned_abs n.units == 0
 
+-- the length 0
 abbrev pub no_length : Measure
 no_length = measure.Px (pos 0)
 
@@ -41,10 +43,12 @@ length_of (Some t) =
     else (if of_kind kind.Dimension (Some t) then
     option_map (λ s. measured s (decimal_of t.slice)) (find_word scales (unit_of t.slice)) else None)
 
+-- a percentage
 unfoldable pub percent_of : Option Item → Option Measure
 percent_of None = None
 percent_of (Some t) = if of_kind kind.Percent (Some t) then Some (measure.Percent (decimal_of t.slice)) else None
 
+-- whether a number is there and is below 0
 abbrev pub below_zero : Option Number → Bool
 below_zero None = false
 below_zero (Some n) = int_lt n.units (pos 0)
@@ -53,10 +57,12 @@ below_zero (Some n) = int_lt n.units (pos 0)
 unfoldable pub is_negative : Option Item → Bool
 is_negative t = below_zero (number_of t)
 
+-- the first of two that is there
 abbrev pub first_some : Option Measure → Option Measure → Option Measure
 first_some (Some m) other = Some m
 first_some None other = other
 
+-- what a token is, of what a property takes
 unfoldable pub measure_of : Taken → Option Item → Option Measure
 measure_of r t =
     if r.auto && is_named kind.Ident t (codes "auto") then Some measure.Auto
@@ -69,21 +75,26 @@ read_measure r = do
   t ← peek
   on_some (measure_of r t) refuse (λ m. advance >> pure m)
 
+-- what a property takes beside lengths from 0 on: percentages, `auto`, lengths below 0
 abbrev pub taken : Bool → Bool → Bool → Taken
 taken percents auto negative = record { percents = percents; auto = auto; negative = negative }
 
--- margins; `text-indent`; `width`; paddings and sizes of fonts; widths of borders
+-- margins (CSS 2.1, 8.3)
 abbrev pub margins : Taken
 margins = taken true true true
 
+-- `text-indent` (CSS 2.1, 16.1)
 abbrev pub indents : Taken
 indents = taken true false true
 
+-- `width` (CSS 2.1, 10.2)
 abbrev pub widths : Taken
 widths = taken true true false
 
+-- paddings, sizes of fonts and heights of lines (CSS 2.1, 8.4, 15.7 and 10.8.1)
 abbrev pub paddings : Taken
 paddings = taken true false false
 
+-- widths of borders, and sizes of pages (CSS 2.1, 8.5.1; css-page-3, 7.1)
 abbrev pub lengths : Taken
 lengths = taken false false false

@@ -1,44 +1,77 @@
 -- The properties by their names (CSS 2.1, appendix F; css-gcpm-3; css-break-3; css-text-3).
-use Rattle.std.specs.Prelude.{ℕ, List, [], ◌∷◌, codes}
+use Rattle.std.specs.Prelude.{ℕ, List, [], ◌∷◌, codes, Option, Some, None, option_map}
+use Rattle.bk_num.specs.declared.sides.BoxSide.TheVariants as side
+use Rattle.css_words.specs.Table.{find_word}
+use Rattle.style.specs.declared.longhand.Longhand.{Longhand}
 use Rattle.style.specs.declared.longhand.Longhand.TheVariants as hand
 use Rattle.css_values.specs.declared.properties.Property.{Property}
 use Rattle.css_values.specs.declared.properties.Property.TheVariants as property
+use Rattle.css_values.specs.declared.shorthands.Shorthand.{Shorthand}
 use Rattle.css_values.specs.declared.shorthands.Shorthand.TheVariants as shorthand
+use Rattle.css_values.specs.declared.sides.SideKind.TheVariants as kind
 
--- `background` and `list-style` have one longhand; `word-wrap` and the `page-break` properties set the longhands of other names
-unfoldable pub properties : List (List ℕ × Property)
-properties =
-    (codes "display", property.One hand.Display) ∷ (codes "float", property.One hand.Float) ∷
-    (codes "margin-top", property.One hand.MarginTop) ∷ (codes "margin-right", property.One hand.MarginRight)
-    ∷ (codes "margin-bottom", property.One hand.MarginBottom) ∷ (codes "margin-left", property.One hand.MarginLeft) ∷
-    (codes "padding-top", property.One hand.PaddingTop) ∷ (codes "padding-right", property.One hand.PaddingRight)
-    ∷ (codes "padding-bottom", property.One hand.PaddingBottom) ∷ (codes "padding-left", property.One hand.PaddingLeft) ∷
-    (codes "border-top-width", property.One hand.BorderTopWidth) ∷ (codes "border-right-width", property.One hand.BorderRightWidth)
-    ∷ (codes "border-bottom-width", property.One hand.BorderBottomWidth) ∷
-    (codes "border-left-width", property.One hand.BorderLeftWidth) ∷ (codes "border-top-style", property.One hand.BorderTopStyle) ∷
-    (codes "border-right-style", property.One hand.BorderRightStyle)
-    ∷ (codes "border-bottom-style", property.One hand.BorderBottomStyle) ∷
-    (codes "border-left-style", property.One hand.BorderLeftStyle) ∷ (codes "border-top-color", property.One hand.BorderTopColor) ∷
-    (codes "border-right-color", property.One hand.BorderRightColor)
-    ∷ (codes "border-bottom-color", property.One hand.BorderBottomColor) ∷
-    (codes "border-left-color", property.One hand.BorderLeftColor) ∷ (codes "width", property.One hand.Width) ∷
-    (codes "color", property.One hand.Color)
-    ∷ (codes "background-color", property.One hand.BackgroundColor) ∷ (codes "font-family", property.One hand.FontFamily) ∷
-    (codes "font-size", property.One hand.FontSize) ∷ (codes "font-style", property.One hand.FontStyle)
-    ∷ (codes "font-weight", property.One hand.FontWeight) ∷ (codes "line-height", property.One hand.LineHeight) ∷
-    (codes "text-align", property.One hand.TextAlign) ∷ (codes "text-indent", property.One hand.TextIndent)
-    ∷ (codes "white-space", property.One hand.WhiteSpace) ∷ (codes "overflow-wrap", property.One hand.OverflowWrap) ∷
-    (codes "list-style-type", property.One hand.ListStyleType) ∷ (codes "content", property.One hand.Content)
-    ∷ (codes "counter-reset", property.One hand.CounterReset) ∷ (codes "counter-increment", property.One hand.CounterIncrement) ∷
-    (codes "string-set", property.One hand.StringSet) ∷ (codes "break-before", property.One hand.BreakBefore)
-    ∷ (codes "break-after", property.One hand.BreakAfter) ∷ (codes "break-inside", property.One hand.BreakInside) ∷
-    (codes "widows", property.One hand.Widows) ∷ (codes "orphans", property.One hand.Orphans)
-    ∷ (codes "page", property.One hand.Page) ∷ (codes "word-wrap", property.One hand.OverflowWrap) ∷
-    (codes "page-break-before", property.PageBreakBefore) ∷ (codes "page-break-after", property.PageBreakAfter)
-    ∷ (codes "page-break-inside", property.PageBreakInside) ∷ (codes "margin", property.Several shorthand.Margin) ∷
-    (codes "padding", property.Several shorthand.Padding) ∷ (codes "border-width", property.Several shorthand.BorderWidth)
-    ∷ (codes "border-style", property.Several shorthand.BorderStyle) ∷ (codes "border-color", property.Several shorthand.BorderColor) ∷
-    (codes "border", property.Several shorthand.Border) ∷ (codes "border-top", property.Several shorthand.BorderTop)
-    ∷ (codes "border-right", property.Several shorthand.BorderRight) ∷ (codes "border-bottom", property.Several shorthand.BorderBottom) ∷
-    (codes "border-left", property.Several shorthand.BorderLeft) ∷ (codes "background", property.One hand.BackgroundColor)
-    ∷ (codes "list-style", property.One hand.ListStyleType) ∷ []
+-- the longhands of a box's sides
+unfoldable pub side_hands : List (List ℕ × Longhand)
+side_hands =
+    (codes "margin-top", hand.Margin side.Top) ∷ (codes "margin-right", hand.Margin side.Right) ∷
+    (codes "margin-bottom", hand.Margin side.Bottom) ∷ (codes "margin-left", hand.Margin side.Left) ∷
+    (codes "padding-top", hand.Padding side.Top) ∷ (codes "padding-right", hand.Padding side.Right) ∷
+    (codes "padding-bottom", hand.Padding side.Bottom) ∷ (codes "padding-left", hand.Padding side.Left) ∷
+    (codes "border-top-width", hand.BorderWidth side.Top) ∷
+    (codes "border-right-width", hand.BorderWidth side.Right) ∷
+    (codes "border-bottom-width", hand.BorderWidth side.Bottom) ∷
+    (codes "border-left-width", hand.BorderWidth side.Left) ∷
+    (codes "border-top-style", hand.BorderStyle side.Top) ∷
+    (codes "border-right-style", hand.BorderStyle side.Right) ∷
+    (codes "border-bottom-style", hand.BorderStyle side.Bottom) ∷
+    (codes "border-left-style", hand.BorderStyle side.Left) ∷
+    (codes "border-top-color", hand.BorderColor side.Top) ∷
+    (codes "border-right-color", hand.BorderColor side.Right) ∷
+    (codes "border-bottom-color", hand.BorderColor side.Bottom) ∷
+    (codes "border-left-color", hand.BorderColor side.Left) ∷ []
+
+-- the other longhands; `background` and `list-style` have one, and `word-wrap` is another name
+unfoldable pub lone_hands : List (List ℕ × Longhand)
+lone_hands =
+    (codes "display", hand.Display) ∷ (codes "float", hand.Float) ∷ (codes "width", hand.Width) ∷
+    (codes "color", hand.Color) ∷ (codes "background-color", hand.BackgroundColor) ∷
+    (codes "font-family", hand.FontFamily) ∷ (codes "font-size", hand.FontSize) ∷
+    (codes "font-style", hand.FontStyle) ∷ (codes "font-weight", hand.FontWeight) ∷
+    (codes "line-height", hand.LineHeight) ∷ (codes "text-align", hand.TextAlign) ∷
+    (codes "text-indent", hand.TextIndent) ∷ (codes "white-space", hand.WhiteSpace) ∷
+    (codes "overflow-wrap", hand.OverflowWrap) ∷ (codes "list-style-type", hand.ListStyleType) ∷
+    (codes "content", hand.Content) ∷ (codes "counter-reset", hand.CounterReset) ∷
+    (codes "counter-increment", hand.CounterIncrement) ∷ (codes "string-set", hand.StringSet) ∷
+    (codes "break-before", hand.BreakBefore) ∷ (codes "break-after", hand.BreakAfter) ∷
+    (codes "break-inside", hand.BreakInside) ∷ (codes "widows", hand.Widows) ∷ (codes "orphans", hand.Orphans) ∷
+    (codes "page", hand.Page) ∷ (codes "word-wrap", hand.OverflowWrap) ∷
+    (codes "background", hand.BackgroundColor) ∷ (codes "list-style", hand.ListStyleType) ∷ []
+
+-- the shorthands
+unfoldable pub shorthands : List (List ℕ × Shorthand)
+shorthands =
+    (codes "margin", shorthand.Sides kind.Margin) ∷ (codes "padding", shorthand.Sides kind.Padding) ∷
+    (codes "border-width", shorthand.Sides kind.BorderWidth) ∷
+    (codes "border-style", shorthand.Sides kind.BorderStyle) ∷
+    (codes "border-color", shorthand.Sides kind.BorderColor) ∷ (codes "border", shorthand.Border) ∷
+    (codes "border-top", shorthand.BorderSide side.Top) ∷ (codes "border-right", shorthand.BorderSide side.Right) ∷
+    (codes "border-bottom", shorthand.BorderSide side.Bottom) ∷
+    (codes "border-left", shorthand.BorderSide side.Left) ∷ []
+
+-- the `page-break` properties, which set the longhands of other names by words of their own (CSS 2.1, 13.3.1)
+unfoldable pub page_breaks : List (List ℕ × Property)
+page_breaks =
+    (codes "page-break-before", property.PageBreakBefore) ∷ (codes "page-break-after", property.PageBreakAfter) ∷
+    (codes "page-break-inside", property.PageBreakInside) ∷ []
+
+-- the first that is there
+abbrev pub first_of : {A : Type 0} → Option A → Option A → Option A
+first_of None other = other
+first_of (Some x) other = Some x
+
+-- the property of a name
+unfoldable pub property_of : List ℕ → Option Property
+property_of name =
+    first_of (option_map (λ h. property.One h) (find_word side_hands name))
+    (first_of (option_map (λ h. property.One h) (find_word lone_hands name))
+    (first_of (option_map (λ s. property.Several s) (find_word shorthands name)) (find_word page_breaks name)))

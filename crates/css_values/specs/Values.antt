@@ -1,20 +1,25 @@
 -- The grammar of each longhand's value, and the two words that every property takes (CSS 2.1, appendix F and 6.2.1).
-use Rattle.std.specs.Prelude.{pos, codes}
+use Rattle.std.specs.Prelude.{Bool, true, false, pos, codes}
+use Rattle.bk_num.specs.declared.sides.BoxSide.{BoxSide}
 use Rattle.css_words.specs.Parser.{Parser, ◌>>=◌, pure}
+use Rattle.style.specs.Longs.{long_of}
 use Rattle.style.specs.declared.longhand.Longhand.{Longhand}
 use Rattle.style.specs.declared.longhand.Longhand.TheVariants as hand
 use Rattle.style.specs.declared.long.Given.{Given}
 use Rattle.style.specs.declared.long.Given.TheVariants as given
 use Rattle.style.specs.declared.long.Long.{Long}
 use Rattle.style.specs.declared.long.Long.TheVariants as long
+use Rattle.style.specs.declared.long.SideLong.TheVariants as on
 use Rattle.css_content.specs.Basics.{word_in}
 use Rattle.css_content.specs.Grammar.{content, counter_list, string_sets}
 use Rattle.css_content.specs.Numerals.{styles}
 use Rattle.css_values.specs.Words.{displays, floats, slopes, aligns, spaces, wraps, breaks, inside_breaks}
-use Rattle.css_values.specs.Measures.{read_measure, margins, paddings, widths, indents}
+use Rattle.css_values.specs.Measures.{read_measure, widths, indents}
 use Rattle.css_values.specs.Colors.{color, color_or}
 use Rattle.css_values.specs.Fonts.{families, font_size, font_weight, line_height, count, page_name}
-use Rattle.css_values.specs.Borders.{border_width, border_style, border_color}
+use Rattle.css_values.specs.Sides.{side_value}
+use Rattle.css_values.specs.declared.sides.SideKind.{SideKind}
+use Rattle.css_values.specs.declared.sides.SideKind.TheVariants as kind
 use Rattle.css_values.specs.declared.values.Wide.{Wide}
 use Rattle.css_values.specs.declared.values.Wide.TheVariants as wide
 
@@ -22,29 +27,19 @@ use Rattle.css_values.specs.declared.values.Wide.TheVariants as wide
 abbrev pub as_long : {A : Type 0} → (Given A → Long) → Parser A → Parser Long
 as_long make p = p >>= (λ x. pure (make (given.Value x)))
 
+-- a value of what a box has on a side
+abbrev pub on_side : SideKind → BoxSide → Parser Long
+on_side k s = side_value k s >>= (λ l. pure (long_of l))
+
+-- the grammar of each longhand's value
 unfoldable pub read_value : Longhand → Parser Long
 read_value hand.Display = as_long long.Display (word_in displays)
 read_value hand.Float = as_long long.Float (word_in floats)
-read_value hand.MarginTop = as_long long.MarginTop (read_measure margins)
-read_value hand.MarginRight = as_long long.MarginRight (read_measure margins)
-read_value hand.MarginBottom = as_long long.MarginBottom (read_measure margins)
-read_value hand.MarginLeft = as_long long.MarginLeft (read_measure margins)
-read_value hand.PaddingTop = as_long long.PaddingTop (read_measure paddings)
-read_value hand.PaddingRight = as_long long.PaddingRight (read_measure paddings)
-read_value hand.PaddingBottom = as_long long.PaddingBottom (read_measure paddings)
-read_value hand.PaddingLeft = as_long long.PaddingLeft (read_measure paddings)
-read_value hand.BorderTopWidth = as_long long.BorderTopWidth border_width
-read_value hand.BorderRightWidth = as_long long.BorderRightWidth border_width
-read_value hand.BorderBottomWidth = as_long long.BorderBottomWidth border_width
-read_value hand.BorderLeftWidth = as_long long.BorderLeftWidth border_width
-read_value hand.BorderTopStyle = as_long long.BorderTopStyle border_style
-read_value hand.BorderRightStyle = as_long long.BorderRightStyle border_style
-read_value hand.BorderBottomStyle = as_long long.BorderBottomStyle border_style
-read_value hand.BorderLeftStyle = as_long long.BorderLeftStyle border_style
-read_value hand.BorderTopColor = as_long long.BorderTopColor border_color
-read_value hand.BorderRightColor = as_long long.BorderRightColor border_color
-read_value hand.BorderBottomColor = as_long long.BorderBottomColor border_color
-read_value hand.BorderLeftColor = as_long long.BorderLeftColor border_color
+read_value (hand.Margin s) = on_side kind.Margin s
+read_value (hand.Padding s) = on_side kind.Padding s
+read_value (hand.BorderWidth s) = on_side kind.BorderWidth s
+read_value (hand.BorderStyle s) = on_side kind.BorderStyle s
+read_value (hand.BorderColor s) = on_side kind.BorderColor s
 read_value hand.Width = as_long long.Width (read_measure widths)
 read_value hand.Color = as_long long.Color color
 read_value hand.BackgroundColor = as_long long.BackgroundColor (color_or (codes "transparent"))
@@ -69,6 +64,44 @@ read_value hand.Widows = as_long long.Widows count
 read_value hand.Orphans = as_long long.Orphans count
 read_value hand.Page = as_long long.Page page_name
 
+-- the longhands whose values are words
+abbrev pub is_worded : Longhand → Bool
+is_worded hand.Display = true
+is_worded hand.Float = true
+is_worded hand.FontStyle = true
+is_worded hand.TextAlign = true
+is_worded hand.WhiteSpace = true
+is_worded hand.OverflowWrap = true
+is_worded hand.ListStyleType = true
+is_worded hand.BreakBefore = true
+is_worded hand.BreakAfter = true
+is_worded hand.BreakInside = true
+is_worded h = false
+
+-- the longhands whose values are numbers, lengths or colours
+abbrev pub is_numbered : Longhand → Bool
+is_numbered hand.Width = true
+is_numbered hand.TextIndent = true
+is_numbered hand.FontSize = true
+is_numbered hand.FontWeight = true
+is_numbered hand.LineHeight = true
+is_numbered hand.Widows = true
+is_numbered hand.Orphans = true
+is_numbered hand.Color = true
+is_numbered hand.BackgroundColor = true
+is_numbered h = false
+
+-- the longhands whose values are lists, texts and names, which take memory
+abbrev pub is_listed : Longhand → Bool
+is_listed hand.FontFamily = true
+is_listed hand.Content = true
+is_listed hand.CounterReset = true
+is_listed hand.CounterIncrement = true
+is_listed hand.StringSet = true
+is_listed hand.Page = true
+is_listed h = false
+
+-- what each of the two words gives
 abbrev pub given_by : {A : Type 0} → Wide → Given A
 given_by wide.Inherit = given.Inherit
 given_by wide.Initial = given.Initial
@@ -77,26 +110,11 @@ given_by wide.Initial = given.Initial
 unfoldable pub wide_long : Longhand → Wide → Long
 wide_long hand.Display w = long.Display (given_by w)
 wide_long hand.Float w = long.Float (given_by w)
-wide_long hand.MarginTop w = long.MarginTop (given_by w)
-wide_long hand.MarginRight w = long.MarginRight (given_by w)
-wide_long hand.MarginBottom w = long.MarginBottom (given_by w)
-wide_long hand.MarginLeft w = long.MarginLeft (given_by w)
-wide_long hand.PaddingTop w = long.PaddingTop (given_by w)
-wide_long hand.PaddingRight w = long.PaddingRight (given_by w)
-wide_long hand.PaddingBottom w = long.PaddingBottom (given_by w)
-wide_long hand.PaddingLeft w = long.PaddingLeft (given_by w)
-wide_long hand.BorderTopWidth w = long.BorderTopWidth (given_by w)
-wide_long hand.BorderRightWidth w = long.BorderRightWidth (given_by w)
-wide_long hand.BorderBottomWidth w = long.BorderBottomWidth (given_by w)
-wide_long hand.BorderLeftWidth w = long.BorderLeftWidth (given_by w)
-wide_long hand.BorderTopStyle w = long.BorderTopStyle (given_by w)
-wide_long hand.BorderRightStyle w = long.BorderRightStyle (given_by w)
-wide_long hand.BorderBottomStyle w = long.BorderBottomStyle (given_by w)
-wide_long hand.BorderLeftStyle w = long.BorderLeftStyle (given_by w)
-wide_long hand.BorderTopColor w = long.BorderTopColor (given_by w)
-wide_long hand.BorderRightColor w = long.BorderRightColor (given_by w)
-wide_long hand.BorderBottomColor w = long.BorderBottomColor (given_by w)
-wide_long hand.BorderLeftColor w = long.BorderLeftColor (given_by w)
+wide_long (hand.Margin s) w = long_of (on.Margin s (given_by w))
+wide_long (hand.Padding s) w = long_of (on.Padding s (given_by w))
+wide_long (hand.BorderWidth s) w = long_of (on.BorderWidth s (given_by w))
+wide_long (hand.BorderStyle s) w = long_of (on.BorderStyle s (given_by w))
+wide_long (hand.BorderColor s) w = long_of (on.BorderColor s (given_by w))
 wide_long hand.Width w = long.Width (given_by w)
 wide_long hand.Color w = long.Color (given_by w)
 wide_long hand.BackgroundColor w = long.BackgroundColor (given_by w)

@@ -18,6 +18,7 @@ use css_words::table::find_word;
 use css_words::unread::Unread;
 use css_words::words::{of_kind, slice_of};
 use std::alloc::Global;
+use style::initial::medium_width;
 use style::values::{BorderStyle, Measure};
 
 /// One of the three values of a border.
@@ -40,7 +41,14 @@ pub struct Border {
 fn width_of(word: &str) -> Option<i64>
     ensures { result ≡ find_word words.border_widths word.now }
 {
-    find_word(&[("thin", 64), ("medium", 192), ("thick", 320)], word)
+    find_word(
+        &[
+            ("thin", 64),
+            ("medium", i64::from(medium_width().units())),
+            ("thick", 320),
+        ],
+        word,
+    )
 }
 
 #[tactic(auto, unfolding(crate::specs::Words::border_styles))]

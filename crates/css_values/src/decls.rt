@@ -41,7 +41,7 @@ fn find_wide(word: &str) -> Option<Wide>
 
 /// `inherit` or `initial` alone.
 #[tactic(auto, unfolding(crate::specs::Decls::wide_of))]
-fn wide_of(token: Option<CssToken<'_>>, second: Option<CssToken<'_>>) -> Option<Wide>
+pub fn wide_of(token: Option<CssToken<'_>>, second: Option<CssToken<'_>>) -> Option<Wide>
     ensures { result ≡ spec.wide_of (option_map item_in token.entry) (option_map item_in second.entry) }
 {
     if second.is_some() || !of_kind(CssKind::Ident, token) {

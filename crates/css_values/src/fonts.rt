@@ -1,22 +1,23 @@
 //! Values of fonts, of lines and of pages (CSS 2.1, 15, 10.8.1 and 13.3; css-page-3, 7).
 
-ghost use Rattle.std.specs.Prelude.{◌≡◌, ◌≤◌, ◌<◌, ◌∷◌, ◌++◌, [], length, IfOk, IfSome};
+ghost use Rattle.std.specs.Prelude.{◌≡◌, ◌≤◌, ◌++◌, length};
 ghost use Rattle.css_words.specs.Parser.{Reads, Owns};
-ghost use Rattle.css_words.specs.Repeat.{many, with_prefix};
 ghost use Rattle.css_content.specs.Basics.{word_in};
 ghost use Rattle.css_values.specs.Fonts as spec;
-ghost use Rattle.css_values.specs.Words as words;
+ghost use Rattle.css_values.specs.Words as tables;
 
 use crate::measures::{is_negative, number_of, paddings, read_measure};
-use bk_num::decimal::Decimal;
+use bk_num::limits::ROOT_SIZE;
 use bk_num::name::Name;
 use bk_num::px::Px;
 use css_content::words::{whole, word_in};
 use css_tok::kind::CssKind;
+use css_words::lists::{ReadNext, ReadOne, read_comma_list, read_more};
 use css_words::reader::Reader;
 use css_words::unread::Unread;
-use css_words::words::{ident, is_mark, is_named, of_kind, string, value};
+use css_words::words::{ident, is_named, of_kind, string, value};
 use std::alloc::Global;
+use style::initial::{normal_height, normal_weight};
 use style::lists::Families;
 use style::values::{FontSize, GivenHeight, Measure, Weight};
 
@@ -29,34 +30,24 @@ pub enum SizeWord {
 }
 
 /// The next Ident; None where none comes.
-#[tactic(auto, unfolding(crate::specs::Fonts::next_ident, css_words::specs::Words::ident))]
-fn next_ident(alloc: Global, reader: &mut Reader<'_>) -> Result<Option<Name>, Unread>
-    ensures reads { Reads (λ x. x) (spec.next_ident reader.old) result reader.new }
-    ensures within { length reader.new ≤ length reader.old }
-    ensures taken { IfOk result (λ o. IfSome o (λ _. length reader.new < length reader.old)) }
-{
-    let token = reader.peek();
-    if token.is_none() || !of_kind(CssKind::Ident, token) {
-        return Ok(None);
-    }
-    reader.advance();
-    Ok(Some(value(alloc, token)?))
-}
+#[derive(Drop)]
+struct NextIdent;
 
-/// The Idents that come next.
-#[tactic(auto, using(css_words::proofs::RepeatLemmas::many_turns))]
-fn idents(alloc: Global, reader: &mut Reader<'_>) -> Result<Vec<Name>, Unread>
-    ensures reads { Reads (λ x. x.items) (with_prefix [] (many spec.next_ident reader.old)) result reader.new }
-    ensures within { length reader.new ≤ length reader.old }
-{
-    let mut found = Vec::new(alloc);
-    'idents: loop {
-        match next_ident(alloc, reader)? {
-            Some(next) => {
-                found.push(next)?;
-            }
-            None => return Ok(found),
+impl ReadNext for NextIdent {
+    type Item = Name;
+
+    ghost use Rattle.css_values.specs.Fonts.{next_ident};
+
+    ghost parser = { λ _. next_ident };
+
+    #[tactic(auto, unfolding(crate::specs::Fonts::next_ident, css_words::specs::Words::ident))]
+    fn next(&self, alloc: Global, reader: &mut Reader<'_>) -> Result<Option<Name>, Unread> {
+        let token = reader.peek();
+        if token.is_none() || !of_kind(CssKind::Ident, token) {
+            return Ok(None);
         }
+        reader.advance();
+        Ok(Some(value(alloc, token)?))
     }
 }
 
@@ -73,49 +64,34 @@ fn joined(alloc: Global, first: &Name, more: &[Name]) -> Result<Name, Unread>
     Ok(Name::from_string(text))
 }
 
-/// Reads a string, or Idents, which one space joins.
-#[tactic(auto, unfolding(crate::specs::Fonts::family), using(css_words::proofs::RepeatLemmas::no_prefix))]
-fn family(alloc: Global, reader: &mut Reader<'_>) -> Result<Name, Unread>
-    ensures reads { Reads (λ x. x) (spec.family reader.old) result reader.new }
+/// Reads Idents, which one space joins.
+#[tactic(auto, unfolding(crate::specs::Fonts::words), using(css_words::proofs::RepeatLemmas::no_prefix))]
+fn words(alloc: Global, reader: &mut Reader<'_>) -> Result<Name, Unread>
+    ensures reads { Reads (λ x. x) (spec.words reader.old) result reader.new }
     ensures within { length reader.new ≤ length reader.old }
 {
-    if of_kind(CssKind::Str, reader.peek()) {
-        return string(alloc, reader);
-    }
     let first = ident(alloc, reader)?;
-    let more = idents(alloc, reader)?;
-    joined(alloc, &first, &more)
+    let more = read_more(alloc, reader, Vec::new(alloc), &NextIdent)?;
+    joined(alloc, &first, more.as_slice())
 }
 
-/// The family after a comma; None where no comma comes.
-#[tactic(auto, unfolding(crate::specs::Fonts::next_family, css_words::specs::Words::is_mark))]
-fn next_family(alloc: Global, reader: &mut Reader<'_>) -> Result<Option<Name>, Unread>
-    ensures reads { Reads (λ x. x) (spec.next_family reader.old) result reader.new }
-    ensures within { length reader.new ≤ length reader.old }
-    ensures taken { IfOk result (λ o. IfSome o (λ _. length reader.new < length reader.old)) }
-{
-    let token = reader.peek();
-    if token.is_none() || !is_mark(b',', token) {
-        return Ok(None);
-    }
-    reader.advance();
-    Ok(Some(family(alloc, reader)?))
-}
+/// A family: a string, or Idents.
+#[derive(Drop)]
+struct Family;
 
-/// Reads the families that follow a first one.
-#[tactic(auto, using(css_words::proofs::RepeatLemmas::many_turns))]
-fn more_families(alloc: Global, reader: &mut Reader<'_>, first: Name) -> Result<Families, Unread>
-    ensures { Reads (λ x. x) (with_prefix (first ∷ []) (many spec.next_family reader.old)) result reader.new }
-{
-    let mut found = Vec::new(alloc);
-    found.push(first)?;
-    'families: loop {
-        match next_family(alloc, reader)? {
-            Some(next) => {
-                found.push(next)?;
-            }
-            None => return Ok(Families::of(found)),
+impl ReadOne for Family {
+    type Item = Name;
+
+    ghost use Rattle.css_values.specs.Fonts.{family};
+
+    ghost parser = { λ _. family };
+
+    #[tactic(auto, unfolding(crate::specs::Fonts::family))]
+    fn read(&self, alloc: Global, reader: &mut Reader<'_>) -> Result<Name, Unread> {
+        if of_kind(CssKind::Str, reader.peek()) {
+            return string(alloc, reader);
         }
+        words(alloc, reader)
     }
 }
 
@@ -124,13 +100,13 @@ fn more_families(alloc: Global, reader: &mut Reader<'_>, first: Name) -> Result<
 pub fn families(alloc: Global, reader: &mut Reader<'_>) -> Result<Families, Unread>
     ensures { Reads (λ x. x) (spec.families reader.old) result reader.new }
 {
-    let first = family(alloc, reader)?;
-    more_families(alloc, reader, first)
+    let found = read_comma_list(alloc, reader, &Family)?;
+    Ok(Families::of(found.into_vec()))
 }
 
 #[tactic(auto, unfolding(crate::specs::Words::sizes))]
 fn size_word(reader: &mut Reader<'_>) -> Result<SizeWord, Unread>
-    ensures { Reads (λ x. x) (word_in words.sizes reader.old) result reader.new }
+    ensures { Reads (λ x. x) (word_in tables.sizes reader.old) result reader.new }
 {
     word_in(
         reader,
@@ -138,7 +114,7 @@ fn size_word(reader: &mut Reader<'_>) -> Result<SizeWord, Unread>
             ("xx-small", SizeWord::Units(576)),
             ("x-small", SizeWord::Units(640)),
             ("small", SizeWord::Units(832)),
-            ("medium", SizeWord::Units(1024)),
+            ("medium", SizeWord::Units(ROOT_SIZE as i64)),
             ("large", SizeWord::Units(1152)),
             ("x-large", SizeWord::Units(1536)),
             ("xx-large", SizeWord::Units(2048)),
@@ -187,12 +163,12 @@ fn hundred(reader: &mut Reader<'_>) -> Result<u16, Unread>
 
 #[tactic(auto, unfolding(crate::specs::Words::weights))]
 fn weight_word(reader: &mut Reader<'_>) -> Result<Weight, Unread>
-    ensures { Reads (λ x. x) (word_in words.weights reader.old) result reader.new }
+    ensures { Reads (λ x. x) (word_in tables.weights reader.old) result reader.new }
 {
     word_in(
         reader,
         &[
-            ("normal", Weight::Number(400)),
+            ("normal", Weight::Number(normal_weight())),
             ("bold", Weight::Number(700)),
             ("bolder", Weight::Bolder),
             ("lighter", Weight::Lighter),
@@ -219,7 +195,7 @@ pub fn line_height(reader: &mut Reader<'_>) -> Result<GivenHeight, Unread>
     let token = reader.peek();
     if is_named(CssKind::Ident, token, "normal") {
         reader.advance();
-        return Ok(GivenHeight::Number(Decimal::new(125, 2)));
+        return Ok(GivenHeight::Number(normal_height()));
     }
     if !of_kind(CssKind::Number, token) {
         return Ok(GivenHeight::Size(read_measure(reader, paddings())?));

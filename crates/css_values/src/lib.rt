@@ -6,7 +6,6 @@ pub mod colors;
 pub mod decls;
 pub mod fonts;
 pub mod keywords;
-pub mod kinds;
 pub mod measures;
 pub mod properties;
 pub mod shorthands;

@@ -5,6 +5,8 @@ ghost use Rattle.css_words.specs.Table.{find_word};
 ghost use Rattle.css_values.specs.Properties as spec;
 
 use crate::shorthands::Shorthand;
+use crate::sides::SideKind;
+use bk_num::sides::BoxSide;
 use css_words::table::find_word;
 use style::longhand::Longhand;
 
@@ -23,105 +25,137 @@ pub enum Property {
     Several(Shorthand),
 }
 
-/// The property of a name, ASCII case aside.
-#[tactic(auto, unfolding(crate::specs::Properties::properties))]
-pub(crate) fn property_of(name: &str) -> Option<Property>
-    ensures { result ≡ find_word spec.properties name.now }
+/// The longhands of a box's sides by their names.
+#[tactic(auto, unfolding(crate::specs::Properties::side_hands))]
+fn side_hand(name: &str) -> Option<Longhand>
+    ensures { result ≡ find_word spec.side_hands name.now }
 {
     find_word(
         &[
-            ("display", Property::One(Longhand::Display)),
-            ("float", Property::One(Longhand::Float)),
-            ("margin-top", Property::One(Longhand::MarginTop)),
-            ("margin-right", Property::One(Longhand::MarginRight)),
-            ("margin-bottom", Property::One(Longhand::MarginBottom)),
-            ("margin-left", Property::One(Longhand::MarginLeft)),
-            ("padding-top", Property::One(Longhand::PaddingTop)),
-            ("padding-right", Property::One(Longhand::PaddingRight)),
-            ("padding-bottom", Property::One(Longhand::PaddingBottom)),
-            ("padding-left", Property::One(Longhand::PaddingLeft)),
-            ("border-top-width", Property::One(Longhand::BorderTopWidth)),
-            (
-                "border-right-width",
-                Property::One(Longhand::BorderRightWidth),
-            ),
+            ("margin-top", Longhand::Margin(BoxSide::Top)),
+            ("margin-right", Longhand::Margin(BoxSide::Right)),
+            ("margin-bottom", Longhand::Margin(BoxSide::Bottom)),
+            ("margin-left", Longhand::Margin(BoxSide::Left)),
+            ("padding-top", Longhand::Padding(BoxSide::Top)),
+            ("padding-right", Longhand::Padding(BoxSide::Right)),
+            ("padding-bottom", Longhand::Padding(BoxSide::Bottom)),
+            ("padding-left", Longhand::Padding(BoxSide::Left)),
+            ("border-top-width", Longhand::BorderWidth(BoxSide::Top)),
+            ("border-right-width", Longhand::BorderWidth(BoxSide::Right)),
             (
                 "border-bottom-width",
-                Property::One(Longhand::BorderBottomWidth),
+                Longhand::BorderWidth(BoxSide::Bottom),
             ),
-            (
-                "border-left-width",
-                Property::One(Longhand::BorderLeftWidth),
-            ),
-            ("border-top-style", Property::One(Longhand::BorderTopStyle)),
-            (
-                "border-right-style",
-                Property::One(Longhand::BorderRightStyle),
-            ),
+            ("border-left-width", Longhand::BorderWidth(BoxSide::Left)),
+            ("border-top-style", Longhand::BorderStyle(BoxSide::Top)),
+            ("border-right-style", Longhand::BorderStyle(BoxSide::Right)),
             (
                 "border-bottom-style",
-                Property::One(Longhand::BorderBottomStyle),
+                Longhand::BorderStyle(BoxSide::Bottom),
             ),
-            (
-                "border-left-style",
-                Property::One(Longhand::BorderLeftStyle),
-            ),
-            ("border-top-color", Property::One(Longhand::BorderTopColor)),
-            (
-                "border-right-color",
-                Property::One(Longhand::BorderRightColor),
-            ),
+            ("border-left-style", Longhand::BorderStyle(BoxSide::Left)),
+            ("border-top-color", Longhand::BorderColor(BoxSide::Top)),
+            ("border-right-color", Longhand::BorderColor(BoxSide::Right)),
             (
                 "border-bottom-color",
-                Property::One(Longhand::BorderBottomColor),
+                Longhand::BorderColor(BoxSide::Bottom),
             ),
-            (
-                "border-left-color",
-                Property::One(Longhand::BorderLeftColor),
-            ),
-            ("width", Property::One(Longhand::Width)),
-            ("color", Property::One(Longhand::Color)),
-            ("background-color", Property::One(Longhand::BackgroundColor)),
-            ("font-family", Property::One(Longhand::FontFamily)),
-            ("font-size", Property::One(Longhand::FontSize)),
-            ("font-style", Property::One(Longhand::FontStyle)),
-            ("font-weight", Property::One(Longhand::FontWeight)),
-            ("line-height", Property::One(Longhand::LineHeight)),
-            ("text-align", Property::One(Longhand::TextAlign)),
-            ("text-indent", Property::One(Longhand::TextIndent)),
-            ("white-space", Property::One(Longhand::WhiteSpace)),
-            ("overflow-wrap", Property::One(Longhand::OverflowWrap)),
-            ("list-style-type", Property::One(Longhand::ListStyleType)),
-            ("content", Property::One(Longhand::Content)),
-            ("counter-reset", Property::One(Longhand::CounterReset)),
-            (
-                "counter-increment",
-                Property::One(Longhand::CounterIncrement),
-            ),
-            ("string-set", Property::One(Longhand::StringSet)),
-            ("break-before", Property::One(Longhand::BreakBefore)),
-            ("break-after", Property::One(Longhand::BreakAfter)),
-            ("break-inside", Property::One(Longhand::BreakInside)),
-            ("widows", Property::One(Longhand::Widows)),
-            ("orphans", Property::One(Longhand::Orphans)),
-            ("page", Property::One(Longhand::Page)),
-            ("word-wrap", Property::One(Longhand::OverflowWrap)),
-            ("page-break-before", Property::PageBreakBefore),
-            ("page-break-after", Property::PageBreakAfter),
-            ("page-break-inside", Property::PageBreakInside),
-            ("margin", Property::Several(Shorthand::Margin)),
-            ("padding", Property::Several(Shorthand::Padding)),
-            ("border-width", Property::Several(Shorthand::BorderWidth)),
-            ("border-style", Property::Several(Shorthand::BorderStyle)),
-            ("border-color", Property::Several(Shorthand::BorderColor)),
-            ("border", Property::Several(Shorthand::Border)),
-            ("border-top", Property::Several(Shorthand::BorderTop)),
-            ("border-right", Property::Several(Shorthand::BorderRight)),
-            ("border-bottom", Property::Several(Shorthand::BorderBottom)),
-            ("border-left", Property::Several(Shorthand::BorderLeft)),
-            ("background", Property::One(Longhand::BackgroundColor)),
-            ("list-style", Property::One(Longhand::ListStyleType)),
+            ("border-left-color", Longhand::BorderColor(BoxSide::Left)),
         ],
         name,
     )
+}
+
+/// The other longhands by their names.
+#[tactic(auto, unfolding(crate::specs::Properties::lone_hands))]
+fn lone_hand(name: &str) -> Option<Longhand>
+    ensures { result ≡ find_word spec.lone_hands name.now }
+{
+    find_word(
+        &[
+            ("display", Longhand::Display),
+            ("float", Longhand::Float),
+            ("width", Longhand::Width),
+            ("color", Longhand::Color),
+            ("background-color", Longhand::BackgroundColor),
+            ("font-family", Longhand::FontFamily),
+            ("font-size", Longhand::FontSize),
+            ("font-style", Longhand::FontStyle),
+            ("font-weight", Longhand::FontWeight),
+            ("line-height", Longhand::LineHeight),
+            ("text-align", Longhand::TextAlign),
+            ("text-indent", Longhand::TextIndent),
+            ("white-space", Longhand::WhiteSpace),
+            ("overflow-wrap", Longhand::OverflowWrap),
+            ("list-style-type", Longhand::ListStyleType),
+            ("content", Longhand::Content),
+            ("counter-reset", Longhand::CounterReset),
+            ("counter-increment", Longhand::CounterIncrement),
+            ("string-set", Longhand::StringSet),
+            ("break-before", Longhand::BreakBefore),
+            ("break-after", Longhand::BreakAfter),
+            ("break-inside", Longhand::BreakInside),
+            ("widows", Longhand::Widows),
+            ("orphans", Longhand::Orphans),
+            ("page", Longhand::Page),
+            ("word-wrap", Longhand::OverflowWrap),
+            ("background", Longhand::BackgroundColor),
+            ("list-style", Longhand::ListStyleType),
+        ],
+        name,
+    )
+}
+
+/// The shorthands by their names.
+#[tactic(auto, unfolding(crate::specs::Properties::shorthands))]
+fn shorthand_of(name: &str) -> Option<Shorthand>
+    ensures { result ≡ find_word spec.shorthands name.now }
+{
+    find_word(
+        &[
+            ("margin", Shorthand::Sides(SideKind::Margin)),
+            ("padding", Shorthand::Sides(SideKind::Padding)),
+            ("border-width", Shorthand::Sides(SideKind::BorderWidth)),
+            ("border-style", Shorthand::Sides(SideKind::BorderStyle)),
+            ("border-color", Shorthand::Sides(SideKind::BorderColor)),
+            ("border", Shorthand::Border),
+            ("border-top", Shorthand::BorderSide(BoxSide::Top)),
+            ("border-right", Shorthand::BorderSide(BoxSide::Right)),
+            ("border-bottom", Shorthand::BorderSide(BoxSide::Bottom)),
+            ("border-left", Shorthand::BorderSide(BoxSide::Left)),
+        ],
+        name,
+    )
+}
+
+/// The properties that set a longhand of another name by words of their own.
+#[tactic(auto, unfolding(crate::specs::Properties::page_breaks))]
+fn page_break(name: &str) -> Option<Property>
+    ensures { result ≡ find_word spec.page_breaks name.now }
+{
+    find_word(
+        &[
+            ("page-break-before", Property::PageBreakBefore),
+            ("page-break-after", Property::PageBreakAfter),
+            ("page-break-inside", Property::PageBreakInside),
+        ],
+        name,
+    )
+}
+
+/// The property of a name, ASCII case aside.
+#[tactic(auto, unfolding(crate::specs::Properties::property_of))]
+pub(crate) fn property_of(name: &str) -> Option<Property>
+    ensures { result ≡ spec.property_of name.now }
+{
+    if let Some(hand) = side_hand(name) {
+        return Some(Property::One(hand));
+    }
+    if let Some(hand) = lone_hand(name) {
+        return Some(Property::One(hand));
+    }
+    if let Some(shorthand) = shorthand_of(name) {
+        return Some(Property::Several(shorthand));
+    }
+    page_break(name)
 }

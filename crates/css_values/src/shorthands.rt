@@ -1,38 +1,33 @@
 //! Shorthands: the longhands that their values give, in the order of the longhands (CSS 2.1, 8.3 to 8.5).
 
 ghost use Rattle.std.specs.Prelude.{◌≡◌, ◌++◌, ◌∷◌, [], OnOk};
+ghost use Rattle.bk_num.specs.Sides.{at, each, list_of};
 ghost use Rattle.css_words.specs.Parser.{Reads, Owns};
 ghost use Rattle.css_values.specs.Shorthands as spec;
-ghost use Rattle.style.specs.declared.long.Long.TheVariants as long;
+ghost use Rattle.css_values.specs.Sides.{hand_at};
 ghost use Rattle.css_values.specs.declared.shorthands.Shorthand.TheVariants as several;
+ghost use Rattle.style.specs.Longs.{on_side};
 
 use crate::borders::{Border, read_border};
-use crate::measures::{margins, paddings};
-use crate::sides::{Sides, border_colors, border_styles, border_widths, measures};
+use crate::sides::{SideKind, four_values, hand_at};
 use crate::values::{Wide, wide_long};
 use bk_num::items::Items;
 use bk_num::name::NoMem;
-use bk_num::values::Color;
+use bk_num::sides::{BoxSide, Sides};
 use css_words::reader::Reader;
 use css_words::unread::Unread;
 use std::alloc::Global;
-use style::long::{Given, Long};
-use style::longhand::Longhand;
-use style::values::{BorderStyle, Measure};
+use style::long::{Given, Long, SideLong};
 
 /// A property that sets several longhands.
 #[derive(Clone, Copy, Debug, PartialEq, Eq)]
 pub enum Shorthand {
-    Margin,
-    Padding,
-    BorderWidth,
-    BorderStyle,
-    BorderColor,
+    /// What a box has on each side.
+    Sides(SideKind),
+    /// The borders of all sides.
     Border,
-    BorderTop,
-    BorderRight,
-    BorderBottom,
-    BorderLeft,
+    /// The border of a side.
+    BorderSide(BoxSide),
 }
 
 /// Adds four longhands at the end.
@@ -49,237 +44,112 @@ fn add(longs: &mut Items<Long>, one: Long, two: Long, three: Long, four: Long) -
     fourth
 }
 
-/// Adds three longhands at the end.
-fn add_three(longs: &mut Items<Long>, one: Long, two: Long, three: Long) -> Result<(), NoMem>
-    ensures { OnOk result (longs.new ≡ longs.old ++ one ∷ two ∷ three ∷ []) }
-{
-    let first = longs.push(one);
-    let second = longs.push(two);
-    let third = longs.push(three);
-    first?;
-    second?;
-    third
-}
-
 /// The list of three longhands.
 fn three(alloc: Global, one: Long, two: Long, three: Long) -> Result<Items<Long>, Unread>
     ensures { Owns (one ∷ two ∷ three ∷ []) result }
 {
     let mut longs = Items::new(alloc);
-    add_three(&mut longs, one, two, three)?;
+    let first = longs.push(one);
+    let second = longs.push(two);
+    let third = longs.push(three);
+    first?;
+    second?;
+    third?;
     Ok(longs)
 }
 
-fn margin_longs(alloc: Global, sides: Sides<Given<Measure>>) -> Result<Items<Long>, Unread>
-    ensures { Owns (spec.margin_longs sides) result }
+/// Adds a longhand of each side at the end; each value goes to its own side.
+fn add_sides(longs: &mut Items<Long>, values: Sides<SideLong>) -> Result<(), NoMem>
+    ensures { OnOk result (longs.new ≡ longs.old ++ spec.sided (λ s. on_side s (at values s))) }
 {
-    let Sides {
-        top,
-        right,
-        bottom,
-        left,
-    } = sides;
+    add(
+        longs,
+        Long::of_side(values.top.on(BoxSide::Top)),
+        Long::of_side(values.right.on(BoxSide::Right)),
+        Long::of_side(values.bottom.on(BoxSide::Bottom)),
+        Long::of_side(values.left.on(BoxSide::Left)),
+    )
+}
+
+/// The longhands of all sides; each value goes to its own side.
+fn sided_longs(alloc: Global, values: Sides<SideLong>) -> Result<Items<Long>, Unread>
+    ensures { Owns (spec.sided (λ s. on_side s (at values s))) result }
+{
     let mut longs = Items::new(alloc);
-    add(
-        &mut longs,
-        Long::MarginTop(top),
-        Long::MarginRight(right),
-        Long::MarginBottom(bottom),
-        Long::MarginLeft(left),
-    )?;
+    add_sides(&mut longs, values)?;
     Ok(longs)
 }
 
-fn padding_longs(alloc: Global, sides: Sides<Given<Measure>>) -> Result<Items<Long>, Unread>
-    ensures { Owns (spec.padding_longs sides) result }
+/// Reads the values of all sides.
+#[tactic(auto, unfolding(crate::specs::Shorthands::read_sides))]
+fn read_sides(alloc: Global, reader: &mut Reader<'_>, kind: SideKind) -> Result<Items<Long>, Unread>
+    ensures { Reads (λ x. x) (spec.read_sides kind reader.old) result reader.new }
 {
-    let Sides {
-        top,
-        right,
-        bottom,
-        left,
-    } = sides;
-    let mut longs = Items::new(alloc);
-    add(
-        &mut longs,
-        Long::PaddingTop(top),
-        Long::PaddingRight(right),
-        Long::PaddingBottom(bottom),
-        Long::PaddingLeft(left),
-    )?;
-    Ok(longs)
-}
-
-fn add_widths(longs: &mut Items<Long>, sides: Sides<Given<Measure>>) -> Result<(), NoMem>
-    ensures { OnOk result (longs.new ≡ longs.old ++ spec.width_longs sides) }
-{
-    let Sides {
-        top,
-        right,
-        bottom,
-        left,
-    } = sides;
-    add(
-        longs,
-        Long::BorderTopWidth(top),
-        Long::BorderRightWidth(right),
-        Long::BorderBottomWidth(bottom),
-        Long::BorderLeftWidth(left),
-    )
-}
-
-fn add_styles(longs: &mut Items<Long>, sides: Sides<Given<BorderStyle>>) -> Result<(), NoMem>
-    ensures { OnOk result (longs.new ≡ longs.old ++ spec.style_longs sides) }
-{
-    let Sides {
-        top,
-        right,
-        bottom,
-        left,
-    } = sides;
-    add(
-        longs,
-        Long::BorderTopStyle(top),
-        Long::BorderRightStyle(right),
-        Long::BorderBottomStyle(bottom),
-        Long::BorderLeftStyle(left),
-    )
-}
-
-fn add_colors(longs: &mut Items<Long>, sides: Sides<Given<Option<Color>>>) -> Result<(), NoMem>
-    ensures { OnOk result (longs.new ≡ longs.old ++ spec.color_longs sides) }
-{
-    let Sides {
-        top,
-        right,
-        bottom,
-        left,
-    } = sides;
-    add(
-        longs,
-        Long::BorderTopColor(top),
-        Long::BorderRightColor(right),
-        Long::BorderBottomColor(bottom),
-        Long::BorderLeftColor(left),
-    )
+    match four_values(alloc, reader, kind) {
+        Ok(values) => sided_longs(alloc, values),
+        Err(unread) => Err(unread),
+    }
 }
 
 /// What is left out is initial.
-fn or_initial<T: Copy>(value: &Option<T>) -> Given<T>
-    ensures { result ≡ spec.or_initial value.now }
+fn or_initial<T: Copy>(value: Option<T>) -> Given<T>
+    ensures { result ≡ spec.or_initial value }
 {
     match value {
-        Some(value) => Given::Value(*value),
+        Some(value) => Given::Value(value),
         None => Given::Initial,
     }
 }
 
-fn same<T: Copy>(value: &Option<T>) -> Sides<Given<T>>
-    ensures { result ≡ spec.same (spec.or_initial value.now) }
+/// The width of a border on a side.
+fn width_on(border: &Border, side: BoxSide) -> SideLong
+    ensures { result ≡ spec.width_on border.now side }
 {
-    Sides {
-        top: or_initial(value),
-        right: or_initial(value),
-        bottom: or_initial(value),
-        left: or_initial(value),
-    }
+    SideLong::BorderWidth(side, or_initial(border.width))
 }
 
+/// The style of a border on a side.
+fn style_on(border: &Border, side: BoxSide) -> SideLong
+    ensures { result ≡ spec.style_on border.now side }
+{
+    SideLong::BorderStyle(side, or_initial(border.style))
+}
+
+/// The colour of a border on a side.
+fn color_on(border: &Border, side: BoxSide) -> SideLong
+    ensures { result ≡ spec.color_on border.now side }
+{
+    SideLong::BorderColor(side, or_initial(border.color))
+}
+
+/// The longhands of one side's border.
+fn side_longs(alloc: Global, border: &Border, side: BoxSide) -> Result<Items<Long>, Unread>
+    ensures { Owns (spec.side_longs border.now side) result }
+{
+    three(
+        alloc,
+        Long::of_side(width_on(border, side)),
+        Long::of_side(style_on(border, side)),
+        Long::of_side(color_on(border, side)),
+    )
+}
+
+/// Adds the same for each side at the end.
+fn add_same(longs: &mut Items<Long>, value: SideLong) -> Result<(), NoMem>
+    ensures { OnOk result (longs.new ≡ longs.old ++ spec.sided (λ s. on_side s value)) }
+{
+    add_sides(longs, Sides::same(value))
+}
+
+/// The longhands of all borders.
 #[tactic(auto, unfolding(crate::specs::Shorthands::border_longs))]
 fn border_longs(alloc: Global, border: &Border) -> Result<Items<Long>, Unread>
     ensures { Owns (spec.border_longs border.now) result }
 {
     let mut longs = Items::new(alloc);
-    add_widths(&mut longs, same(&border.width))?;
-    add_styles(&mut longs, same(&border.style))?;
-    add_colors(&mut longs, same(&border.color))?;
-    Ok(longs)
-}
-
-fn given_width(border: &Border) -> Given<Measure>
-    ensures { result ≡ spec.or_initial border.now.width }
-{
-    or_initial(&border.width)
-}
-
-fn given_style(border: &Border) -> Given<BorderStyle>
-    ensures { result ≡ spec.or_initial border.now.style }
-{
-    or_initial(&border.style)
-}
-
-fn given_color(border: &Border) -> Given<Option<Color>>
-    ensures { result ≡ spec.or_initial border.now.color }
-{
-    or_initial(&border.color)
-}
-
-/// The longhands of the top border, and of the others below.
-fn top_longs(alloc: Global, border: &Border) -> Result<Items<Long>, Unread>
-    ensures { Owns (spec.side_longs long.BorderTopWidth long.BorderTopStyle long.BorderTopColor border.now) result }
-{
-    three(
-        alloc,
-        Long::BorderTopWidth(given_width(border)),
-        Long::BorderTopStyle(given_style(border)),
-        Long::BorderTopColor(given_color(border)),
-    )
-}
-
-fn right_longs(alloc: Global, border: &Border) -> Result<Items<Long>, Unread>
-    ensures { Owns (spec.side_longs long.BorderRightWidth long.BorderRightStyle long.BorderRightColor border.now) result }
-{
-    three(
-        alloc,
-        Long::BorderRightWidth(given_width(border)),
-        Long::BorderRightStyle(given_style(border)),
-        Long::BorderRightColor(given_color(border)),
-    )
-}
-
-fn bottom_longs(alloc: Global, border: &Border) -> Result<Items<Long>, Unread>
-    ensures { Owns (spec.side_longs long.BorderBottomWidth long.BorderBottomStyle long.BorderBottomColor border.now) result }
-{
-    three(
-        alloc,
-        Long::BorderBottomWidth(given_width(border)),
-        Long::BorderBottomStyle(given_style(border)),
-        Long::BorderBottomColor(given_color(border)),
-    )
-}
-
-fn left_longs(alloc: Global, border: &Border) -> Result<Items<Long>, Unread>
-    ensures { Owns (spec.side_longs long.BorderLeftWidth long.BorderLeftStyle long.BorderLeftColor border.now) result }
-{
-    three(
-        alloc,
-        Long::BorderLeftWidth(given_width(border)),
-        Long::BorderLeftStyle(given_style(border)),
-        Long::BorderLeftColor(given_color(border)),
-    )
-}
-
-fn width_longs(alloc: Global, sides: Sides<Given<Measure>>) -> Result<Items<Long>, Unread>
-    ensures { Owns (spec.width_longs sides) result }
-{
-    let mut longs = Items::new(alloc);
-    add_widths(&mut longs, sides)?;
-    Ok(longs)
-}
-
-fn style_longs(alloc: Global, sides: Sides<Given<BorderStyle>>) -> Result<Items<Long>, Unread>
-    ensures { Owns (spec.style_longs sides) result }
-{
-    let mut longs = Items::new(alloc);
-    add_styles(&mut longs, sides)?;
-    Ok(longs)
-}
-
-fn color_longs(alloc: Global, sides: Sides<Given<Option<Color>>>) -> Result<Items<Long>, Unread>
-    ensures { Owns (spec.color_longs sides) result }
-{
-    let mut longs = Items::new(alloc);
-    add_colors(&mut longs, sides)?;
+    add_same(&mut longs, width_on(border, BoxSide::Top))?;
+    add_same(&mut longs, style_on(border, BoxSide::Top))?;
+    add_same(&mut longs, color_on(border, BoxSide::Top))?;
     Ok(longs)
 }
 
@@ -293,73 +163,52 @@ pub(crate) fn read_shorthand(
     ensures { Reads (λ x. x) (spec.read_shorthand shorthand reader.old) result reader.new }
 {
     match shorthand {
-        Shorthand::Margin => margin_longs(alloc, measures(reader, margins())?),
-        Shorthand::Padding => padding_longs(alloc, measures(reader, paddings())?),
-        Shorthand::BorderWidth => width_longs(alloc, border_widths(reader)?),
-        Shorthand::BorderStyle => style_longs(alloc, border_styles(reader)?),
-        Shorthand::BorderColor => color_longs(alloc, border_colors(alloc, reader)?),
-        Shorthand::Border => border_longs(alloc, &read_border(alloc, reader)?),
-        Shorthand::BorderTop => top_longs(alloc, &read_border(alloc, reader)?),
-        Shorthand::BorderRight => right_longs(alloc, &read_border(alloc, reader)?),
-        Shorthand::BorderBottom => bottom_longs(alloc, &read_border(alloc, reader)?),
-        Shorthand::BorderLeft => left_longs(alloc, &read_border(alloc, reader)?),
+        Shorthand::Sides(kind) => read_sides(alloc, reader, kind),
+        Shorthand::Border => match read_border(alloc, reader) {
+            Ok(border) => border_longs(alloc, &border),
+            Err(unread) => Err(unread),
+        },
+        Shorthand::BorderSide(side) => match read_border(alloc, reader) {
+            Ok(border) => side_longs(alloc, &border, side),
+            Err(unread) => Err(unread),
+        },
     }
 }
 
-/// Adds four longhands with one of the two words.
+/// Adds the longhands of all sides with one of the two words.
 #[tactic(auto, unfolding(crate::specs::Shorthands::wide_longs))]
-fn add_wide(
-    longs: &mut Items<Long>,
-    wide: Wide,
-    one: Longhand,
-    two: Longhand,
-    three: Longhand,
-    four: Longhand,
-) -> Result<(), NoMem>
-    ensures { OnOk result (longs.new ≡ longs.old ++ spec.wide_longs (one ∷ two ∷ three ∷ four ∷ []) wide) }
+fn add_wide(longs: &mut Items<Long>, kind: SideKind, wide: Wide) -> Result<(), NoMem>
+    ensures { OnOk result (longs.new ≡ longs.old ++ spec.wide_longs (list_of (each (hand_at kind))) wide) }
 {
     add(
         longs,
-        wide_long(one, wide),
-        wide_long(two, wide),
-        wide_long(three, wide),
-        wide_long(four, wide),
+        wide_long(hand_at(kind, BoxSide::Top), wide),
+        wide_long(hand_at(kind, BoxSide::Right), wide),
+        wide_long(hand_at(kind, BoxSide::Bottom), wide),
+        wide_long(hand_at(kind, BoxSide::Left), wide),
     )
 }
 
-/// The longhands of four sides with one of the two words.
-fn wide_sides(
-    alloc: Global,
-    wide: Wide,
-    top: Longhand,
-    right: Longhand,
-    bottom: Longhand,
-    left: Longhand,
-) -> Result<Items<Long>, Unread>
-    ensures { Owns (spec.wide_longs (top ∷ right ∷ bottom ∷ left ∷ []) wide) result }
-{
-    let mut longs = Items::new(alloc);
-    add_wide(&mut longs, wide, top, right, bottom, left)?;
-    Ok(longs)
-}
-
-/// The longhands of one border with one of the two words.
+/// The longhands of a side's border with one of the two words.
 #[tactic(auto, unfolding(crate::specs::Shorthands::wide_longs))]
-fn wide_side(
-    alloc: Global,
-    wide: Wide,
-    width: Longhand,
-    style: Longhand,
-    color: Longhand,
-) -> Result<Items<Long>, Unread>
-    ensures { Owns (spec.wide_longs (width ∷ style ∷ color ∷ []) wide) result }
+fn wide_side(alloc: Global, side: BoxSide, wide: Wide) -> Result<Items<Long>, Unread>
+    ensures { Owns (spec.wide_longs (spec.side_hands side) wide) result }
 {
     three(
         alloc,
-        wide_long(width, wide),
-        wide_long(style, wide),
-        wide_long(color, wide),
+        wide_long(hand_at(SideKind::BorderWidth, side), wide),
+        wide_long(hand_at(SideKind::BorderStyle, side), wide),
+        wide_long(hand_at(SideKind::BorderColor, side), wide),
     )
+}
+
+/// The longhands of all sides with one of the two words.
+fn wide_sides(alloc: Global, kind: SideKind, wide: Wide) -> Result<Items<Long>, Unread>
+    ensures { Owns (spec.wide_longs (list_of (each (hand_at kind))) wide) result }
+{
+    let mut longs = Items::new(alloc);
+    add_wide(&mut longs, kind, wide)?;
+    Ok(longs)
 }
 
 /// The longhands of all borders with one of the two words.
@@ -368,30 +217,9 @@ fn wide_borders(alloc: Global, wide: Wide) -> Result<Items<Long>, Unread>
     ensures { Owns (spec.wide_longs (spec.longhands_of several.Border) wide) result }
 {
     let mut longs = Items::new(alloc);
-    add_wide(
-        &mut longs,
-        wide,
-        Longhand::BorderTopWidth,
-        Longhand::BorderRightWidth,
-        Longhand::BorderBottomWidth,
-        Longhand::BorderLeftWidth,
-    )?;
-    add_wide(
-        &mut longs,
-        wide,
-        Longhand::BorderTopStyle,
-        Longhand::BorderRightStyle,
-        Longhand::BorderBottomStyle,
-        Longhand::BorderLeftStyle,
-    )?;
-    add_wide(
-        &mut longs,
-        wide,
-        Longhand::BorderTopColor,
-        Longhand::BorderRightColor,
-        Longhand::BorderBottomColor,
-        Longhand::BorderLeftColor,
-    )?;
+    add_wide(&mut longs, SideKind::BorderWidth, wide)?;
+    add_wide(&mut longs, SideKind::BorderStyle, wide)?;
+    add_wide(&mut longs, SideKind::BorderColor, wide)?;
     Ok(longs)
 }
 
@@ -405,74 +233,8 @@ pub(crate) fn wide_shorthand(
     ensures { Owns (spec.wide_longs (spec.longhands_of shorthand) wide) result }
 {
     match shorthand {
-        Shorthand::Margin => wide_sides(
-            alloc,
-            wide,
-            Longhand::MarginTop,
-            Longhand::MarginRight,
-            Longhand::MarginBottom,
-            Longhand::MarginLeft,
-        ),
-        Shorthand::Padding => wide_sides(
-            alloc,
-            wide,
-            Longhand::PaddingTop,
-            Longhand::PaddingRight,
-            Longhand::PaddingBottom,
-            Longhand::PaddingLeft,
-        ),
-        Shorthand::BorderWidth => wide_sides(
-            alloc,
-            wide,
-            Longhand::BorderTopWidth,
-            Longhand::BorderRightWidth,
-            Longhand::BorderBottomWidth,
-            Longhand::BorderLeftWidth,
-        ),
-        Shorthand::BorderStyle => wide_sides(
-            alloc,
-            wide,
-            Longhand::BorderTopStyle,
-            Longhand::BorderRightStyle,
-            Longhand::BorderBottomStyle,
-            Longhand::BorderLeftStyle,
-        ),
-        Shorthand::BorderColor => wide_sides(
-            alloc,
-            wide,
-            Longhand::BorderTopColor,
-            Longhand::BorderRightColor,
-            Longhand::BorderBottomColor,
-            Longhand::BorderLeftColor,
-        ),
+        Shorthand::Sides(kind) => wide_sides(alloc, kind, wide),
         Shorthand::Border => wide_borders(alloc, wide),
-        Shorthand::BorderTop => wide_side(
-            alloc,
-            wide,
-            Longhand::BorderTopWidth,
-            Longhand::BorderTopStyle,
-            Longhand::BorderTopColor,
-        ),
-        Shorthand::BorderRight => wide_side(
-            alloc,
-            wide,
-            Longhand::BorderRightWidth,
-            Longhand::BorderRightStyle,
-            Longhand::BorderRightColor,
-        ),
-        Shorthand::BorderBottom => wide_side(
-            alloc,
-            wide,
-            Longhand::BorderBottomWidth,
-            Longhand::BorderBottomStyle,
-            Longhand::BorderBottomColor,
-        ),
-        Shorthand::BorderLeft => wide_side(
-            alloc,
-            wide,
-            Longhand::BorderLeftWidth,
-            Longhand::BorderLeftStyle,
-            Longhand::BorderLeftColor,
-        ),
+        Shorthand::BorderSide(side) => wide_side(alloc, side, wide),
     }
 }

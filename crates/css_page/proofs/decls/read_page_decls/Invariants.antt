@@ -1,8 +1,0 @@
-use Rattle.std.proofs.Common.{◌≡◌, ◌++◌, map, drop}
-use Rattle.std.specs.List.{filter_map}
-use Rattle.css_rules.specs.Decls.{decl_in}
-use Rattle.css_page.specs.Decls.{page_decl}
-use Rattle.css_page.proofs.decls.read_page_decls.Given as goal
-
-abbrev pub invariant-loop-slice : goal.invariant-loop-slice
-invariant-loop-slice l = l.decls ++ filter_map page_decl (map decl_in (drop l.slice-index l.slices)) ≡ filter_map page_decl (map decl_in l.slices)
