@@ -1,8 +1,9 @@
 -- What is listed for a node is what applies to it.
 use Rattle.std.proofs.Common.{◌≡◌, ℕ, suc, zero, ◌+◌, Bool, true, false, List, [], ◌∷◌, Option, None, Some, map, option_map, slice_get, cond, refl, sym, ◌∙◌, ap, subst, arith, ◌⊎◌, inl, inr}
+use Rattle.bk_num.proofs.ListLemmas.{contains-get, get-contains, contains-none, contains-one, contains-map}
 use Rattle.std.specs.List.{Contains, filter_map, cons_option}
-use Rattle.std.proofs.lemmas.List.Elements.{Contains-push, Contains-push_cases, Contains-append_left, Contains-append_right, Contains-append_cases}
-use Rattle.std.proofs.lemmas.Option.{slice_get-map, slice_get_within, slice_get-get_or, get_or_from_slice_get}
+use Rattle.std.proofs.lemmas.List.Elements.{Contains-push, Contains-append_left, Contains-append_right, Contains-append_cases}
+use Rattle.std.proofs.lemmas.Option.{slice_get-map, same_Some}
 use Rattle.bk_num.specs.declared.values.Pseudo.{Pseudo}
 use Rattle.bk_num.specs.declared.values.Pseudo.TheVariants as pseudo
 use Rattle.selectors.specs.Selectors.{SelectorView}
@@ -10,18 +11,12 @@ use Rattle.selectors.specs.Match.{Tree, Matches}
 use Rattle.style.specs.declared.long.Long.{Long}
 use Rattle.cascade.specs.declared.decl.ReadDecl.{ReadDecl}
 use Rattle.cascade.specs.declared.sheet.ReadSheet.{ReadSheet}
-use Rattle.cascade.specs.Candidates.{Declared, AppliedOf, DeclaredBy}
+use Rattle.cascade.specs.Candidates.{Declared, AppliedDeclsOf, DeclaredBy}
 use Rattle.cascade.specs.Winners.{IsWinner, AreWinners}
 use Rattle.cascade.specs.Document.{RuleIn, rules_of, weight_of, style_decls, IsRuleApplied, IsStyleApplied, Applies, IsDeclaredAt}
 use Rattle.cascade.specs.Selected.{SelectedOf, selected_by, selected_from, selectors_of, is_same, named, named_at, style_rule, style_rules, rules_at, ArePlaces}
 
 -- ---- elements of lists
-
-pub to_get : {A : Type 0} (xs : List A) (x : A) → Contains xs x → (k : ℕ) × (slice_get xs k ≡ Some x)
-to_get xs x h = (h.0, slice_get-get_or xs h.0 x h.1 ∙ ap (λ y. Some y) h.2)
-
-pub to_contains : {A : Type 0} (xs : List A) (k : ℕ) (x : A) → slice_get xs k ≡ Some x → Contains xs x
-to_contains xs k x e = (k, slice_get_within xs k x e, get_or_from_slice_get xs k x x e)
 
 here : {A : Type 0} (x : A) (xs : List A) → Contains (x ∷ xs) x
 here x xs = Contains-append_left (x ∷ []) xs x (Contains-push [] x)
@@ -29,31 +24,15 @@ here x xs = Contains-append_left (x ∷ []) xs x (Contains-push [] x)
 beyond : {A : Type 0} (x : A) (xs : List A) (y : A) → Contains xs y → Contains (x ∷ xs) y
 beyond x xs y h = Contains-append_right (x ∷ []) xs y h
 
-pub nothing : {A : Type 0} (x : A) → Contains [] x → ⊥
-nothing x h = let low = h.1 in omega (arith, low)
-
-pub alone : {A : Type 0} (x y : A) → Contains (x ∷ []) y → x ≡ y
-alone x y h = by (Contains-push_cases [] x y h)
-  where
-    by : Contains [] y ⊎ (x ≡ y) → x ≡ y
-    by (inl a) = absurd (nothing y a)
-    by (inr e) = e
-
-pub some_is : {A : Type 0} {a b : A} → Some a ≡ Some b → a ≡ b
-some_is e = cc
-
 of_map : {A B : Type 0} (f : A → B) (xs : List A) (y : B) → Contains (map f xs) y → (x : A) × Contains xs x × (f x ≡ y)
-of_map {A = A} f xs y h = let g = to_get (map f xs) y h in by (slice_get xs g.0) refl (sym (slice_get-map f xs g.0) ∙ g.1)
+of_map {A = A} f xs y h = let g = contains-get (map f xs) y h in by (slice_get xs g.0) refl (sym (slice_get-map f xs g.0) ∙ g.1)
   where
-    by : (o : Option A) → slice_get xs (to_get (map f xs) y h).0 ≡ o → option_map f o ≡ Some y → (x : A) × Contains xs x × (f x ≡ y)
+    by : (o : Option A) → slice_get xs (contains-get (map f xs) y h).0 ≡ o → option_map f o ≡ Some y → (x : A) × Contains xs x × (f x ≡ y)
     by None at e = cc
-    by (Some x) at e = (x, to_contains xs (to_get (map f xs) y h).0 x at, some_is e)
-
-in_map : {A B : Type 0} (f : A → B) (xs : List A) (x : A) → Contains xs x → Contains (map f xs) (f x)
-in_map f xs x h = let g = to_get xs x h in to_contains (map f xs) g.0 (f x) (slice_get-map f xs g.0 ∙ ap (option_map f) g.1)
+    by (Some x) at e = (x, get-contains xs (contains-get (map f xs) y h).0 x at, same_Some _ _ e)
 
 of_filter : {A B : Type 0} (h : A → Option B) (xs : List A) (y : B) → Contains (filter_map h xs) y → (x : A) × Contains xs x × (h x ≡ Some y)
-of_filter h [] y c = absurd (nothing y c)
+of_filter h [] y c = absurd (contains-none y c)
 of_filter {A = A} {B = B} h (x ∷ xs) y c = by (h x) refl c (λ d. of_filter h xs y d)
   where
     by : (o : Option B) → h x ≡ o → Contains (cons_option o (filter_map h xs)) y → (Contains (filter_map h xs) y → (z : A) × Contains xs z × (h z ≡ Some y)) → (z : A) × Contains (x ∷ xs) z × (h z ≡ Some y)
@@ -61,11 +40,11 @@ of_filter {A = A} {B = B} h (x ∷ xs) y c = by (h x) refl c (λ d. of_filter h 
     by (Some z) e c rest = of (Contains-append_cases (z ∷ []) (filter_map h xs) y c)
       where
         of : Contains (z ∷ []) y ⊎ Contains (filter_map h xs) y → (w : A) × Contains (x ∷ xs) w × (h w ≡ Some y)
-        of (inl a) = (x, here x xs, e ∙ ap (λ v. Some v) (alone z y a))
+        of (inl a) = (x, here x xs, e ∙ ap (λ v. Some v) (contains-one z y a))
         of (inr b) = let r = rest b in (r.0, beyond x xs r.0 r.1, r.2)
 
 in_filter : {A B : Type 0} (h : A → Option B) (xs : List A) (x : A) (y : B) → Contains xs x → h x ≡ Some y → Contains (filter_map h xs) y
-in_filter h [] x y c e = absurd (nothing x c)
+in_filter h [] x y c e = absurd (contains-none x c)
 in_filter {B = B} h (w ∷ xs) x y c e = by (Contains-append_cases (w ∷ []) xs x c) (λ d. in_filter h xs x y d e)
   where
     kept : (o : Option B) → Contains (filter_map h xs) y → Contains (cons_option o (filter_map h xs)) y
@@ -74,10 +53,10 @@ in_filter {B = B} h (w ∷ xs) x y c e = by (Contains-append_cases (w ∷ []) xs
 
     first : (o : Option B) → o ≡ Some y → Contains (cons_option o (filter_map h xs)) y
     first None i = cc
-    first (Some z) i = subst (λ v. Contains (z ∷ filter_map h xs) v) (some_is i) (here z (filter_map h xs))
+    first (Some z) i = subst (λ v. Contains (z ∷ filter_map h xs) v) (same_Some _ _ i) (here z (filter_map h xs))
 
     by : Contains (w ∷ []) x ⊎ Contains xs x → (Contains xs x → Contains (filter_map h xs) y) → Contains (cons_option (h w) (filter_map h xs)) y
-    by (inl a) rest = first (h w) (ap h (alone w x a) ∙ e)
+    by (inl a) rest = first (h w) (ap h (contains-one w x a) ∙ e)
     by (inr b) rest = kept (h w) (rest b)
 
 -- ---- the selectors of rules
@@ -91,7 +70,7 @@ record IsSelected (q : ℕ) (rs : List RuleIn) (s : SelectedOf) : Type 0 where
   is : s ≡ selected_by (q + place) rule.origin rule.read.decls selector
 
 of_selected : (q : ℕ) (rs : List RuleIn) (s : SelectedOf) → Contains (selected_from q rs) s → IsSelected q rs s
-of_selected q [] s h = absurd (nothing s h)
+of_selected q [] s h = absurd (contains-none s h)
 of_selected q (r ∷ rs) s h = by (Contains-append_cases (map (selected_by q r.origin r.read.decls) r.read.selectors.items) (selected_from (q + 1) rs) s h) (λ g. of_selected (q + 1) rs s g)
   where
     by : Contains (map (selected_by q r.origin r.read.decls) r.read.selectors.items) s ⊎ Contains (selected_from (q + 1) rs) s → (Contains (selected_from (q + 1) rs) s → IsSelected (q + 1) rs s) → IsSelected q (r ∷ rs) s
@@ -107,12 +86,12 @@ of_selected q (r ∷ rs) s h = by (Contains-append_cases (map (selected_by q r.o
 in_selected : (q : ℕ) (rs : List RuleIn) (k : ℕ) (r : RuleIn) (v : SelectorView) → slice_get rs k ≡ Some r → Contains r.read.selectors.items v → Contains (selected_from q rs) (selected_by (q + k) r.origin r.read.decls v)
 in_selected q [] k r v at has = cc
 in_selected q (x ∷ rs) zero r v at has =
-    let same : x ≡ r = some_is at in
+    let same : x ≡ r = same_Some _ _ at in
     let n : q ≡ q + 0 = omega arith in
     subst (λ j. Contains (selected_from q (x ∷ rs)) (selected_by j r.origin r.read.decls v)) n
     (subst (λ (y : RuleIn). Contains (selected_from q (x ∷ rs)) (selected_by q y.origin y.read.decls v)) same
     (Contains-append_left (map (selected_by q x.origin x.read.decls) x.read.selectors.items) (selected_from (q + 1) rs) (selected_by q x.origin x.read.decls v)
-    (in_map (selected_by q x.origin x.read.decls) x.read.selectors.items v (subst (λ (y : RuleIn). Contains y.read.selectors.items v) (sym same) has))))
+    (contains-map (selected_by q x.origin x.read.decls) x.read.selectors.items v (subst (λ (y : RuleIn). Contains y.read.selectors.items v) (sym same) has))))
 in_selected q (x ∷ rs) (suc k) r v at has =
     let n : q + 1 + k ≡ q + suc k = omega arith in
     subst (λ j. Contains (selected_from q (x ∷ rs)) (selected_by j r.origin r.read.decls v)) n
@@ -154,18 +133,18 @@ same_self pseudo.After = refl
 same_self pseudo.Call = refl
 same_self pseudo.Marker = refl
 
-record IsNamed (p : Pseudo) (o : Option SelectedOf) (a : AppliedOf) : Type 0 where
+record IsNamed (p : Pseudo) (o : Option SelectedOf) (a : AppliedDeclsOf) : Type 0 where
   one : SelectedOf
   at : o ≡ Some one
   pseudo : one.selector.pseudo ≡ p
   rule : one.rule ≡ a
 
-of_named : (p : Pseudo) (o : Option SelectedOf) (a : AppliedOf) → named p o ≡ Some a → IsNamed p o a
+of_named : (p : Pseudo) (o : Option SelectedOf) (a : AppliedDeclsOf) → named p o ≡ Some a → IsNamed p o a
 of_named p None a e = cc
 of_named p (Some s) a e = by (is_same s.selector.pseudo p) refl e
   where
     by : (b : Bool) → is_same s.selector.pseudo p ≡ b → cond b (Some s.rule) None ≡ Some a → IsNamed p (Some s) a
-    by true t f = record { one = s; at = refl; pseudo = same_is s.selector.pseudo p t; rule = some_is f }
+    by true t f = record { one = s; at = refl; pseudo = same_is s.selector.pseudo p t; rule = same_Some _ _ f }
     by false t f = cc
 
 in_named : (p : Pseudo) (s : SelectedOf) → s.selector.pseudo ≡ p → named p (Some s) ≡ Some s.rule
@@ -174,14 +153,14 @@ in_named p s e = ap (λ b. cond b (Some s.rule) None) (ap (λ q. is_same q p) e 
 -- ---- what applies
 
 applies_by : (dom : Tree) (sheets : List ReadSheet) (ss : List SelectedOf) (n : ℕ) (places : List ℕ) (p : Pseudo) → ss ≡ selected_from 0 (rules_of sheets) → ArePlaces dom ss n places
-    → (a : AppliedOf) → Contains (filter_map (named_at ss p) places) a → IsRuleApplied dom sheets n p a
+    → (a : AppliedDeclsOf) → Contains (filter_map (named_at ss p) places) a → IsRuleApplied dom sheets n p a
 applies_by dom sheets ss n places p all found a h =
     let f = of_filter (named_at ss p) places a h in
     let one = of_named p (slice_get ss f.0) a f.2 in
     let m = (found f.0).0 f.1 in
     let at : slice_get (selectors_of ss) f.0 ≡ Some one.one.selector = slice_get-map (λ (s : SelectedOf). s.selector) ss f.0 ∙ ap (option_map (λ (s : SelectedOf). s.selector)) one.at in
-    let view : m.0 ≡ one.one.selector = some_is (sym m.1 ∙ at) in
-    let s = of_selected 0 (rules_of sheets) one.one (subst (λ l. Contains l one.one) all (to_contains ss f.0 one.one one.at)) in
+    let view : m.0 ≡ one.one.selector = same_Some _ _ (sym m.1 ∙ at) in
+    let s = of_selected 0 (rules_of sheets) one.one (subst (λ l. Contains l one.one) all (get-contains ss f.0 one.one one.at)) in
     let sel : one.one.selector ≡ s.selector = ap (λ (x : SelectedOf). x.selector) s.is in
     let k : 0 + s.place ≡ s.place = omega arith in
     record {
@@ -192,19 +171,19 @@ applies_by dom sheets ss n places p all found a h =
       of_rule = s.of_rule;
       pseudo = ap (λ (v : SelectorView). v.pseudo) (sym sel) ∙ one.pseudo;
       matches = subst (λ v. Matches dom v n) (view ∙ sel) m.2;
-      weight = sym (ap (λ (x : AppliedOf). x.weight) one.rule) ∙ ap (λ (x : SelectedOf). x.rule.weight) s.is ∙ ap (λ j. weight_of s.rule.origin j s.selector) k;
-      decls = sym (ap (λ (x : AppliedOf). x.decls) one.rule) ∙ ap (λ (x : SelectedOf). x.rule.decls) s.is;
+      weight = sym (ap (λ (x : AppliedDeclsOf). x.weight) one.rule) ∙ ap (λ (x : SelectedOf). x.rule.weight) s.is ∙ ap (λ j. weight_of s.rule.origin j s.selector) k;
+      decls = sym (ap (λ (x : AppliedDeclsOf). x.decls) one.rule) ∙ ap (λ (x : SelectedOf). x.rule.decls) s.is;
     }
 
-styles_by : (dom : Tree) (n : ℕ) (p : Pseudo) (a : AppliedOf) → Contains (style_rules (style_decls dom n) p) a → IsStyleApplied dom n p a
+styles_by : (dom : Tree) (n : ℕ) (p : Pseudo) (a : AppliedDeclsOf) → Contains (style_rules (style_decls dom n) p) a → IsStyleApplied dom n p a
 styles_by dom n p a h = by (is_same p pseudo.Element) refl h
   where
     by : (b : Bool) → is_same p pseudo.Element ≡ b → Contains (cond b (style_rule (style_decls dom n) ∷ []) []) a → IsStyleApplied dom n p a
-    by true t c = let e = sym (alone (style_rule (style_decls dom n)) a c) in record { element = same_is p pseudo.Element t; weight = ap (λ (x : AppliedOf). x.weight) e; decls = ap (λ (x : AppliedOf). x.decls) e }
-    by false t c = absurd (nothing a c)
+    by true t c = let e = sym (contains-one (style_rule (style_decls dom n)) a c) in record { element = same_is p pseudo.Element t; weight = ap (λ (x : AppliedDeclsOf). x.weight) e; decls = ap (λ (x : AppliedDeclsOf). x.decls) e }
+    by false t c = absurd (contains-none a c)
 
 of_rules : (dom : Tree) (sheets : List ReadSheet) (ss : List SelectedOf) (n : ℕ) (places : List ℕ) (p : Pseudo) → ss ≡ selected_from 0 (rules_of sheets) → ArePlaces dom ss n places
-    → (a : AppliedOf) → Contains (rules_at ss places (style_decls dom n) p) a → Applies dom sheets n p a
+    → (a : AppliedDeclsOf) → Contains (rules_at ss places (style_decls dom n) p) a → Applies dom sheets n p a
 of_rules dom sheets ss n places p all found a h = by (Contains-append_cases (filter_map (named_at ss p) places) (style_rules (style_decls dom n) p) a h)
   where
     by : Contains (filter_map (named_at ss p) places) a ⊎ Contains (style_rules (style_decls dom n) p) a → Applies dom sheets n p a
@@ -212,12 +191,12 @@ of_rules dom sheets ss n places p all found a h = by (Contains-append_cases (fil
     by (inr c) = inr (styles_by dom n p a c)
 
 in_rules : (dom : Tree) (sheets : List ReadSheet) (ss : List SelectedOf) (n : ℕ) (places : List ℕ) (p : Pseudo) → ss ≡ selected_from 0 (rules_of sheets) → ArePlaces dom ss n places
-    → (a : AppliedOf) → Applies dom sheets n p a → Contains (rules_at ss places (style_decls dom n) p) a
+    → (a : AppliedDeclsOf) → Applies dom sheets n p a → Contains (rules_at ss places (style_decls dom n) p) a
 in_rules dom sheets ss n places p all found a (inl r) =
     let k : 0 + r.place ≡ r.place = omega arith in
     let s : SelectedOf = selected_by (0 + r.place) r.rule.origin r.rule.read.decls r.selector in
     let there : Contains ss s = subst (λ l. Contains l s) (sym all) (in_selected 0 (rules_of sheets) r.place r.rule r.selector r.there r.of_rule) in
-    let g = to_get ss s there in
+    let g = contains-get ss s there in
     let at : slice_get (selectors_of ss) g.0 ≡ Some r.selector = slice_get-map (λ (x : SelectedOf). x.selector) ss g.0 ∙ ap (option_map (λ (x : SelectedOf). x.selector)) g.1 in
     let place : Contains places g.0 = (found g.0).1 (r.selector, at, r.matches) in
     let is : named_at ss p g.0 ≡ Some s.rule = ap (named p) g.1 ∙ in_named p s r.pseudo in
@@ -248,13 +227,13 @@ at_node dom sheets ss n places styled p longs all found same w =
     winners_told (DeclaredBy (rules_at ss places (style_decls dom n) p)) (IsDeclaredAt dom sheets n p) to from longs (subst (λ ds. AreWinners (DeclaredBy (rules_at ss places ds p)) longs) same w)
   where
     to : (d : Declared) → DeclaredBy (rules_at ss places (style_decls dom n) p) d → IsDeclaredAt dom sheets n p d
-    to d h = record { source = h.rule; applies = of_rules dom sheets ss n places p all found h.rule (to_contains (rules_at ss places (style_decls dom n) p) h.place h.rule h.there); is = h.is }
+    to d h = record { source = h.rule; applies = of_rules dom sheets ss n places p all found h.rule (get-contains (rules_at ss places (style_decls dom n) p) h.place h.rule h.there); is = h.is }
 
     from : (d : Declared) → IsDeclaredAt dom sheets n p d → DeclaredBy (rules_at ss places (style_decls dom n) p) d
-    from d g = let k = to_get (rules_at ss places (style_decls dom n) p) g.source (in_rules dom sheets ss n places p all found g.source g.applies) in record { place = k.0; rule = g.source; there = k.1; is = g.is }
+    from d g = let k = contains-get (rules_at ss places (style_decls dom n) p) g.source (in_rules dom sheets ss n places p all found g.source g.applies) in record { place = k.0; rule = g.source; there = k.1; is = g.is }
 
 -- no rule, no winner
-pub none_wins : (rules : List AppliedOf) → rules ≡ [] → AreWinners (DeclaredBy rules) []
+pub none_wins : (rules : List AppliedDeclsOf) → rules ≡ [] → AreWinners (DeclaredBy rules) []
 none_wins rules e = subst (λ rs. AreWinners (DeclaredBy rs) []) (sym e) (record {
   each = λ k long h. cc;
   all = λ d h. absurd (let at = h.there in cc);

@@ -4,21 +4,20 @@ use Rattle.std.proofs.lemmas.Bool.{cases_lt}
 use Rattle.std.specs.List.{fold}
 use Rattle.std.specs.Prelude.{Result, Ok, Err}
 use Rattle.std.specs.Result.{IfOk}
-use Rattle.std.proofs.lemmas.Option.{slice_get-map}
+use Rattle.std.proofs.lemmas.Option.{slice_get-map, slice_get-get_or}
 use Rattle.bk_num.proofs.ListLemmas.{get-take, take-get}
 use Rattle.style.specs.declared.long.Long.{Long}
-use Rattle.cascade.specs.declared.weight.Weight.{Weight}
+use Rattle.cascade.specs.declared.weight.DeclWeight.{DeclWeight}
 use Rattle.cascade.specs.declared.decl.ReadDecl.{ReadDecl}
-use Rattle.cascade.specs.declared.choice.Applied.{Applied}
+use Rattle.cascade.specs.declared.choice.AppliedDecls.{AppliedDecls}
 use Rattle.cascade.specs.Weights.{of_decl, at_place}
-use Rattle.cascade.specs.Candidates.{Declared, IsDeclared, AppliedOf, applied_in, DeclaredBy}
+use Rattle.cascade.specs.Candidates.{Declared, IsDeclared, AppliedDeclsOf, applied_in, DeclaredBy}
 use Rattle.cascade.specs.Choice.{offered, longs_from, decls_from}
-use Rattle.cascade.proofs.ChoiceLemmas.{slice_get-at}
 use Rattle.cascade.proofs.WinnerLemmas.{AllBest, Within, best-told, fold-best}
 
 -- ---- the longhands of a declaration
 
-in-longs : (w : Weight) (q : ℕ) (ls : List Long) (d : Declared) → Within (longs_from w q ls) d → (m : ℕ) × (slice_get ls m ≡ Some d.long) × (d.weight ≡ at_place w (q + m))
+in-longs : (w : DeclWeight) (q : ℕ) (ls : List Long) (d : Declared) → Within (longs_from w q ls) d → (m : ℕ) × (slice_get ls m ≡ Some d.long) × (d.weight ≡ at_place w (q + m))
 in-longs w q [] d e = absurd e
 in-longs w q (l ∷ ls) d (inl e) =
     let long : d.long ≡ l = ap (λ (x : Declared). x.long) e in
@@ -30,7 +29,7 @@ in-longs w q (l ∷ ls) d (inr h) =
     let n : q + 1 + r.0 ≡ q + suc r.0 = omega arith in
     (suc r.0, r.1, r.2 ∙ ap (at_place w) n)
 
-to-longs : (w : Weight) (q : ℕ) (ls : List Long) (d : Declared) (m : ℕ) → slice_get ls m ≡ Some d.long → d.weight ≡ at_place w (q + m) → Within (longs_from w q ls) d
+to-longs : (w : DeclWeight) (q : ℕ) (ls : List Long) (d : Declared) (m : ℕ) → slice_get ls m ≡ Some d.long → d.weight ≡ at_place w (q + m) → Within (longs_from w q ls) d
 to-longs w q [] d m h e = cc
 to-longs w q (l ∷ ls) d zero h e =
     let long : l ≡ d.long = cc in
@@ -59,7 +58,7 @@ within-right [] ys d h = h
 within-right (x ∷ xs) ys d h = inr (within-right xs ys d h)
 
 -- it is a longhand of one of these declarations, which stand from the j-th place on
-record IsFrom (w : Weight) (j : ℕ) (ds : List ReadDecl) (d : Declared) : Type 0 where
+record IsFrom (w : DeclWeight) (j : ℕ) (ds : List ReadDecl) (d : Declared) : Type 0 where
   decl : ℕ
   source : ReadDecl
   there : slice_get ds decl ≡ Some source
@@ -67,7 +66,7 @@ record IsFrom (w : Weight) (j : ℕ) (ds : List ReadDecl) (d : Declared) : Type 
   long : slice_get source.longs place ≡ Some d.long
   is : d.weight ≡ at_place (of_decl w source.important (j + decl)) place
 
-in-decls : (w : Weight) (j : ℕ) (ds : List ReadDecl) (d : Declared) → Within (decls_from w j ds) d → IsFrom w j ds d
+in-decls : (w : DeclWeight) (j : ℕ) (ds : List ReadDecl) (d : Declared) → Within (decls_from w j ds) d → IsFrom w j ds d
 in-decls w j [] d e = absurd e
 in-decls w j (x ∷ ds) d h = by (within-append (longs_from (of_decl w x.important j) 0 x.longs) (decls_from w (j + 1) ds) d h) (λ b. in-decls w (j + 1) ds d b)
   where
@@ -82,7 +81,7 @@ in-decls w j (x ∷ ds) d h = by (within-append (longs_from (of_decl w x.importa
         let n : j + 1 + r.decl ≡ j + suc r.decl = omega arith in
         record { decl = suc r.decl; source = r.source; there = r.there; place = r.place; long = r.long; is = r.is ∙ ap (λ k. at_place (of_decl w r.source.important k) r.place) n }
 
-to-decls : (w : Weight) (j : ℕ) (ds : List ReadDecl) (d : Declared) (m : ℕ) (source : ReadDecl) (place : ℕ) → slice_get ds m ≡ Some source → slice_get source.longs place ≡ Some d.long → d.weight ≡ at_place (of_decl w source.important (j + m)) place → Within (decls_from w j ds) d
+to-decls : (w : DeclWeight) (j : ℕ) (ds : List ReadDecl) (d : Declared) (m : ℕ) (source : ReadDecl) (place : ℕ) → slice_get ds m ≡ Some source → slice_get source.longs place ≡ Some d.long → d.weight ≡ at_place (of_decl w source.important (j + m)) place → Within (decls_from w j ds) d
 to-decls w j [] d m source place h g e = cc
 to-decls w j (x ∷ ds) d zero source place h g e =
     let same : source ≡ x = cc in
@@ -94,20 +93,20 @@ to-decls w j (x ∷ ds) d (suc m) source place h g e =
     let n : j + suc m ≡ j + 1 + m = omega arith in
     within-right (longs_from (of_decl w x.important j) 0 x.longs) (decls_from w (j + 1) ds) d (to-decls w (j + 1) ds d m source place h g (e ∙ ap (λ i. at_place (of_decl w source.important i) place) n))
 
-is-declared : (w : Weight) (ds : List ReadDecl) (d : Declared) → Within (decls_from w 0 ds) d → IsDeclared w ds d
+is-declared : (w : DeclWeight) (ds : List ReadDecl) (d : Declared) → Within (decls_from w 0 ds) d → IsDeclared w ds d
 is-declared w ds d h =
     let r = in-decls w 0 ds d h in
     let n : 0 + r.decl ≡ r.decl = omega arith in
     record { decl = r.decl; source = r.source; there = r.there; place = r.place; long = r.long; is = r.is ∙ ap (λ k. at_place (of_decl w r.source.important k) r.place) n }
 
-from-declared : (w : Weight) (ds : List ReadDecl) (d : Declared) → IsDeclared w ds d → Within (decls_from w 0 ds) d
+from-declared : (w : DeclWeight) (ds : List ReadDecl) (d : Declared) → IsDeclared w ds d → Within (decls_from w 0 ds) d
 from-declared w ds d h =
     let n : h.decl ≡ 0 + h.decl = omega arith in
     to-decls w 0 ds d h.decl h.source h.place h.there h.long (h.is ∙ ap (λ k. at_place (of_decl w h.source.important k) h.place) n)
 
 -- ---- one more rule
 
-pub rule_step : (rules : List AppliedOf) (i : ℕ) (r : AppliedOf) (best : List (Option Declared)) → slice_get rules i ≡ Some r → AllBest (DeclaredBy (take i rules)) best → AllBest (DeclaredBy (take (i + 1) rules)) (fold offered best (decls_from r.weight 0 r.decls))
+pub rule_step : (rules : List AppliedDeclsOf) (i : ℕ) (r : AppliedDeclsOf) (best : List (Option Declared)) → slice_get rules i ≡ Some r → AllBest (DeclaredBy (take i rules)) best → AllBest (DeclaredBy (take (i + 1) rules)) (fold offered best (decls_from r.weight 0 r.decls))
 rule_step rules i r best at all =
     best-told (λ d. DeclaredBy (take i rules) d ⊎ Within (decls_from r.weight 0 r.decls) d) (DeclaredBy (take (i + 1) rules)) to from (fold offered best (decls_from r.weight 0 r.decls)) (fold-best (decls_from r.weight 0 r.decls) (DeclaredBy (take i rules)) best all)
   where
@@ -123,13 +122,13 @@ rule_step rules i r best at all =
         by g (inr l) =
             let e : h.place ≡ i = (let a = g.0 in omega (arith, a, l)) in
             let same : h.rule ≡ r = (let s : slice_get rules i ≡ Some h.rule = subst (λ k. slice_get rules k ≡ Some h.rule) e g.1 in cc) in
-            inr (from-declared r.weight r.decls d (subst (λ (x : AppliedOf). IsDeclared x.weight x.decls d) same h.is))
+            inr (from-declared r.weight r.decls d (subst (λ (x : AppliedDeclsOf). IsDeclared x.weight x.decls d) same h.is))
 
-applied_at : (rules : List Applied) (i : ℕ) (d : Applied) → i < length rules → slice_get (map applied_in rules) i ≡ Some (applied_in (get_or rules i d))
-applied_at rules i d h = slice_get-map applied_in rules i ∙ ap (option_map applied_in) (slice_get-at rules i d h)
+applied_at : (rules : List AppliedDecls) (i : ℕ) (d : AppliedDecls) → i < length rules → slice_get (map applied_in rules) i ≡ Some (applied_in (get_or rules i d))
+applied_at rules i d h = slice_get-map applied_in rules i ∙ ap (option_map applied_in) (slice_get-get_or rules i d h)
 
-pub applied_read : (rules : List Applied) (i : ℕ) (x : Applied) → i < length rules → x ≡ get_or rules i x → slice_get (map applied_in rules) i ≡ Some (applied_in x)
-applied_read rules i x h e = applied_at rules i x h ∙ ap (λ (y : Applied). Some (applied_in y)) (sym e)
+pub applied_read : (rules : List AppliedDecls) (i : ℕ) (x : AppliedDecls) → i < length rules → x ≡ get_or rules i x → slice_get (map applied_in rules) i ≡ Some (applied_in x)
+applied_read rules i x h e = applied_at rules i x h ∙ ap (λ (y : AppliedDecls). Some (applied_in y)) (sym e)
 
 pub if_ok : {T E : Type 0} (r : Result T E) (P Q : T → Type 0) → ((x : T) → P x → Q x) → IfOk r P → IfOk r Q
 if_ok (Ok x) P Q f h = f x h

@@ -3,44 +3,50 @@ use Rattle.std.proofs.Common.{◌≡◌, ℕ, suc, zero, ◌<◌, true, false, L
 use Rattle.bk_num.specs.declared.values.Pseudo.{Pseudo}
 use Rattle.selectors.specs.Match.{Tree}
 use Rattle.style.specs.declared.long.Long.{Long}
-use Rattle.cascade.specs.declared.weight.Weight.{Weight}
+use Rattle.cascade.specs.declared.weight.DeclWeight.{DeclWeight}
 use Rattle.cascade.specs.declared.decl.ReadDecl.{ReadDecl}
 use Rattle.cascade.specs.declared.sheet.ReadSheet.{ReadSheet}
 use Rattle.cascade.specs.Weights.{ranks_of}
-use Rattle.cascade.specs.Candidates.{Declared, AppliedOf, slot_of}
+use Rattle.cascade.specs.Candidates.{Declared, AppliedDeclsOf, slot_of}
 use Rattle.cascade.specs.Winners.{IsWinner, AreWinners}
 use Rattle.cascade.specs.Document.{RuleIn, rules_of, Applies, IsDeclaredAt}
-use Rattle.cascade.specs.Laws.{OneWinsAt, WinnersAreOne}
-use Rattle.cascade.proofs.WinnerLemmas.{both-greatest}
-use Rattle.cascade.proofs.OneLemmas.{one_rank, same_ranks, some_same}
+use Rattle.cascade.specs.Laws.{WinnersAreOne}
+use Rattle.style.proofs.RankingLemmas.{same-ranks, same-rank}
+use Rattle.cascade.proofs.OneLemmas.{some_same}
 
 -- ---- one winner
 
 -- declarations of equal weight are those of one rule or of the style attribute
-one_source : (dom : Tree) (sheets : List ReadSheet) (n : ℕ) (p : Pseudo) (a b : AppliedOf) → Applies dom sheets n p a → Applies dom sheets n p b → a.weight.styled ≡ b.weight.styled → a.weight.rule ≡ b.weight.rule → a.decls ≡ b.decls
+one_source : (dom : Tree) (sheets : List ReadSheet) (n : ℕ) (p : Pseudo) (a b : AppliedDeclsOf) → Applies dom sheets n p a → Applies dom sheets n p b → a.weight.styled ≡ b.weight.styled → a.weight.rule ≡ b.weight.rule → a.decls ≡ b.decls
 one_source dom sheets n p a b (inl x) (inl y) styled rule =
-    let place : x.place ≡ y.place = sym (ap (λ (w : Weight). w.rule) x.weight) ∙ rule ∙ ap (λ (w : Weight). w.rule) y.weight in
+    let place : x.place ≡ y.place = sym (ap (λ (w : DeclWeight). w.rule) x.weight) ∙ rule ∙ ap (λ (w : DeclWeight). w.rule) y.weight in
     let same : x.rule ≡ y.rule = some_same (slice_get (rules_of sheets) y.place) x.rule y.rule (subst (λ k. slice_get (rules_of sheets) k ≡ Some x.rule) place x.there) y.there in
     x.decls ∙ ap (λ (r : RuleIn). r.read.decls) same ∙ sym y.decls
 one_source dom sheets n p a b (inl x) (inr y) styled rule =
-    let z : false ≡ true = sym (ap (λ (w : Weight). w.styled) x.weight) ∙ styled ∙ ap (λ (w : Weight). w.styled) y.weight in cc
+    let z : false ≡ true = sym (ap (λ (w : DeclWeight). w.styled) x.weight) ∙ styled ∙ ap (λ (w : DeclWeight). w.styled) y.weight in cc
 one_source dom sheets n p a b (inr x) (inl y) styled rule =
-    let z : true ≡ false = sym (ap (λ (w : Weight). w.styled) x.weight) ∙ styled ∙ ap (λ (w : Weight). w.styled) y.weight in cc
+    let z : true ≡ false = sym (ap (λ (w : DeclWeight). w.styled) x.weight) ∙ styled ∙ ap (λ (w : DeclWeight). w.styled) y.weight in cc
 one_source dom sheets n p a b (inr x) (inr y) styled rule = x.decls ∙ sym y.decls
 
-pub one_wins_at : OneWinsAt
+-- so has a longhand of a node or of its pseudo-element
+abbrev OneWinsAt : Type 0
+OneWinsAt =
+    (dom : Tree) (sheets : List ReadSheet) (n : ℕ) (p : Pseudo) (slot : ℕ) (a b : Declared) →
+    IsWinner (IsDeclaredAt dom sheets n p) slot a → IsWinner (IsDeclaredAt dom sheets n p) slot b → a.long ≡ b.long
+
+one_wins_at : OneWinsAt
 one_wins_at dom sheets n p slot a b x y =
     let s = x.there in
     let t = y.there in
-    let same : ranks_of a.weight ≡ ranks_of b.weight = same_ranks a.weight b.weight (both-greatest a.weight b.weight (y.greatest a s x.of_slot) (x.greatest b t y.of_slot)) in
-    let styled : a.weight.styled ≡ b.weight.styled = one_rank a.weight.styled b.weight.styled (ap (λ l. get_or l 2 0) same) in
+    let same : ranks_of a.weight ≡ ranks_of b.weight = same-ranks (ranks_of a.weight) (ranks_of b.weight) (y.greatest a s x.of_slot) (x.greatest b t y.of_slot) in
+    let styled : a.weight.styled ≡ b.weight.styled = same-rank a.weight.styled b.weight.styled (ap (λ l. get_or l 2 0) same) in
     let rule : a.weight.rule ≡ b.weight.rule = ap (λ l. get_or l 6 0) same in
     let decl : a.weight.decl ≡ b.weight.decl = ap (λ l. get_or l 7 0) same in
     let place : a.weight.place ≡ b.weight.place = ap (λ l. get_or l 8 0) same in
     let decls : s.source.decls ≡ t.source.decls = one_source dom sheets n p s.source t.source s.applies t.applies
-    (sym (ap (λ (w : Weight). w.styled) s.is.is) ∙ styled ∙ ap (λ (w : Weight). w.styled) t.is.is) (sym (ap (λ (w : Weight). w.rule) s.is.is) ∙ rule ∙ ap (λ (w : Weight). w.rule) t.is.is) in
-    let at : s.is.decl ≡ t.is.decl = sym (ap (λ (w : Weight). w.decl) s.is.is) ∙ decl ∙ ap (λ (w : Weight). w.decl) t.is.is in
-    let here : s.is.place ≡ t.is.place = sym (ap (λ (w : Weight). w.place) s.is.is) ∙ place ∙ ap (λ (w : Weight). w.place) t.is.is in
+    (sym (ap (λ (w : DeclWeight). w.styled) s.is.is) ∙ styled ∙ ap (λ (w : DeclWeight). w.styled) t.is.is) (sym (ap (λ (w : DeclWeight). w.rule) s.is.is) ∙ rule ∙ ap (λ (w : DeclWeight). w.rule) t.is.is) in
+    let at : s.is.decl ≡ t.is.decl = sym (ap (λ (w : DeclWeight). w.decl) s.is.is) ∙ decl ∙ ap (λ (w : DeclWeight). w.decl) t.is.is in
+    let here : s.is.place ≡ t.is.place = sym (ap (λ (w : DeclWeight). w.place) s.is.is) ∙ place ∙ ap (λ (w : DeclWeight). w.place) t.is.is in
     let source : s.is.source ≡ t.is.source = some_same (slice_get t.source.decls t.is.decl) s.is.source t.is.source (subst (λ k. slice_get t.source.decls k ≡ Some s.is.source) at (subst (λ (ds : List ReadDecl). slice_get ds s.is.decl ≡ Some s.is.source) decls s.is.there)) t.is.there in
     some_same (slice_get t.is.source.longs t.is.place) a.long b.long (subst (λ k. slice_get t.is.source.longs k ≡ Some a.long) here (subst (λ (d : ReadDecl). slice_get d.longs s.is.place ≡ Some a.long) source s.is.long)) t.is.long
 

@@ -1,11 +1,12 @@
 -- The places of the selectors that match a node, and the winners of one node after another.
 use Rattle.std.proofs.Common.{◌≡◌, ◌↔◌, ℕ, ◌+◌, ◌<◌, ◌≤◌, Bool, true, false, List, [], ◌∷◌, ◌++◌, Option, None, Some, length, map, option_map, get_or, slice_get, refl, sym, ◌∙◌, ap, subst, arith, ◌⊎◌, inl, inr}
+use Rattle.bk_num.proofs.ListLemmas.{contains-none}
 use Rattle.std.specs.Prelude.{IsTrue, IfSome, MatchOption}
 use Rattle.std.specs.List.{Contains}
 use Rattle.std.proofs.lemmas.Bool.{cases_lt}
 use Rattle.std.proofs.lemmas.List.{length-map}
 use Rattle.std.proofs.lemmas.List.Elements.{Contains-push, Contains-push_cases, Contains-append_left}
-use Rattle.std.proofs.lemmas.Option.{slice_get_within, slice_get_past, slice_get-map, slice_get_read, slice_get-get_or}
+use Rattle.std.proofs.lemmas.Option.{slice_get_within, slice_get_past, slice_get-map, slice_get_read, slice_get-get_or, same_Some}
 use Rattle.bk_num.specs.declared.values.Pseudo.TheVariants as pseudo
 use Rattle.selectors.specs.Selectors.{SelectorView}
 use Rattle.selectors.specs.Match.{Tree, Matches}
@@ -16,7 +17,7 @@ use Rattle.cascade.specs.declared.table.NodeWinners.{NodeWinners}
 use Rattle.cascade.specs.Document.{rules_of, style_decls, AreNodeWinners}
 use Rattle.cascade.specs.declared.selected.Selected.{Selected}
 use Rattle.cascade.specs.Selected.{SelectedOf, selected_in, selected_from, selectors_of, pushed_if, ArePlaces, AreChosen}
-use Rattle.cascade.proofs.AppliesLemmas.{nothing, some_is, at_node}
+use Rattle.cascade.proofs.AppliesLemmas.{at_node}
 
 -- ---- places
 
@@ -25,7 +26,7 @@ abbrev pub ArePassed : (ℕ → Type 0) → ℕ → List ℕ → Type 0
 ArePassed M i places = (k : ℕ) → Contains places k ↔ ((k < i) × M k)
 
 pub none_passed : (M : ℕ → Type 0) (places : List ℕ) → places ≡ [] → ArePassed M 0 places
-none_passed M places e k = (λ h. absurd (nothing k (subst (λ l. Contains l k) e h)), λ h. absurd (omega (arith, h.0)))
+none_passed M places e k = (λ h. absurd (contains-none k (subst (λ l. Contains l k) e h)), λ h. absurd (omega (arith, h.0)))
 
 pub passed_turn : (M : ℕ → Type 0) (i : ℕ) (places new : List ℕ) (hit : Bool) → ArePassed M i places → (IsTrue hit ↔ M i) → new ≡ pushed_if hit places i → ArePassed M (i + 1) new
 passed_turn M i places new true before is e k = (λ h. to (Contains-push_cases places i k (subst (λ l. Contains l k) e h)), λ h. subst (λ l. Contains l k) (sym e) (from h (cases_lt k i)))
@@ -77,7 +78,7 @@ from_get g xs k R None m e = sym (slice_get_past xs k m)
 from_get g xs k R (Some x) m e = let low = m.0 in ap (λ y. Some y) e ∙ sym (slice_get-get_or xs k (g x) low)
 
 pub same_or : {A : Type 0} (xs : List A) (i : ℕ) (d e : A) → i < length xs → get_or xs i d ≡ get_or xs i e
-same_or xs i d e low = some_is (sym (slice_get-get_or xs i d low) ∙ slice_get-get_or xs i e low)
+same_or xs i d e low = same_Some _ _ (sym (slice_get-get_or xs i d low) ∙ slice_get-get_or xs i e low)
 
 -- ---- what is chosen for a node wins
 

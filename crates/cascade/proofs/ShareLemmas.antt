@@ -1,6 +1,6 @@
 -- What wins for nodes to which the same rules apply.
 use Rattle.std.proofs.Common.{◌≡◌, ℕ, ◌+◌, List, [], ◌∷◌, ◌++◌, Some, Result, Ok, Err, OnOk, length, length-append, slice_get, refl, sym, ◌∙◌, ap, subst, arith, ◌⊎◌, inl, inr}
-use Rattle.std.proofs.lemmas.Option.{slice_get_within}
+use Rattle.std.proofs.lemmas.Option.{slice_get_within, same_Some}
 use Rattle.bk_num.proofs.ListLemmas.{get-push, slice_get_at}
 use Rattle.selectors.specs.Match.{Tree}
 use Rattle.match_table.specs.All.{AreMatchLists}
@@ -11,7 +11,6 @@ use Rattle.cascade.specs.Document.{rules_of, decls_in, style_decls, AreNodeWinne
 use Rattle.cascade.specs.Selected.{SelectedOf, selected_from, selectors_of, AreChosen}
 use Rattle.cascade.specs.Sharing.{IsLike, IsChosenAt, AreChosenAt, AddsChosen}
 use Rattle.cascade.specs.Table.{AddsLike}
-use Rattle.cascade.proofs.AppliesLemmas.{some_is}
 use Rattle.cascade.proofs.PlaceLemmas.{listed_places, of_chosen}
 
 pub on-ok : {A E P : Type 0} (res : Result A E) → P → OnOk res P
@@ -27,7 +26,7 @@ like-chosen dom ss matched e n w like c places at = subst (λ d. AreChosen ss pl
 
 -- what is chosen for the selectors that match a node and for its style attribute
 pub chosen-here : (dom : Tree) (ss : List SelectedOf) (matched : List (List ℕ)) (n : ℕ) (row : List ℕ) (styled : List ReadDecl) (w : NodeWinners) → slice_get matched n ≡ Some row → styled ≡ style_decls dom n → AreChosen ss row styled w → IsChosenAt dom ss matched n w
-chosen-here dom ss matched n row styled w there same c places at = subst (λ l. AreChosen ss l (style_decls dom n) w) (some_is (sym there ∙ at)) (subst (λ d. AreChosen ss row d w) same c)
+chosen-here dom ss matched n row styled w there same c places at = subst (λ l. AreChosen ss l (style_decls dom n) w) (same_Some _ _ (sym there ∙ at)) (subst (λ d. AreChosen ss row d w) same c)
 
 pub adds-like : (dom : Tree) (ss : List SelectedOf) (matched : List (List ℕ)) (e n : ℕ) (all more : List NodeWinners) → IsLike dom matched e n → AddsLike all e more → AddsChosen dom ss matched n all more
 adds-like dom ss matched e n all more like adds = record { winners = adds.winners; added = adds.added; chosen = λ h. like-chosen dom ss matched e n adds.winners like (h e adds.winners adds.there) }

@@ -1,7 +1,7 @@
 -- A table of winners that grows.
 use Rattle.std.proofs.Common.{◌≡◌, ◌<◌, ℕ, suc, List, [], ◌∷◌, ◌++◌, Some, Result, Ok, Err, OnOk, OnErr, length, map, option_map, get_or, slice_get, refl, sym, ◌∙◌, ap, subst, ◌⊎◌, inl, inr}
 use Rattle.std.proofs.lemmas.List.{map-append, length-map}
-use Rattle.std.proofs.lemmas.Option.{slice_get-map, slice_get_within, slice_get_read}
+use Rattle.std.proofs.lemmas.Option.{slice_get-map, slice_get_within, slice_get_read, same_Some}
 use Rattle.bk_num.proofs.ListLemmas.{get-push, get-keep, get-before, get-end}
 use Rattle.cascade.specs.declared.table.NodeWinners.{NodeWinners}
 use Rattle.cascade.specs.declared.table.Shared.{Shared}
@@ -17,12 +17,9 @@ winners-at shared numbers k i s at there = slice_get-map (numbered shared) numbe
 pub first-same : (shared : List Shared) (numbers : List ℕ) (k i : ℕ) (s : Shared) → AreNumbers shared numbers → slice_get numbers k ≡ Some i → slice_get shared i ≡ Some s → slice_get (map (numbered shared) numbers) s.first.0 ≡ slice_get (map (numbered shared) numbers) k
 first-same shared numbers k i s sound at there =
     let h = sound k i at in
-    let same : h.entry ≡ s = some-is (sym h.there ∙ there) in
+    let same : h.entry ≡ s = same_Some _ _ (sym h.there ∙ there) in
     let first : slice_get numbers s.first.0 ≡ Some i = subst (λ (e : Shared). slice_get numbers e.first.0 ≡ Some i) same h.first in
     winners-at shared numbers s.first.0 i s first there ∙ sym (winners-at shared numbers k i s at there)
-  where
-    some-is : {A : Type 0} {a b : A} → Some a ≡ Some b → a ≡ b
-    some-is e = cc
 
 -- ---- a new entry
 

@@ -1,66 +1,20 @@
 -- The winners among more and more declarations.
 use Rattle.std.proofs.Common.{◌≡◌, ℕ, suc, zero, ◌<◌, Bool, true, false, List, [], ◌∷◌, Option, None, Some, length, slice_get, cond, refl, sym, ◌∙◌, ap, subst, arith, ◌⊎◌, inl, inr}
 use Rattle.std.specs.List.{fold}
-use Rattle.std.specs.Cmp.Lexicographic.{slice_cmp}
-use Rattle.std.proofs.lemmas.Cmp.{nat_list_cmp_total}
-use Rattle.std.specs.Ordering.{nat_cmp, is_gt, ordering_reverse}
-use Rattle.std.specs.declared.cmp.Ordering.{Ordering}
-use Rattle.std.specs.declared.cmp.Ordering.TheVariants.{Less, Equal, Greater}
 use Rattle.bk_num.proofs.ListLemmas.{get-set, slice_get_at}
 use Rattle.style.specs.Longs.{longhand_of}
 use Rattle.style.specs.declared.long.Long.{Long}
-use Rattle.cascade.specs.declared.weight.Weight.{Weight}
+use Rattle.style.proofs.RankingLemmas.{above-self, above-over}
 use Rattle.cascade.specs.Weights.{ranks_of, is_above}
 use Rattle.cascade.specs.Candidates.{Declared, slot_of}
 use Rattle.cascade.specs.Choice.{better_of, offered, offered_at, are_none, longs_in}
-use Rattle.cascade.specs.Winners.{IsWinner, IsBest, AreWinners}
+use Rattle.cascade.specs.Winners.{IsWinner, AreWinners}
 use Rattle.cascade.proofs.ChoiceLemmas.{number_small}
 
--- ---- the order
-
--- what is above is not below, and no weight is above itself
-above-not : (a b : Weight) → is_above a b ≡ true → is_above b a ≡ false
-above-not a b h = by (slice_cmp nat_cmp (ranks_of a) (ranks_of b)) (slice_cmp nat_cmp (ranks_of b) (ranks_of a)) (nat_list_cmp_total.antisymm (ranks_of a) (ranks_of b)) h
-  where
-    by : (o p : Ordering) → o ≡ ordering_reverse p → is_gt o ≡ true → is_gt p ≡ false
-    by o Less e g = refl
-    by o Equal e g = refl
-    by o Greater e g = let z : is_gt o ≡ false = ap is_gt e in cc
-
-above-self : (a : Weight) → is_above a a ≡ false
-above-self a = by (is_above a a) refl
-  where
-    by : (b : Bool) → is_above a a ≡ b → b ≡ false
-    by true h = sym h ∙ above-not a a h
-    by false h = refl
-
-above-less : (a b : Weight) → is_above a b ≡ true → slice_cmp nat_cmp (ranks_of b) (ranks_of a) ≡ Less
-above-less a b h = nat_list_cmp_total.antisymm (ranks_of b) (ranks_of a) ∙ ap ordering_reverse (by (slice_cmp nat_cmp (ranks_of a) (ranks_of b)) h)
-  where
-    by : (o : Ordering) → is_gt o ≡ true → o ≡ Greater
-    by Less e = cc
-    by Equal e = cc
-    by Greater e = refl
-
--- what is not above the lower one is not above the higher one
-above-over : (d c b : Weight) → is_above d b ≡ false → is_above c b ≡ true → is_above d c ≡ false
-above-over d c b low high = by (is_above d c) refl
-  where
-    by : (x : Bool) → is_above d c ≡ x → x ≡ false
-    by true h =
-        let up = nat_list_cmp_total.trans (ranks_of b) (ranks_of c) (ranks_of d) (above-less c b high) (above-less d c h) in
-        let z : is_above d b ≡ true = ap is_gt (nat_list_cmp_total.antisymm (ranks_of d) (ranks_of b) ∙ ap ordering_reverse up) in
-        cc
-    by false h = refl
-
--- neither of two greatest is above the other
-pub both-greatest : (a b : Weight) → is_above a b ≡ false → is_above b a ≡ false → slice_cmp nat_cmp (ranks_of a) (ranks_of b) ≡ Equal
-both-greatest a b = by (slice_cmp nat_cmp (ranks_of a) (ranks_of b)) (slice_cmp nat_cmp (ranks_of b) (ranks_of a)) (nat_list_cmp_total.antisymm (ranks_of a) (ranks_of b))
-  where
-    by : (o p : Ordering) → o ≡ ordering_reverse p → is_gt o ≡ false → is_gt p ≡ false → o ≡ Equal
-    by o Less e g h = let z : is_gt o ≡ true = ap is_gt e in cc
-    by o Equal e g h = e
-    by o Greater e g h = cc
+-- a winner, or none where nothing is declared
+abbrev pub IsBest : (Declared → Type 0) → ℕ → Option Declared → Type 0
+IsBest IsThere slot None = (e : Declared) → IsThere e → slot_of e.long ≡ slot → ⊥
+IsBest IsThere slot (Some d) = IsWinner IsThere slot d
 
 -- ---- one more declaration
 
@@ -89,13 +43,13 @@ best-same : (P Q : Set) (c : Declared) (s : ℕ) (o : Option Declared) → IsOne
 best-same P Q c s None more at best = record { there = more.new; of_slot = at; greatest = λ e h g. by e g (more.each e h) }
   where
     by : (e : Declared) → slot_of e.long ≡ s → (e ≡ c) ⊎ P e → is_above e.weight c.weight ≡ false
-    by e g (inl same) = rw same (above-self c.weight)
+    by e g (inl same) = rw same (above-self (ranks_of c.weight))
     by e g (inr h) = absurd (best e h g)
 best-same P Q c s (Some b) more at best = by (is_above c.weight b.weight) refl
   where
     wins : is_above c.weight b.weight ≡ true → (e : Declared) → slot_of e.long ≡ s → (e ≡ c) ⊎ P e → is_above e.weight c.weight ≡ false
-    wins t e g (inl same) = rw same (above-self c.weight)
-    wins t e g (inr h) = above-over e.weight c.weight b.weight (best.greatest e h g) t
+    wins t e g (inl same) = rw same (above-self (ranks_of c.weight))
+    wins t e g (inr h) = above-over (ranks_of e.weight) (ranks_of c.weight) (ranks_of b.weight) (best.greatest e h g) t
 
     stays : is_above c.weight b.weight ≡ false → (e : Declared) → slot_of e.long ≡ s → (e ≡ c) ⊎ P e → is_above e.weight b.weight ≡ false
     stays t e g (inl same) = rw same t

@@ -15,10 +15,10 @@ use Rattle.cascade.specs.declared.sheet.Origin.{Origin}
 use Rattle.cascade.specs.declared.sheet.Origin.TheVariants as origin
 use Rattle.cascade.specs.declared.sheet.ReadRule.{ReadRule}
 use Rattle.cascade.specs.declared.sheet.ReadSheet.{ReadSheet}
-use Rattle.cascade.specs.declared.weight.Weight.{Weight}
+use Rattle.cascade.specs.declared.weight.DeclWeight.{DeclWeight}
 use Rattle.cascade.specs.declared.table.NodeWinners.{NodeWinners}
 use Rattle.cascade.specs.Weights.{of_style}
-use Rattle.cascade.specs.Candidates.{Declared, AppliedOf, IsDeclared}
+use Rattle.cascade.specs.Candidates.{Declared, AppliedDeclsOf, IsDeclared}
 use Rattle.cascade.specs.Winners.{AreWinners}
 use Rattle.cascade.specs.Sheets.{read_of}
 
@@ -27,6 +27,7 @@ pub record RuleIn : Type 0 where
   pub origin : Origin
   pub read : ReadRule
 
+-- a rule with the origin of its sheet
 abbrev pub from_origin : Origin → ReadRule → RuleIn
 from_origin o r = record { origin = o; read = r }
 
@@ -35,12 +36,13 @@ abbrev pub rules_of : List ReadSheet → List RuleIn
 rules_of [] = []
 rules_of (s ∷ ss) = map (from_origin s.origin) s.rules ++ rules_of ss
 
+-- the author's, and not the default sheet's
 abbrev pub is_author : Origin → Bool
 is_author origin.Default = false
 is_author origin.Author = true
 
 -- what the declarations of the rule at a place weigh by a selector
-abbrev pub weight_of : Origin → ℕ → SelectorView → Weight
+abbrev pub weight_of : Origin → ℕ → SelectorView → DeclWeight
 weight_of o place s =
     record {
       important = false;
@@ -55,8 +57,9 @@ weight_of o place s =
       place = 0;
     }
 
--- a rule applies to a pseudo-element of a node, or to the node: a selector of it matches the node and has that pseudo-element
-pub record IsRuleApplied (dom : Tree) (sheets : List ReadSheet) (n : ℕ) (p : Pseudo) (a : AppliedOf) : Type 0 where
+-- a rule applies to a pseudo-element of a node, or to the node: a selector of it matches the node and has that
+-- pseudo-element
+pub record IsRuleApplied (dom : Tree) (sheets : List ReadSheet) (n : ℕ) (p : Pseudo) (a : AppliedDeclsOf) : Type 0 where
   pub place : ℕ
   pub rule : RuleIn
   pub there : slice_get (rules_of sheets) place ≡ Some rule
@@ -67,6 +70,7 @@ pub record IsRuleApplied (dom : Tree) (sheets : List ReadSheet) (n : ℕ) (p : P
   pub weight : a.weight ≡ weight_of rule.origin place selector
   pub decls : a.decls ≡ rule.read.decls
 
+-- the declarations of a style attribute that have a reading, if there is one
 abbrev pub decls_in : Option (List ℕ) → List ReadDecl
 decls_in None = []
 decls_in (Some text) = filter_map read_of (decls_of stop.Piece (tokens_of text))
@@ -76,17 +80,18 @@ abbrev pub style_decls : Tree → ℕ → List ReadDecl
 style_decls dom n = decls_in (attribute_at dom n (codes "style"))
 
 -- a style attribute applies to its own element
-pub record IsStyleApplied (dom : Tree) (n : ℕ) (p : Pseudo) (a : AppliedOf) : Type 0 where
+pub record IsStyleApplied (dom : Tree) (n : ℕ) (p : Pseudo) (a : AppliedDeclsOf) : Type 0 where
   pub element : p ≡ pseudo.Element
   pub weight : a.weight ≡ of_style
   pub decls : a.decls ≡ style_decls dom n
 
-abbrev pub Applies : Tree → List ReadSheet → ℕ → Pseudo → AppliedOf → Type 0
+-- a rule, or a style attribute, gives declarations for a node or its pseudo-element
+abbrev pub Applies : Tree → List ReadSheet → ℕ → Pseudo → AppliedDeclsOf → Type 0
 Applies dom sheets n p a = IsRuleApplied dom sheets n p a ⊎ IsStyleApplied dom n p a
 
 -- it is a longhand of a declaration that applies
 pub record IsDeclaredAt (dom : Tree) (sheets : List ReadSheet) (n : ℕ) (p : Pseudo) (d : Declared) : Type 0 where
-  pub source : AppliedOf
+  pub source : AppliedDeclsOf
   pub applies : Applies dom sheets n p source
   pub is : IsDeclared source.weight source.decls d
 

@@ -12,33 +12,39 @@ use Rattle.cascade.specs.declared.selected.Ruled.{Ruled}
 use Rattle.cascade.specs.declared.selected.Selected.{Selected}
 use Rattle.cascade.specs.declared.table.NodeWinners.{NodeWinners}
 use Rattle.cascade.specs.Weights.{of_style}
-use Rattle.cascade.specs.Candidates.{AppliedOf, applied_in, DeclaredBy}
+use Rattle.cascade.specs.Candidates.{AppliedDeclsOf, applied_in, DeclaredBy}
 use Rattle.cascade.specs.Winners.{AreWinners}
 use Rattle.cascade.specs.Document.{RuleIn, weight_of}
 
+-- one or none as a list
 abbrev pub listed : {A : Type 0} → Option A → List A
 listed None = []
 listed (Some x) = x ∷ []
 
+-- the same with the rule as a value
 abbrev pub ruled_in : Ruled → RuleIn
 ruled_in r = record { origin = r.origin; read = r.rule.now }
 
 -- a selector of a rule, and what it makes apply
 pub record SelectedOf : Type 0 where
   pub selector : SelectorView
-  pub rule : AppliedOf
+  pub rule : AppliedDeclsOf
 
+-- the same with selector and declarations as values
 abbrev pub selected_in : Selected → SelectedOf
 selected_in s = record { selector = s.selector.now; rule = applied_in s.rule }
 
+-- a selector of the rule at a place of the order, with the rule's declarations and its weight
 abbrev pub selected_by : ℕ → Origin → List ReadDecl → SelectorView → SelectedOf
 selected_by place o decls s = record { selector = s; rule = record { weight = weight_of o place s; decls = decls } }
 
 -- the selectors of the rules, which stand from a place on
 abbrev pub selected_from : ℕ → List RuleIn → List SelectedOf
 selected_from place [] = []
-selected_from place (r ∷ rs) = map (selected_by place r.origin r.read.decls) r.read.selectors.items ++ selected_from (place + 1) rs
+selected_from place (r ∷ rs) =
+    map (selected_by place r.origin r.read.decls) r.read.selectors.items ++ selected_from (place + 1) rs
 
+-- the same pseudo-element
 abbrev pub is_same : Pseudo → Pseudo → Bool
 is_same pseudo.Element pseudo.Element = true
 is_same pseudo.Before pseudo.Before = true
@@ -47,26 +53,32 @@ is_same pseudo.Call pseudo.Call = true
 is_same pseudo.Marker pseudo.Marker = true
 is_same _ _ = false
 
-abbrev pub named : Pseudo → Option SelectedOf → Option AppliedOf
+-- the declarations of a selector that names this pseudo-element
+abbrev pub named : Pseudo → Option SelectedOf → Option AppliedDeclsOf
 named p None = None
 named p (Some s) = if is_same s.selector.pseudo p then Some s.rule else None
 
-abbrev pub named_at : List SelectedOf → Pseudo → ℕ → Option AppliedOf
+-- those of the k-th selector
+abbrev pub named_at : List SelectedOf → Pseudo → ℕ → Option AppliedDeclsOf
 named_at ss p k = named p (slice_get ss k)
 
-abbrev pub style_rule : List ReadDecl → AppliedOf
+-- the declarations of a style attribute with their weight
+abbrev pub style_rule : List ReadDecl → AppliedDeclsOf
 style_rule decls = record { weight = of_style; decls = decls }
 
-abbrev pub style_rules : List ReadDecl → Pseudo → List AppliedOf
+-- a style attribute declares for the element alone
+abbrev pub style_rules : List ReadDecl → Pseudo → List AppliedDeclsOf
 style_rules styled p = if is_same p pseudo.Element then style_rule styled ∷ [] else []
 
 -- what applies to a pseudo-element of a node that the selectors at some places match
-abbrev pub rules_at : List SelectedOf → List ℕ → List ReadDecl → Pseudo → List AppliedOf
+abbrev pub rules_at : List SelectedOf → List ℕ → List ReadDecl → Pseudo → List AppliedDeclsOf
 rules_at ss places styled p = filter_map (named_at ss p) places ++ style_rules styled p
 
+-- the selectors alone
 abbrev pub selectors_of : List SelectedOf → List SelectorView
 selectors_of ss = map (λ s. s.selector) ss
 
+-- a place is added where it is hit
 abbrev pub pushed_if : Bool → List ℕ → ℕ → List ℕ
 pushed_if hit places k = if hit then places ++ k ∷ [] else places
 

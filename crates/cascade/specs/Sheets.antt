@@ -14,6 +14,7 @@ use Rattle.cascade.specs.declared.sheet.Origin.{Origin}
 use Rattle.cascade.specs.declared.sheet.ReadRule.{ReadRule}
 use Rattle.cascade.specs.declared.sheet.ReadSheet.{ReadSheet}
 
+-- a declaration as it is read
 abbrev pub with_longs : Decl → Longhands → ReadDecl
 with_longs d v = record { longs = v.longs; important = d.important }
 
@@ -21,6 +22,7 @@ with_longs d v = record { longs = v.longs; important = d.important }
 abbrev pub read_of : Decl → Option ReadDecl
 read_of d = option_map (with_longs d) (read_decl d.name d.value)
 
+-- a rule as it is read, without declarations that have no reading
 abbrev pub with_selectors : RuleOf → List SelectorView → ReadRule
 with_selectors r ss = record { selectors = record { items = ss }; decls = filter_map read_of r.decls }
 

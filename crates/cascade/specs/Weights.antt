@@ -1,30 +1,35 @@
 -- What decides between two declarations of a longhand (CSS 2.1, 6.4.1 and 6.4.3).
-use Rattle.std.specs.Prelude.{ℕ, Bool, true, false, ◌&&◌, List, [], ◌∷◌, if◌then◌else◌}
-use Rattle.std.specs.Cmp.Lexicographic.{slice_cmp}
-use Rattle.std.specs.Ordering.{nat_cmp, is_gt}
-use Rattle.cascade.specs.declared.weight.Weight.{Weight}
-
-abbrev pub rank : Bool → ℕ
-rank b = if b then 1 else 0
+use Rattle.std.specs.Prelude.{ℕ, Bool, true, false, ◌&&◌, List, [], ◌∷◌}
+use Rattle.style.specs.Ranking.{rank, outranks}
+use Rattle.cascade.specs.declared.weight.DeclWeight.{DeclWeight}
 
 -- importance, origin, style attribute, specificity, order of appearance: what comes first decides first
-abbrev pub ranks_of : Weight → List ℕ
+abbrev pub ranks_of : DeclWeight → List ℕ
 ranks_of w =
     rank w.important ∷ rank w.author ∷ rank w.styled ∷ w.ids ∷ w.classes ∷ w.types ∷ w.rule ∷ w.decl ∷ w.place ∷ []
 
 -- a weight wins over another
-abbrev pub is_above : Weight → Weight → Bool
-is_above a b = is_gt (slice_cmp nat_cmp (ranks_of a) (ranks_of b))
+abbrev pub is_above : DeclWeight → DeclWeight → Bool
+is_above a b = outranks (ranks_of a) (ranks_of b)
 
 -- the weight of a longhand of a declaration
-abbrev pub at_place : Weight → ℕ → Weight
+abbrev pub at_place : DeclWeight → ℕ → DeclWeight
 at_place w place = record w { place = place }
 
 -- the weight of a declaration of a rule; a default one is never important
-abbrev pub of_decl : Weight → Bool → ℕ → Weight
+abbrev pub of_decl : DeclWeight → Bool → ℕ → DeclWeight
 of_decl w important decl = record w { important = w.author && important; decl = decl; place = 0 }
 
 -- the weight of the declarations of a style attribute
-abbrev pub of_style : Weight
-of_style =
-    record { important = false; author = true; styled = true; ids = 0; classes = 0; types = 0; rule = 0; decl = 0; place = 0 }
+abbrev pub of_style : DeclWeight
+of_style = record {
+  important = false;
+  author = true;
+  styled = true;
+  ids = 0;
+  classes = 0;
+  types = 0;
+  rule = 0;
+  decl = 0;
+  place = 0;
+}

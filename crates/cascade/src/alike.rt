@@ -10,16 +10,16 @@ use indexmap::IndexMap;
 use match_table::all::MatchTable;
 use std::alloc::Global;
 
-/// Nodes, by the selectors that match them and by their style attribute. It is asked for a node that may be like another, and
-/// what it answers is compared.
+/// Nodes, by the selectors that match them and by their style attribute. It is asked for a node that may be like
+/// another, and what it answers is compared.
 #[derive(Drop)]
-pub(crate) struct Alike<'a> {
+pub(crate) struct SameMatches<'a> {
     nodes: IndexMap<(&'a [u32], Option<&'a str>), NodeId>,
 }
 
-impl<'a> Alike<'a> {
-    pub(crate) fn new(alloc: Global) -> Alike<'a> {
-        Alike {
+impl<'a> SameMatches<'a> {
+    pub(crate) fn new(alloc: Global) -> SameMatches<'a> {
+        SameMatches {
             nodes: IndexMap::new(alloc),
         }
     }

@@ -7,7 +7,7 @@ ghost use Rattle.cascade.specs.Winners.{AreWinners};
 ghost use Rattle.cascade.specs.Choice as spec;
 
 use crate::decl::ReadDecl;
-use crate::weight::Weight;
+use crate::weight::DeclWeight;
 use bk_num::items::Items;
 use bk_num::name::NoMem;
 use std::alloc::Global;
@@ -16,14 +16,14 @@ use style::long::Long;
 /// A longhand that is declared, with what decides.
 #[derive(Clone, Copy)]
 pub struct Candidate<'s> {
-    pub weight: Weight,
+    pub weight: DeclWeight,
     pub long: &'s Long,
 }
 
 /// The declarations of a rule that applies, or of a style attribute, and the weight that they have in common.
 #[derive(Clone, Copy)]
-pub struct Applied<'s> {
-    pub weight: Weight,
+pub struct AppliedDecls<'s> {
+    pub weight: DeclWeight,
     pub decls: &'s [ReadDecl],
 }
 
@@ -61,7 +61,7 @@ fn offer<'s>(best: &mut [Option<Candidate<'s>>; 45], candidate: &Candidate<'s>)
 }
 
 /// Lets the longhands of a declaration win where they are better.
-fn offer_longs<'s>(best: &mut [Option<Candidate<'s>>; 45], weight: &Weight, longs: &'s [Long])
+fn offer_longs<'s>(best: &mut [Option<Candidate<'s>>; 45], weight: &DeclWeight, longs: &'s [Long])
     ensures { spec.views best.new ≡ fold spec.offered (spec.views best.old) (spec.longs_from weight.now 0 longs.now) }
 {
     for index in 0..longs.len() {
@@ -74,7 +74,11 @@ fn offer_longs<'s>(best: &mut [Option<Candidate<'s>>; 45], weight: &Weight, long
 }
 
 /// Lets the declarations of a rule win where they are better.
-fn offer_decls<'s>(best: &mut [Option<Candidate<'s>>; 45], weight: &Weight, decls: &'s [ReadDecl])
+fn offer_decls<'s>(
+    best: &mut [Option<Candidate<'s>>; 45],
+    weight: &DeclWeight,
+    decls: &'s [ReadDecl],
+)
     ensures { spec.views best.new ≡ fold spec.offered (spec.views best.old) (spec.decls_from weight.now 0 decls.now) }
 {
     for index in 0..decls.len() {
@@ -93,7 +97,8 @@ fn push_long(
     longs: &mut Vec<Long>,
     found: &Option<Candidate<'_>>,
 ) -> Result<(), NoMem>
-    ensures { OnOk result (longs.new.items ≡ longs.old.items ++ spec.longs_in (option_map spec.candidate_in found.now ∷ [])) }
+    ensures { OnOk result (longs.new.items ≡ longs.old.items ++
+        spec.longs_in (option_map spec.candidate_in found.now ∷ [])) }
 {
     match found {
         Some(candidate) => {
@@ -118,7 +123,7 @@ fn longs_of(alloc: Global, best: &[Option<Candidate<'_>>; 45]) -> Result<Items<L
 
 /// The longhands that win among declarations, in their order. It takes time in proportion to these
 /// declarations.
-pub fn choose(alloc: Global, rules: &[Applied<'_>]) -> Result<Items<Long>, NoMem>
+pub fn choose(alloc: Global, rules: &[AppliedDecls<'_>]) -> Result<Items<Long>, NoMem>
     ensures { IfOk result (λ longs. AreWinners (DeclaredBy (map applied_in rules.now)) longs) }
 {
     let mut best = none_yet();

@@ -7,10 +7,10 @@ ghost use Rattle.cascade.specs.Document.{rules_of, from_origin, weight_of, is_au
 ghost use Rattle.cascade.specs.Winners.{AreWinners};
 ghost use Rattle.cascade.specs.Selected as spec;
 
-use crate::choice::{Applied, choose};
+use crate::choice::{AppliedDecls, choose};
 use crate::decl::ReadDecl;
 use crate::sheet::{Origin, ReadRule, ReadSheet};
-use crate::weight::Weight;
+use crate::weight::DeclWeight;
 use bk_num::items::Items;
 use bk_num::name::NoMem;
 use bk_num::values::Pseudo;
@@ -30,7 +30,7 @@ pub(crate) struct Ruled<'s> {
 #[derive(Clone, Copy)]
 pub(crate) struct Selected<'s> {
     pub(crate) selector: &'s Selector,
-    rule: Applied<'s>,
+    rule: AppliedDecls<'s>,
 }
 
 /// Appends the rules of a sheet.
@@ -39,7 +39,8 @@ fn push_rules<'s>(
     origin: Origin,
     rules: &'s [ReadRule],
 ) -> Result<(), NoMem>
-    ensures { OnOk result (map spec.ruled_in all.new.items ≡ map spec.ruled_in all.old.items ++ map (from_origin origin) rules.now) }
+    ensures { OnOk result (map spec.ruled_in all.new.items ≡
+        map spec.ruled_in all.old.items ++ map (from_origin origin) rules.now) }
 {
     for rule in rules {
         all.push(Ruled { origin, rule })?;
@@ -65,11 +66,11 @@ fn is_author(origin: Origin) -> bool
 }
 
 /// What the declarations of the rule at a place weigh by a selector.
-fn weight_of(origin: Origin, place: u64, selector: &Selector) -> Weight
+fn weight_of(origin: Origin, place: u64, selector: &Selector) -> DeclWeight
     ensures { result ≡ weight_of origin place selector.now }
 {
     let (ids, classes, types) = specificity(selector);
-    Weight {
+    DeclWeight {
         important: false,
         author: is_author(origin),
         styled: false,
@@ -95,7 +96,7 @@ fn push_selected<'s>(
 {
     for selector in selectors {
         let weight = weight_of(origin, place, selector);
-        let rule = Applied { weight, decls };
+        let rule = AppliedDecls { weight, decls };
         all.push(Selected { selector, rule })?;
     }
     Ok(())
@@ -137,7 +138,7 @@ fn is_same(mine: Pseudo, other: Pseudo) -> bool
 
 /// Appends what a selector makes apply, if it has the pseudo-element.
 fn push_named<'s: 't, 't>(
-    rules: &mut Vec<Applied<'t>>,
+    rules: &mut Vec<AppliedDecls<'t>>,
     selected: Option<&Selected<'s>>,
     wanted: Pseudo,
 ) -> Result<(), NoMem>
@@ -146,7 +147,7 @@ fn push_named<'s: 't, 't>(
 {
     if let Some(selected) = selected {
         if is_same(pseudo(selected.selector), wanted) {
-            rules.push(Applied {
+            rules.push(AppliedDecls {
                 weight: selected.rule.weight,
                 decls: selected.rule.decls,
             })?;
@@ -161,8 +162,9 @@ fn named<'s: 't, 't>(
     selected: &[Selected<'s>],
     places: &[u32],
     wanted: Pseudo,
-) -> Result<Vec<Applied<'t>>, NoMem>
-    ensures { IfOk result (λ v. map applied_in v.items ≡ filter_map (spec.named_at (map spec.selected_in selected.now) wanted) places.now) }
+) -> Result<Vec<AppliedDecls<'t>>, NoMem>
+    ensures { IfOk result (λ v. map applied_in v.items ≡
+        filter_map (spec.named_at (map spec.selected_in selected.now) wanted) places.now) }
 {
     let mut rules = Vec::new(alloc);
     for place in places {
@@ -192,12 +194,13 @@ pub(crate) fn winners_by<'s: 't, 't>(
     wanted: Pseudo,
 ) -> Result<Items<Long>, NoMem>
     ensures { IfOk result
-        (λ longs. AreWinners (DeclaredBy (spec.rules_at (map spec.selected_in selected.now) places.now styled.now wanted)) longs) }
+        (λ longs. AreWinners (DeclaredBy (spec.rules_at (map spec.selected_in selected.now) places.now styled.now
+        wanted)) longs) }
 {
     let mut rules = named(alloc, selected, places, wanted)?;
     if is_same(wanted, Pseudo::Element) {
-        rules.push(Applied {
-            weight: Weight::of_style(),
+        rules.push(AppliedDecls {
+            weight: DeclWeight::of_style(),
             decls: styled,
         })?;
     }

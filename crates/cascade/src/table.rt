@@ -10,7 +10,8 @@ use std::alloc::Global;
 use std::marker::Model;
 use style::long::Long;
 
-/// The winning declarations of an element and of each of its pseudo-elements: at most one for each longhand. A text has none.
+/// The winning declarations of an element and of each of its pseudo-elements: at most one for each longhand. A text has
+/// none.
 #[derive(Drop)]
 pub struct NodeWinners {
     pub own: Items<Long>,
@@ -27,8 +28,8 @@ pub(crate) struct Shared {
     winners: NodeWinners,
 }
 
-/// What wins for each node, by the numbers of the nodes. Contracts see the list of that. A node that is added as one like an
-/// earlier one takes a number alone.
+/// What wins for each node, by the numbers of the nodes. Contracts see the list of that. A node that is added as one
+/// like an earlier one takes a number alone.
 #[derive(Drop)]
 pub struct WinnerTable {
     shared: Vec<Shared>,
@@ -75,7 +76,8 @@ impl WinnerTable {
         &self.shared[number as usize].winners
     }
 
-    /// A node for which the same wins; it is one node for those that were added like one another.
+    /// A node for which the same wins. Clauses don't say which: it is the first of those that were added like one
+    /// another, and any other would do.
     pub fn first(&self, node: NodeId) -> NodeId
         requires { node.0 < length self.now }
         ensures { slice_get self.now result.0 ≡ slice_get self.now node.0 }

@@ -3,9 +3,12 @@
 ghost use Rattle.std.specs.Prelude.{◌≡◌};
 ghost use Rattle.cascade.specs.Weights as spec;
 
-/// What decides between two declarations of a longhand (CSS 2.1, 6.4.1 and 6.4.3), the part that decides first at the top.
+use style::ranking::outranks;
+
+/// What decides between two declarations of a longhand (CSS 2.1, 6.4.1 and 6.4.3), the part that decides first at the
+/// top.
 #[derive(Clone, Copy, Debug)]
-pub struct Weight {
+pub struct DeclWeight {
     pub important: bool,
     /// The author's, and not the default sheet's.
     pub author: bool,
@@ -22,7 +25,7 @@ pub struct Weight {
     pub place: u64,
 }
 
-impl Weight {
+impl DeclWeight {
     /// Its parts as numbers.
     fn ranks(&self) -> [u64; 9]
         ensures { result ≡ spec.ranks_of self.now }
@@ -41,18 +44,17 @@ impl Weight {
     }
 
     /// Whether it wins over another.
-    pub fn is_above(&self, other: &Weight) -> bool
+    pub fn is_above(&self, other: &DeclWeight) -> bool
         ensures { result ≡ spec.is_above self.now other.now }
     {
-        let (mine, others) = (self.ranks(), other.ranks());
-        mine[..] > others[..]
+        outranks(&self.ranks(), &other.ranks())
     }
 
     /// The weight of a declaration of the rule. What isn't the author's is never important.
-    pub fn of_decl(&self, important: bool, decl: u64) -> Weight
+    pub fn of_decl(&self, important: bool, decl: u64) -> DeclWeight
         ensures { result ≡ spec.of_decl self.now important decl }
     {
-        Weight {
+        DeclWeight {
             important: self.author && important,
             decl,
             place: 0,
@@ -61,17 +63,17 @@ impl Weight {
     }
 
     /// The weight of a longhand of the declaration.
-    pub fn at(&self, place: u64) -> Weight
+    pub fn at(&self, place: u64) -> DeclWeight
         ensures { result ≡ spec.at_place self.now place }
     {
-        Weight { place, ..*self }
+        DeclWeight { place, ..*self }
     }
 
     /// The weight of the declarations of a style attribute (CSS 2.1, 6.4.3).
-    pub fn of_style() -> Weight
+    pub fn of_style() -> DeclWeight
         ensures { result ≡ spec.of_style }
     {
-        Weight {
+        DeclWeight {
             important: false,
             author: true,
             styled: true,

@@ -7,7 +7,7 @@ ghost use Rattle.cascade.specs.Winners.{AreWinners};
 ghost use Rattle.cascade.specs.Sharing.{AddsChosen, AreChosenAt};
 ghost use Rattle.cascade.specs.Selected as spec;
 
-use crate::alike::Alike;
+use crate::alike::SameMatches;
 use crate::decl::ReadDecl;
 use crate::selected::{Selected, selected_in, winners_by};
 use crate::sheet::{ReadSheet, read_all};
@@ -129,7 +129,8 @@ fn winners_at(
     node: NodeId,
 ) -> Result<NodeWinners, NoMem>
     requires { node.0 < length dom.now }
-    ensures { IfOk result (λ w. spec.AreChosen (map spec.selected_in selected.now) places.now (style_decls dom.now node.0) w) }
+    ensures { IfOk result (λ w. spec.AreChosen (map spec.selected_in selected.now) places.now
+        (style_decls dom.now node.0) w) }
 {
     let styled = style_decls(alloc, dom, node)?;
     node_winners(alloc, selected, places, styled.as_slice())
@@ -141,7 +142,7 @@ fn add_winners<'a>(
     dom: &'a Dom,
     selected: &[Selected<'_>],
     matched: &'a MatchTable,
-    alike: &mut Alike<'a>,
+    alike: &mut SameMatches<'a>,
     all: &mut WinnerTable,
     node: NodeId,
 ) -> Result<(), NoMem>
@@ -188,7 +189,7 @@ fn winners_by_matches(
     ensures count { IfOk result (λ t. length t ≡ length dom.now) }
     ensures chosen { IfOk result (λ t. AreChosenAt dom.now (map spec.selected_in selected.now) matched.now t) }
 {
-    let mut alike = Alike::new(alloc);
+    let mut alike = SameMatches::new(alloc);
     let mut all = WinnerTable::new(alloc);
     for index in 0..dom.len() {
         let node = NodeId(index);

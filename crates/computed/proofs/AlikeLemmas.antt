@@ -1,5 +1,6 @@
 -- Nodes that share their styles.
 use Rattle.std.proofs.Common.{◌≡◌, ℕ, ◌+◌, List, [], ◌∷◌, ◌++◌, Some, Result, Ok, Err, OnOk, is_some, length, length-append, slice_get, refl, sym, ◌∙◌, ap, subst, ◌⊎◌, inl, inr}
+use Rattle.std.proofs.lemmas.Option.{same_Some}
 use Rattle.bk_num.proofs.ListLemmas.{get-push, get-keep, get-end}
 use Rattle.dom.specs.Nodes.{Node, parents_of, parent_at, name_at}
 use Rattle.style.specs.Nodes.{NodeStyles, AddsLike}
@@ -8,7 +9,6 @@ use Rattle.computed.specs.Names.{node_names, with_names}
 use Rattle.computed.specs.Walk.{IsElement, IsNode, AreNodes, Adds}
 use Rattle.computed.specs.Alike.{IsLike, HaveRow, AreFirsts, AddsNext}
 use Rattle.computed.proofs.NameLemmas.{element-known}
-use Rattle.computed.proofs.WalkLemmas.{some-is}
 
 -- what holds below one parent holds below another with the same row
 element-move : (names : List (List ℕ)) (rows : List NodeStyles) (p q : ℕ) → slice_get rows p ≡ slice_get rows q → (w : NodeWinners) (r : NodeStyles) → IsElement names rows (Some p) w r → IsElement names rows (Some q) w r
@@ -18,7 +18,7 @@ same-rows : (rows : List NodeStyles) (firsts : List ℕ) → AreFirsts rows firs
 same-rows rows firsts same p q f hp hq =
     let a = same p f hp in
     let b = same q f hq in
-    let e : a.row ≡ b.row = some-is (sym a.first ∙ b.first) in
+    let e : a.row ≡ b.row = same_Some _ _ (sym a.first ∙ b.first) in
     a.there ∙ ap (λ r. Some r) e ∙ sym b.there
 
 -- an earlier element with the same winners and the same styles above it
@@ -54,8 +54,8 @@ adds-new (Ok a) names more nodes winners k w firsts noted rows next len at adds 
   first = k;
   is_noted = ok;
   shared = subst (λ l. slice_get l k ≡ Some adds.row) (sym adds.added) (subst (λ j. slice_get (rows ++ adds.row ∷ []) j ≡ Some adds.row) len (get-end rows adds.row));
-  fits = λ v wins all same. subst (λ x. IsNode more rows (parent_at (parents_of nodes) k) (is_some (name_at nodes k)) x adds.row) (some-is (sym at ∙ wins)) adds.fits;
-  numbered = λ v wins all same. subst (λ x. more ≡ with_names names (node_names x adds.row)) (some-is (sym at ∙ wins)) adds.numbered;
+  fits = λ v wins all same. subst (λ x. IsNode more rows (parent_at (parents_of nodes) k) (is_some (name_at nodes k)) x adds.row) (same_Some _ _ (sym at ∙ wins)) adds.fits;
+  numbered = λ v wins all same. subst (λ x. more ≡ with_names names (node_names x adds.row)) (same_Some _ _ (sym at ∙ wins)) adds.numbered;
 }
 adds-new (Err a) names more nodes winners k w firsts noted rows next len at adds ok = tt
 

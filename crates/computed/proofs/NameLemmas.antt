@@ -13,8 +13,7 @@ use Rattle.style.specs.declared.style.Style.{Style}
 use Rattle.style.specs.declared.long.Long.{Long}
 use Rattle.cascade.specs.declared.table.NodeWinners.{NodeWinners}
 use Rattle.computed.specs.Names.{page_in, given_names, node_names, page_names, with_names, names_of}
-use Rattle.computed.specs.Walk.{IsPage, IsStyle, HasPseudo, IsElement, style_above, root_above}
-use Rattle.bk_num.specs.Tables.{value_of}
+use Rattle.computed.specs.Walk.{IsPage, IsStyle, HasPseudo, IsElement, style_above, root_above, parent_row}
 
 -- ---- names that are there already
 
@@ -50,7 +49,7 @@ both-known names xs ys h g = fold-append with_name names xs ys ∙ ap (λ l. wit
 -- an element whose styles have their numbers adds no name
 pub element-known : (names : List (List ℕ)) (rows : List NodeStyles) (parent : Option ℕ) (w : NodeWinners) (r : NodeStyles) → IsElement names rows parent w r → with_names names (node_names w r) ≡ names
 element-known names rows parent w r h =
-    let own = own-known names (style_above (value_of rows parent)) (root_above rows parent) w.own h.style r.own h.own h.values in
+    let own = own-known names (style_above (parent_row rows parent)) (root_above rows parent) w.own h.style r.own h.own h.values in
     let before = pseudo-known names h.style _ r.shown w.before r.before h.before in
     let after = pseudo-known names h.style _ r.shown w.after r.after h.after in
     let call = pseudo-known names h.style _ r.note w.call r.call h.call in

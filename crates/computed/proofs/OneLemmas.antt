@@ -1,7 +1,7 @@
 -- A document has one list of styles but for the numbers of page names.
-use Rattle.std.proofs.Common.{◌≡◌, ◌∙◌, ℕ, zero, suc, ℤ, ◌<◌, ◌≤◌, Bool, true, false, not, ◌&&◌, ◌||◌, List, [], ◌∷◌, Option, None, Some, is_some, length, map, option_map, unwrap_or, slice_get, refl, sym, ap, arith}
-use Rattle.std.proofs.lemmas.Option.{slice_get-map, slice_get_within}
-use Rattle.bk_num.specs.Tables.{value_of}
+use Rattle.std.proofs.Common.{◌≡◌, ◌∙◌, ℕ, zero, suc, ℤ, ◌<◌, Bool, true, false, not, ◌&&◌, ◌||◌, List, [], ◌∷◌, Option, None, Some, is_some, length, map, option_map, unwrap_or, slice_get, refl, sym, ap, arith}
+use Rattle.bk_num.proofs.ListLemmas.{get-none}
+use Rattle.std.proofs.lemmas.Option.{slice_get-map, slice_get_within, same_Some}
 use Rattle.bk_num.specs.declared.values.Pseudo.TheVariants as pseudo
 use Rattle.dom.specs.Nodes.{Node, IsTree, parents_of, parent_at, name_at}
 use Rattle.style.specs.Nodes.{NodeStyles, style_of, style_at, is_shown_in, is_in_note_in}
@@ -13,8 +13,8 @@ use Rattle.cascade.specs.Laws.{WinnersAreOne}
 use Rattle.cascade.specs.declared.sheet.ReadSheet.{ReadSheet}
 use Rattle.cascade.specs.declared.table.NodeWinners.{NodeWinners}
 use Rattle.computed.specs.Applied.{computed_style, inline_display}
-use Rattle.computed.specs.Walk.{IsStyle, HasPseudo, IsElement, IsNode, AreStyles, style_above, root_above, font_of, is_shown_below, is_note_below, is_in_note_below, is_displayed, is_generated}
-use Rattle.computed.proofs.WalkLemmas.{falls, some-is}
+use Rattle.computed.specs.Walk.{IsStyle, HasPseudo, IsElement, IsNode, AreStyles, style_above, root_above, font_of, is_shown_below, is_note_below, is_in_note_below, is_displayed, is_generated, parent_row}
+use Rattle.computed.proofs.WalkLemmas.{falls}
 
 -- ---- lists by their places
 
@@ -24,18 +24,13 @@ same_places [] (y ∷ ys) h = let e = h 0 in cc
 same_places (x ∷ xs) [] h = let e = h 0 in cc
 same_places (x ∷ xs) (y ∷ ys) h =
     let e = h 0 in
-    let first : x ≡ y = some-is e in
+    let first : x ≡ y = same_Some _ _ e in
     ap (λ z. z ∷ xs) first ∙ ap (λ zs. y ∷ zs) (same_places xs ys (λ k. h (suc k)))
-
-none_past : {A : Type 0} (xs : List A) (k : ℕ) → slice_get xs k ≡ None → length xs ≤ k
-none_past [] k h = omega arith
-none_past (x ∷ xs) zero h = cc
-none_past (x ∷ xs) (suc k) h = let rest = none_past xs k h in omega arith
 
 -- lists of one length end at one place
 pub past_within : {A B : Type 0} (xs : List A) (ys : List B) (k : ℕ) (y : B) → length xs ≡ length ys → slice_get xs k ≡ None → slice_get ys k ≡ Some y → ⊥
 past_within xs ys k y e h g =
-    let past = none_past xs k h in
+    let past = get-none xs k h in
     let within = slice_get_within ys k y g in
     omega arith
 
@@ -144,7 +139,7 @@ module _ (names more : List (List ℕ)) (rows others : List NodeStyles) where
   abbrev IsSameAbove : Option ℕ → Type 0
   IsSameAbove parent = (p : ℕ) → parent ≡ Some p → Same p × Same 0
 
-  same_value : (parent : Option ℕ) → IsSameAbove parent → option_map unnamed_node (value_of rows parent) ≡ option_map unnamed_node (value_of others parent)
+  same_value : (parent : Option ℕ) → IsSameAbove parent → option_map unnamed_node (parent_row rows parent) ≡ option_map unnamed_node (parent_row others parent)
   same_value None low = refl
   same_value (Some p) low = let h = low p refl in h.0
 
@@ -194,7 +189,7 @@ module _ (names more : List (List ℕ)) (rows others : List NodeStyles) where
   one_element : (parent : Option ℕ) (w : NodeWinners) (a b : NodeStyles) → IsSameAbove parent → IsElement names rows parent w a → IsElement more others parent w b → unnamed_node a ≡ unnamed_node b
   one_element parent w a b low h g =
       let root : root_above rows parent ≡ root_above others parent = same_root parent low in
-      let s : unnamed h.style ≡ unnamed g.style = one_style names more (style_above (value_of rows parent)) (style_above (value_of others parent)) (root_above rows parent) (root_above others parent) w.own h.style g.style (same_above (value_of rows parent) (value_of others parent) (same_value parent low)) root h.values g.values in
+      let s : unnamed h.style ≡ unnamed g.style = one_style names more (style_above (parent_row rows parent)) (style_above (parent_row others parent)) (root_above rows parent) (root_above others parent) w.own h.style g.style (same_above (parent_row rows parent) (parent_row others parent) (same_value parent low)) root h.values g.values in
       let own : option_map unnamed a.own ≡ option_map unnamed b.own = ap (option_map unnamed) h.own ∙ ap (λ x. Some x) s ∙ sym (ap (option_map unnamed) g.own) in
       let shown : a.shown ≡ b.shown = h.shown ∙ same_shown parent low h.style g.style s ∙ sym g.shown in
       let note : a.note ≡ b.note = h.note ∙ same_note parent low h.style g.style s ∙ sym g.note in

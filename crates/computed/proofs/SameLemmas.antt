@@ -1,6 +1,6 @@
 -- A document has one list of page names and one list of styles.
 use Rattle.std.proofs.Common.{◌≡◌, ◌∙◌, ℕ, ℤ, zero, suc, ◌<◌, Bool, true, false, List, [], ◌∷◌, ◌++◌, Option, None, Some, is_some, length, map, option_map, slice_get, refl, sym, ap, subst, arith}
-use Rattle.bk_num.specs.Tables.{value_of}
+use Rattle.std.proofs.lemmas.Option.{same_Some}
 use Rattle.dom.specs.NameLists.{AreOnce}
 use Rattle.dom.specs.Nodes.{Node, IsTree, parents_of, parent_at, name_at}
 use Rattle.style.specs.Nodes.{NodeStyles}
@@ -9,11 +9,11 @@ use Rattle.style.specs.declared.long.Long.{Long}
 use Rattle.cascade.specs.Laws.{WinnersAreOne}
 use Rattle.cascade.specs.declared.table.NodeWinners.{NodeWinners}
 use Rattle.computed.specs.Names.{page_in, given_names, node_names, page_names, with_names}
-use Rattle.computed.specs.Walk.{IsStyle, HasPseudo, IsElement, IsNode, AreStyles, style_above, root_above}
+use Rattle.computed.specs.Walk.{IsStyle, HasPseudo, IsElement, IsNode, AreStyles, style_above, root_above, parent_row}
 use Rattle.computed.specs.Laws.{StylesAreOne}
 use Rattle.computed.proofs.NameLemmas.{are-once, one-number}
 use Rattle.computed.proofs.OneLemmas.{same_places, past_within, one_winners, unnamed, unnamed_node, one_list, same_below}
-use Rattle.computed.proofs.WalkLemmas.{falls, some-is}
+use Rattle.computed.proofs.WalkLemmas.{falls}
 
 -- ---- the names that are given don't depend on their numbers
 
@@ -49,22 +49,22 @@ pseudo-one names once own other r z m n w None (Some t) f e h g = cc
 pseudo-one names once own other r z m n w (Some s) None f e h g = cc
 pseudo-one names once own other r z m n w (Some s) (Some t) f e h g =
     let number = one-number names once own.page.0 other.page.0 (page_in w) s.page.0 t.page.0 f h.1.page g.1.page in
-    ap (λ x. Some x) (whole-style s t (some-is e) number)
+    ap (λ x. Some x) (whole-style s t (same_Some _ _ e) number)
 
 module _ (names : List (List ℕ)) (once : AreOnce names) (rows others : List NodeStyles) where
   abbrev SameAt : ℕ → Type 0
   SameAt k = slice_get rows k ≡ slice_get others k
 
-  value-same : (parent : Option ℕ) → ((p : ℕ) → parent ≡ Some p → SameAt p) → value_of rows parent ≡ value_of others parent
+  value-same : (parent : Option ℕ) → ((p : ℕ) → parent ≡ Some p → SameAt p) → parent_row rows parent ≡ parent_row others parent
   value-same None low = refl
   value-same (Some p) low = low p refl
 
   element-one : (parent : Option ℕ) (w : NodeWinners) (a b : NodeStyles) → ((p : ℕ) → parent ≡ Some p → SameAt p) → unnamed_node a ≡ unnamed_node b → IsElement names rows parent w a → IsElement names others parent w b → a ≡ b
   element-one parent w a b low e h g =
-      let above : style_above (value_of rows parent) ≡ style_above (value_of others parent) = ap style_above (value-same parent low) in
+      let above : style_above (parent_row rows parent) ≡ style_above (parent_row others parent) = ap style_above (value-same parent low) in
       let styles : option_map unnamed a.own ≡ option_map unnamed b.own = ap (λ (r : NodeStyles). r.own) e in
-      let style : unnamed h.style ≡ unnamed g.style = some-is (sym (ap (option_map unnamed) h.own) ∙ styles ∙ ap (option_map unnamed) g.own) in
-      let page : h.style.page.0 ≡ g.style.page.0 = own-one names once (style_above (value_of rows parent)) (style_above (value_of others parent)) (root_above rows parent) (root_above others parent) w.own h.style g.style above h.values g.values in
+      let style : unnamed h.style ≡ unnamed g.style = same_Some _ _ (sym (ap (option_map unnamed) h.own) ∙ styles ∙ ap (option_map unnamed) g.own) in
+      let page : h.style.page.0 ≡ g.style.page.0 = own-one names once (style_above (parent_row rows parent)) (style_above (parent_row others parent)) (root_above rows parent) (root_above others parent) w.own h.style g.style above h.values g.values in
       let own : a.own ≡ b.own = h.own ∙ ap (λ x. Some x) (whole-style h.style g.style style page) ∙ sym g.own in
       let before = pseudo-one names once h.style g.style _ _ a.shown b.shown w.before a.before b.before page (ap (λ (r : NodeStyles). r.before) e) h.before g.before in
       let after = pseudo-one names once h.style g.style _ _ a.shown b.shown w.after a.after b.after page (ap (λ (r : NodeStyles). r.after) e) h.after g.after in
@@ -93,7 +93,7 @@ module _ (names : List (List ℕ)) (once : AreOnce names) (rows others : List No
         by (Some a) (Some b) None h g i = absurd (past_within winners rows k a (full ∙ sym x.count) i h)
         by (Some a) (Some b) (Some w) h g i =
             let places = same_below names names rows others dom winners tree full x y (suc k) k (omega arith) in
-            let unnumbered : unnamed_node a ≡ unnamed_node b = some-is (sym (ap (option_map unnamed_node) h) ∙ places ∙ ap (option_map unnamed_node) g) in
+            let unnumbered : unnamed_node a ≡ unnamed_node b = same_Some _ _ (sym (ap (option_map unnamed_node) h) ∙ places ∙ ap (option_map unnamed_node) g) in
             let same = node-one (parent_at (parents_of dom) k) (is_some (name_at dom k)) w a b low unnumbered (x.each k w a i h) (y.each k w b i g) in
             h ∙ ap (λ z. Some z) same ∙ sym g
 

@@ -1,8 +1,7 @@
 -- Rows of nodes, and names that grow.
 use Rattle.std.proofs.Common.{◌≡◌, ℕ, ℤ, ◌+◌, ◌<◌, ◌≤◌, Bool, true, false, List, [], ◌∷◌, ◌++◌, Option, None, Some, Result, Ok, Err, OnOk, is_some, length, length-append, option_map, unwrap_or, slice_get, refl, sym, ◌∙◌, ap, subst, arith, ◌⊎◌, inl, inr}
-use Rattle.std.proofs.lemmas.Option.{slice_get-map, slice_get_within}
+use Rattle.std.proofs.lemmas.Option.{slice_get-map, slice_get_within, same_Some}
 use Rattle.std.specs.Option.{option_to_list}
-use Rattle.bk_num.specs.Tables.{value_of}
 use Rattle.bk_num.proofs.ListLemmas.{get-push, get-before}
 use Rattle.dom.specs.Nodes.{Node, IsTree, HasPlace, parents_of, parent_at, name_at, flat}
 use Rattle.style.specs.Nodes.{NodeStyles, change_last, own_style}
@@ -10,7 +9,7 @@ use Rattle.style.specs.declared.style.Style.{Style}
 use Rattle.style.specs.declared.long.Long.{Long}
 use Rattle.cascade.specs.declared.table.NodeWinners.{NodeWinners}
 use Rattle.computed.specs.Names.{page_in, with_names}
-use Rattle.computed.specs.Walk.{IsPage, IsStyle, HasPseudo, IsElement, IsNode, AreNodes, Adds, AddsElement, Extends, style_above, root_above, is_shown_below, is_note_below, is_in_note_below}
+use Rattle.computed.specs.Walk.{IsPage, IsStyle, HasPseudo, IsElement, IsNode, AreNodes, Adds, AddsElement, Extends, style_above, root_above, is_shown_below, is_note_below, is_in_note_below, parent_row}
 use Rattle.computed.specs.Rows.{PseudoStyles, all_put, AreGenerated, generated_names}
 use Rattle.computed.proofs.NameLemmas.{then-names}
 
@@ -68,17 +67,14 @@ put-end rows s shown note in_note (Some b) (Some a) (Some c) None = ends rows (o
 put-end rows s shown note in_note (Some b) (Some a) (Some c) (Some m) = ends rows (own_style s shown note in_note) _ _ _ _
 
 -- an element's row is there
-pub element-added : {A E : Type 0} (res : Result A E) (old names more : List (List ℕ)) → Extends names more → (parent : Option ℕ) (w : NodeWinners) (rows mid new : List NodeStyles) (s : Style) (shown note in_note : Bool) (g : PseudoStyles) → IsStyle names (style_above (value_of rows parent)) (root_above rows parent) w.own s → shown ≡ is_shown_below parent rows s → note ≡ is_note_below parent rows s → in_note ≡ is_in_note_below parent rows note → AreGenerated more s (unwrap_or (root_above rows parent) s.font_size) shown note w g → names ≡ with_names old (option_to_list (page_in w.own)) → more ≡ with_names names (generated_names w g) → mid ≡ rows ++ own_style s shown note in_note ∷ [] → OnOk res (new ≡ all_put g mid) → OnOk res (AddsElement old more parent w rows new)
+pub element-added : {A E : Type 0} (res : Result A E) (old names more : List (List ℕ)) → Extends names more → (parent : Option ℕ) (w : NodeWinners) (rows mid new : List NodeStyles) (s : Style) (shown note in_note : Bool) (g : PseudoStyles) → IsStyle names (style_above (parent_row rows parent)) (root_above rows parent) w.own s → shown ≡ is_shown_below parent rows s → note ≡ is_note_below parent rows s → in_note ≡ is_in_note_below parent rows note → AreGenerated more s (unwrap_or (root_above rows parent) s.font_size) shown note w g → names ≡ with_names old (option_to_list (page_in w.own)) → more ≡ with_names names (generated_names w g) → mid ≡ rows ++ own_style s shown note in_note ∷ [] → OnOk res (new ≡ all_put g mid) → OnOk res (AddsElement old more parent w rows new)
 element-added (Ok a) old names more e parent w rows mid new s shown note in_note g v h1 h2 h3 gs n1 n2 m ok = record {
   row = whole s shown note in_note g;
   added = ok ∙ ap (all_put g) m ∙ put-end rows s shown note in_note g.before g.after g.call g.marker;
-  fits = record { style = s; own = refl; values = style-keep names more e (style_above (value_of rows parent)) (root_above rows parent) w.own s v; shown = h1; note = h2; in_note = h3; before = gs.before; after = gs.after; call = gs.call; marker = gs.marker };
+  fits = record { style = s; own = refl; values = style-keep names more e (style_above (parent_row rows parent)) (root_above rows parent) w.own s v; shown = h1; note = h2; in_note = h3; before = gs.before; after = gs.after; call = gs.call; marker = gs.marker };
   numbered = then-names old names more (option_to_list (page_in w.own)) (generated_names w g) n1 n2;
 }
 element-added (Err a) old names more e parent w rows mid new s shown note in_note g v h1 h2 h3 gs n1 n2 m ok = tt
-
-pub some-is : {A : Type 0} {a b : A} → Some a ≡ Some b → a ≡ b
-some-is e = cc
 
 -- the rows of a node's parent and of the root stay
 element-keep : (names more : List (List ℕ)) → Extends names more → (rows : List NodeStyles) (row : NodeStyles) (parent : Option ℕ) → ((p : ℕ) → parent ≡ Some p → p < length rows) → (w : NodeWinners) (r : NodeStyles) → IsElement names rows parent w r → IsElement more (rows ++ row ∷ []) parent w r
@@ -114,7 +110,7 @@ nodes-turn names more nodes winners i w rows next tree at len all e adds k v r h
     by : ((k ≡ length rows) × (r ≡ adds.row)) ⊎ (slice_get rows k ≡ Some r) → IsNode more next (parent_at (parents_of nodes) k) (is_some (name_at nodes k)) v r
     by (inl (here, same)) =
         let place : k ≡ i = here ∙ len in
-        let winner : v ≡ w = some-is (sym hw ∙ ap (slice_get winners) place ∙ at) in
+        let winner : v ≡ w = same_Some _ _ (sym hw ∙ ap (slice_get winners) place ∙ at) in
         subst (λ l. IsNode more l (parent_at (parents_of nodes) k) (is_some (name_at nodes k)) v r) (sym adds.added) (node-keep more more (λ j t g. g) rows adds.row _ (low (omega arith)) _ v r (rw (winner, same, place) adds.fits))
     by (inr old) =
         let within = slice_get_within rows k r old in

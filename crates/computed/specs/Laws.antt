@@ -12,18 +12,22 @@ use Rattle.computed.specs.Ranges.{IsInRange}
 -- a document has one list of page names and one list of styles by its sheets
 abbrev pub StylesAreOne : Type 0
 StylesAreOne =
-    (dom : List Node) (sheets : List ReadSheet) (names more : List (List ℕ)) (rows others : List NodeStyles) → IsTree dom →
-    AreDocumentStyles names dom sheets rows → AreDocumentStyles more dom sheets others → (names ≡ more) × (rows ≡ others)
+    (dom : List Node) (sheets : List ReadSheet) (names more : List (List ℕ)) (rows others : List NodeStyles) →
+    IsTree dom →
+    AreDocumentStyles names dom sheets rows → AreDocumentStyles more dom sheets others →
+    (names ≡ more) × (rows ≡ others)
 
 -- computed values keep their ranges, whatever is declared
 abbrev pub StylesKeepRanges : Type 0
 StylesKeepRanges =
     (dom : List Node) (sheets : List ReadSheet) (names : List (List ℕ)) (rows : List NodeStyles) → IsTree dom →
-    AreDocumentStyles names dom sheets rows → (k : ℕ) (p : Pseudo) (s : Style) → style_at rows k p ≡ Some s → IsInRange s
+    AreDocumentStyles names dom sheets rows → (k : ℕ) (p : Pseudo) (s : Style) → style_at rows k p ≡ Some s →
+    IsInRange s
 
 -- the root has a style and is shown, and each node has a row
 abbrev pub RootIsShown : Type 0
 RootIsShown =
     (dom : List Node) (sheets : List ReadSheet) (names : List (List ℕ)) (rows : List NodeStyles) → IsTree dom →
     AreDocumentStyles names dom sheets rows →
-    ((s : Style) × (style_at rows 0 pseudo.Element ≡ Some s)) × (is_shown_in (slice_get rows 0) ≡ true) × (length rows ≡ length dom)
+    ((s : Style) × (style_at rows 0 pseudo.Element ≡ Some s)) × (is_shown_in (slice_get rows 0) ≡ true) ×
+    (length rows ≡ length dom)

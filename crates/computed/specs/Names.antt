@@ -17,6 +17,7 @@ named found (long.Page given.Inherit) = None
 named found (long.Page given.Initial) = None
 named found l = found
 
+-- the page name that an element's winners give
 abbrev pub page_in : List Long → Option (List ℕ)
 page_in winners = fold named None winners
 
@@ -29,7 +30,8 @@ given_names winners (Some style) = option_to_list (page_in winners)
 abbrev pub node_names : NodeWinners → NodeStyles → List (List ℕ)
 node_names w r =
     given_names w.own r.own ++
-    (given_names w.before r.before ++ (given_names w.after r.after ++ (given_names w.call r.call ++ given_names w.marker r.marker)))
+    (given_names w.before r.before ++ (given_names w.after r.after ++
+    (given_names w.call r.call ++ given_names w.marker r.marker)))
 
 -- those of a document, in the order of its nodes
 abbrev pub page_names : List NodeWinners → List NodeStyles → List (List ℕ)

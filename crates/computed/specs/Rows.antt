@@ -4,7 +4,7 @@ use Rattle.bk_num.specs.declared.values.Pseudo.{Pseudo}
 use Rattle.bk_num.specs.declared.values.Pseudo.TheVariants as pseudo
 use Rattle.style.specs.Nodes.{NodeStyles, with_style, change_last}
 use Rattle.style.specs.declared.style.Style.{Style}
-use Rattle.computed.specs.declared.walk.Generated.{Generated}
+use Rattle.computed.specs.declared.walk.GeneratedStyles.{GeneratedStyles}
 use Rattle.cascade.specs.declared.table.NodeWinners.{NodeWinners}
 use Rattle.computed.specs.Names.{given_names}
 use Rattle.computed.specs.Walk.{HasPseudo}
@@ -21,7 +21,8 @@ pub record PseudoStyles : Type 0 where
   pub call : Option Style
   pub marker : Option Style
 
-abbrev pub styles_in : Generated → PseudoStyles
+-- the same as values
+abbrev pub styles_in : GeneratedStyles → PseudoStyles
 styles_in g =
     record {
       before = option_map (λ b. b.value) g.before;
@@ -37,7 +38,8 @@ all_put g rows = change_last (with_option pseudo.Marker g.marker)
     (change_last (with_option pseudo.After g.after) (change_last (with_option pseudo.Before g.before) rows)))
 
 -- each is there exactly where the element may have it and it is generated
-pub record AreGenerated (names : List (List ℕ)) (own : Style) (root : ℤ) (shown note : Bool) (w : NodeWinners) (g : PseudoStyles) : Type 0
+pub record AreGenerated (names : List (List ℕ)) (own : Style) (root : ℤ) (shown note : Bool) (w : NodeWinners)
+    (g : PseudoStyles) : Type 0
   where
     pub before : HasPseudo names own root shown w.before g.before
     pub after : HasPseudo names own root shown w.after g.after
@@ -47,4 +49,5 @@ pub record AreGenerated (names : List (List ℕ)) (own : Style) (root : ℤ) (sh
 -- the page names that are given for those that are there
 abbrev pub generated_names : NodeWinners → PseudoStyles → List (List ℕ)
 generated_names w g =
-    given_names w.before g.before ++ (given_names w.after g.after ++ (given_names w.call g.call ++ given_names w.marker g.marker))
+    given_names w.before g.before ++ (given_names w.after g.after ++
+    (given_names w.call g.call ++ given_names w.marker g.marker))

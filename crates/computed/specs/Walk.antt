@@ -1,6 +1,5 @@
 -- The styles of a document's nodes, each by its winners and by its parent's style.
 use Rattle.std.specs.Prelude.{◌≡◌, ℕ, ℤ, Bool, true, false, not, ◌&&◌, ◌||◌, List, [], ◌∷◌, ◌++◌, Option, None, Some, is_some, unwrap_or, length, slice_get}
-use Rattle.bk_num.specs.Tables.{value_of}
 use Rattle.bk_num.specs.Limits.{root_size}
 use Rattle.bk_num.specs.declared.values.Pseudo.TheVariants as pseudo
 use Rattle.dom.specs.Nodes.{Node, parents_of, parent_at, name_at}
@@ -20,10 +19,12 @@ IsPage names parent None n = n ≡ parent
 IsPage names parent (Some name) n = slice_get names n ≡ Some name
 
 -- the style of an element below a parent, by its winners
-pub record IsStyle (names : List (List ℕ)) (p : Style) (root : Option ℤ) (winners : List Long) (s : Style) : Type 0 where
-  pub values : s ≡ record (computed_style p root winners) { page = s.page }
-  pub page : IsPage names p.page.0 (page_in winners) s.page.0
+pub record IsStyle (names : List (List ℕ)) (p : Style) (root : Option ℤ) (winners : List Long) (s : Style) : Type 0
+  where
+    pub values : s ≡ record (computed_style p root winners) { page = s.page }
+    pub page : IsPage names p.page.0 (page_in winners) s.page.0
 
+-- a display other than `none`
 abbrev pub is_displayed : Display → Bool
 is_displayed display.Hidden = false
 is_displayed display.Inline = true
@@ -45,9 +46,16 @@ pub record IsPseudo (names : List (List ℕ)) (own : Style) (root : ℤ) (winner
 
 -- a pseudo-element has a style exactly where the element may have it and it is there
 abbrev pub HasPseudo : List (List ℕ) → Style → ℤ → Bool → List Long → Option Style → Type 0
-HasPseudo names own root allowed winners None = (allowed && is_generated (computed_style own (Some root) winners)) ≡ false
-HasPseudo names own root allowed winners (Some s) = ((allowed && is_generated (computed_style own (Some root) winners)) ≡ true) ×
+HasPseudo names own root allowed winners None =
+    (allowed && is_generated (computed_style own (Some root) winners)) ≡ false
+HasPseudo names own root allowed winners (Some s) =
+    ((allowed && is_generated (computed_style own (Some root) winners)) ≡ true) ×
     IsPseudo names own root winners s
+
+-- the row of a parent, if there is one
+abbrev pub parent_row : List NodeStyles → Option ℕ → Option NodeStyles
+parent_row rows None = None
+parent_row rows (Some p) = slice_get rows p
 
 -- what the root takes for its parent's style
 abbrev pub style_above : Option NodeStyles → Style
@@ -64,10 +72,12 @@ abbrev pub is_note_below : Option ℕ → List NodeStyles → Style → Bool
 is_note_below None rows s = false
 is_note_below (Some p) rows s = is_shown_below (Some p) rows s && (s.float && not (is_in_note_in (slice_get rows p)))
 
+-- an element stands in a note where it is one or its parent stands in one
 abbrev pub is_in_note_below : Option ℕ → List NodeStyles → Bool → Bool
 is_in_note_below None rows note = false
 is_in_note_below (Some p) rows note = note || is_in_note_in (slice_get rows p)
 
+-- the font size of an element, and 16 px for a text
 abbrev pub font_of : Option Style → ℤ
 font_of None = root_size
 font_of (Some s) = s.font_size
@@ -78,10 +88,11 @@ root_above rows None = None
 root_above rows (Some p) = Some (font_of (style_at rows 0 pseudo.Element))
 
 -- the styles of an element, by its parent's number and the rows of the nodes before it
-pub record IsElement (names : List (List ℕ)) (rows : List NodeStyles) (parent : Option ℕ) (w : NodeWinners) (r : NodeStyles) : Type 0 where
+pub record IsElement (names : List (List ℕ)) (rows : List NodeStyles) (parent : Option ℕ) (w : NodeWinners)
+    (r : NodeStyles) : Type 0 where
   pub style : Style
   pub own : r.own ≡ Some style
-  pub values : IsStyle names (style_above (value_of rows parent)) (root_above rows parent) w.own style
+  pub values : IsStyle names (style_above (parent_row rows parent)) (root_above rows parent) w.own style
   pub shown : r.shown ≡ is_shown_below parent rows style
   pub note : r.note ≡ is_note_below parent rows style
   pub in_note : r.in_note ≡ is_in_note_below parent rows r.note
@@ -101,7 +112,8 @@ AreNodes names nodes winners rows = (k : ℕ) (w : NodeWinners) (r : NodeStyles)
     slice_get rows k ≡ Some r → IsNode names rows (parent_at (parents_of nodes) k) (is_some (name_at nodes k)) w r
 
 -- the styles of a document, and its page names as they are numbered
-pub record AreStyles (names : List (List ℕ)) (nodes : List Node) (winners : List NodeWinners) (rows : List NodeStyles) : Type 0 where
+pub record AreStyles (names : List (List ℕ)) (nodes : List Node) (winners : List NodeWinners) (rows : List NodeStyles) :
+    Type 0 where
   pub count : length rows ≡ length nodes
   pub each : AreNodes names nodes winners rows
   pub numbered : names ≡ names_of winners rows
@@ -111,14 +123,16 @@ abbrev pub Extends : List (List ℕ) → List (List ℕ) → Type 0
 Extends names more = (k : ℕ) (t : List ℕ) → slice_get names k ≡ Some t → slice_get more k ≡ Some t
 
 -- a node's row is added, and the names that it gives
-pub record Adds (names more : List (List ℕ)) (nodes : List Node) (k : ℕ) (w : NodeWinners) (rows next : List NodeStyles) : Type 0 where
+pub record Adds (names more : List (List ℕ)) (nodes : List Node) (k : ℕ) (w : NodeWinners) (rows next : List NodeStyles)
+    : Type 0 where
   pub row : NodeStyles
   pub added : next ≡ rows ++ row ∷ []
   pub fits : IsNode more rows (parent_at (parents_of nodes) k) (is_some (name_at nodes k)) w row
   pub numbered : more ≡ with_names names (node_names w row)
 
 -- an element's row is added, and the names that it gives
-pub record AddsElement (names more : List (List ℕ)) (parent : Option ℕ) (w : NodeWinners) (rows next : List NodeStyles) : Type 0 where
+pub record AddsElement (names more : List (List ℕ)) (parent : Option ℕ) (w : NodeWinners) (rows next : List NodeStyles)
+    : Type 0 where
   pub row : NodeStyles
   pub added : next ≡ rows ++ row ∷ []
   pub fits : IsElement more rows parent w row

@@ -18,15 +18,15 @@ pub(crate) struct Deciding {
     winners: u32,
 }
 
-/// For each node one that has the same styles, itself or one before it; and elements by what decides their styles, of which
-/// it is asked for one that may be like another. Contracts see the former.
+/// For each node one that has the same styles, itself or one before it; and elements by what decides their styles, of
+/// which it is asked for one that may be like another. Contracts see the former.
 #[derive(Drop)]
-pub(crate) struct Alike {
+pub(crate) struct SameStyles {
     firsts: Vec<u32>,
     known: IndexMap<Deciding, u32>,
 }
 
-impl Model for Alike {
+impl Model for SameStyles {
     ghost use Rattle.std.specs.Prelude.{List, ℕ};
 
     ghost Value = { List ℕ };
@@ -34,11 +34,11 @@ impl Model for Alike {
     ghost view = { λ a. a.firsts.items };
 }
 
-impl Alike {
-    pub(crate) fn new(alloc: Global) -> Alike
+impl SameStyles {
+    pub(crate) fn new(alloc: Global) -> SameStyles
         ensures { result ≡ [] }
     {
-        Alike {
+        SameStyles {
             firsts: Vec::new(alloc),
             known: IndexMap::new(alloc),
         }

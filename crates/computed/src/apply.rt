@@ -3,34 +3,33 @@
 ghost use Rattle.std.specs.Prelude.{◌≡◌, [], None, IfOk, OnOk};
 ghost use Rattle.style.specs.Styles.{initial_style};
 ghost use Rattle.computed_values.specs.Values.{given_by, same};
-ghost use Rattle.computed.specs.Applied.{begun, applied, style_in, computed_style};
+ghost use Rattle.computed.specs.Applied as spec;
 
-use crate::context::{Context, context_of};
-use crate::values::{
-    chosen_border, chosen_len, chosen_padding, chosen_width, chosen_without_auto, medium_of,
-};
+use crate::context::{ElementContext, context_of};
+use crate::values::{LengthUse, chosen_border, chosen_length, medium_borders};
 use bk_num::ids::NameId;
 use bk_num::name::NoMem;
 use bk_num::px::Px;
+use bk_num::sides::Sides;
 use bk_num::values::{Align, BreakAt, NumStyle, WhiteSpace};
 use computed_values::fonts::{chosen_height, chosen_weight};
 use computed_values::given::{chosen, chosen_color};
 use std::alloc::Global;
 use style::content::Content;
 use style::lists::{CounterList, Families, StringSets};
-use style::long::{Given, Long};
+use style::long::{Given, Long, SideLong};
 use style::style::Style;
 use style::values::Display;
 
-/// The computed style of an element below a parent, by its winners, but for its page name, which is 0. `root` is the root's font size,
-/// and None is the root itself.
+/// The computed style of an element below a parent, by its winners, but for its page name, which is 0. `root` is the
+/// root's font size, and None is the root itself.
 pub fn computed_style(
     alloc: Global,
     parent: &Style,
     root: Option<Px>,
     winners: &[Long],
 ) -> Result<Style, NoMem>
-    ensures { IfOk result (λ style. style ≡ computed_style parent.now root winners.now) }
+    ensures { IfOk result (λ style. style ≡ spec.computed_style parent.now root winners.now) }
 {
     let context = context_of(parent, root, winners);
     style_in(alloc, parent, &context, winners)
@@ -39,10 +38,10 @@ pub fn computed_style(
 fn style_in(
     alloc: Global,
     parent: &Style,
-    context: &Context,
+    context: &ElementContext,
     winners: &[Long],
 ) -> Result<Style, NoMem>
-    ensures { IfOk result (λ style. style ≡ style_in parent.now context.now winners.now) }
+    ensures { IfOk result (λ style. style ≡ spec.style_in parent.now context.now winners.now) }
 {
     let mut style = begin(alloc, parent, context)?;
     for long in winners {
@@ -52,25 +51,16 @@ fn style_in(
 }
 
 /// The style of an element without winners.
-fn begin(alloc: Global, parent: &Style, context: &Context) -> Result<Style, NoMem>
-    ensures { IfOk result (λ style. style ≡ begun parent.now context.now) }
+fn begin(alloc: Global, parent: &Style, context: &ElementContext) -> Result<Style, NoMem>
+    ensures { IfOk result (λ style. style ≡ spec.begun parent.now context.now) }
 {
     let mut style = Style::child(parent, alloc)?;
-    style.border_top_width = medium_of(context.border_top_style);
-    style.border_right_width = medium_of(context.border_right_style);
-    style.border_bottom_width = medium_of(context.border_bottom_style);
-    style.border_left_width = medium_of(context.border_left_style);
-    style.border_top_style = context.border_top_style;
-    style.border_right_style = context.border_right_style;
-    style.border_bottom_style = context.border_bottom_style;
-    style.border_left_style = context.border_left_style;
-    style.border_top_color = context.color;
-    style.border_right_color = context.color;
-    style.border_bottom_color = context.color;
-    style.border_left_color = context.color;
     style.color = context.color;
     style.font_size = context.font_size;
     style.page = NameId(0);
+    style.set_border_colors(Sides::same(context.color));
+    style.set_border_styles(context.border_styles);
+    style.set_border_widths(medium_borders(&context.border_styles));
     Ok(style)
 }
 
@@ -79,142 +69,129 @@ fn apply(
     style: &mut Style,
     alloc: Global,
     parent: &Style,
-    context: &Context,
+    context: &ElementContext,
     long: &Long,
 ) -> Result<(), NoMem>
-    ensures { OnOk result (style.new ≡ applied parent.now context.now style.old long.now) }
+    ensures { OnOk result (style.new ≡ spec.applied parent.now context.now style.old long.now) }
+{
+    match long.at_side() {
+        Some(given) => {
+            apply_side(style, parent, context, &given);
+            Ok(())
+        }
+        None => apply_alone(style, alloc, parent, context, long),
+    }
+}
+
+/// Takes what a winner gives to a side into a style. The styles of borders are in it already.
+fn apply_side(style: &mut Style, parent: &Style, context: &ElementContext, given: &SideLong)
+    ensures { style.new ≡ spec.applied_side parent.now context.now style.old given.now }
+{
+    match given {
+        SideLong::Margin(side, given) => {
+            let inherited = parent.margins().at(*side);
+            let margin = chosen_length(LengthUse::Margin(*side), given, inherited, context);
+            style.set_margin(*side, margin);
+        }
+        SideLong::Padding(side, given) => {
+            let inherited = parent.paddings().at(*side);
+            let padding = chosen_length(LengthUse::Padding, given, inherited, context);
+            style.set_padding(*side, padding);
+        }
+        SideLong::BorderWidth(side, given) => {
+            let inherited = parent.border_widths().at(*side);
+            let border = context.border_styles.at(*side);
+            style.set_border_width(*side, chosen_border(given, inherited, border, context));
+        }
+        SideLong::BorderStyle(_, _) => {}
+        SideLong::BorderColor(side, given) => {
+            let inherited = parent.border_colors().at(*side);
+            style.set_border_color(*side, chosen_color(given, inherited, context.color));
+        }
+    }
+}
+
+/// Takes what a winner gives that has no side into a style. A color and a font size are in it already, and a page name
+/// comes later.
+fn apply_alone(
+    style: &mut Style,
+    alloc: Global,
+    parent: &Style,
+    context: &ElementContext,
+    long: &Long,
+) -> Result<(), NoMem>
+    ensures { OnOk result (style.new ≡ spec.applied_alone parent.now context.now style.old long.now) }
+{
+    apply_flow(style, parent, context, long);
+    apply_text(style, parent, context, long);
+    apply_list(style, alloc, parent, long)
+}
+
+/// Takes what a winner gives a box, its list marker and the breaks round it into a style.
+fn apply_flow(style: &mut Style, parent: &Style, context: &ElementContext, long: &Long)
+    ensures { style.new ≡ spec.applied_flow parent.now context.now style.old long.now }
 {
     match long {
         Long::Display(g) => style.display = chosen(g, parent.display, Display::Inline),
         Long::Float(g) => style.float = chosen(g, parent.float, false),
-        Long::MarginTop(g) => style.margin_top = chosen_without_auto(
-            g,
-            &parent.margin_top,
-            context,
-        ),
-        Long::MarginRight(g) => style.margin_right = chosen_len(g, &parent.margin_right, context),
-        Long::MarginBottom(g) => style.margin_bottom = chosen_without_auto(
-            g,
-            &parent.margin_bottom,
-            context,
-        ),
-        Long::MarginLeft(g) => style.margin_left = chosen_len(g, &parent.margin_left, context),
-        Long::PaddingTop(g) => style.padding_top = chosen_padding(g, &parent.padding_top, context),
-        Long::PaddingRight(g) => style.padding_right = chosen_padding(
-            g,
-            &parent.padding_right,
-            context,
-        ),
-        Long::PaddingBottom(g) => style.padding_bottom = chosen_padding(
-            g,
-            &parent.padding_bottom,
-            context,
-        ),
-        Long::PaddingLeft(g) => style.padding_left = chosen_padding(
-            g,
-            &parent.padding_left,
-            context,
-        ),
-        Long::BorderTopWidth(g) => style.border_top_width = chosen_border(
-            g,
-            &parent.border_top_width,
-            context.border_top_style,
-            context,
-        ),
-        Long::BorderRightWidth(g) => style.border_right_width = chosen_border(
-            g,
-            &parent.border_right_width,
-            context.border_right_style,
-            context,
-        ),
-        Long::BorderBottomWidth(g) => style.border_bottom_width = chosen_border(
-            g,
-            &parent.border_bottom_width,
-            context.border_bottom_style,
-            context,
-        ),
-        Long::BorderLeftWidth(g) => style.border_left_width = chosen_border(
-            g,
-            &parent.border_left_width,
-            context.border_left_style,
-            context,
-        ),
-        Long::BorderTopColor(g) => style.border_top_color = chosen_color(
-            g,
-            parent.border_top_color,
-            context.color,
-        ),
-        Long::BorderRightColor(g) => style.border_right_color = chosen_color(
-            g,
-            parent.border_right_color,
-            context.color,
-        ),
-        Long::BorderBottomColor(g) => style.border_bottom_color = chosen_color(
-            g,
-            parent.border_bottom_color,
-            context.color,
-        ),
-        Long::BorderLeftColor(g) => style.border_left_color = chosen_color(
-            g,
-            parent.border_left_color,
-            context.color,
-        ),
-        Long::Width(g) => style.width = chosen_width(g, &parent.width, context),
-        Long::BackgroundColor(g) => style.background_color = chosen(
-            g,
-            parent.background_color,
-            None,
-        ),
-        Long::FontFamily(g) => style.font_family = chosen_families(alloc, g, &parent.font_family)?,
-        Long::FontStyle(g) => style.font_style = chosen(g, parent.font_style, false),
-        Long::FontWeight(g) => style.font_weight = chosen_weight(g, parent.font_weight),
-        Long::LineHeight(g) => style.line_height = chosen_height(
-            g,
-            &parent.line_height,
-            context.font_size,
-            context.root_size,
-        ),
-        Long::TextAlign(g) => style.text_align = chosen(g, parent.text_align, Align::Left),
-        Long::TextIndent(g) => style.text_indent = chosen_without_auto(
-            g,
-            &parent.text_indent,
-            context,
-        ),
-        Long::WhiteSpace(g) => style.white_space = chosen(
-            g,
-            parent.white_space,
-            WhiteSpace::Normal,
-        ),
-        Long::OverflowWrap(g) => style.overflow_wrap = chosen(g, parent.overflow_wrap, false),
-        Long::ListStyleType(g) => style.list_style_type = chosen(
-            g,
-            parent.list_style_type,
-            NumStyle::Disc,
-        ),
-        Long::Content(g) => style.content = chosen_content(alloc, g, &parent.content)?,
-        Long::CounterReset(g) => style.counter_reset = chosen_counters(
-            alloc,
-            g,
-            &parent.counter_reset,
-        )?,
-        Long::CounterIncrement(g) => style.counter_increment = chosen_counters(
-            alloc,
-            g,
-            &parent.counter_increment,
-        )?,
-        Long::StringSet(g) => style.string_set = chosen_strings(alloc, g, &parent.string_set)?,
+        Long::Width(g) => style.width = chosen_length(LengthUse::Width, g, parent.width, context),
+        Long::BackgroundColor(g) => {
+            style.background_color = chosen(g, parent.background_color, None);
+        }
+        Long::ListStyleType(g) => {
+            style.list_style_type = chosen(g, parent.list_style_type, NumStyle::Disc);
+        }
         Long::BreakBefore(g) => style.break_before = chosen(g, parent.break_before, BreakAt::Auto),
         Long::BreakAfter(g) => style.break_after = chosen(g, parent.break_after, BreakAt::Auto),
         Long::BreakInside(g) => style.break_inside = chosen(g, parent.break_inside, false),
         Long::Widows(g) => style.widows = chosen(g, parent.widows, 2),
         Long::Orphans(g) => style.orphans = chosen(g, parent.orphans, 2),
-        Long::BorderTopStyle(_) => {}
-        Long::BorderRightStyle(_) => {}
-        Long::BorderBottomStyle(_) => {}
-        Long::BorderLeftStyle(_) => {}
-        Long::Color(_) => {}
-        Long::FontSize(_) => {}
-        Long::Page(_) => {}
+        _ => {}
+    }
+}
+
+/// Takes what a winner gives a text into a style.
+fn apply_text(style: &mut Style, parent: &Style, context: &ElementContext, long: &Long)
+    ensures { style.new ≡ spec.applied_text parent.now context.now style.old long.now }
+{
+    match long {
+        Long::FontStyle(g) => style.font_style = chosen(g, parent.font_style, false),
+        Long::FontWeight(g) => style.font_weight = chosen_weight(g, parent.font_weight),
+        Long::LineHeight(g) => {
+            let (font, root) = (context.font_size, context.root_size);
+            style.line_height = chosen_height(g, &parent.line_height, font, root);
+        }
+        Long::TextAlign(g) => style.text_align = chosen(g, parent.text_align, Align::Left),
+        Long::TextIndent(g) => {
+            style.text_indent = chosen_length(LengthUse::Indent, g, parent.text_indent, context);
+        }
+        Long::WhiteSpace(g) => {
+            style.white_space = chosen(g, parent.white_space, WhiteSpace::Normal);
+        }
+        Long::OverflowWrap(g) => style.overflow_wrap = chosen(g, parent.overflow_wrap, false),
+        _ => {}
+    }
+}
+
+/// Takes a list that a winner gives into a style: families, content, counters or named strings.
+fn apply_list(style: &mut Style, alloc: Global, parent: &Style, long: &Long) -> Result<(), NoMem>
+    ensures { OnOk result (style.new ≡ spec.applied_list parent.now style.old long.now) }
+{
+    match long {
+        Long::FontFamily(g) => {
+            style.font_family = chosen_families(alloc, g, &parent.font_family)?;
+        }
+        Long::Content(g) => style.content = chosen_content(alloc, g, &parent.content)?,
+        Long::CounterReset(g) => {
+            style.counter_reset = chosen_counters(alloc, g, &parent.counter_reset)?;
+        }
+        Long::CounterIncrement(g) => {
+            style.counter_increment = chosen_counters(alloc, g, &parent.counter_increment)?;
+        }
+        Long::StringSet(g) => {
+            style.string_set = chosen_strings(alloc, g, &parent.string_set)?;
+        }
+        _ => {}
     }
     Ok(())
 }

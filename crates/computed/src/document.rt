@@ -12,8 +12,8 @@ use std::alloc::Global;
 use style::names::Names;
 use style::styles::Styles;
 
-/// The computed styles of a document's nodes and of their pseudo-elements by its sheets (CSS 2.1, 6), and the names of its
-/// pages. Later sheets stand above earlier ones of the same origin. It takes time in proportion to the nodes and to
+/// The computed styles of a document's nodes and of their pseudo-elements by its sheets (CSS 2.1, 6), and the names of
+/// its pages. Later sheets stand above earlier ones of the same origin. It takes time in proportion to the nodes and to
 /// the rules that apply to them; only want of memory is in its way.
 pub fn styles(alloc: Global, dom: &Dom, sheets: &[ReadSheet]) -> Result<(Styles, Names), NoMem>
     ensures { IfOk result (λ r. AreDocumentStyles r.1 dom.now sheets.now r.0) }

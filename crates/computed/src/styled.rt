@@ -62,8 +62,10 @@ pub(crate) fn pseudo_style(
     allowed: bool,
     winners: &[Long],
 ) -> Result<Option<Box<Style>>, NoMem>
-    ensures style { IfOk result (λ o. HasPseudo names.new own.now root.now allowed winners.now (option_map (λ b. b.value) o)) }
-    ensures numbered { IfOk result (λ o. names.new ≡ with_names names.old (given_names winners.now (option_map (λ b. b.value) o))) }
+    ensures style { IfOk result (λ o. HasPseudo names.new own.now root.now allowed winners.now
+        (option_map (λ b. b.value) o)) }
+    ensures numbered { IfOk result (λ o. names.new ≡
+        with_names names.old (given_names winners.now (option_map (λ b. b.value) o))) }
     ensures names { Extends names.old names.new }
 {
     if !allowed || winners.is_empty() {

@@ -1,15 +1,14 @@
 //! The styles of a document's nodes, in one pass over the list of nodes.
 
 ghost use Rattle.std.specs.Prelude.{◌≡◌, ◌<◌, [], ◌∷◌, None, Some, true, IfOk, OnOk, option_map, unwrap_or, length};
-ghost use Rattle.bk_num.specs.Tables.{value_of};
 ghost use Rattle.style.specs.Nodes.{change_last};
 ghost use Rattle.style.specs.Styles.{initial_style};
 ghost use Rattle.computed.specs.Names.{with_names};
-ghost use Rattle.computed.specs.Walk.{style_above, root_above, is_shown_below, is_note_below, is_in_note_below, font_of, AreStyles, Extends, Adds, AddsElement};
+ghost use Rattle.computed.specs.Walk.{parent_row, style_above, root_above, is_shown_below, is_note_below, is_in_note_below, font_of, AreStyles, Extends, Adds, AddsElement};
 ghost use Rattle.computed.specs.Alike.{AddsNext};
 ghost use Rattle.computed.specs.Rows.{with_option, styles_in, all_put, AreGenerated, generated_names};
 
-use crate::alike::Alike;
+use crate::alike::SameStyles;
 use crate::styled::{boxed, is_displayed, pseudo_style, style_of};
 use bk_num::ids::NodeId;
 use bk_num::name::NoMem;
@@ -22,8 +21,8 @@ use style::names::Names;
 use style::style::Style;
 use style::styles::Styles;
 
-/// The styles of a document's nodes and the names of its pages, by the winners of each node. Names are numbered in the order in
-/// which they are first seen. Elements with the same winners whose parents share their styles share them too.
+/// The styles of a document's nodes and the names of its pages, by the winners of each node. Names are numbered in the
+/// order in which they are first seen. Elements with the same winners whose parents share their styles share them too.
 pub fn styles_of(alloc: Global, dom: &Dom, winners: &WinnerTable) -> Result<(Styles, Names), NoMem>
     requires { length winners.now ≡ length dom.now }
     ensures { IfOk result (λ r. AreStyles r.1 dom.now winners.now r.0) }
@@ -50,7 +49,7 @@ fn add_all(
     requires initial { initial.now ≡ initial_style }
     ensures { OnOk result (AreStyles names.new dom.now winners.now styles.new) }
 {
-    let mut alike = Alike::new(alloc);
+    let mut alike = SameStyles::new(alloc);
     for index in 0..dom.len() {
         let node = NodeId(index);
         add_next(
@@ -68,14 +67,15 @@ fn add_next(
     initial: &Style,
     styles: &mut Styles,
     names: &mut Names,
-    alike: &mut Alike,
+    alike: &mut SameStyles,
     node: NodeId,
 ) -> Result<(), NoMem>
     requires node { node.0 < length dom.now }
     requires count { length winners.now ≡ length dom.now }
     requires rows { length styles.old ≡ node.0 }
     requires initial { initial.now ≡ initial_style }
-    ensures adds { OnOk result (AddsNext names.old names.new dom.now winners.now node.0 alike.old alike.new styles.old styles.new) }
+    ensures adds { OnOk result (AddsNext names.old names.new dom.now winners.now node.0 alike.old alike.new styles.old
+        styles.new) }
     ensures names { Extends names.old names.new }
 {
     if let Some(earlier) = alike.earlier(dom, winners, node) {
@@ -117,7 +117,8 @@ fn add_element(
     winners: &NodeWinners,
 ) -> Result<(), NoMem>
     requires { initial.now ≡ initial_style }
-    ensures adds { OnOk result (AddsElement names.old names.new (option_map (λ n. n.0) parent) winners.now styles.old styles.new) }
+    ensures adds { OnOk result (AddsElement names.old names.new (option_map (λ n. n.0) parent) winners.now styles.old
+        styles.new) }
     ensures names { Extends names.old names.new }
 {
     let root = root_above(styles, &parent);
@@ -135,7 +136,7 @@ fn add_element(
 
 /// The styles of an element's pseudo-elements.
 #[derive(Drop)]
-pub(crate) struct Generated {
+pub(crate) struct GeneratedStyles {
     before: Option<Box<Style>>,
     after: Option<Box<Style>>,
     call: Option<Box<Style>>,
@@ -150,7 +151,7 @@ fn generate(
     shown: bool,
     note: bool,
     winners: &NodeWinners,
-) -> Result<Generated, NoMem>
+) -> Result<GeneratedStyles, NoMem>
     ensures styles { IfOk result (λ g. AreGenerated names.new own.now root.now shown note winners.now (styles_in g)) }
     ensures numbered { IfOk result (λ g. names.new ≡ with_names names.old (generated_names winners.now (styles_in g))) }
     ensures names { Extends names.old names.new }
@@ -159,7 +160,7 @@ fn generate(
     let after = pseudo_style(alloc, names, own, root, shown, winners.after.as_slice())?;
     let call = pseudo_style(alloc, names, own, root, note, winners.call.as_slice())?;
     let marker = pseudo_style(alloc, names, own, root, note, winners.marker.as_slice())?;
-    Ok(Generated {
+    Ok(GeneratedStyles {
         before,
         after,
         call,
@@ -168,11 +169,11 @@ fn generate(
 }
 
 /// Gives the last node the styles of its pseudo-elements.
-fn put_all(styles: &mut Styles, generated: Generated) -> Result<(), NoMem>
+fn put_all(styles: &mut Styles, generated: GeneratedStyles) -> Result<(), NoMem>
     requires { 0 < length styles.old }
     ensures { OnOk result (styles.new ≡ all_put (styles_in generated) styles.old) }
 {
-    let Generated {
+    let GeneratedStyles {
         before,
         after,
         call,
@@ -187,7 +188,8 @@ fn put_all(styles: &mut Styles, generated: Generated) -> Result<(), NoMem>
 /// Gives the last node the style of a pseudo-element, where there is one.
 fn put_some(styles: &mut Styles, pseudo: Pseudo, style: Option<Box<Style>>) -> Result<(), NoMem>
     requires { 0 < length styles.old }
-    ensures put { OnOk result (styles.new ≡ change_last (with_option pseudo (option_map (λ b. b.value) style)) styles.old) }
+    ensures put { OnOk result (styles.new ≡ change_last (with_option pseudo (option_map (λ b. b.value) style))
+        styles.old) }
     ensures some { OnOk result (0 < length styles.new) }
 {
     match style {
@@ -228,7 +230,7 @@ fn size_for(root: &Option<Px>, style: &Style) -> Px
 /// The parent's style, and for the root the initial one.
 fn style_above<'a>(styles: &'a Styles, initial: &'a Style, parent: &Option<NodeId>) -> &'a Style
     requires { initial.now ≡ initial_style }
-    ensures { result.now ≡ style_above (value_of styles.now (option_map (λ n. n.0) parent.now)) }
+    ensures { result.now ≡ style_above (parent_row styles.now (option_map (λ n. n.0) parent.now)) }
 {
     match parent {
         Some(node) => own_style(styles.of(*node, Pseudo::Element), initial),

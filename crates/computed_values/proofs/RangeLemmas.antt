@@ -1,7 +1,7 @@
 -- No computed font size and no height of lines is below 0.
-use Rattle.std.proofs.Common.{◌≤ℤ◌, ℕ, ◌*◌, ◌^◌, ℤ, pos, negsuc, ◌*ℤ◌, arith, rules}
-use Rattle.std.proofs.lemmas.Int.{ints, clamps, int_max_is}
-use Rattle.bk_num.specs.Units.{clamped, rounded}
+use Rattle.std.proofs.Common.{◌≤ℤ◌, ℤ, pos, arith}
+use Rattle.bk_num.proofs.UnitLemmas.{part-least}
+use Rattle.std.proofs.lemmas.Int.{ints, int_max_is}
 use Rattle.bk_num.specs.Lengths.{part}
 use Rattle.bk_num.specs.Numbers.{Number}
 use Rattle.style.specs.declared.values.FontSize.{FontSize}
@@ -32,25 +32,8 @@ pub height_least : (font root : ℤ) (h : GivenHeight) → IsHeight (height_of f
 height_least font root (given_height.Number d) = held_least d.units
 height_least font root (given_height.Size m) = held_least (units_of font root font m)
 
--- ---- parts of a length
-
-times_least : (a b : ℤ) → pos 0 ≤ℤ a → pos 0 ≤ℤ b → pos 0 ≤ℤ (a *ℤ b)
-times_least (pos a) (pos b) h g = omega (arith, ints)
-times_least (pos a) (negsuc b) h g = absurd (omega (arith, ints))
-times_least (negsuc a) b h g = absurd (omega (arith, ints))
-
-rounded_least : (n : ℤ) (d : ℕ) → pos 0 ≤ℤ n → pos 0 ≤ℤ rounded n d
-unfolding rounded
-rounded_least (pos n) d h = search (rules, ints)
-rounded_least (negsuc n) d h = absurd (omega (arith, ints))
-
-clamped_least : (z : ℤ) → pos 0 ≤ℤ z → pos 0 ≤ℤ clamped z
-unfolding clamped
-clamped_least z h = omega (arith, ints, clamps)
-
-pub part_least : (d : Number) (base : ℤ) (den : ℕ) → pos 0 ≤ℤ d.units → pos 0 ≤ℤ base → pos 0 ≤ℤ part d base den
-part_least d base den h g = clamped_least (rounded (d.units *ℤ base) (10 ^ d.places * den)) (rounded_least (d.units *ℤ base) (10 ^ d.places * den) (times_least d.units base h g))
+-- ---- heights of lines
 
 pub used_least : (size : ℤ) (h : LineHeight) → pos 0 ≤ℤ size → IsHeight h → pos 0 ≤ℤ used_line_height size h
-used_least size (height.Number d) l r = part_least d size 1 r l
+used_least size (height.Number d) l r = part-least d size 1 r l
 used_least size (height.Px p) l r = r

@@ -1,4 +1,5 @@
--- Computed values of declared ones (CSS 2.1, 6.1.2). A value out of its property's range is held at the nearest one in it.
+-- Computed values of declared ones (CSS 2.1, 6.1.2). A value out of its property's range is held at the nearest one in
+-- it.
 use Rattle.std.specs.Prelude.{ℕ, ◌+◌, ◌-◌, min, max, ◌≤ℤ◌, ℤ, pos, Bool, true, false, Option, None, Some, if◌then◌else◌}
 use Rattle.std.specs.Int.{int_max}
 use Rattle.bk_num.specs.Numbers.{Number}
@@ -36,11 +37,12 @@ same v = v
 abbrev pub held : ℤ → ℤ
 held z = int_max z (pos 0)
 
+-- a number, at least 0
 abbrev pub held_number : Number → Number
 held_number d = record { units = held d.units; places = d.places }
 
--- a length of the font size `font` and of the root's: an `ex` is half an `em` (CSS 2.1, 4.3.2; css-values-3, 5.1.1); a percentage is of
--- `base`, over 100
+-- a length of the font size `font` and of the root's: an `ex` is half an `em` (CSS 2.1, 4.3.2; css-values-3, 5.1.1); a
+-- percentage is of `base`, over 100
 abbrev pub units_of : ℤ → ℤ → ℤ → Measure → ℤ
 units_of font root base (measure.Px p) = p
 units_of font root base (measure.Em d) = part d font 1
@@ -61,6 +63,7 @@ without_auto len.Auto = zero_len
 without_auto (len.Px p) = len.Px p
 without_auto (len.Percent d) = len.Percent d
 
+-- a length or a percentage, at least 0
 abbrev pub held_len : Len → Len
 held_len len.Auto = len.Auto
 held_len (len.Px p) = len.Px (held p)
@@ -72,6 +75,7 @@ is_painted border.Off = false
 is_painted border.Hidden = false
 is_painted border.Solid = true
 
+-- the used width of a border of a style
 abbrev pub width_of : BorderStyle → ℤ → ℤ
 width_of style width = if is_painted style then width else pos 0
 

@@ -1,13 +1,15 @@
 //! Sizes and weights of fonts, and heights of lines (CSS 2.1, 10.8.1, 15.6 and 15.7).
 
 ghost use Rattle.std.specs.Prelude.{◌≡◌, ◌≤ℤ◌, pos};
+ghost use Rattle.style.specs.Initial.{normal_weight};
 ghost use Rattle.style.specs.Styles.{initial_style};
 ghost use Rattle.computed_values.specs.Values as spec;
 
-use crate::lengths::{held, held_number, px, units_of};
+use crate::lengths::{held, held_number, units_of};
 use bk_num::decimal::Decimal;
 use bk_num::length::part_of;
 use bk_num::px::Px;
+use style::initial::{medium_size, normal_height, normal_weight};
 use style::long::Given;
 use style::values::{FontSize, GivenHeight, LineHeight, Weight};
 
@@ -31,7 +33,7 @@ pub fn chosen_size(given: &Given<FontSize>, parent: Px, root: Px) -> Px
     match given {
         Given::Value(size) => size_of(parent, root, size),
         Given::Inherit => parent,
-        Given::Initial => px(1024),
+        Given::Initial => medium_size(),
     }
 }
 
@@ -48,16 +50,17 @@ pub fn weight_of(parent: u16, weight: &Weight) -> u16
 
 /// The weight that a declaration gives below a parent's; the initial one is 400.
 pub fn chosen_weight(given: &Given<Weight>, parent: u16) -> u16
-    ensures { result ≡ spec.given_by (spec.weight_of parent) given.now parent 400 }
+    ensures { result ≡ spec.given_by (spec.weight_of parent) given.now parent normal_weight }
 {
     match given {
         Given::Value(weight) => weight_of(parent, weight),
         Given::Inherit => parent,
-        Given::Initial => 400,
+        Given::Initial => normal_weight(),
     }
 }
 
-/// A height of lines, never negative: a number stays one, `em`, `ex` and percentages are of the font size, `rem` of the root's.
+/// A height of lines, never negative: a number stays one, `em`, `ex` and percentages are of the font size, `rem` of the
+/// root's.
 pub fn height_of(font: Px, root: Px, height: &GivenHeight) -> LineHeight
     ensures height { result ≡ spec.height_of font root height.now }
     ensures least { spec.IsHeight result }
@@ -75,23 +78,14 @@ pub fn chosen_height(
     font: Px,
     root: Px,
 ) -> LineHeight
-    ensures height { result ≡ spec.given_by (spec.height_of font root) given.now inherited.now initial_style.line_height }
+    ensures height { result ≡
+        spec.given_by (spec.height_of font root) given.now inherited.now initial_style.line_height }
     ensures least { spec.IsHeight inherited.now → spec.IsHeight result }
 {
     match given {
         Given::Value(height) => height_of(font, root, height),
-        Given::Inherit => copy_height(inherited),
-        Given::Initial => LineHeight::Number(Decimal::new(125, 2)),
-    }
-}
-
-/// An equal height of lines.
-pub fn copy_height(height: &LineHeight) -> LineHeight
-    ensures { result ≡ height.now }
-{
-    match height {
-        LineHeight::Number(number) => LineHeight::Number(*number),
-        LineHeight::Px(length) => LineHeight::Px(*length),
+        Given::Inherit => *inherited,
+        Given::Initial => LineHeight::Number(normal_height()),
     }
 }
 

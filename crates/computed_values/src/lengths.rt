@@ -31,7 +31,8 @@ pub(crate) fn held_number(number: &Decimal) -> Decimal
     Decimal::new(number.units().max(0), number.places())
 }
 
-/// A length in units: `em` and `ex` are of the font size, `rem` of the root's, and a percentage of a base, which is `auto` too.
+/// A length in units: `em` and `ex` are of the font size, `rem` of the root's, and a percentage of a base, which is
+/// `auto` too.
 pub fn units_of(font: Px, root: Px, base: Px, measure: &Measure) -> Px
     ensures { result ≡ spec.units_of font root base measure.now }
 {
@@ -75,17 +76,6 @@ pub fn held_len(len: &Len) -> Len
         Len::Auto => Len::Auto,
         Len::Px(length) => Len::Px(held(*length)),
         Len::Percent(number) => Len::Percent(held_number(number)),
-    }
-}
-
-/// An equal length.
-pub fn copy_len(len: &Len) -> Len
-    ensures { result ≡ len.now }
-{
-    match len {
-        Len::Auto => Len::Auto,
-        Len::Px(length) => Len::Px(*length),
-        Len::Percent(number) => Len::Percent(*number),
     }
 }
 

@@ -1,6 +1,8 @@
--- The sheet that stands below those of every document (HTML, 15.3, as far as its properties are built; css-gcpm-3, 2.4).
+-- The sheet that stands below those of every document (HTML, 15.3, as far as its properties are built; css-gcpm-3,
+-- 2.4).
 use Rattle.std.specs.Prelude.{ℕ, List, ◌++◌, codes}
 
+-- the default sheet, which comes before all others (HTML, 15.3, in part)
 unfoldable pub default_text : List ℕ
 default_text =
     codes "address,article,aside,blockquote,body,caption,center,dd,details,dialog,dir,div,\n"

@@ -10,4 +10,5 @@ TextsAreRead = (reading : List ℕ → SheetOf) × AreReadings reading
 
 -- the page rules of sheets are one list
 abbrev pub PageRulesAreOne : Type 0
-PageRulesAreOne = (sources : List Source) (rules others : List PageRule) → ArePageRules sources rules → ArePageRules sources others → rules ≡ others
+PageRulesAreOne = (sources : List Source) (rules others : List PageRule) → ArePageRules sources rules →
+    ArePageRules sources others → rules ≡ others

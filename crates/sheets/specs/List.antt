@@ -2,5 +2,6 @@
 use Rattle.sheets.specs.Sheets.{Sheet}
 use Rattle.sheets.specs.declared.list.ElementSheet.{ElementSheet}
 
+-- a sheet of the list as contracts see it
 abbrev pub sheet_in : ElementSheet → Sheet
 sheet_in s = record { element = s.element.0; text = s.text }

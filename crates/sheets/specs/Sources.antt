@@ -25,9 +25,11 @@ pub record Source : Type 0 where
   pub origin : Origin
   pub text : List ℕ
 
+-- the default sheet with its origin
 abbrev pub default_source : Source
 default_source = record { origin = origin.Default; text = default_text }
 
+-- a sheet of the author
 abbrev pub author_source : List ℕ → Source
 author_source text = record { origin = origin.Author; text = text }
 
@@ -56,6 +58,7 @@ pub record ArePageRules (sources : List Source) (rules : List PageRule) : Type 0
   pub each : AllZip (λ s l. ArePageRulesOf s.text l) sources lists
   pub is : rules ≡ flat_map (λ l. l) lists
 
+-- whether a text, read so, has more rules than a sheet may have
 abbrev pub has_many_rules : (List ℕ → SheetOf) → List ℕ → Bool
 has_many_rules reading text = has_many (reading text)
 
@@ -81,7 +84,9 @@ AreFew reading texts (Err err.NoMemory) = Unit {0}
 
 -- more than 16 sheets; else a sheet with more than 20,000 rules; else neither
 abbrev pub AreRead : (List ℕ → SheetOf) → List (List ℕ) → Result Sheets SheetsErr → Type 0
-AreRead reading texts (Ok s) = (nat_lt most_sheets (length texts) ≡ false) × (list_any (has_many_rules reading) texts ≡ false)
+AreRead reading texts (Ok s) =
+    (nat_lt most_sheets (length texts) ≡ false) × (list_any (has_many_rules reading) texts ≡ false)
 AreRead reading texts (Err err.Sheets) = nat_lt most_sheets (length texts) ≡ true
-AreRead reading texts (Err err.Rules) = (nat_lt most_sheets (length texts) ≡ false) × (list_any (has_many_rules reading) texts ≡ true)
+AreRead reading texts (Err err.Rules) =
+    (nat_lt most_sheets (length texts) ≡ false) × (list_any (has_many_rules reading) texts ≡ true)
 AreRead reading texts (Err err.NoMemory) = Unit {0}

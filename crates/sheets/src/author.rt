@@ -56,8 +56,8 @@ fn author_of(alloc: Global, sheet: &Sheet<'_>) -> Result<AuthorSheet, NoMem>
     })
 }
 
-/// Reads an author's sheet. `Rules` comes exactly where it has more than 20,000 rules. A page rule whose selectors have no
-/// reading is left out. Each value is read once.
+/// Reads an author's sheet. `Rules` comes exactly where it has more than 20,000 rules. A page rule whose selectors have
+/// no reading is left out. Each value is read once.
 pub fn read_author(alloc: Global, text: &str) -> Result<AuthorSheet, SheetErr>
     ensures read { IfOk result (λ a. IsReadSheet Origin.Author text.now a.read) }
     ensures pages { IfOk result (λ a. ArePageRulesOf text.now a.pages) }

@@ -1,7 +1,7 @@
 //! The sheets among a document's elements.
 ghost use Rattle.std.specs.Prelude.{◌≡◌, ◌≤◌, ◌<◌, ◌++◌, [], length, IfOk, OnOk, string_bytes, unwrap_or, option_map};
-ghost use Rattle.dom.specs.Nodes.{text_at};
-ghost use Rattle.sheets.specs.Sheets.{is_style_name, media_of, is_sheet_element, is_at, text_under, child_text, element_sheets, sheet_at};
+ghost use Rattle.dom.specs.Nodes.{is_at, text_at};
+ghost use Rattle.sheets.specs.Sheets.{is_style_name, media_of, is_sheet_element, text_under, child_text, element_sheets, sheet_at};
 
 use bk_num::ids::NodeId;
 use bk_num::name::NoMem;

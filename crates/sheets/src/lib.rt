@@ -1,4 +1,5 @@
-//! The style sheets of a document and of a run: their list, the default sheet, and what they are read as within their limits.
+//! The style sheets of a document and of a run: their list, the default sheet, and what they are read as within their
+//! limits.
 #![tactic(auto)]
 
 pub mod author;

@@ -45,7 +45,8 @@ pub fn list_sheets(
     most: u32,
 ) -> Result<Option<Items<ElementSheet>>, NoMem>
     ensures list { IfOk result
-        (λ found. MatchOption found (most < length (element_sheets dom.now)) (λ sheets. map sheet_in sheets ≡ element_sheets dom.now)) }
+        (λ found. MatchOption found (most < length (element_sheets dom.now))
+        (λ sheets. map sheet_in sheets ≡ element_sheets dom.now)) }
     ensures few { IfOk result (λ found. IfSome found (λ sheets. length sheets ≤ most)) }
 {
     if most < count_of_elements(dom) {

@@ -21,20 +21,26 @@ use css_page::rules::PageRule;
 use css_rules::sheet::SheetErr;
 use dom::Dom;
 use std::alloc::{AllocError, Global};
+use thiserror::Error;
 
-/// The sheets of a run as they are read, in the order of the cascade (the default one, those of files, and those of `style`
-/// elements in tree order), and the page rules of all of them in that order.
+/// The sheets of a run as they are read, in the order of the cascade (the default one, those of files, and those of
+/// `style` elements in tree order), and the page rules of all of them in that order.
 #[derive(Drop)]
 pub struct Sheets {
     pub read: Items<ReadSheet>,
     pub pages: Items<PageRule>,
 }
 
-/// Why the sheets of a run aren't read: there are more than 16, one has more than 20,000 rules, or memory is wanting.
-#[derive(Clone, Copy, Debug, PartialEq, Eq)]
+/// Why the sheets of a run aren't read.
+#[derive(Clone, Copy, Debug, PartialEq, Eq, Error)]
 pub enum SheetsErr {
+    /// There are more than 16.
+    #[error("too many sheets")]
     Sheets,
+    /// One has more than 20,000 rules.
+    #[error("too many rules")]
     Rules,
+    #[error("no memory")]
     NoMemory,
 }
 
@@ -101,9 +107,12 @@ fn read_listed(
     listed: &[ElementSheet],
 ) -> Result<Sheets, SheetsErr>
     requires { length files.now + length listed.now ≤ most_sheets }
-    ensures read { IfOk result (λ s. AllZip spec.IsReadFrom (spec.sources_of (author_texts (map sheet_in listed.now) (file_texts files.now))) s.read) }
-    ensures pages { IfOk result (λ s. spec.ArePageRules (spec.authors_of (author_texts (map sheet_in listed.now) (file_texts files.now))) s.pages) }
-    ensures few { (reading : List ℕ → SheetOf) → AreReadings reading → spec.AreFew reading (author_texts (map sheet_in listed.now) (file_texts files.now)) result }
+    ensures read { IfOk result (λ s. AllZip spec.IsReadFrom (spec.sources_of
+        (author_texts (map sheet_in listed.now) (file_texts files.now))) s.read) }
+    ensures pages { IfOk result (λ s. spec.ArePageRules (spec.authors_of
+        (author_texts (map sheet_in listed.now) (file_texts files.now))) s.pages) }
+    ensures few { (reading : List ℕ → SheetOf) → AreReadings reading →
+        spec.AreFew reading (author_texts (map sheet_in listed.now) (file_texts files.now)) result }
 {
     let mut read = Items::new(alloc);
     read.push(default_sheet(alloc)?)?;
@@ -122,12 +131,16 @@ fn read_listed(
     })
 }
 
-/// Reads the sheets of a run: those of files, and those of a document's `style` elements whose `media` is read. `Sheets`
-/// comes exactly where they are more than 16, and `Rules` where they are not and one has more than 20,000 rules.
+/// Reads the sheets of a run: those of files, and those of a document's `style` elements whose `media` is read.
+/// `Sheets` comes exactly where they are more than 16, and `Rules` where they are not and one has more than 20,000
+/// rules.
 pub fn read_sheets(alloc: Global, dom: &Dom, files: &[String]) -> Result<Sheets, SheetsErr>
-    ensures read { IfOk result (λ s. AllZip spec.IsReadFrom (spec.sources_of (author_texts (element_sheets dom.now) (file_texts files.now))) s.read) }
-    ensures pages { IfOk result (λ s. spec.ArePageRules (spec.authors_of (author_texts (element_sheets dom.now) (file_texts files.now))) s.pages) }
-    ensures answer { (reading : List ℕ → SheetOf) → AreReadings reading → spec.AreRead reading (author_texts (element_sheets dom.now) (file_texts files.now)) result }
+    ensures read { IfOk result (λ s. AllZip spec.IsReadFrom (spec.sources_of
+        (author_texts (element_sheets dom.now) (file_texts files.now))) s.read) }
+    ensures pages { IfOk result (λ s. spec.ArePageRules (spec.authors_of
+        (author_texts (element_sheets dom.now) (file_texts files.now))) s.pages) }
+    ensures answer { (reading : List ℕ → SheetOf) → AreReadings reading →
+        spec.AreRead reading (author_texts (element_sheets dom.now) (file_texts files.now)) result }
 {
     if files.len() > MOST_SHEETS as usize {
         return Err(SheetsErr::Sheets);
