@@ -5,28 +5,28 @@ use Rattle.std.specs.Str.{bytes_eq}
 use Rattle.std.proofs.lemmas.List.{map-append}
 use Rattle.std.proofs.lemmas.List.Elements.{filter-append}
 use Rattle.counters.specs.declared.scopes.Act.{Act}
-use Rattle.counters.specs.declared.scopes.Event.{Event}
-use Rattle.counters.specs.declared.events.Place.{Place}
+use Rattle.counters.specs.declared.scopes.CounterEvent.{CounterEvent}
+use Rattle.counters.specs.declared.events.EventPlace.{EventPlace}
 use Rattle.counters.specs.declared.at.Spot.{Spot}
 use Rattle.dom.specs.declared.walk.Step.{Step}
 use Rattle.counters.specs.Document.{named, not_page, out_of, end_at, end_under}
 use Rattle.counters.specs.Gather.{placed, of_name, AreSpots, end_after, end_below}
 
-pub placed-append : (p : Place) (xs ys : List (List ℕ × Act)) → placed p (xs ++ ys) ≡ placed p xs ++ placed p ys
+pub placed-append : (p : EventPlace) (xs ys : List (List ℕ × Act)) → placed p (xs ++ ys) ≡ placed p xs ++ placed p ys
 placed-append p xs ys = ap (named p.at p.end) (filter-append (λ c. not (bytes_eq c.0 (codes "page"))) xs ys) ∙ map-append (λ c. (c.0, record { at = p.at; end = p.end; act = c.1 })) (not_page xs) (not_page ys)
 
 -- one push more
-pub pushed : (p : Place) (xs ys : List (List ℕ × Act)) (before middle after : List (List ℕ × Event)) → middle ≡ before ++ placed p xs → after ≡ middle ++ placed p ys → after ≡ before ++ placed p (xs ++ ys)
+pub pushed : (p : EventPlace) (xs ys : List (List ℕ × Act)) (before middle after : List (List ℕ × CounterEvent)) → middle ≡ before ++ placed p xs → after ≡ middle ++ placed p ys → after ≡ before ++ placed p (xs ++ ys)
 pushed p xs ys before middle after e f = f ∙ ap (λ l. l ++ placed p ys) e ∙ append_assoc before (placed p xs) (placed p ys) ∙ ap (λ l. before ++ l) (sym (placed-append p xs ys))
 
-pub of_name-append : (xs ys : List (List ℕ × Event)) (name : List ℕ) → of_name (xs ++ ys) name ≡ of_name xs name ++ of_name ys name
+pub of_name-append : (xs ys : List (List ℕ × CounterEvent)) (name : List ℕ) → of_name (xs ++ ys) name ≡ of_name xs name ++ of_name ys name
 of_name-append xs ys name = ap (map (λ e. e.1)) (filter-append (λ e. bytes_eq e.0 name) xs ys) ∙ map-append (λ e. e.1) (filter (λ e. bytes_eq e.0 name) xs) (filter (λ e. bytes_eq e.0 name) ys)
 
 pub on-ok : {X E : Type 0} {P Q : Type 0} (r : Result X E) → (P → Q) → OnOk r P → OnOk r Q
 on-ok (Ok x) f p = f p
 on-ok (Err e) f p = p
 
-pub six-pushed : (p : Place) (a b c d e f : List (List ℕ × Act)) (l0 l1 l2 l3 l4 l5 l6 : List (List ℕ × Event)) → l1 ≡ l0 ++ placed p a → l2 ≡ l1 ++ placed p b → l3 ≡ l2 ++ placed p c → l4 ≡ l3 ++ placed p d → l5 ≡ l4 ++ placed p e → l6 ≡ l5 ++ placed p f → l6 ≡ l0 ++ placed p (a ++ (b ++ (c ++ (d ++ (e ++ f)))))
+pub six-pushed : (p : EventPlace) (a b c d e f : List (List ℕ × Act)) (l0 l1 l2 l3 l4 l5 l6 : List (List ℕ × CounterEvent)) → l1 ≡ l0 ++ placed p a → l2 ≡ l1 ++ placed p b → l3 ≡ l2 ++ placed p c → l4 ≡ l3 ++ placed p d → l5 ≡ l4 ++ placed p e → l6 ≡ l5 ++ placed p f → l6 ≡ l0 ++ placed p (a ++ (b ++ (c ++ (d ++ (e ++ f)))))
 six-pushed p a b c d e f l0 l1 l2 l3 l4 l5 l6 h1 h2 h3 h4 h5 h6 = pushed p a (b ++ (c ++ (d ++ (e ++ f)))) l0 l1 l6 h1 (pushed p b (c ++ (d ++ (e ++ f))) l1 l2 l6 h2 (pushed p c (d ++ (e ++ f)) l2 l3 l6 h3 (pushed p d (e ++ f) l3 l4 l6 h4 (pushed p e f l4 l5 l6 h5 h6))))
 
 pub ends-are : (steps : List Step) (spots : List Spot) (count : ℕ) (o : Option ℕ) → AreSpots steps spots → count ≡ length steps → end_below count spots o ≡ end_under steps o

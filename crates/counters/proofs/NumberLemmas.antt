@@ -11,8 +11,8 @@ use Rattle.bk_num.specs.declared.values.Pseudo.TheVariants as pseudo
 use Rattle.dom.specs.Nodes.{Node, IsTree}
 use Rattle.dom.specs.Walk.{steps_of}
 use Rattle.style.specs.Nodes.{NodeStyles}
-use Rattle.counters.specs.declared.scopes.Event.{Event}
-use Rattle.counters.specs.declared.scopes.Mark.{Mark}
+use Rattle.counters.specs.declared.scopes.CounterEvent.{CounterEvent}
+use Rattle.counters.specs.declared.scopes.ScopeMark.{ScopeMark}
 use Rattle.counters.specs.declared.at.Spot.{Spot}
 use Rattle.counters.specs.Scopes.{Each, IsAfter, AreNested, values_by}
 use Rattle.counters.specs.Chains.{AreMarks, AreMarked}
@@ -22,40 +22,40 @@ use Rattle.counters.specs.Gather.{AreSpots, spot_at, of_name, listed, list_at, A
 use Rattle.counters.proofs.NestLemmas.{events-are-nested}
 use Rattle.counters.proofs.ValueLemmas.{values-are}
 
-each-at : (P : Event → Type 0) (xs : List Event) (j : ℕ) (d : Event) → Each P xs → j < length xs → P (slice_index_or xs j d)
+each-at : (P : CounterEvent → Type 0) (xs : List CounterEvent) (j : ℕ) (d : CounterEvent) → Each P xs → j < length xs → P (slice_index_or xs j d)
 each-at P [] j d h l = absurd (omega arith)
 each-at P (x ∷ xs) zero d h l = h.0
 each-at P (x ∷ xs) (suc j) d h l = each-at P xs j d h.1 (omega arith)
 
-nested-sorted : (events : List Event) → AreNested events → IsNonDecreasingBy (λ e. e.at) events
+nested-sorted : (events : List CounterEvent) → AreNested events → IsNonDecreasingBy (λ e. e.at) events
 nested-sorted [] h i j d le l = absurd (omega arith)
 nested-sorted (e ∷ more) h zero zero d le l = omega arith
 nested-sorted (e ∷ more) h zero (suc j) d le l = (each-at (IsAfter e) more j d h.1 (omega arith)).0
 nested-sorted (e ∷ more) h (suc i) zero d le l = absurd (omega arith)
 nested-sorted (e ∷ more) h (suc i) (suc j) d le l = nested-sorted more h.2 i j d (omega arith) (omega arith)
 
-of-list : (events : List (List ℕ × Event)) (names : List (List ℕ)) (lists : List (List Event)) → AreListed events names lists → (i : ℕ) (l : List Event) → slice_get lists i ≡ Some l → (x : List ℕ) × (l ≡ of_name events x)
+of-list : (events : List (List ℕ × CounterEvent)) (names : List (List ℕ)) (lists : List (List CounterEvent)) → AreListed events names lists → (i : ℕ) (l : List CounterEvent) → slice_get lists i ≡ Some l → (x : List ℕ) × (l ≡ of_name events x)
 of-list events names lists a i l g =
     let w = slice_get_within lists i l g in
     let n = slice_get_at names i (let z = a.len in omega (arith, w)) in
     (n.0, sym (ap listed g) ∙ sym (ap (list_at lists) (a.distinct i n.0 n.1)) ∙ a.each n.0)
 
-pub in-order : (nodes : List Node) (styles : List NodeStyles) (names : List (List ℕ)) (lists : List (List Event)) → IsTree nodes → AreListed (document_events nodes styles) names lists → AreInOrder lists
+pub in-order : (nodes : List Node) (styles : List NodeStyles) (names : List (List ℕ)) (lists : List (List CounterEvent)) → IsTree nodes → AreListed (document_events nodes styles) names lists → AreInOrder lists
 in-order nodes styles names lists t a i l g =
     let n = of-list (document_events nodes styles) names lists a i l g in
     subst (IsNonDecreasingBy (λ e. e.at)) (sym n.1) (nested-sorted (events_of nodes styles n.0) (events-are-nested nodes styles n.0 t))
 
-pub marks-more : (lists : List (List Event)) (all : List (List Mark)) (l : List Event) (m : List Mark) → AreMarksOf lists all → AreMarks m → AreMarked l m → AreMarksOf (lists ++ l ∷ []) (all ++ m ∷ [])
+pub marks-more : (lists : List (List CounterEvent)) (all : List (List ScopeMark)) (l : List CounterEvent) (m : List ScopeMark) → AreMarksOf lists all → AreMarks m → AreMarked l m → AreMarksOf (lists ++ l ∷ []) (all ++ m ∷ [])
 marks-more lists all l m a are marked = record {
   len = (let x = length-append lists (l ∷ []) in let y = length-append all (m ∷ []) in let z = a.len in omega arith);
   each = λ i n g. by i n (get-push all m n i g);
 }
   where
-    by : (i : ℕ) (n : List Mark) → ((i ≡ length all) × (n ≡ m)) ⊎ (slice_get all i ≡ Some n) → (k : List Event) × (slice_get (lists ++ l ∷ []) i ≡ Some k) × IsMarksOf k n
+    by : (i : ℕ) (n : List ScopeMark) → ((i ≡ length all) × (n ≡ m)) ⊎ (slice_get all i ≡ Some n) → (k : List CounterEvent) × (slice_get (lists ++ l ∷ []) i ≡ Some k) × IsMarksOf k n
     by i n (inl h) = (l, ap (slice_get (lists ++ l ∷ [])) (h.0 ∙ a.len) ∙ get-end lists l, record { are = subst AreMarks (sym h.1) are; marked = subst (AreMarked l) (sym h.1) marked })
     by i n (inr h) = let o = a.each i n h in (o.0, get-keep lists (l ∷ []) i o.0 o.1, o.2)
 
-pub all-marks : (lists : List (List Event)) (all : List (List Mark)) → AreMarksOf lists all → AreAllMarks all
+pub all-marks : (lists : List (List CounterEvent)) (all : List (List ScopeMark)) → AreMarksOf lists all → AreAllMarks all
 all-marks lists all a i m g = (a.each i m g).2.are
 
 place-is : (o : Option Spot) (p : Pseudo) → place_in o p ≡ place_number (spot_at o).into (spot_at o).out p
@@ -70,23 +70,23 @@ none-kept : (k : Option ℕ) → pos 0 ∷ [] ≡ values_up_to [] k
 none-kept None = refl
 none-kept (Some k) = refl
 
-marks-hold : (lists : List (List Event)) (all : List (List Mark)) (events : List Event) → AreMarksOf lists all → AreNested events → (i : Option ℕ) (k : Option ℕ) → list_at lists i ≡ events → values_of_marks (marks_by all i) k ≡ values_up_to events k
-marks-hold lists all events a nested None k e = none-kept k ∙ ap (λ (v : List Event). values_up_to v k) e
+marks-hold : (lists : List (List CounterEvent)) (all : List (List ScopeMark)) (events : List CounterEvent) → AreMarksOf lists all → AreNested events → (i : Option ℕ) (k : Option ℕ) → list_at lists i ≡ events → values_of_marks (marks_by all i) k ≡ values_up_to events k
+marks-hold lists all events a nested None k e = none-kept k ∙ ap (λ (v : List CounterEvent). values_up_to v k) e
 marks-hold lists all events a nested (Some i) k e = by (slice_get all i) refl k
   where
-    empty : slice_get all i ≡ None → (o : Option (List Event)) → slice_get lists i ≡ o → listed o ≡ []
+    empty : slice_get all i ≡ None → (o : Option (List CounterEvent)) → slice_get lists i ≡ o → listed o ≡ []
     empty g None h = refl
     empty g (Some l) h = let w = slice_get_within lists i l h in let n = slice_get_at all i (let z = a.len in omega (arith, w)) in absurd (let x : None ≡ Some n.0 = sym g ∙ n.1 in cc)
 
-    by : (o : Option (List Mark)) → slice_get all i ≡ o → (k : Option ℕ) → values_of_marks o k ≡ values_up_to events k
-    by None g k = none-kept k ∙ ap (λ (v : List Event). values_up_to v k) (sym (empty g (slice_get lists i) refl) ∙ e)
+    by : (o : Option (List ScopeMark)) → slice_get all i ≡ o → (k : Option ℕ) → values_of_marks o k ≡ values_up_to events k
+    by None g k = none-kept k ∙ ap (λ (v : List CounterEvent). values_up_to v k) (sym (empty g (slice_get lists i) refl) ∙ e)
     by (Some m) g None = refl
     by (Some m) g (Some j) =
         let o = a.each i m g in
         let same : o.0 ≡ events = sym (ap listed o.1) ∙ e in
-        values-are o.0 m j (subst AreNested (sym same) nested) o.2.marked ∙ ap (λ (v : List Event). values_by v j) same
+        values-are o.0 m j (subst AreNested (sym same) nested) o.2.marked ∙ ap (λ (v : List CounterEvent). values_by v j) same
 
-pub values-are-those : (nodes : List Node) (styles : List NodeStyles) (names : List (List ℕ)) (lists : List (List Event)) (all : List (List Mark)) (spots : List Spot) → IsTree nodes → AreSpots (steps_of nodes) spots → AreListed (document_events nodes styles) names lists → AreMarksOf lists all → (c : Kept) → c.names ≡ names → c.marks ≡ all → c.spots ≡ spots → (n : ℕ) (p : Pseudo) (x : List ℕ) → counter_values c n p x ≡ values_of nodes styles n p x
+pub values-are-those : (nodes : List Node) (styles : List NodeStyles) (names : List (List ℕ)) (lists : List (List CounterEvent)) (all : List (List ScopeMark)) (spots : List Spot) → IsTree nodes → AreSpots (steps_of nodes) spots → AreListed (document_events nodes styles) names lists → AreMarksOf lists all → (c : Kept) → c.names ≡ names → c.marks ≡ all → c.spots ≡ spots → (n : ℕ) (p : Pseudo) (x : List ℕ) → counter_values c n p x ≡ values_of nodes styles n p x
 values-are-those nodes styles names lists all spots t s a m c e f g n p x =
     let place : place_in (slice_get spots n) p ≡ place_number (into (steps_of nodes) n) (out_of (steps_of nodes) n) p = place-is (slice_get spots n) p ∙ ap (λ (z : Spot). place_number z.into z.out p) (s n) in
     rw (e, f, g, place) (marks-hold lists all (events_of nodes styles x) m (events-are-nested nodes styles x t) (position (bytes_eq x) names) (place_number (into (steps_of nodes) n) (out_of (steps_of nodes) n) p) (a.each x))

@@ -4,7 +4,7 @@ use Rattle.std.specs.Prelude.{nat_le, nat_lt, not, filter, map, ℤ, pos, ◌+�
 use Rattle.std.proofs.lemmas.Bool.Decides.{nat_tests}
 use Rattle.std.proofs.lemmas.Bool.{eq-eqb, ne_eqb}
 use Rattle.std.proofs.Math.IntN.{+ℤ_assoc, +ℤ_idl, +ℤ_idr}
-use Rattle.counters.specs.declared.scopes.Event.{Event}
+use Rattle.counters.specs.declared.scopes.CounterEvent.{CounterEvent}
 use Rattle.counters.specs.declared.scopes.Act.{Act}
 use Rattle.counters.specs.declared.scopes.Act.TheVariants as act
 use Rattle.counters.specs.Scopes.{Each, Scope, live, holding, new_scope, implied, opened_by, opened, share, History, with_event, total, value_of}
@@ -172,7 +172,7 @@ share-reset (s ∷ l) n = refl
 new-value : (h : History) (end : ℕ) (n : ℤ) → Each (λ i. i.0 < length h.scopes) h.increments → seen h.increments (new_scope h.scopes end n) ≡ (end, n)
 new-value h end n below = rw (none-of h.increments (length h.scopes) below, +ℤ_idr n) refl
 
-after-reset : (h : History) (at : ℕ) (held : List (ℕ × ℤ)) (e : Event) (n : ℤ) → e.act ≡ act.Reset n → at ≤ e.at → e.at < e.end → Each (Nests e.at e.end) h.scopes → Holds h at held → Holds (with_event h e) e.at (after_event held e)
+after-reset : (h : History) (at : ℕ) (held : List (ℕ × ℤ)) (e : CounterEvent) (n : ℤ) → e.act ≡ act.Reset n → at ≤ e.at → e.at < e.end → Each (Nests e.at e.end) h.scopes → Holds h at held → Holds (with_event h e) e.at (after_event held e)
 after-reset h at held e n k low short nest is =
     rw (k, share-reset (holding e.at (new_scope h.scopes e.end n ∷ h.scopes)) n) (record {
       same = rw (new-holds h.scopes e.at e.end n short nest) (rw (sym (new-value h e.end n is.below)) (ap (λ l. seen h.increments (new_scope h.scopes e.end n) ∷ l) (held-later h at e.end held (omega arith) is)));
@@ -181,13 +181,13 @@ after-reset h at held e n k low short nest is =
       below = below-more h.increments (length h.scopes) is.below;
     })
 
-event-is : (h : History) (e : Event) (n : ℤ) (scopes held : List Scope) → e.act ≡ act.Add n → opened h.scopes e ≡ scopes → holding e.at scopes ≡ held → with_event h e ≡ record { scopes = scopes; increments = share held (act.Add n) ++ h.increments }
+event-is : (h : History) (e : CounterEvent) (n : ℤ) (scopes held : List Scope) → e.act ≡ act.Add n → opened h.scopes e ≡ scopes → holding e.at scopes ≡ held → with_event h e ≡ record { scopes = scopes; increments = share held (act.Add n) ++ h.increments }
 event-is h e n scopes held k o g = ap (λ (l : List Scope). record { scopes = l; increments = share (holding e.at l) e.act ++ h.increments }) o ∙ ap (λ (l : List Scope). record { scopes = scopes; increments = share l e.act ++ h.increments }) g ∙ ap (λ (a : Act). record { scopes = scopes; increments = share held a ++ h.increments }) k
 
-opened-is : (h : History) (e : Event) (n : ℤ) (held : List Scope) → e.act ≡ act.Add n → holding e.at h.scopes ≡ held → opened h.scopes e ≡ implied h.scopes e.end held
+opened-is : (h : History) (e : CounterEvent) (n : ℤ) (held : List Scope) → e.act ≡ act.Add n → holding e.at h.scopes ≡ held → opened h.scopes e ≡ implied h.scopes e.end held
 opened-is h e n held k g = ap (opened_by h.scopes e.at e.end) k ∙ ap (implied h.scopes e.end) g
 
-added-first : (h : History) (at : ℕ) (held : List (ℕ × ℤ)) (e : Event) (n : ℤ) → e.act ≡ act.Add n → holding e.at h.scopes ≡ [] → at ≤ e.at → e.at < e.end → Each (Nests e.at e.end) h.scopes → Holds h at held → Holds (with_event h e) e.at (after_event held e)
+added-first : (h : History) (at : ℕ) (held : List (ℕ × ℤ)) (e : CounterEvent) (n : ℤ) → e.act ≡ act.Add n → holding e.at h.scopes ≡ [] → at ≤ e.at → e.at < e.end → Each (Nests e.at e.end) h.scopes → Holds h at held → Holds (with_event h e) e.at (after_event held e)
 added-first h at held e n k g low short nest is =
     subst (λ x. Holds x e.at (after_event held e)) (sym (event-is h e n (new ∷ h.scopes) (new ∷ []) k (opened-is h e n [] k g) alone)) (record {
       same = ap (after_act e.at e.end held) k ∙ ap (with_added e.end n) (held-later h at e.at held low is ∙ ap (map (seen h.increments)) g) ∙ (rw alone (ap (λ (v : ℤ). (e.end, v) ∷ []) (sym value)));
@@ -205,7 +205,7 @@ added-first h at held e n k g low short nest is =
     value : value_of ((length h.scopes, n) ∷ h.increments) new ≡ n
     value = rw (none-of h.increments (length h.scopes) is.below, eq-eqb (length h.scopes) (length h.scopes) refl, +ℤ_idl n) (+ℤ_idl n)
 
-added-more : (h : History) (at : ℕ) (held : List (ℕ × ℤ)) (e : Event) (n : ℤ) (s : Scope) (more : List Scope) → e.act ≡ act.Add n → holding e.at h.scopes ≡ s ∷ more → at ≤ e.at → Holds h at held → Holds (with_event h e) e.at (after_event held e)
+added-more : (h : History) (at : ℕ) (held : List (ℕ × ℤ)) (e : CounterEvent) (n : ℤ) (s : Scope) (more : List Scope) → e.act ≡ act.Add n → holding e.at h.scopes ≡ s ∷ more → at ≤ e.at → Holds h at held → Holds (with_event h e) e.at (after_event held e)
 added-more h at held e n s more k g low is =
     subst (λ x. Holds x e.at (after_event held e)) (sym (event-is h e n h.scopes (s ∷ more) k (opened-is h e n (s ∷ more) k g) g)) (record {
       same = ap (after_act e.at e.end held) k ∙ ap (with_added e.end n) (held-later h at e.at held low is ∙ ap (map (seen h.increments)) g) ∙ (rw g (rw (own h.increments s n, others h.increments s.id n more falls) refl));
@@ -220,7 +220,7 @@ added-more h at held e n s more k g low is =
     small : s.id < length h.scopes
     small = (subst (Each (λ (t : Scope). t.id < length h.scopes)) g (each-filter (λ t. t.id < length h.scopes) (reaches e.at) (live h.scopes) (live-each (λ t. t.id < length h.scopes) h.scopes (numbered-below h.scopes (length h.scopes) (omega arith) is.numbered)))).0
 
-pub after-event : (h : History) (at : ℕ) (held : List (ℕ × ℤ)) (e : Event) → at ≤ e.at → e.at < e.end → Each (Nests e.at e.end) h.scopes → Holds h at held → Holds (with_event h e) e.at (after_event held e)
+pub after-event : (h : History) (at : ℕ) (held : List (ℕ × ℤ)) (e : CounterEvent) → at ≤ e.at → e.at < e.end → Each (Nests e.at e.end) h.scopes → Holds h at held → Holds (with_event h e) e.at (after_event held e)
 after-event h at held e low short nest is = by e.act refl (holding e.at h.scopes) refl
   where
     by : (a : Act) → e.act ≡ a → (l : List Scope) → holding e.at h.scopes ≡ l → Holds (with_event h e) e.at (after_event held e)

@@ -6,21 +6,16 @@ use Rattle.std.specs.List.{list_any, position, position_or_len, prefix_len}
 use Rattle.std.specs.String.{string_bytes, string_eq}
 use Rattle.std.specs.declared.string.String.{String}
 use Rattle.std.proofs.lemmas.List.{map-append}
-use Rattle.std.proofs.lemmas.Slice.Eq.{bytes_eq-Decides}
 use Rattle.indexmap.specs.IndexSet.{insert_key}
-use Rattle.counters.specs.declared.scopes.Event.{Event}
+use Rattle.counters.specs.declared.scopes.CounterEvent.{CounterEvent}
 use Rattle.counters.specs.Gather.{of_name, with_name, with_event_at, list_at, AreDistinct, AreListed}
 use Rattle.counters.proofs.SpotLemmas.{first, position-first, position-more}
-use Rattle.bk_num.proofs.ListLemmas.{get-push}
+use Rattle.bk_num.proofs.ListLemmas.{get-push, prefix_len-map, bytes_same, bytes_self}
 use Rattle.counters.proofs.GatherLemmas.{of_name-append}
 
 any-map : {Y : Type 0} (bs : List ℕ) (ks : List (String Y)) → list_any (bytes_eq bs) (map (λ s. string_bytes s) ks) ≡ list_any (λ k. bytes_eq bs (string_bytes k)) ks
 any-map bs [] = refl
 any-map bs (k ∷ ks) = ap (λ b. bytes_eq bs (string_bytes k) || b) (any-map bs ks)
-
-prefix-map : {A B : Type 0} (f : A → B) (p : B → Bool) (xs : List A) → prefix_len p (map f xs) ≡ prefix_len (λ x. p (f x)) xs
-prefix-map f p [] = refl
-prefix-map f p (x ∷ xs) = rw (prefix-map f p xs) refl
 
 -- a text goes among the names as a key does
 pub named-key : {Y : Type 0} (ks new : List (String Y)) (k : String Y) (name : List ℕ) → string_bytes k ≡ name → new ≡ insert_key string_eq ks k → map (λ s. string_bytes s) new ≡ with_name (map (λ s. string_bytes s) ks) name
@@ -34,7 +29,7 @@ named-key {Y} ks new k name e g = ap (map (λ s. string_bytes s)) g ∙ by (list
     by false t = rw (same, t, map-append (λ (s : String Y). string_bytes s) ks (k ∷ []), e) refl
 
 pub numbered-key : {Y : Type 0} (ks : List (String Y)) (k : String Y) (name : List ℕ) (i : ℕ) → string_bytes k ≡ name → i ≡ position_or_len (string_eq k) ks → i ≡ position_or_len (bytes_eq name) (map (λ s. string_bytes s) ks)
-numbered-key ks k name i e g = g ∙ ap (λ cs. position_or_len (λ q. bytes_eq cs (string_bytes q)) ks) e ∙ sym (prefix-map (λ s. string_bytes s) (λ b. not (bytes_eq name b)) ks)
+numbered-key ks k name i e g = g ∙ ap (λ cs. position_or_len (λ q. bytes_eq cs (string_bytes q)) ks) e ∙ sym (prefix_len-map (λ s. string_bytes s) (λ b. not (bytes_eq name b)) ks)
 
 pub number-within : (name : List ℕ) (names : List (List ℕ)) → position_or_len (bytes_eq name) names ≤ length names
 number-within name [] = omega arith
@@ -45,20 +40,14 @@ number-within name (n ∷ ns) = by (bytes_eq name n) refl (number-within name ns
     by false e l = rw e (omega arith)
 
 -- an event more in a list
-pub event-set : (lists : List (List Event)) (i : ℕ) (l : List Event) (e : Event) → slice_get lists i ≡ Some l → slice_set lists i (l ++ e ∷ []) ≡ with_event_at lists i e
+pub event-set : (lists : List (List CounterEvent)) (i : ℕ) (l : List CounterEvent) (e : CounterEvent) → slice_get lists i ≡ Some l → slice_set lists i (l ++ e ∷ []) ≡ with_event_at lists i e
 event-set [] i l e g = cc
 event-set (x ∷ xs) zero l e g = let h : l ≡ x = cc in rw h refl
 event-set (x ∷ xs) (suc i) l e g = ap (λ r. x ∷ r) (event-set xs i l e g)
 
-pub event-end : (lists : List (List Event)) (e : Event) → lists ++ (e ∷ []) ∷ [] ≡ with_event_at lists (length lists) e
+pub event-end : (lists : List (List CounterEvent)) (e : CounterEvent) → lists ++ (e ∷ []) ∷ [] ≡ with_event_at lists (length lists) e
 event-end [] e = refl
 event-end (x ∷ xs) e = ap (λ r. x ∷ r) (event-end xs e)
-
-is-same : (a b : List ℕ) → bytes_eq a b ≡ true → a ≡ b
-is-same a b e = (bytes_eq-Decides a b).0 e
-
-same-is : (a : List ℕ) → bytes_eq a a ≡ true
-same-is a = (bytes_eq-Decides a a).1 refl
 
 turned : (a b : List ℕ) → bytes_eq a b ≡ bytes_eq b a
 turned a b = by (bytes_eq a b) refl (bytes_eq b a) refl
@@ -66,8 +55,8 @@ turned a b = by (bytes_eq a b) refl (bytes_eq b a) refl
     by : (v : Bool) → bytes_eq a b ≡ v → (w : Bool) → bytes_eq b a ≡ w → v ≡ w
     by true e true f = refl
     by false e false f = refl
-    by true e false f = let s = is-same a b e in absurd (let t : bytes_eq b a ≡ true = subst (λ (x : List ℕ). bytes_eq b x ≡ true) (sym s) (same-is b) in cc)
-    by false e true f = let s = is-same b a f in absurd (let t : bytes_eq a b ≡ true = subst (λ (x : List ℕ). bytes_eq a x ≡ true) (sym s) (same-is a) in cc)
+    by true e false f = let s = bytes_same a b e in absurd (let t : bytes_eq b a ≡ true = subst (λ (x : List ℕ). bytes_eq b x ≡ true) (sym s) (bytes_self b) in cc)
+    by false e true f = let s = bytes_same b a f in absurd (let t : bytes_eq a b ≡ true = subst (λ (x : List ℕ). bytes_eq a x ≡ true) (sym s) (bytes_self a) in cc)
 
 with-other : (n name : List ℕ) (ns : List (List ℕ)) → bytes_eq name n ≡ false → with_name (n ∷ ns) name ≡ n ∷ with_name ns name
 with-other n name ns e = rw e (by (list_any (bytes_eq name) ns))
@@ -91,15 +80,15 @@ first-same n x ns e = rw e refl
 first-other : (n x : List ℕ) (ns : List (List ℕ)) → bytes_eq x n ≡ false → first (bytes_eq x) (n ∷ ns) ≡ option_map (λ i. suc i) (first (bytes_eq x) ns)
 first-other n x ns e = rw e refl
 
-beyond-front : (l : List Event) (ls : List (List Event)) (o : Option ℕ) → list_at (l ∷ ls) (option_map (λ i. suc i) o) ≡ list_at ls o
+beyond-front : (l : List CounterEvent) (ls : List (List CounterEvent)) (o : Option ℕ) → list_at (l ∷ ls) (option_map (λ i. suc i) o) ≡ list_at ls o
 beyond-front l ls None = refl
 beyond-front l ls (Some i) = refl
 
 -- what a name has
-abbrev Has : List (List ℕ) → List (List Event) → List ℕ → List ℕ → Event → Type 0
+abbrev Has : List (List ℕ) → List (List CounterEvent) → List ℕ → List ℕ → CounterEvent → Type 0
 Has names lists name x e = list_at (with_event_at lists (position_or_len (bytes_eq name) names) e) (first (bytes_eq x) (with_name names name)) ≡ list_at lists (first (bytes_eq x) names) ++ cond (bytes_eq name x) (e ∷ []) []
 
-has-more : (names : List (List ℕ)) (lists : List (List Event)) (name x : List ℕ) (e : Event) → length names ≡ length lists → Has names lists name x e
+has-more : (names : List (List ℕ)) (lists : List (List CounterEvent)) (name x : List ℕ) (e : CounterEvent) → length names ≡ length lists → Has names lists name x e
 has-more [] (l ∷ ls) name x e h = cc
 has-more (n ∷ ns) [] name x e h = cc
 has-more [] [] name x e h = by (bytes_eq x name) refl
@@ -111,19 +100,19 @@ has-more (n ∷ ns) (l ∷ ls) name x e h = by (bytes_eq name n) refl (bytes_eq 
   where
     by : (b : Bool) → bytes_eq name n ≡ b → (c : Bool) → bytes_eq x n ≡ c → Has ns ls name x e → Has (n ∷ ns) (l ∷ ls) name x e
     by true s true t r =
-        let same : name ≡ x = is-same name n s ∙ sym (is-same x n t) in
-        let yes : bytes_eq name x ≡ true = subst (λ (y : List ℕ). bytes_eq name y ≡ true) same (same-is name) in
+        let same : name ≡ x = bytes_same name n s ∙ sym (bytes_same x n t) in
+        let yes : bytes_eq name x ≡ true = subst (λ (y : List ℕ). bytes_eq name y ≡ true) same (bytes_self name) in
         rw (with-same n name ns s, number-same n name ns s, first-same n x ns t, yes) refl
     by true s false t r =
-        let no : bytes_eq name x ≡ false = turned name x ∙ ap (bytes_eq x) (is-same name n s) ∙ t in
+        let no : bytes_eq name x ≡ false = turned name x ∙ ap (bytes_eq x) (bytes_same name n s) ∙ t in
         rw (with-same n name ns s, number-same n name ns s, first-other n x ns t, beyond-front (l ++ e ∷ []) ls (first (bytes_eq x) ns), beyond-front l ls (first (bytes_eq x) ns), no) (sym (append-nil (list_at ls (first (bytes_eq x) ns))))
     by false s true t r =
-        let no : bytes_eq name x ≡ false = ap (bytes_eq name) (is-same x n t) ∙ s in
+        let no : bytes_eq name x ≡ false = ap (bytes_eq name) (bytes_same x n t) ∙ s in
         rw (with-other n name ns s, number-other n name ns s, first-same n x (with_name ns name) t, first-same n x ns t, no) (sym (append-nil l))
     by false s false t r =
         rw (with-other n name ns s, number-other n name ns s, first-other n x (with_name ns name) t, first-other n x ns t, beyond-front l (with_event_at ls (position_or_len (bytes_eq name) ns) e) (first (bytes_eq x) (with_name ns name)), beyond-front l ls (first (bytes_eq x) ns)) r
 
-len-more : (names : List (List ℕ)) (lists : List (List Event)) (name : List ℕ) (e : Event) → length names ≡ length lists → length (with_name names name) ≡ length (with_event_at lists (position_or_len (bytes_eq name) names) e)
+len-more : (names : List (List ℕ)) (lists : List (List CounterEvent)) (name : List ℕ) (e : CounterEvent) → length names ≡ length lists → length (with_name names name) ≡ length (with_event_at lists (position_or_len (bytes_eq name) names) e)
 len-more [] (l ∷ ls) name e h = cc
 len-more (n ∷ ns) [] name e h = cc
 len-more [] [] name e h = refl
@@ -148,14 +137,14 @@ distinct-more names name d = by (list_any (bytes_eq name) names) refl
     add f i x g = at (get-push names name x i g)
       where
         at : ((i ≡ length names) × (x ≡ name)) ⊎ (slice_get names i ≡ Some x) → position (bytes_eq x) (names ++ name ∷ []) ≡ Some i
-        at (inl h) = ap (λ (y : List ℕ). position (bytes_eq y) (names ++ name ∷ [])) h.1 ∙ position-more (bytes_eq name) names name ∙ rw (position-first (bytes_eq name) names, none-first names name f, same-is name) (ap (λ (k : ℕ). Some k) (sym h.0))
+        at (inl h) = ap (λ (y : List ℕ). position (bytes_eq y) (names ++ name ∷ [])) h.1 ∙ position-more (bytes_eq name) names name ∙ rw (position-first (bytes_eq name) names, none-first names name f, bytes_self name) (ap (λ (k : ℕ). Some k) (sym h.0))
         at (inr h) = position-more (bytes_eq x) names name ∙ rw (d i x h) refl
 
     by : (b : Bool) → list_any (bytes_eq name) names ≡ b → AreDistinct (cond b names (names ++ name ∷ []))
     by true e = d
     by false e = add e
 
-pub listed-more : (events : List (List ℕ × Event)) (names : List (List ℕ)) (lists : List (List Event)) (name : List ℕ) (e : Event) → AreListed events names lists → AreListed (events ++ (name, e) ∷ []) (with_name names name) (with_event_at lists (position_or_len (bytes_eq name) names) e)
+pub listed-more : (events : List (List ℕ × CounterEvent)) (names : List (List ℕ)) (lists : List (List CounterEvent)) (name : List ℕ) (e : CounterEvent) → AreListed events names lists → AreListed (events ++ (name, e) ∷ []) (with_name names name) (with_event_at lists (position_or_len (bytes_eq name) names) e)
 listed-more events names lists name e a = record {
   len = len-more names lists name e a.len;
   distinct = distinct-more names name a.distinct;

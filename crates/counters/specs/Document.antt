@@ -18,15 +18,17 @@ use Rattle.style.specs.declared.values.Display.TheVariants as display
 use Rattle.style.specs.Nodes.{NodeStyles, style_in}
 use Rattle.counters.specs.declared.scopes.Act.{Act}
 use Rattle.counters.specs.declared.scopes.Act.TheVariants as act
-use Rattle.counters.specs.declared.scopes.Event.{Event}
+use Rattle.counters.specs.declared.scopes.CounterEvent.{CounterEvent}
 use Rattle.counters.specs.Scopes.{AreNested, values_by}
 use Rattle.counters.specs.At.{place_number}
 
 -- ---- what a place does: names of counters with resets and increments
 
+-- the resets of a list
 abbrev pub resets_in : List (List ℕ × ℤ) → List (List ℕ × Act)
 resets_in l = map (λ c. (c.0, act.Reset c.1)) l
 
+-- the increments of a list
 abbrev pub increments_in : List (List ℕ × ℤ) → List (List ℕ × Act)
 increments_in l = map (λ c. (c.0, act.Add c.1)) l
 
@@ -46,13 +48,16 @@ uses_by (part.Running name keyword) = []
 uses_by (part.Page style) = []
 uses_by (part.Pages style) = []
 
+-- the counters that a content uses
 abbrev pub uses_in : List Part → List (List ℕ × Act)
 uses_in content = flat_map uses_by content
 
+-- the same of a content that may be missing
 abbrev pub uses_in_some : Option (List Part) → List (List ℕ × Act)
 uses_in_some None = []
 uses_in_some (Some content) = uses_in content
 
+-- a list item
 abbrev pub is_list_item : Display → Bool
 is_list_item display.ListItem = true
 is_list_item display.Inline = false
@@ -72,25 +77,33 @@ is_numeral numeral.Circle = false
 is_numeral numeral.Square = false
 is_numeral numeral.Nothing = false
 
--- a list item whose marker is a number uses `list-item`; the root is a block, and an element that floats to the notes has no marker
+-- a list item whose marker is a number uses `list-item`; the root is a block, and an element that floats to the notes
+-- has no marker
 abbrev pub marker_use : Bool → Style → List (List ℕ × Act)
-marker_use root s = if not root && (is_list_item s.display && (not s.float && is_numeral s.list_style_type)) then use_of (codes "list-item") else []
+marker_use root s =
+    if not root && (is_list_item s.display && (not s.float && is_numeral s.list_style_type))
+    then use_of (codes "list-item") else []
 
 -- the root begins the notes' counter, and each note counts itself
 abbrev pub note_start : Bool → List (List ℕ × Act)
 note_start root = if root then (codes "footnote", act.Reset (pos 0)) ∷ [] else []
 
+-- a note element counts as one
 abbrev pub note_count : Bool → List (List ℕ × Act)
 note_count note = if note then (codes "footnote", act.Add (pos 1)) ∷ [] else []
 
 -- an element: resets, increments, the note's own, and uses by its named strings and its marker
 abbrev pub by_element : Bool → Bool → Style → List (List ℕ × Act)
-by_element root note s = note_start root ++ (resets_in s.counter_reset ++ (increments_in s.counter_increment ++ (note_count note ++ (flat_map (λ e. uses_in e.1) s.string_set ++ marker_use root s))))
+by_element root note s =
+    note_start root ++ (resets_in s.counter_reset ++
+    (increments_in s.counter_increment ++ (note_count note ++
+    (flat_map (λ e. uses_in e.1) s.string_set ++ marker_use root s))))
 
 -- a pseudo-element: resets, increments, and uses by its content
 abbrev pub by_generated : Style → List (List ℕ × Act)
 by_generated s = resets_in s.counter_reset ++ (increments_in s.counter_increment ++ uses_in_some s.content)
 
+-- what an element or a pseudo-element does to counters by its style, in order
 abbrev pub by_style : Bool → Bool → Pseudo → Option Style → List (List ℕ × Act)
 by_style root note p None = []
 by_style root note pseudo.Element (Some s) = by_element root note s
@@ -108,15 +121,18 @@ abbrev pub changes_in : ℕ → Pseudo → Option NodeStyles → List (List ℕ 
 changes_in n p None = []
 changes_in n p (Some r) = if r.shown then not_page (by_style (n == 0) r.note p (style_in r p)) else []
 
+-- the same at a node
 abbrev pub changes_at : List NodeStyles → ℕ → Pseudo → List (List ℕ × Act)
 changes_at styles n p = changes_in n p (slice_get styles n)
 
 -- ---- in document order
 
+-- a step into a node
 abbrev pub enters : ℕ → Step → Bool
 enters n (Enter m) = m.0 == n
 enters n (Leave m) = false
 
+-- a step out of a node
 abbrev pub leaves : ℕ → Step → Bool
 leaves n (Enter m) = false
 leaves n (Leave m) = m.0 == n
@@ -125,6 +141,7 @@ leaves n (Leave m) = m.0 == n
 abbrev pub into : List Step → ℕ → Option ℕ
 into steps n = position (enters n) steps
 
+-- the step out of a node
 abbrev pub out_of : List Step → ℕ → Option ℕ
 out_of steps n = position (leaves n) steps
 
@@ -133,19 +150,22 @@ abbrev pub end_at : List Step → Option ℕ → ℕ
 end_at steps None = 4 * length steps
 end_at steps (Some i) = 4 * i + 1
 
+-- the number after the last place within a node
 abbrev pub end_in : List Step → ℕ → ℕ
 end_in steps p = end_at steps (out_of steps p)
 
+-- the number after the last place within a parent; under none, after the document's
 abbrev pub end_under : List Step → Option ℕ → ℕ
 end_under steps None = 4 * length steps
 end_under steps (Some p) = end_in steps p
 
-abbrev pub named : ℕ → ℕ → List (List ℕ × Act) → List (List ℕ × Event)
+-- changes as events at a place
+abbrev pub named : ℕ → ℕ → List (List ℕ × Act) → List (List ℕ × CounterEvent)
 named at end changes = map (λ c. (c.0, record { at = at; end = end; act = c.1 })) changes
 
--- at a step into an element stand the element itself, its call, its marker and its `::before`, and at the step out of it its `::after`. A
--- pseudo-element counts as a child of its element
-abbrev pub step_events : List (Option ℕ) → List NodeStyles → List Step → ℕ → Step → List (List ℕ × Event)
+-- at a step into an element stand the element itself, its call, its marker and its `::before`, and at the step out of
+-- it its `::after`. A pseudo-element counts as a child of its element
+abbrev pub step_events : List (Option ℕ) → List NodeStyles → List Step → ℕ → Step → List (List ℕ × CounterEvent)
 step_events ps styles steps i (Enter n) =
     named (4 * i) (end_under steps (parent_at ps n.0)) (changes_at styles n.0 pseudo.Element) ++
     (named (4 * i + 1) (end_in steps n.0) (changes_at styles n.0 pseudo.Call) ++
@@ -153,18 +173,21 @@ step_events ps styles steps i (Enter n) =
     named (4 * i + 3) (end_in steps n.0) (changes_at styles n.0 pseudo.Before)))
 step_events ps styles steps i (Leave n) = named (4 * i) (end_in steps n.0) (changes_at styles n.0 pseudo.After)
 
-abbrev pub events_from : List (Option ℕ) → List NodeStyles → List Step → ℕ → List Step → List (List ℕ × Event)
+-- the events of steps from the i-th on
+abbrev pub events_from : List (Option ℕ) → List NodeStyles → List Step → ℕ → List Step → List (List ℕ × CounterEvent)
 events_from ps styles steps i [] = []
 events_from ps styles steps i (s ∷ rest) = step_events ps styles steps i s ++ events_from ps styles steps (i + 1) rest
 
 -- all events of a document, and those of one counter
-abbrev pub document_events : List Node → List NodeStyles → List (List ℕ × Event)
+abbrev pub document_events : List Node → List NodeStyles → List (List ℕ × CounterEvent)
 document_events nodes styles = events_from (parents_of nodes) styles (steps_of nodes) 0 (steps_of nodes)
 
-abbrev pub events_of : List Node → List NodeStyles → List ℕ → List Event
+-- the events of one counter
+abbrev pub events_of : List Node → List NodeStyles → List ℕ → List CounterEvent
 events_of nodes styles name = map (λ e. e.1) (filter (λ e. bytes_eq e.0 name) (document_events nodes styles))
 
-abbrev pub values_up_to : List Event → Option ℕ → List ℤ
+-- the values of a counter at a place; 0 alone where there is none
+abbrev pub values_up_to : List CounterEvent → Option ℕ → List ℤ
 values_up_to events None = pos 0 ∷ []
 values_up_to events (Some k) = values_by events k
 
@@ -177,4 +200,6 @@ values_of nodes styles n p name =
 
 -- the events of each counter are in document order
 abbrev pub EventsAreNested : Type 0
-EventsAreNested = (nodes : List Node) (styles : List NodeStyles) (name : List ℕ) → IsTree nodes → AreNested (events_of nodes styles name)
+EventsAreNested =
+    (nodes : List Node) (styles : List NodeStyles) (name : List ℕ) → IsTree nodes →
+    AreNested (events_of nodes styles name)

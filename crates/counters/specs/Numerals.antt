@@ -18,26 +18,31 @@ IsLonger old new = (more : List ℕ) × (new ≡ old ++ more)
 -- a decimal digit in roman letters: those for one, five and ten of its place
 abbrev pub roman_digit : ℕ → ℕ → ℕ → ℕ → List ℕ
 roman_digit one five ten d =
-    get_or ([] ∷ (one ∷ []) ∷ (one ∷ one ∷ []) ∷ (one ∷ one ∷ one ∷ []) ∷ (one ∷ five ∷ []) ∷ (five ∷ []) ∷ (five ∷ one ∷ []) ∷
+    get_or ([] ∷ (one ∷ []) ∷ (one ∷ one ∷ []) ∷ (one ∷ one ∷ one ∷ []) ∷ (one ∷ five ∷ []) ∷ (five ∷ []) ∷
+    (five ∷ one ∷ []) ∷
     (five ∷ one ∷ one ∷ []) ∷ (five ∷ one ∷ one ∷ one ∷ []) ∷ (one ∷ ten ∷ []) ∷ []) d []
 
 -- the letters for 1, 5, 10, 50, 100, 500 and 1000
 abbrev pub lower_roman : RomanLetters
 lower_roman = record { i = 105; v = 118; x = 120; l = 108; c = 99; d = 100; m = 109 }
 
+-- the upper-case letters
 abbrev pub upper_roman : RomanLetters
 upper_roman = record { i = 73; v = 86; x = 88; l = 76; c = 67; d = 68; m = 77 }
 
 -- a number below 4000: its digits from the thousands on
 abbrev pub roman : RomanLetters → ℕ → List ℕ
 roman r n = roman_digit r.m r.m r.m (n / 1000) ++
-    (roman_digit r.c r.d r.m (n / 100 % 10) ++ (roman_digit r.x r.l r.c (n / 10 % 10) ++ roman_digit r.i r.v r.x (n % 10)))
+    (roman_digit r.c r.d r.m (n / 100 % 10) ++ (roman_digit r.x r.l r.c (n / 10 % 10) ++
+    roman_digit r.i r.v r.x (n % 10)))
 
 -- a number in the 26 letters from `first` on, of at most so many letters
 abbrev pub letters_within : ℕ → ℕ → ℕ → List ℕ
 letters_within zero first n = []
-letters_within (suc most) first n = if n == 0 then [] else letters_within most first ((n - 1) / 26) ++ (first + (n - 1) % 26) ∷ []
+letters_within (suc most) first n =
+    if n == 0 then [] else letters_within most first ((n - 1) / 26) ++ (first + (n - 1) % 26) ∷ []
 
+-- a number above 0 in letters
 abbrev pub letters : ℕ → ℕ → List ℕ
 letters first n = letters_within n first n
 
@@ -49,6 +54,7 @@ with_zero n = if is_among n 0 9 then 48 ∷ signed_decimal n else signed_decimal
 abbrev pub in_roman : RomanLetters → ℤ → List ℕ
 in_roman r n = if is_among n 1 3999 then roman r (unsigned_abs n) else signed_decimal n
 
+-- a number in letters; one that isn't above 0 is written in digits
 abbrev pub in_letters : ℕ → ℤ → List ℕ
 in_letters first n = if is_positive n then letters first (unsigned_abs n) else signed_decimal n
 
@@ -92,7 +98,8 @@ roman_value (b ∷ text) = counted (roman_letter b) (roman_head text) +ℤ roman
 
 -- each roman numeral stands for its number
 abbrev pub RomanStandsFor : Type 0
-RomanStandsFor = (n : ℕ) → n < 4000 → (roman_value (roman lower_roman n) ≡ pos n) × (roman_value (roman upper_roman n) ≡ pos n)
+RomanStandsFor =
+    (n : ℕ) → n < 4000 → (roman_value (roman lower_roman n) ≡ pos n) × (roman_value (roman upper_roman n) ≡ pos n)
 
 -- what a text of letters stands for: its letters are the digits 1 to 26 of a number in base 26
 abbrev pub letters_value : ℕ → List ℕ → ℕ
@@ -108,4 +115,5 @@ LettersStandFor = (first n : ℕ) → All (IsLetter first) (letters first n) × 
 
 -- no other text of letters stands for it
 abbrev pub LettersAreOne : Type 0
-LettersAreOne = (first : ℕ) (text : List ℕ) → All (IsLetter first) text → letters first (letters_value first text) ≡ text
+LettersAreOne =
+    (first : ℕ) (text : List ℕ) → All (IsLetter first) text → letters first (letters_value first text) ≡ text

@@ -6,7 +6,7 @@ ghost use Rattle.std.specs.List.{position};
 ghost use Rattle.std.specs.String.{string_bytes};
 ghost use Rattle.counters.specs.At.{AreAllMarks, AreSmall, IsSmall, counter_values, marks_by, place_in, place_number};
 
-use crate::scopes::{Mark, values_at};
+use crate::scopes::{ScopeMark, values_at};
 use bk_num::ids::NodeId;
 use bk_num::items::Items;
 use bk_num::name::NoMem;
@@ -22,11 +22,12 @@ pub struct Spot {
     pub out: Option<u32>,
 }
 
-/// The values of all counters at all places. Contracts see what is kept of them; `counter_values` says what it stands for.
+/// The values of all counters at all places. Contracts see what is kept of them; `counter_values` says what it stands
+/// for.
 #[derive(Drop)]
 pub struct CounterAt {
     names: IndexSet<String>,
-    lists: Vec<Items<Mark>>,
+    lists: Vec<Items<ScopeMark>>,
     spots: Vec<Spot>,
 }
 
@@ -46,7 +47,7 @@ impl CounterAt {
     /// What is kept of these counters.
     pub(crate) fn of(
         names: IndexSet<String>,
-        lists: Vec<Items<Mark>>,
+        lists: Vec<Items<ScopeMark>>,
         spots: Vec<Spot>,
     ) -> CounterAt
         requires marks { AreAllMarks lists.items }
@@ -62,8 +63,9 @@ impl CounterAt {
         }
     }
 
-    /// The values of a counter at an element or a pseudo-element, the outermost scope first; `[0]` where no scope holds. It costs the
-    /// scopes that hold after the counter's last change up to there, and a binary search for that change.
+    /// The values of a counter at an element or a pseudo-element, the outermost scope first; `[0]` where no scope
+    /// holds. It costs the scopes that hold after the counter's last change up to there, and a binary search for that
+    /// change.
     pub fn values(
         &self,
         alloc: Global,
@@ -91,7 +93,7 @@ fn index_of(names: &IndexSet<String>, name: &str) -> Option<usize>
 }
 
 /// The marks of a counter.
-fn list_of(lists: &[Items<Mark>], index: Option<usize>) -> Option<&Items<Mark>>
+fn list_of(lists: &[Items<ScopeMark>], index: Option<usize>) -> Option<&Items<ScopeMark>>
     ensures { option_map (λ l. l.now) result ≡ marks_by lists.now index }
 {
     lists.get(index?)

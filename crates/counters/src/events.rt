@@ -6,7 +6,7 @@ ghost use Rattle.counters.specs.Gather.{placed};
 ghost use Rattle.counters.specs.Document.{by_element, by_generated, changes_at, named, note_count, note_start, increments_in, is_list_item, is_numeral, resets_in, use_of, uses_by, uses_in};
 ghost use Rattle.counters.specs.declared.scopes.Act.TheVariants as act;
 
-use crate::scopes::{Act, Event};
+use crate::scopes::{Act, CounterEvent};
 use bk_num::ids::NodeId;
 use bk_num::name::{Name, NoMem};
 use bk_num::values::{NumStyle, Pseudo};
@@ -19,19 +19,24 @@ use style::values::Display;
 
 /// A place's number, and where scopes end that begin at it.
 #[derive(Clone, Copy)]
-pub(crate) struct Place {
+pub(crate) struct EventPlace {
     pub at: u32,
     pub end: u32,
 }
 
 /// A counter of the document is changed: `page` is none.
-fn push(place: Place, name: Name, act: Act, into: &mut Vec<(Name, Event)>) -> Result<(), NoMem>
+fn push(
+    place: EventPlace,
+    name: Name,
+    act: Act,
+    into: &mut Vec<(Name, CounterEvent)>,
+) -> Result<(), NoMem>
     ensures { OnOk result (into.new.items ≡ into.old.items ++ placed place ((name, act) ∷ [])) }
 {
     if name.as_str() == "page" {
         return Ok(());
     }
-    let event = Event {
+    let event = CounterEvent {
         at: place.at,
         end: place.end,
         act,
@@ -40,7 +45,11 @@ fn push(place: Place, name: Name, act: Act, into: &mut Vec<(Name, Event)>) -> Re
     Ok(())
 }
 
-fn push_resets(place: Place, list: &CounterList, into: &mut Vec<(Name, Event)>) -> Result<(), NoMem>
+fn push_resets(
+    place: EventPlace,
+    list: &CounterList,
+    into: &mut Vec<(Name, CounterEvent)>,
+) -> Result<(), NoMem>
     ensures { OnOk result (into.new.items ≡ into.old.items ++ placed place (resets_in list.now)) }
 {
     for entry in list.as_slice() {
@@ -50,9 +59,9 @@ fn push_resets(place: Place, list: &CounterList, into: &mut Vec<(Name, Event)>) 
 }
 
 fn push_increments(
-    place: Place,
+    place: EventPlace,
     list: &CounterList,
-    into: &mut Vec<(Name, Event)>,
+    into: &mut Vec<(Name, CounterEvent)>,
 ) -> Result<(), NoMem>
     ensures { OnOk result (into.new.items ≡ into.old.items ++ placed place (increments_in list.now)) }
 {
@@ -62,7 +71,11 @@ fn push_increments(
     Ok(())
 }
 
-fn push_use(place: Place, part: &Part, into: &mut Vec<(Name, Event)>) -> Result<(), NoMem>
+fn push_use(
+    place: EventPlace,
+    part: &Part,
+    into: &mut Vec<(Name, CounterEvent)>,
+) -> Result<(), NoMem>
     ensures { OnOk result (into.new.items ≡ into.old.items ++ placed place (uses_by part.now)) }
 {
     match part {
@@ -72,7 +85,11 @@ fn push_use(place: Place, part: &Part, into: &mut Vec<(Name, Event)>) -> Result<
     }
 }
 
-fn push_uses(place: Place, content: &Content, into: &mut Vec<(Name, Event)>) -> Result<(), NoMem>
+fn push_uses(
+    place: EventPlace,
+    content: &Content,
+    into: &mut Vec<(Name, CounterEvent)>,
+) -> Result<(), NoMem>
     ensures { OnOk result (into.new.items ≡ into.old.items ++ placed place (uses_in content.now)) }
 {
     for part in content.as_slice() {
@@ -82,9 +99,9 @@ fn push_uses(place: Place, content: &Content, into: &mut Vec<(Name, Event)>) -> 
 }
 
 fn push_string_uses(
-    place: Place,
+    place: EventPlace,
     sets: &StringSets,
-    into: &mut Vec<(Name, Event)>,
+    into: &mut Vec<(Name, CounterEvent)>,
 ) -> Result<(), NoMem>
     ensures { OnOk result (into.new.items ≡ into.old.items ++ placed place (flat_map (λ e. uses_in e.1) sets.now)) }
 {
@@ -113,18 +130,20 @@ fn is_numeral(style: NumStyle) -> bool
 }
 
 fn has_numeral(root: bool, style: &Style) -> bool
-    ensures { result ≡ (not root && (is_list_item style.now.display && (not style.now.float && is_numeral style.now.list_style_type))) }
+    ensures { result ≡ (not root && (is_list_item style.now.display &&
+        (not style.now.float && is_numeral style.now.list_style_type))) }
 {
     !root && is_list_item(style.display) && !style.float && is_numeral(style.list_style_type)
 }
 
 fn push_marker_use(
     alloc: Global,
-    place: Place,
+    place: EventPlace,
     numeral: bool,
-    into: &mut Vec<(Name, Event)>,
+    into: &mut Vec<(Name, CounterEvent)>,
 ) -> Result<(), NoMem>
-    ensures { OnOk result (into.new.items ≡ into.old.items ++ placed place (if numeral then use_of (codes "list-item") else [])) }
+    ensures { OnOk result (into.new.items ≡ into.old.items ++
+        placed place (if numeral then use_of (codes "list-item") else [])) }
 {
     if numeral {
         return push(place, Name::new(alloc, "list-item")?, Act::Add(0), into);
@@ -134,9 +153,9 @@ fn push_marker_use(
 
 fn push_note_start(
     alloc: Global,
-    place: Place,
+    place: EventPlace,
     root: bool,
-    into: &mut Vec<(Name, Event)>,
+    into: &mut Vec<(Name, CounterEvent)>,
 ) -> Result<(), NoMem>
     ensures { OnOk result (into.new.items ≡ into.old.items ++ placed place (note_start root)) }
 {
@@ -148,9 +167,9 @@ fn push_note_start(
 
 fn push_note_count(
     alloc: Global,
-    place: Place,
+    place: EventPlace,
     note: bool,
-    into: &mut Vec<(Name, Event)>,
+    into: &mut Vec<(Name, CounterEvent)>,
 ) -> Result<(), NoMem>
     ensures { OnOk result (into.new.items ≡ into.old.items ++ placed place (note_count note)) }
 {
@@ -162,11 +181,11 @@ fn push_note_count(
 
 fn push_element(
     alloc: Global,
-    place: Place,
+    place: EventPlace,
     root: bool,
     note: bool,
     style: &Style,
-    into: &mut Vec<(Name, Event)>,
+    into: &mut Vec<(Name, CounterEvent)>,
 ) -> Result<(), NoMem>
     ensures { OnOk result (into.new.items ≡ into.old.items ++ placed place (by_element root note style.now)) }
 {
@@ -178,7 +197,11 @@ fn push_element(
     push_marker_use(alloc, place, has_numeral(root, style), into)
 }
 
-fn push_generated(place: Place, style: &Style, into: &mut Vec<(Name, Event)>) -> Result<(), NoMem>
+fn push_generated(
+    place: EventPlace,
+    style: &Style,
+    into: &mut Vec<(Name, CounterEvent)>,
+) -> Result<(), NoMem>
     ensures { OnOk result (into.new.items ≡ into.old.items ++ placed place (by_generated style.now)) }
 {
     push_resets(place, &style.counter_reset, into)?;
@@ -192,13 +215,14 @@ fn push_generated(place: Place, style: &Style, into: &mut Vec<(Name, Event)>) ->
 /// Appends the events of an element or a pseudo-element, in order.
 pub(crate) fn push_changes(
     alloc: Global,
-    place: Place,
+    place: EventPlace,
     styles: &Styles,
     node: NodeId,
     pseudo: Pseudo,
-    into: &mut Vec<(Name, Event)>,
+    into: &mut Vec<(Name, CounterEvent)>,
 ) -> Result<(), NoMem>
-    ensures { OnOk result (into.new.items ≡ into.old.items ++ named place.at place.end (changes_at styles.now node.0 pseudo)) }
+    ensures { OnOk result (into.new.items ≡ into.old.items ++
+        named place.at place.end (changes_at styles.now node.0 pseudo)) }
 {
     if !styles.is_shown(node) {
         return Ok(());

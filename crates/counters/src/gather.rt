@@ -9,8 +9,8 @@ ghost use Rattle.counters.specs.Document.{changes_at, document_events, named, st
 ghost use Rattle.counters.specs.Gather.{AreSpots, end_below};
 
 use crate::at::Spot;
-use crate::events::{Place, push_changes};
-use crate::scopes::Event;
+use crate::events::{EventPlace, push_changes};
+use crate::scopes::CounterEvent;
 use bk_num::ids::NodeId;
 use bk_num::name::{Name, NoMem};
 use bk_num::values::Pseudo;
@@ -44,7 +44,7 @@ fn push_entered(
     at: u32,
     outside: u32,
     inside: u32,
-    into: &mut Vec<(Name, Event)>,
+    into: &mut Vec<(Name, CounterEvent)>,
 ) -> Result<(), NoMem>
     requires { at + 3 < 2 ^ 32 }
     ensures { OnOk result (into.new.items ≡ into.old.items ++
@@ -53,19 +53,19 @@ fn push_entered(
         (named (at + 2) inside (changes_at styles.now node.0 pseudo.Marker) ++
         named (at + 3) inside (changes_at styles.now node.0 pseudo.Before))))) }
 {
-    let own = Place { at, end: outside };
+    let own = EventPlace { at, end: outside };
     push_changes(alloc, own, styles, node, Pseudo::Element, into)?;
-    let call = Place {
+    let call = EventPlace {
         at: at + 1,
         end: inside,
     };
     push_changes(alloc, call, styles, node, Pseudo::Call, into)?;
-    let marker = Place {
+    let marker = EventPlace {
         at: at + 2,
         end: inside,
     };
     push_changes(alloc, marker, styles, node, Pseudo::Marker, into)?;
-    let before = Place {
+    let before = EventPlace {
         at: at + 3,
         end: inside,
     };
@@ -81,7 +81,7 @@ fn push_step(
     count: u32,
     index: u32,
     step: Step,
-    into: &mut Vec<(Name, Event)>,
+    into: &mut Vec<(Name, CounterEvent)>,
 ) -> Result<(), NoMem>
     requires spots { AreSpots (steps_of dom.now) spots.now }
     requires small { AreSmall spots.now }
@@ -89,7 +89,8 @@ fn push_step(
     requires few { count < 2 ^ 28 }
     requires index { index < count }
     requires within { node_of step < length dom.now }
-    ensures { OnOk result (into.new.items ≡ into.old.items ++ step_events (parents_of dom.now) styles.now (steps_of dom.now) index step) }
+    ensures { OnOk result (into.new.items ≡ into.old.items ++
+        step_events (parents_of dom.now) styles.now (steps_of dom.now) index step) }
 {
     match step {
         Step::Enter(node) => {
@@ -99,7 +100,7 @@ fn push_step(
         }
         Step::Leave(node) => {
             let inside = end_below(spots, count, Some(node));
-            let after = Place {
+            let after = EventPlace {
                 at: 4 * index,
                 end: inside,
             };
@@ -119,7 +120,7 @@ pub fn all_events(
     styles: &Styles,
     spots: &[Spot],
     count: u32,
-) -> Result<Vec<(Name, Event)>, NoMem>
+) -> Result<Vec<(Name, CounterEvent)>, NoMem>
     requires spots { AreSpots (steps_of dom.now) spots.now }
     requires small { AreSmall spots.now }
     requires count { count ≡ length (steps_of dom.now) }

@@ -10,7 +10,7 @@ ghost use Rattle.counters.specs.Gather.{AreInOrder, AreMarksOf};
 
 use crate::at::CounterAt;
 use crate::gather::all_events;
-use crate::scopes::{Event, Mark, mark_all};
+use crate::scopes::{CounterEvent, ScopeMark, mark_all};
 use crate::spots::spots_of;
 use crate::tally::lists_of;
 use bk_num::items::Items;
@@ -23,7 +23,7 @@ use style::styles::Styles;
 const MOST_EVENTS: usize = 4294967295;
 
 /// The marks of one counter.
-fn marks_of(alloc: Global, events: &[Event]) -> Result<Items<Mark>, NoMem>
+fn marks_of(alloc: Global, events: &[CounterEvent]) -> Result<Items<ScopeMark>, NoMem>
     requires { IsNonDecreasingBy (λ e. e.at) events.now }
     ensures marks { IfOk result (λ v. AreMarks v) }
     ensures marked { IfOk result (λ v. AreMarked events.now v) }
@@ -35,7 +35,7 @@ fn marks_of(alloc: Global, events: &[Event]) -> Result<Items<Mark>, NoMem>
 }
 
 /// The marks of all counters.
-fn all_marks(alloc: Global, lists: &[Items<Event>]) -> Result<Vec<Items<Mark>>, NoMem>
+fn all_marks(alloc: Global, lists: &[Items<CounterEvent>]) -> Result<Vec<Items<ScopeMark>>, NoMem>
     requires { AreInOrder lists.now }
     ensures { IfOk result (λ v. AreMarksOf lists.now v.items) }
 {
@@ -46,13 +46,15 @@ fn all_marks(alloc: Global, lists: &[Items<Event>]) -> Result<Vec<Items<Mark>>, 
     Ok(all)
 }
 
-/// Numbers the counters of a document. It takes time in proportion to the nodes and to what their styles do to counters.
+/// Numbers the counters of a document. It takes time in proportion to the nodes and to what their styles do to
+/// counters.
 ///
 /// # Errors
 ///
 /// `NoMem`, which also stands for a value that 64 bits don't hold.
 pub fn number_all(alloc: Global, dom: &Dom, styles: &Styles) -> Result<CounterAt, NoMem>
-    ensures { IfOk result (λ c. (n : ℕ) (p : Pseudo) (x : List ℕ) → counter_values c n p x ≡ values_of dom.now styles.now n p x) }
+    ensures { IfOk result (λ c. (n : ℕ) (p : Pseudo) (x : List ℕ) →
+        counter_values c n p x ≡ values_of dom.now styles.now n p x) }
 {
     let (spots, count) = spots_of(alloc, dom)?;
     let events = all_events(alloc, dom, styles, &spots, count)?;

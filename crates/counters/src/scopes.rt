@@ -14,10 +14,10 @@ pub enum Act {
     Add(i64),
 }
 
-/// What is done to a counter at a place: the place's number in document order, and the number after the last place of its parent, where a
-/// scope that begins at the place ends.
+/// What is done to a counter at a place: the place's number in document order, and the number after the last place of
+/// its parent, where a scope that begins at the place ends.
 #[derive(Clone, Copy, Debug)]
-pub struct Event {
+pub struct CounterEvent {
     pub at: u32,
     pub end: u32,
     pub act: Act,
@@ -25,24 +25,25 @@ pub struct Event {
 
 /// The innermost scope after an event: where it ends, its value, and the mark of the scope outside it.
 #[derive(Clone, Copy, Debug)]
-pub struct Mark {
+pub struct ScopeMark {
     pub at: u32,
     pub end: u32,
     pub value: i64,
     pub outer: Option<u32>,
 }
 
-fn mark_of(marks: &[Mark], index: u32) -> Option<Mark>
+fn mark_of(marks: &[ScopeMark], index: u32) -> Option<ScopeMark>
     ensures { result ≡ slice_get marks.now index }
 {
     marks.get(index as usize).copied()
 }
 
 /// The first mark, from one outwards, whose scope ends after a place.
-fn reaching(marks: &[Mark], from: Option<u32>, place: u32) -> Option<u32>
+fn reaching(marks: &[ScopeMark], from: Option<u32>, place: u32) -> Option<u32>
     requires { AreFalling marks.now }
     ensures within { IfSome result (λ i. i < length marks.now) }
-    ensures chain { (most : ℕ) → length marks.now ≤ most → chain most marks.now result ≡ beyond place (chain most marks.now from) }
+    ensures chain { (most : ℕ) → length marks.now ≤ most →
+        chain most marks.now result ≡ beyond place (chain most marks.now from) }
 {
     let mut head = from;
     while let Some(index) = head {
@@ -58,7 +59,7 @@ fn reaching(marks: &[Mark], from: Option<u32>, place: u32) -> Option<u32>
 }
 
 /// How many marks stand up to a place.
-fn count_to(marks: &[Mark], place: u32) -> usize
+fn count_to(marks: &[ScopeMark], place: u32) -> usize
     requires { AreMarks marks.now }
     ensures value { result ≡ seen_to place marks.now }
     ensures most { result ≤ length marks.now }
@@ -79,7 +80,7 @@ fn last_of(count: usize) -> Option<u32>
 }
 
 /// The values of the scopes from a mark outwards.
-fn values_from(alloc: Global, marks: &[Mark], from: Option<u32>) -> Result<Vec<i64>, NoMem>
+fn values_from(alloc: Global, marks: &[ScopeMark], from: Option<u32>) -> Result<Vec<i64>, NoMem>
     requires { AreFalling marks.now }
     ensures { IfOk result (λ v. v.items ≡ map (λ m. m.value) (all_of marks.now from)) }
 {
@@ -92,13 +93,13 @@ fn values_from(alloc: Global, marks: &[Mark], from: Option<u32>) -> Result<Vec<i
     Ok(values)
 }
 
-/// The values at a place, the outermost scope first; 0 where no scope holds. It costs a binary search and the scopes that held after the
-/// last event up to the place.
+/// The values at a place, the outermost scope first; 0 where no scope holds. It costs a binary search and the scopes
+/// that held after the last event up to the place.
 ///
 /// # Errors
 ///
 /// `NoMem`.
-pub fn values_at(alloc: Global, marks: &[Mark], place: u32) -> Result<Vec<i64>, NoMem>
+pub fn values_at(alloc: Global, marks: &[ScopeMark], place: u32) -> Result<Vec<i64>, NoMem>
     requires { AreMarks marks.now }
     ensures { IfOk result (λ v. v.items ≡ kept_values marks.now place) }
 {
@@ -112,7 +113,7 @@ pub fn values_at(alloc: Global, marks: &[Mark], place: u32) -> Result<Vec<i64>, 
 }
 
 /// The mark that a number names.
-fn front(marks: &[Mark], head: Option<u32>) -> Option<Mark>
+fn front(marks: &[ScopeMark], head: Option<u32>) -> Option<ScopeMark>
     ensures { result ≡ front (all_of marks.now head) }
 {
     match head {
@@ -122,7 +123,7 @@ fn front(marks: &[Mark], head: Option<u32>) -> Option<Mark>
 }
 
 /// The mark after an event.
-fn next_mark(marks: &[Mark], event: &Event) -> Result<Mark, NoMem>
+fn next_mark(marks: &[ScopeMark], event: &CounterEvent) -> Result<ScopeMark, NoMem>
     requires few { length marks.now < 2 ^ 32 }
     requires falling { AreFalling marks.now }
     ensures { IfOk result (λ m. IsNext marks.now event.now m) }
@@ -131,7 +132,7 @@ fn next_mark(marks: &[Mark], event: &Event) -> Result<Mark, NoMem>
     match event.act {
         Act::Reset(number) => {
             let outer = reaching(marks, last, event.end);
-            Ok(Mark {
+            Ok(ScopeMark {
                 at: event.at,
                 end: event.end,
                 value: number,
@@ -140,7 +141,7 @@ fn next_mark(marks: &[Mark], event: &Event) -> Result<Mark, NoMem>
         }
         Act::Add(add) => {
             let Some(mark) = front(marks, reaching(marks, last, event.at)) else {
-                return Ok(Mark {
+                return Ok(ScopeMark {
                     at: event.at,
                     end: event.end,
                     value: add,
@@ -150,7 +151,7 @@ fn next_mark(marks: &[Mark], event: &Event) -> Result<Mark, NoMem>
             let Some(value) = mark.value.checked_add(add) else {
                 return Err(NoMem);
             };
-            Ok(Mark {
+            Ok(ScopeMark {
                 at: event.at,
                 end: mark.end,
                 value,
@@ -165,7 +166,7 @@ fn next_mark(marks: &[Mark], event: &Event) -> Result<Mark, NoMem>
 /// # Errors
 ///
 /// `NoMem`.
-pub fn mark_all(alloc: Global, events: &[Event]) -> Result<Vec<Mark>, NoMem>
+pub fn mark_all(alloc: Global, events: &[CounterEvent]) -> Result<Vec<ScopeMark>, NoMem>
     requires few { length events.now < 2 ^ 32 }
     requires sorted { IsNonDecreasingBy (λ e. e.at) events.now }
     ensures marks { IfOk result (λ v. AreMarks v.items) }

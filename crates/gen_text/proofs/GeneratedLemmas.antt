@@ -14,7 +14,7 @@ use Rattle.dom.specs.Nodes.{IsTree}
 use Rattle.style.specs.declared.content.Part.{Part}
 use Rattle.gen_text.specs.declared.generated.NodeTexts.{NodeTexts}
 use Rattle.gen_text.specs.Content.{Place, IsTextOf}
-use Rattle.gen_text.specs.Generated.{Source, place_at, entry_of, text_by, text_in, strings_in, Ascend, content_at, sets_at, AreAssigned, AreTextsAt, AreGenerated, AreBelow, is_blank, with_texts, AreOne, GeneratedIsOne}
+use Rattle.gen_text.specs.Generated.{TextSource, place_at, entry_of, text_by, text_in, strings_in, NodesAscend, content_at, sets_at, AreAssigned, AreTextsAt, AreGenerated, is_blank, with_texts, AreOne, GeneratedIsOne}
 use Rattle.gen_text.proofs.ContentLemmas.{text-one}
 
 -- ---- look-ups
@@ -30,7 +30,7 @@ found (x ∷ xs) n zero e h g s = let same : x ≡ e = cc in rw (eq-eqb x.node.0
 found (x ∷ xs) n (suc i) e h g s = let l = h 0 x (omega arith) refl in rw (ne_eqb x.node.0 n (λ q. omega (arith, l, q))) (found xs n i e (λ k y b r. h (suc k) y (omega arith) r) g s)
 
 -- entries after one ascend from it
-later : (xs : List NodeTexts) → Ascend xs → (i k : ℕ) (e x : NodeTexts) → i ≤ k → slice_get xs i ≡ Some e → slice_get xs k ≡ Some x → e.node.0 ≤ x.node.0
+later : (xs : List NodeTexts) → NodesAscend xs → (i k : ℕ) (e x : NodeTexts) → i ≤ k → slice_get xs i ≡ Some e → slice_get xs k ≡ Some x → e.node.0 ≤ x.node.0
 later xs up i k e x l g h =
     let w = slice_get_within xs k x h in
     let v = slice_get_within xs i e g in
@@ -41,7 +41,7 @@ later xs up i k e x l g h =
     let q = ap (λ (y : NodeTexts). y.node.0) b in
     omega arith
 
-other : (xs : List NodeTexts) (n i : ℕ) → Ascend xs → ((k : ℕ) (x : NodeTexts) → k < i → slice_get xs k ≡ Some x → x.node.0 < n) → ((k : ℕ) (x : NodeTexts) → i ≤ k → slice_get xs k ≡ Some x → n ≤ x.node.0) → (o : Option NodeTexts) → slice_get xs i ≡ o → ((e : NodeTexts) → o ≡ Some e → (e.node.0 == n) ≡ false) → entry_of xs n ≡ None
+other : (xs : List NodeTexts) (n i : ℕ) → NodesAscend xs → ((k : ℕ) (x : NodeTexts) → k < i → slice_get xs k ≡ Some x → x.node.0 < n) → ((k : ℕ) (x : NodeTexts) → i ≤ k → slice_get xs k ≡ Some x → n ≤ x.node.0) → (o : Option NodeTexts) → slice_get xs i ≡ o → ((e : NodeTexts) → o ≡ Some e → (e.node.0 == n) ≡ false) → entry_of xs n ≡ None
 other xs n i up before after o g h = not-in xs n (λ k x r s. by k x r s o g h (cases_lt k i))
   where
     by : (k : ℕ) (x : NodeTexts) → slice_get xs k ≡ Some x → x.node.0 ≡ n → (o : Option NodeTexts) → slice_get xs i ≡ o → ((e : NodeTexts) → o ≡ Some e → (e.node.0 == n) ≡ false) → (k < i) ⊎ (i ≤ k) → ⊥
@@ -49,10 +49,10 @@ other xs n i up before after o g h = not-in xs n (λ k x r s. by k x r s o g h (
     by k x r s None g h (inr l) = let w = slice_get_within xs k x r in let z = slice_get_at xs i (omega arith) in let y = z.1 in cc
     by k x r s (Some e) g h (inr l) = let a = after i e (omega arith) g in let b = later xs up i k e x l g r in let same : e.node.0 ≡ n = omega arith in let t = eq-eqb e.node.0 n same in let f = h e refl in cc
 
-pub other_some : (xs : List NodeTexts) (n i : ℕ) (e : NodeTexts) → Ascend xs → ((k : ℕ) (x : NodeTexts) → k < i → slice_get xs k ≡ Some x → x.node.0 < n) → ((k : ℕ) (x : NodeTexts) → i ≤ k → slice_get xs k ≡ Some x → n ≤ x.node.0) → slice_get xs i ≡ Some e → (e.node.0 == n) ≡ false → entry_of xs n ≡ None
+pub other_some : (xs : List NodeTexts) (n i : ℕ) (e : NodeTexts) → NodesAscend xs → ((k : ℕ) (x : NodeTexts) → k < i → slice_get xs k ≡ Some x → x.node.0 < n) → ((k : ℕ) (x : NodeTexts) → i ≤ k → slice_get xs k ≡ Some x → n ≤ x.node.0) → slice_get xs i ≡ Some e → (e.node.0 == n) ≡ false → entry_of xs n ≡ None
 other_some xs n i e up before after at differ = other xs n i up before after (Some e) at (λ x h. let same : e ≡ x = cc in subst (λ (y : NodeTexts). (y.node.0 == n) ≡ false) same differ)
 
-pub other_none : (xs : List NodeTexts) (n i : ℕ) → Ascend xs → ((k : ℕ) (x : NodeTexts) → k < i → slice_get xs k ≡ Some x → x.node.0 < n) → ((k : ℕ) (x : NodeTexts) → i ≤ k → slice_get xs k ≡ Some x → n ≤ x.node.0) → slice_get xs i ≡ None → entry_of xs n ≡ None
+pub other_none : (xs : List NodeTexts) (n i : ℕ) → NodesAscend xs → ((k : ℕ) (x : NodeTexts) → k < i → slice_get xs k ≡ Some x → x.node.0 < n) → ((k : ℕ) (x : NodeTexts) → i ≤ k → slice_get xs k ≡ Some x → n ≤ x.node.0) → slice_get xs i ≡ None → entry_of xs n ≡ None
 other_none xs n i up before after at = other xs n i up before after None at (λ x h. absurd (cc))
 
 pub point-before : (xs : List NodeTexts) (n i : ℕ) → IsPartitionPoint (λ e. ltb e.node.0 n ≡ true) (λ e. ltb e.node.0 n ≡ false) xs i → i ≤ length xs → (k : ℕ) (x : NodeTexts) → k < i → slice_get xs k ≡ Some x → x.node.0 < n
@@ -71,7 +71,7 @@ point-after xs n i point k x b g =
 
 -- ---- one node's
 
-pub texts_five : (s : Source) (n : ℕ) (t : NodeTexts) → IsTextOf (place_at s n pseudo.Before) (content_at s.styles n pseudo.Before) t.before → IsTextOf (place_at s n pseudo.After) (content_at s.styles n pseudo.After) t.after → IsTextOf (place_at s n pseudo.Call) (content_at s.styles n pseudo.Call) t.call → IsTextOf (place_at s n pseudo.Marker) (content_at s.styles n pseudo.Marker) t.marker → AreAssigned (place_at s n pseudo.Element) (sets_at s.styles n) t.strings → AreTextsAt s n (Some t)
+pub texts_five : (s : TextSource) (n : ℕ) (t : NodeTexts) → IsTextOf (place_at s n pseudo.Before) (content_at s.styles n pseudo.Before) t.before → IsTextOf (place_at s n pseudo.After) (content_at s.styles n pseudo.After) t.after → IsTextOf (place_at s n pseudo.Call) (content_at s.styles n pseudo.Call) t.call → IsTextOf (place_at s n pseudo.Marker) (content_at s.styles n pseudo.Marker) t.marker → AreAssigned (place_at s n pseudo.Element) (sets_at s.styles n) t.strings → AreTextsAt s n (Some t)
 texts_five s n t before after call marker strings = record { texts = by; strings = strings }
   where
     by : (p : Pseudo) → IsTextOf (place_at s n p) (content_at s.styles n p) (text_by t p)
@@ -90,7 +90,7 @@ both true b e = (refl, e)
 both false b e = absurd (cc)
 
 -- a node without texts and strings needs no entry
-pub texts_blank : (s : Source) (n : ℕ) (t : NodeTexts) → is_blank t ≡ true → AreTextsAt s n (Some t) → AreTextsAt s n None
+pub texts_blank : (s : TextSource) (n : ℕ) (t : NodeTexts) → is_blank t ≡ true → AreTextsAt s n (Some t) → AreTextsAt s n None
 texts_blank s n t e h =
     let (before, e1) = both (length t.before == 0) _ e in
     let (after, e2) = both (length t.after == 0) _ e1 in
@@ -107,14 +107,20 @@ texts_blank s n t e h =
 
 -- ---- one node after another
 
-pub below_none : (s : Source) → AreBelow s 0 []
+-- the texts and the strings of the first i nodes
+pub record AreBelow (s : TextSource) (i : ℕ) (g : List NodeTexts) : Type 0 where
+  pub ascend : NodesAscend g
+  pub low : (k : ℕ) (d : NodeTexts) → k < length g → (get_or g k d).node.0 < i
+  pub each : (n : ℕ) → n < i → AreTextsAt s n (entry_of g n)
+
+pub below_none : (s : TextSource) → AreBelow s 0 []
 below_none s = record { ascend = IsNonDecreasingBy-short (λ (t : NodeTexts). t.node.0) [] (omega arith); low = λ k d l. absurd (omega arith); each = λ n l. absurd (omega arith) }
 
 entry_past : (i : ℕ) (g : List NodeTexts) → ((k : ℕ) (d : NodeTexts) → k < length g → (get_or g k d).node.0 < i) → (n : ℕ) → i ≤ n → entry_of g n ≡ None
 entry_past i [] h n over = refl
 entry_past i (x ∷ g) h n over = let l = h 0 x (omega arith) in rw (ne_eqb x.node.0 n (λ e. omega (arith, l, e, over))) (entry_past i g (λ k d b. h (suc k) d (omega arith)) n over)
 
-below_skip : (s : Source) (i : ℕ) (g : List NodeTexts) (t : NodeTexts) → AreBelow s i g → is_blank t ≡ true → AreTextsAt s i (Some t) → AreBelow s (i + 1) g
+below_skip : (s : TextSource) (i : ℕ) (g : List NodeTexts) (t : NodeTexts) → AreBelow s i g → is_blank t ≡ true → AreTextsAt s i (Some t) → AreBelow s (i + 1) g
 below_skip s i g t h e are = record { ascend = h.ascend; low = λ k d l. (let b = h.low k d l in omega arith); each = λ n l. by n l (cases_lt n i) }
   where
     by : (n : ℕ) → n < i + 1 → (n < i) ⊎ (i ≤ n) → AreTextsAt s n (entry_of g n)
@@ -129,7 +135,7 @@ entry_new : (g : List NodeTexts) (t : NodeTexts) (i : ℕ) → t.node.0 ≡ i �
 entry_new [] t i e h = rw (eq-eqb t.node.0 i e) refl
 entry_new (x ∷ g) t i e h = let l = h 0 x (omega arith) in rw (ne_eqb x.node.0 i (λ q. omega (arith, l, q))) (entry_new g t i e (λ k d b. h (suc k) d (omega arith)))
 
-below_push : (s : Source) (i : ℕ) (g : List NodeTexts) (t : NodeTexts) → AreBelow s i g → t.node.0 ≡ i → AreTextsAt s i (Some t) → AreBelow s (i + 1) (g ++ t ∷ [])
+below_push : (s : TextSource) (i : ℕ) (g : List NodeTexts) (t : NodeTexts) → AreBelow s i g → t.node.0 ≡ i → AreTextsAt s i (Some t) → AreBelow s (i + 1) (g ++ t ∷ [])
 below_push s i g t h is are = record {
   ascend = IsNonDecreasingBy-push (λ (x : NodeTexts). x.node.0) g t h.ascend (λ d some. let b = h.low (length g - 1) d (omega arith) in omega arith);
   low = λ k d l. low k d l (cases_lt k (length g));
@@ -144,14 +150,14 @@ below_push s i g t h is are = record {
     by n l (inl less) = subst (AreTextsAt s n) (sym (entry_other g t n (λ e. omega (arith, is, less, e)))) (h.each n less)
     by n l (inr over) = let same : i ≡ n = omega (arith, l, over) in subst (λ (k : ℕ). AreTextsAt s k (entry_of (g ++ t ∷ []) k)) same (subst (AreTextsAt s i) (sym (entry_new g t i is h.low)) are)
 
-pub below_turn : (s : Source) (i : ℕ) (g : List NodeTexts) (t : NodeTexts) → AreBelow s i g → t.node.0 ≡ i → AreTextsAt s i (Some t) → AreBelow s (i + 1) (with_texts g t)
+pub below_turn : (s : TextSource) (i : ℕ) (g : List NodeTexts) (t : NodeTexts) → AreBelow s i g → t.node.0 ≡ i → AreTextsAt s i (Some t) → AreBelow s (i + 1) (with_texts g t)
 below_turn s i g t h is are = by (is_blank t) refl
   where
     by : (b : Bool) → is_blank t ≡ b → AreBelow s (i + 1) (cond b g (g ++ t ∷ []))
     by true e = below_skip s i g t h e are
     by false e = below_push s i g t h is are
 
-pub below_all : (s : Source) (g : List NodeTexts) → AreBelow s (length s.nodes) g → AreGenerated s g
+pub below_all : (s : TextSource) (g : List NodeTexts) → AreBelow s (length s.nodes) g → AreGenerated s g
 below_all s g h = record { each = h.each; rest = entry_past (length s.nodes) g h.low }
 
 -- ---- named strings

@@ -9,8 +9,8 @@ use Rattle.gen_text.specs.declared.table.Entry.{Entry}
 use Rattle.gen_text.specs.Own.{own_text}
 use Rattle.gen_text.specs.Parts.{PrintsReference, attribute_text, innermost_text, joined_text}
 
--- where a list of content is printed: the document, its styles, an element or a pseudo-element of it, the values of a counter at an
--- element or a pseudo-element, the outermost scope first, and the numbers of pages
+-- where a list of content is printed: the document, its styles, an element or a pseudo-element of it, the values of a
+-- counter at an element or a pseudo-element, the outermost scope first, and the numbers of pages
 pub record Place : Type 0 where
   pub nodes : List Node
   pub styles : List NodeStyles
@@ -19,6 +19,7 @@ pub record Place : Type 0 where
   pub values : ℕ → Pseudo → List ℕ → List ℤ
   pub table : List Entry
 
+-- the same from its parts
 abbrev pub place_of : List Node → List NodeStyles → ℕ → Pseudo → (ℕ → Pseudo → List ℕ → List ℤ) → List Entry → Place
 place_of nodes styles node pseudo values table =
     record { nodes = nodes; styles = styles; node = node; pseudo = pseudo; values = values; table = table }
@@ -28,8 +29,10 @@ abbrev pub PrintsPart : Place → Part → List ℕ → List ℕ → Type 0
 PrintsPart p (part.Text text) old new = new ≡ old ++ text
 PrintsPart p (part.Attr name) old new = new ≡ old ++ attribute_text (attribute_at p.nodes p.node name)
 PrintsPart p (part.Counter name style) old new = new ≡ old ++ innermost_text style (p.values p.node p.pseudo name)
-PrintsPart p (part.Counters name between style) old new = new ≡ old ++ joined_text between style (p.values p.node p.pseudo name)
-PrintsPart p (part.Target link name style) old new = PrintsReference p.nodes p.styles p.values p.table p.node link name style old new
+PrintsPart p (part.Counters name between style) old new = new ≡
+    old ++ joined_text between style (p.values p.node p.pseudo name)
+PrintsPart p (part.Target link name style) old new =
+    PrintsReference p.nodes p.styles p.values p.table p.node link name style old new
 PrintsPart p part.Own old new = new ≡ old ++ own_text p.nodes p.styles p.node
 PrintsPart p (part.Running name keyword) old new = new ≡ old
 PrintsPart p (part.Page style) old new = new ≡ old
@@ -48,4 +51,5 @@ IsTextOf p content text = PrintsParts p content [] text
 
 -- a list of content has one text at a place
 abbrev pub TextIsOne : Type 0
-TextIsOne = (p : Place) (content : List Part) (a b : List ℕ) → IsTree p.nodes → IsTextOf p content a → IsTextOf p content b → a ≡ b
+TextIsOne = (p : Place) (content : List Part) (a b : List ℕ) → IsTree p.nodes → IsTextOf p content a →
+    IsTextOf p content b → a ≡ b

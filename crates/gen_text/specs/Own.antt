@@ -41,7 +41,8 @@ trimmed text = join_with_byte 32 (words_of text)
 
 -- an element that isn't shown, or a note element
 abbrev pub is_left_out : List Node → List NodeStyles → ℕ → Bool
-is_left_out nodes styles n = is_element_at nodes n && (not (is_shown_in (slice_get styles n)) || is_note_in (slice_get styles n))
+is_left_out nodes styles n = is_element_at nodes n &&
+    (not (is_shown_in (slice_get styles n)) || is_note_in (slice_get styles n))
 
 -- the nodes on the way from an element down to a node below it, with that node and without the element
 abbrev pub way_below : List Node → ℕ → ℕ → List ℕ
@@ -56,10 +57,11 @@ abbrev pub kept_text : List Node → List NodeStyles → ℕ → Step → List �
 kept_text nodes styles e (Enter n) = if is_kept nodes styles e n.0 then attribute_text (text_at nodes n.0) else []
 kept_text nodes styles e (Leave n) = []
 
--- the texts below an element in tree order, joined, without those of elements that aren't shown and of note elements (DOM, "descendant
--- text content")
+-- the texts below an element in tree order, joined, without those of elements that aren't shown and of note elements
+-- (DOM, "descendant text content")
 abbrev pub texts_below : List Node → List NodeStyles → ℕ → List ℕ
-texts_below nodes styles e = flat_map (kept_text nodes styles e) (tours_of (parents_of nodes) (children_of (parents_of nodes) e))
+texts_below nodes styles e =
+    flat_map (kept_text nodes styles e) (tours_of (parents_of nodes) (children_of (parents_of nodes) e))
 
 -- an element's own text
 abbrev pub own_text : List Node → List NodeStyles → ℕ → List ℕ
@@ -83,6 +85,7 @@ lead ending.Space = 32 ∷ []
 abbrev pub added_by : Ending → ℕ → List ℕ
 added_by t b = if is_white b then [] else lead t ++ b ∷ []
 
+-- how a text ends, once a byte has come
 abbrev pub ending_by : Ending → ℕ → Ending
 ending_by t b = if is_white b then spaced t else ending.Word
 
@@ -95,6 +98,7 @@ abbrev pub added : Ending → List ℕ → List ℕ
 added t [] = []
 added t (b ∷ bs) = added_by t b ++ added (ending_by t b) bs
 
+-- how a text ends, once more of it has come
 abbrev pub ending_after : Ending → List ℕ → Ending
 ending_after t [] = t
 ending_after t (b ∷ bs) = ending_after (ending_by t b) bs
@@ -104,6 +108,7 @@ abbrev pub text_of_step : List Node → Step → List ℕ
 text_of_step nodes (Enter n) = attribute_text (text_at nodes n.0)
 text_of_step nodes (Leave n) = []
 
+-- into the first child of a node, or out of the node where it has none
 abbrev pub step_to : ℕ → Option ℕ → Step
 step_to n None = Leave (record { 0 = n })
 step_to n (Some c) = Enter (record { 0 = c })
@@ -112,10 +117,12 @@ step_to n (Some c) = Enter (record { 0 = c })
 abbrev pub step_inside : List Node → ℕ → Step
 step_inside nodes n = step_to n (first_child_of (parents_of nodes) n)
 
+-- out of the parent of a node, or out of the node itself where it is a root
 abbrev pub step_out : ℕ → Option ℕ → Step
 step_out n None = Leave (record { 0 = n })
 step_out n (Some p) = Leave (record { 0 = p })
 
+-- into the next sibling of a node, or else out of its parent
 abbrev pub step_on : ℕ → Option ℕ → Option ℕ → Step
 step_on n (Some s) p = Enter (record { 0 = s })
 step_on n None p = step_out n p

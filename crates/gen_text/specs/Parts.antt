@@ -22,6 +22,7 @@ attribute_text (Some value) = value
 abbrev pub innermost_text : NumStyle → List ℤ → List ℕ
 innermost_text style values = printed style (slice_get values (length values - 1))
 
+-- a value after the text between two
 abbrev pub after_text : List ℕ → NumStyle → ℤ → List ℕ
 after_text between style v = between ++ numeral_of style v
 
@@ -35,12 +36,15 @@ abbrev pub value_text : (ℕ → Pseudo → List ℕ → List ℤ) → List ℕ 
 value_text values name style None = []
 value_text values name style (Some t) = innermost_text style (values t pseudo.Element name)
 
--- `target-counter()`: for `page` the number of the target's page in the table, for another counter its innermost value at the target
+-- `target-counter()`: for `page` the number of the target's page in the table, for another counter its innermost value
+-- at the target
 abbrev pub reference_text : (ℕ → Pseudo → List ℕ → List ℤ) → List Entry → List ℕ → NumStyle → Option ℕ → List ℕ
-reference_text values table name style t = if is_page name then page_text table t style else value_text values name style t
+reference_text values table name style t = if is_page name then page_text table t style
+    else value_text values name style t
 
 -- a text with what a reference prints at its end
 abbrev pub PrintsReference :
-    List Node → List NodeStyles → (ℕ → Pseudo → List ℕ → List ℤ) → List Entry → ℕ → Link → List ℕ → NumStyle → List ℕ → List ℕ → Type 0
+    List Node → List NodeStyles → (ℕ → Pseudo → List ℕ → List ℤ) → List Entry → ℕ → Link → List ℕ → NumStyle →
+    List ℕ → List ℕ → Type 0
 PrintsReference nodes styles values table n link name style old new =
     (t : Option ℕ) × IsTarget nodes styles n link t × (new ≡ old ++ reference_text values table name style t)

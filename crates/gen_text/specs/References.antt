@@ -29,10 +29,12 @@ links_by (part.Running name keyword) = []
 links_by (part.Page style) = []
 links_by (part.Pages style) = []
 
+-- the links of page references in a list of content, where there is one
 abbrev pub links_in_some : Option (List Part) → List Link
 links_in_some None = []
 links_in_some (Some content) = flat_map links_by content
 
+-- the links of page references in a style's `content`
 abbrev pub links_of : Option Style → List Link
 links_of None = []
 links_of (Some s) = links_in_some s.content
@@ -41,7 +43,8 @@ links_of (Some s) = links_in_some s.content
 abbrev pub page_links : List NodeStyles → ℕ → List Link
 page_links styles n =
     links_of (style_at styles n pseudo.Before) ++
-    (links_of (style_at styles n pseudo.After) ++ (links_of (style_at styles n pseudo.Call) ++ links_of (style_at styles n pseudo.Marker)))
+    (links_of (style_at styles n pseudo.After) ++
+    (links_of (style_at styles n pseudo.Call) ++ links_of (style_at styles n pseudo.Marker)))
 
 -- one of these links at a node leads to t
 abbrev pub LeadTo : List Node → List NodeStyles → ℕ → List Link → ℕ → Type 0
@@ -62,6 +65,7 @@ pub record AreTargets (nodes : List Node) (styles : List NodeStyles) (list : Lis
 
 -- ---- marks of nodes
 
+-- a node is marked
 abbrev pub IsMarked : List Bool → ℕ → Type 0
 IsMarked marks t = get_or marks t false ≡ true
 

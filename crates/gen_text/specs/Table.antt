@@ -11,6 +11,7 @@ abbrev pub number_in : List Entry → ℕ → Option ℤ
 number_in [] n = None
 number_in (e ∷ more) n = if e.node.0 == n then Some e.number else number_in more n
 
+-- the number of a target, where there is one
 abbrev pub number_for : List Entry → Option ℕ → Option ℤ
 number_for entries None = None
 number_for entries (Some n) = number_in entries n
@@ -20,6 +21,7 @@ abbrev pub printed : NumStyle → Option ℤ → List ℕ
 printed style None = []
 printed style (Some k) = numeral_of style k
 
+-- the text of a page reference to a target
 abbrev pub page_text : List Entry → Option ℕ → NumStyle → List ℕ
 page_text entries target style = printed style (number_for entries target)
 
@@ -27,8 +29,10 @@ page_text entries target style = printed style (number_for entries target)
 abbrev pub Ascend : List Entry → Type 0
 Ascend entries = IsNonDecreasingBy (λ e. e.node.0) entries
 
+-- the entries of a table
 abbrev pub entries_of : Inside → List Entry
 entries_of a = a.entries
 
-abbrev pub IsSound : Inside → Type 0
-IsSound a = Ascend a.entries
+-- the entries of a table ascend
+abbrev pub IsSoundTable : Inside → Type 0
+IsSoundTable a = Ascend a.entries

@@ -16,6 +16,7 @@ abbrev pub id_of : List ℕ → Option (List ℕ)
 id_of [] = None
 id_of (b ∷ rest) = if b == 35 then Some rest else None
 
+-- the id that an address names, where there is one
 abbrev pub id_in : Option (List ℕ) → Option (List ℕ)
 id_in None = None
 id_in (Some address) = id_of address

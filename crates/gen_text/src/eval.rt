@@ -16,9 +16,9 @@ use std::alloc::Global;
 use style::content::{Content, Part};
 use style::styles::Styles;
 
-/// The text of a list of content at an element, or at a pseudo-element of it: what its parts print, joined. The parts of margin boxes
-/// alone print nothing. It costs what its parts cost: a look-up of an id for each reference, the scopes that hold for each counter, and
-/// the texts below the element for `content()`.
+/// The text of a list of content at an element, or at a pseudo-element of it: what its parts print, joined. The parts
+/// of margin boxes alone print nothing. It costs what its parts cost: a look-up of an id for each reference, the scopes
+/// that hold for each counter, and the texts below the element for `content()`.
 ///
 /// # Errors
 ///

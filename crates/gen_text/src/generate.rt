@@ -1,6 +1,6 @@
 //! All generated texts of a document, in one pass over its nodes.
 
-ghost use Rattle.std.specs.Prelude.{◌≡◌, ◌<◌, [], IfOk, OnOk, Some, length, slice_get};
+ghost use Rattle.std.specs.Prelude.{◌≡◌, ◌<◌, IfOk, OnOk, Some, length, slice_get};
 ghost use Rattle.bk_num.specs.declared.values.Pseudo.TheVariants as pseudo;
 ghost use Rattle.counters.specs.At.{counter_values};
 ghost use Rattle.style.specs.Nodes.{style_at};
@@ -20,7 +20,8 @@ use std::alloc::Global;
 use style::content::Content;
 use style::styles::Styles;
 
-/// What the pseudo-elements of a document print under a table of page numbers, and what its shown elements outside notes assign to named strings. It goes once through the nodes, and costs what `eval` of each list of content costs.
+/// What the pseudo-elements of a document print under a table of page numbers, and what its shown elements outside
+/// notes assign to named strings. It goes once through the nodes, and costs what `eval` of each list of content costs.
 ///
 /// # Errors
 ///
@@ -75,7 +76,8 @@ fn node_texts(
 ) -> Result<NodeTexts, NoMem>
     requires { node.0 < length dom.now }
     ensures node { IfOk result (λ t. t.node.0 ≡ node.0) }
-    ensures texts { IfOk result (λ t. AreTextsAt (source_of dom.now styles.now (counter_values counters.now) table.now) node.0 (Some t)) }
+    ensures texts { IfOk result
+        (λ t. AreTextsAt (source_of dom.now styles.now (counter_values counters.now) table.now) node.0 (Some t)) }
 {
     let before = text_of(alloc, dom, styles, node, Pseudo::Before, counters, table)?;
     let after = text_of(alloc, dom, styles, node, Pseudo::After, counters, table)?;
@@ -161,7 +163,8 @@ fn strings_of(
 ) -> Result<Items<(Name, Name)>, NoMem>
     requires { node.0 < length dom.now }
     ensures { IfOk result (λ strings.
-        AreAssigned (place_at (source_of dom.now styles.now (counter_values counters.now) table.now) node.0 pseudo.Element)
+        AreAssigned
+        (place_at (source_of dom.now styles.now (counter_values counters.now) table.now) node.0 pseudo.Element)
         (sets_at styles.now node.0) strings) }
 {
     if !assigns(styles, node) {
@@ -193,7 +196,8 @@ fn assigned(
 ) -> Result<Items<(Name, Name)>, NoMem>
     requires { node.0 < length dom.now }
     ensures { IfOk result (λ strings.
-        AreAssigned (place_at (source_of dom.now styles.now (counter_values counters.now) table.now) node.0 pseudo.Element)
+        AreAssigned
+        (place_at (source_of dom.now styles.now (counter_values counters.now) table.now) node.0 pseudo.Element)
         sets.now strings) }
 {
     let mut strings = Items::new(alloc);

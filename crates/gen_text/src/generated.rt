@@ -1,7 +1,7 @@
 //! The generated texts of a document (CSS 2.1, 12.1 and 12.2; css-gcpm-3, "string-set").
 
 ghost use Rattle.std.specs.Prelude.{◌≡◌, ◌<◌, ◌≤◌, ℕ, Some, option_map, slice_get};
-ghost use Rattle.gen_text.specs.Generated.{Ascend, assigned_strings, entry_of, generated_text, text_by};
+ghost use Rattle.gen_text.specs.Generated.{NodesAscend, assigned_strings, entry_of, generated_text, text_by};
 ghost use Rattle.gen_text.specs.declared.generated.NodeTexts.{NodeTexts};
 
 use bk_num::ids::NodeId;
@@ -10,7 +10,8 @@ use bk_num::name::Name;
 use bk_num::values::Pseudo;
 use std::marker::Model;
 
-/// What the pseudo-elements of a node print, each nothing where there is none, and the named strings that the node assigns, with their values.
+/// What the pseudo-elements of a node print, each nothing where there is none, and the named strings that the node
+/// assigns, with their values.
 #[derive(Drop)]
 pub struct NodeTexts {
     pub node: NodeId,
@@ -21,7 +22,8 @@ pub struct NodeTexts {
     pub strings: Items<(Name, Name)>,
 }
 
-/// What the pseudo-elements of a document print, and what its elements assign to named strings. Contracts see the list of the nodes that have any, ascending.
+/// What the pseudo-elements of a document print, and what its elements assign to named strings. Contracts see the list
+/// of the nodes that have any, ascending.
 #[derive(Drop)]
 pub struct Generated {
     nodes: Items<NodeTexts>,
@@ -30,19 +32,19 @@ pub struct Generated {
 impl Model for Generated {
     ghost use Rattle.std.specs.Prelude.{List};
     ghost use Rattle.gen_text.specs.declared.generated.NodeTexts.{NodeTexts};
-    ghost use Rattle.gen_text.specs.Generated.{Ascend};
+    ghost use Rattle.gen_text.specs.Generated.{NodesAscend};
 
     ghost Value = { List NodeTexts };
 
     ghost view = { λ a. a.nodes };
 
-    ghost invariant = { λ a. Ascend a.nodes };
+    ghost invariant = { λ a. NodesAscend a.nodes };
 }
 
 impl Generated {
     /// The texts of these nodes. It takes no memory.
     pub(crate) fn of(nodes: Items<NodeTexts>) -> Generated
-        requires { Ascend nodes }
+        requires { NodesAscend nodes }
         ensures { result ≡ nodes }
     {
         Generated { nodes }
@@ -51,7 +53,7 @@ impl Generated {
     /// The nodes that have texts or strings, ascending.
     pub fn as_slice(&self) -> &[NodeTexts]
         ensures nodes { result.now ≡ self.now }
-        ensures ascend { Ascend self.now }
+        ensures ascend { NodesAscend self.now }
     {
         self.nodes.as_slice()
     }
@@ -66,7 +68,8 @@ impl Generated {
         }
     }
 
-    /// The named strings that an element assigns, with their values, in the order in which it does. It costs a binary search.
+    /// The named strings that an element assigns, with their values, in the order in which it does. It costs a binary
+    /// search.
     pub fn strings(&self, node: NodeId) -> &[(Name, Name)]
         ensures { result.now ≡ assigned_strings self.now node.0 }
     {
@@ -91,7 +94,7 @@ fn text_by(texts: &NodeTexts, pseudo: Pseudo) -> &str
 
 /// The entry of a node.
 fn entry(entries: &[NodeTexts], node: u32) -> Option<&NodeTexts>
-    requires { Ascend entries.now }
+    requires { NodesAscend entries.now }
     ensures { option_map (λ t. t.now) result ≡ entry_of entries.now node }
 {
     let Some(texts) = entry_at(entries, count_before(entries, node)) else {
@@ -112,7 +115,7 @@ fn entry_at(entries: &[NodeTexts], index: usize) -> Option<&NodeTexts>
 
 /// How many entries are of earlier nodes.
 fn count_before(entries: &[NodeTexts], node: u32) -> usize
-    requires { Ascend entries.now }
+    requires { NodesAscend entries.now }
     ensures before { (k : ℕ) (x : NodeTexts) → k < result → slice_get entries.now k ≡ Some x → x.node.0 < node }
     ensures after { (k : ℕ) (x : NodeTexts) → result ≤ k → slice_get entries.now k ≡ Some x → node ≤ x.node.0 }
 {

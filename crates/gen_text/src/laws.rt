@@ -14,7 +14,8 @@ pub fn texts_are_one()
     ensures { TextIsOne }
 {}
 
-/// Law: a document has one generated text at each pseudo-element, and one list of assigned strings at each element; beyond its nodes it has none.
+/// Law: a document has one generated text at each pseudo-element, and one list of assigned strings at each element;
+/// beyond its nodes it has none.
 pub fn generated_texts_are_one()
     ensures { GeneratedIsOne }
 {}

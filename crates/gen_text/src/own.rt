@@ -21,7 +21,9 @@ pub enum Ending {
     Space,
 }
 
-/// Appends what `content()` prints: the texts below an element in tree order, without those of elements that aren't shown and of note elements, each run of white space as one space, trimmed. It costs the nodes below the element, but for those below elements that are left out, and looks at each character of their texts once.
+/// Appends what `content()` prints: the texts below an element in tree order, without those of elements that aren't
+/// shown and of note elements, each run of white space as one space, trimmed. It costs the nodes below the element, but
+/// for those below elements that are left out, and looks at each character of their texts once.
 ///
 /// # Errors
 ///
@@ -46,6 +48,7 @@ fn own_text(alloc: Global, dom: &Dom, styles: &Styles, element: NodeId) -> Resul
     requires { element.0 < length dom.now }
     ensures { IfOk result (λ text. string_bytes text ≡ own_text dom.now styles.now element.0) }
 {
+    // a document is a tree
     let _ = dom.len();
     let mut text = String::new(alloc);
     let mut ending = Ending::Nothing;
@@ -60,7 +63,8 @@ fn own_text(alloc: Global, dom: &Dom, styles: &Styles, element: NodeId) -> Resul
 /// Appends what the text of a step adds.
 fn push_step(dom: &Dom, step: Step, ending: &mut Ending, into: &mut String) -> Result<(), NoMem>
     requires { node_of step < length dom.now }
-    ensures ok { OnOk result (string_bytes into.new ≡ string_bytes into.old ++ added ending.old (text_of_step dom.now step)) }
+    ensures ok { OnOk result (string_bytes into.new ≡ string_bytes into.old ++
+        added ending.old (text_of_step dom.now step)) }
     ensures ending { OnOk result (ending.new ≡ ending_after ending.old (text_of_step dom.now step)) }
 {
     match step {
@@ -70,8 +74,10 @@ fn push_step(dom: &Dom, step: Step, ending: &mut Ending, into: &mut String) -> R
 }
 
 fn push_text(text: Option<&str>, ending: &mut Ending, into: &mut String) -> Result<(), NoMem>
-    ensures ok { OnOk result (string_bytes into.new ≡ string_bytes into.old ++ added ending.old (attribute_text (option_map (λ s. s.now) text.entry))) }
-    ensures ending { OnOk result (ending.new ≡ ending_after ending.old (attribute_text (option_map (λ s. s.now) text.entry))) }
+    ensures ok { OnOk result (string_bytes into.new ≡ string_bytes into.old ++
+        added ending.old (attribute_text (option_map (λ s. s.now) text.entry))) }
+    ensures ending { OnOk result (ending.new ≡
+        ending_after ending.old (attribute_text (option_map (λ s. s.now) text.entry))) }
 {
     match text {
         Some(text) => push_words(text, ending, into),

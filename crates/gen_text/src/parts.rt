@@ -1,5 +1,5 @@
-//! What the parts of a list of content print (CSS 2.1, 12.2 and 12.4; css-gcpm-3). Each function appends a part's text. Where memory
-//! ends, what it appends to is as before.
+//! What the parts of a list of content print (CSS 2.1, 12.2 and 12.4; css-gcpm-3). Each function appends a part's text.
+//! Where memory ends, what it appends to is as before.
 
 ghost use Rattle.std.specs.Prelude.{◌≡◌, ◌<◌, ◌++◌, IfOk, OnOk, OnErr, Some, option_map, length, string_bytes};
 ghost use Rattle.std.specs.List.{flat_map};
@@ -21,7 +21,8 @@ use style::styles::Styles;
 /// Appends what `attr()` prints: the value of an attribute, or nothing where the node has none of the name.
 pub fn print_attribute(dom: &Dom, node: NodeId, name: &str, into: &mut String) -> Result<(), NoMem>
     requires { node.0 < length dom.now }
-    ensures ok { OnOk result (string_bytes into.new ≡ string_bytes into.old ++ attribute_text (attribute_at dom.now node.0 name.now)) }
+    ensures ok { OnOk result (string_bytes into.new ≡ string_bytes into.old ++
+        attribute_text (attribute_at dom.now node.0 name.now)) }
     ensures err { OnErr result (string_bytes into.new ≡ string_bytes into.old) }
 {
     match dom.attr(node, name) {
@@ -63,8 +64,8 @@ fn print_innermost(
     }
 }
 
-/// Appends what `counters()` prints: all values of a counter at an element or a pseudo-element, the outermost first, with a text between
-/// them.
+/// Appends what `counters()` prints: all values of a counter at an element or a pseudo-element, the outermost first,
+/// with a text between them.
 pub fn print_counters(
     alloc: Global,
     counters: &CounterAt,
@@ -105,7 +106,8 @@ fn push_more(
     style: NumStyle,
     into: &mut String,
 ) -> Result<(), NoMem>
-    ensures { OnOk result (string_bytes into.new ≡ string_bytes into.old ++ flat_map (after_text between.now style) values.now) }
+    ensures { OnOk result (string_bytes into.new ≡ string_bytes into.old ++
+        flat_map (after_text between.now style) values.now) }
 {
     for value in values {
         push_after(alloc, *value, between, style, into)?;
@@ -127,8 +129,9 @@ fn push_after(
     print_number(alloc, value, style, into)
 }
 
-/// Appends what `target-counter()` prints: for the counter `page` the number of the target's page in a table, for another one its
-/// innermost value at the target. It is nothing where the link leads to no shown element, or the table has none for it.
+/// Appends what `target-counter()` prints: for the counter `page` the number of the target's page in a table, for
+/// another one its innermost value at the target. It is nothing where the link leads to no shown element, or the table
+/// has none for it.
 pub fn print_reference(
     alloc: Global,
     dom: &Dom,

@@ -17,8 +17,9 @@ use std::alloc::Global;
 use style::content::{Content, Link, Part};
 use style::styles::Styles;
 
-/// The shown elements that page references lead to, ascending, each once. A page reference is `target-counter()` with the counter `page`,
-/// in the content of a pseudo-element that is there (css-gcpm-3). It costs a look-up of an id for each.
+/// The shown elements that page references lead to, ascending, each once. A page reference is `target-counter()` with
+/// the counter `page`, in the content of a pseudo-element that is there (css-gcpm-3). It costs a look-up of an id for
+/// each.
 pub fn targets(alloc: Global, dom: &Dom, styles: &Styles) -> Result<Items<NodeId>, NoMem>
     ensures { IfOk result (λ list. AreTargets dom.now styles.now list) }
 {
@@ -121,6 +122,7 @@ fn in_document(dom: &Dom, styles: &Styles, node: NodeId, link: &Link) -> Option<
     ensures within { IfSome result (λ n. n.0 < length dom.now) }
     ensures tree { IsTree dom.now }
 {
+    // a document is a tree
     let _ = dom.len();
     target(dom, styles, node, link)
 }

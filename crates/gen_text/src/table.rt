@@ -32,11 +32,11 @@ impl Model for Table {
 
     ghost Value = { List Entry };
 
-    ghost use Rattle.gen_text.specs.Table.{entries_of, IsSound};
+    ghost use Rattle.gen_text.specs.Table.{entries_of, IsSoundTable};
 
     ghost view = { entries_of };
 
-    ghost invariant = { IsSound };
+    ghost invariant = { IsSoundTable };
 }
 
 impl Table {
@@ -126,7 +126,8 @@ pub fn print_number(
     print_text(text.as_str(), into)
 }
 
-/// Appends what a page reference prints: the number of its target in a style, or nothing where there is no target or the table has none for it.
+/// Appends what a page reference prints: the number of its target in a style, or nothing where there is no target or
+/// the table has none for it.
 ///
 /// # Errors
 ///
@@ -138,7 +139,8 @@ pub fn print_page(
     style: NumStyle,
     into: &mut String,
 ) -> Result<(), NoMem>
-    ensures ok { OnOk result (string_bytes into.new ≡ string_bytes into.old ++ page_text table.now (option_map (λ n. n.0) target) style) }
+    ensures ok { OnOk result (string_bytes into.new ≡ string_bytes into.old ++
+        page_text table.now (option_map (λ n. n.0) target) style) }
     ensures err { OnErr result (string_bytes into.new ≡ string_bytes into.old) }
 {
     match numbered(table, target) {

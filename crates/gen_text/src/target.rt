@@ -8,8 +8,8 @@ use dom::Dom;
 use style::content::Link;
 use style::styles::Styles;
 
-/// What a link at a node leads to: the first element in tree order whose id is what comes after the leading `#` of the link, where that
-/// element is shown. It costs a look-up of the id.
+/// What a link at a node leads to: the first element in tree order whose id is what comes after the leading `#` of the
+/// link, where that element is shown. It costs a look-up of the id.
 pub fn target(dom: &Dom, styles: &Styles, node: NodeId, link: &Link) -> Option<NodeId>
     requires { node.0 < length dom.now }
     ensures { IsTarget dom.now styles.now node.0 link.now (option_map (λ n. n.0) result) }

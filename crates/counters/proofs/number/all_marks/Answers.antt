@@ -1,7 +1,7 @@
 use Rattle.std.proofs.Common.{◌<◌, length, take, sym, subst, arith}
 use Rattle.std.specs.List.Sorted.{IsNonDecreasingBy}
 use Rattle.counters.specs.Chains.{AreMarked}
-use Rattle.counters.specs.declared.scopes.Event.{Event}
+use Rattle.counters.specs.declared.scopes.CounterEvent.{CounterEvent}
 use Rattle.counters.proofs.NumberLemmas.{marks-more, item-at}
 use Rattle.counters.proofs.TallyLemmas.{take-more}
 use Rattle.counters.proofs.number.all_marks.Goals as goal
@@ -10,7 +10,7 @@ pub marks_of-requires : goal.marks_of-requires
 marks_of-requires c =
     let l : c.loop-list.list-index < length c.args.lists.now = omega (arith, c.loop-list-test.true) in
     let at = item-at c.args.lists.now c.loop-list.list-index c.list-item.result l c.list-item.is in
-    subst (IsNonDecreasingBy (λ (e : Event). e.at)) (sym c.as_slice.ensures) (c.requires c.loop-list.list-index c.list-item.result at)
+    subst (IsNonDecreasingBy (λ (e : CounterEvent). e.at)) (sym c.as_slice.ensures) (c.requires c.loop-list.list-index c.list-item.result at)
 
 pub loop-list-preserved : goal.loop-list-preserved
 loop-list-preserved c =

@@ -1,13 +1,13 @@
 use Rattle.std.proofs.Common.{rules, ◌≡◌, ℕ, ◌≤◌, List, Option, length, sym, ◌∙◌, arith, refl, ◌+ℤ◌, FitsSigned}
 use Rattle.std.specs.Int.{w64}
 use Rattle.std.proofs.lemmas.Int.{to_z-of_z}
-use Rattle.counters.specs.declared.scopes.Mark.{Mark}
+use Rattle.counters.specs.declared.scopes.ScopeMark.{ScopeMark}
 use Rattle.counters.specs.Chains.{all_of, beyond, last_of, chain}
 use Rattle.counters.proofs.ChainLemmas.{next-reset, next-added, next-first}
 use Rattle.counters.proofs.scopes.next_mark.Goals as goal
 
 -- where a way outwards is found from the last mark
-found : (marks : List Mark) (place : ℕ) (last from r : Option ℕ) → last ≡ from → ((most : ℕ) → length marks ≤ most → chain most marks r ≡ beyond place (chain most marks last)) → all_of marks r ≡ beyond place (all_of marks from)
+found : (marks : List ScopeMark) (place : ℕ) (last from r : Option ℕ) → last ≡ from → ((most : ℕ) → length marks ≤ most → chain most marks r ≡ beyond place (chain most marks last)) → all_of marks r ≡ beyond place (all_of marks from)
 found marks place last from r e h = rw (← e) (h (length marks) (omega arith))
 
 pub returns-in-Reset : goal.returns-in-Reset

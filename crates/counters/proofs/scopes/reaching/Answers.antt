@@ -1,13 +1,14 @@
 use Rattle.std.proofs.Common.{◌≡◌, ℕ, ◌<◌, true, false, List, [], Option, Some, None, slice_get, refl, sym, ◌∙◌, ap, subst, arith}
 use Rattle.std.specs.Prelude.{nat_le}
 use Rattle.std.proofs.lemmas.Bool.Decides.{nat_tests}
-use Rattle.counters.specs.declared.scopes.Mark.{Mark}
-use Rattle.counters.specs.Chains.{chain, beyond, height, AreFalling}
+use Rattle.counters.specs.declared.scopes.ScopeMark.{ScopeMark}
+use Rattle.counters.specs.Chains.{chain, beyond, AreFalling}
+use Rattle.counters.proofs.Heights.{height}
 use Rattle.counters.proofs.ChainLemmas.{chain-none, chain-past, beyond-ended, beyond-held}
 use Rattle.counters.proofs.scopes.reaching.Goals as goal
 
 -- at no mark
-past : (marks : List Mark) (place : ℕ) (from head : Option ℕ) (most : ℕ) → beyond place (chain most marks head) ≡ beyond place (chain most marks from) → chain most marks head ≡ [] → chain most marks None ≡ beyond place (chain most marks from)
+past : (marks : List ScopeMark) (place : ℕ) (from head : Option ℕ) (most : ℕ) → beyond place (chain most marks head) ≡ beyond place (chain most marks from) → chain most marks head ≡ [] → chain most marks None ≡ beyond place (chain most marks from)
 past marks place from head most inv e = chain-none marks most ∙ (let z : beyond place (chain most marks head) ≡ [] = ap (beyond place) e in sym z) ∙ inv
 
 pub returns-in_default-mark_of-clause-chain : goal.returns-in_default-mark_of-clause-chain
@@ -23,7 +24,7 @@ returns-then-mark-place-clause-chain c = λ most l.
     let e : nat_le c.in-Some-mark_of.mark.end c.args.place ≡ false = grind (arith, nat_tests) in
     sym (beyond-held c.args.marks.now c.requires most c.in-Some.index c.args.place c.in-Some-mark_of.mark l g e) ∙ subst (λ o. beyond c.args.place (chain most c.args.marks.now o) ≡ beyond c.args.place (chain most c.args.marks.now c.args.from)) is (c.loop-head.invariant most l)
 
-lower : (marks : List Mark) (i : ℕ) (m : Mark) (o : Option ℕ) → AreFalling marks → slice_get marks i ≡ Some m → m.outer ≡ o → height o < height (Some i)
+lower : (marks : List ScopeMark) (i : ℕ) (m : ScopeMark) (o : Option ℕ) → AreFalling marks → slice_get marks i ≡ Some m → m.outer ≡ o → height o < height (Some i)
 lower marks i m None falls g e = omega arith
 lower marks i m (Some j) falls g e = let f = falls i j m g e in omega arith
 

@@ -1,5 +1,6 @@
 use Rattle.std.proofs.Common.{◌≡◌, ℕ, ◌≤◌, length}
-use Rattle.counters.specs.Chains.{chain, beyond, height}
+use Rattle.counters.specs.Chains.{chain, beyond}
+use Rattle.counters.proofs.Heights.{height}
 use Rattle.counters.proofs.scopes.reaching.Given as goal
 
 abbrev pub invariant-loop-head : goal.invariant-loop-head

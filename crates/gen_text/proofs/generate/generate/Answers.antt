@@ -1,7 +1,7 @@
 use Rattle.std.proofs.Common.{◌≡◌, ◌+◌, length, sym, subst, arith}
 use Rattle.counters.specs.At.{counter_values}
-use Rattle.gen_text.specs.Generated.{AreBelow, AreGenerated, source_of}
-use Rattle.gen_text.proofs.GeneratedLemmas.{below_none, below_turn, below_all}
+use Rattle.gen_text.specs.Generated.{AreGenerated, source_of}
+use Rattle.gen_text.proofs.GeneratedLemmas.{AreBelow, below_none, below_turn, below_all}
 use Rattle.gen_text.proofs.generate.generate.Goals as goal
 
 pub loop-index-init : goal.loop-index-init
