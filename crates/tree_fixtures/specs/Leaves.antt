@@ -8,6 +8,7 @@ use Rattle.boxes.specs.declared.leaf.Span.{Span}
 abbrev pub IsPlainByte : ℕ → Type 0
 IsPlainByte b = (b ≡ 10) ⊎ ((32 ≤ b) × (b ≤ 126))
 
+-- bytes of plain text: printable ASCII
 abbrev pub ArePlainBytes : List ℕ → Type 0
 ArePlainBytes text = (k : ℕ) → k < length text → IsPlainByte (slice_index text k)
 

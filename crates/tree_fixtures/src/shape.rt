@@ -24,8 +24,8 @@ pub enum Space {
     Percent(i16),
 }
 
-/// A box with the width `auto`: its vertical margins, borders in units of 1/64 px, vertical paddings in hundredths of the
-/// containing block's width, its left padding in units, and what it says of breaks.
+/// A box with the width `auto`: its vertical margins, borders in units of 1/64 px, vertical paddings in hundredths of
+/// the containing block's width, its left padding in units, and what it says of breaks.
 #[derive(Clone, Copy, Debug)]
 pub struct Shape {
     pub margin_top: Space,

@@ -77,8 +77,8 @@ fn take(alloc: Global, tree: &mut BoxTree, step: &Step<'_>) -> Result<u64, NoMem
     }
 }
 
-/// The tree that the steps make. An error where they make no whole tree, where more boxes are open at once or more bytes
-/// of text stand in it than a flow may have, or where memory is wanting.
+/// The tree that the steps make. An error where they make no whole tree, where more boxes are open at once or more
+/// bytes of text stand in it than a flow may have, or where memory is wanting.
 pub fn tree_of(alloc: Global, steps: &[Step<'_>]) -> Result<BoxTree, NoMem>
     ensures whole { IfOk result (λ tree. IsWhole tree.events) }
     ensures depth { IfOk result (λ tree. depth_of tree.events ≤ most_open) }
