@@ -14,17 +14,19 @@ use Rattle.dom.proofs.WalkLemmas.{root-parent}
 use Rattle.style.specs.declared.style.Style.{Style}
 use Rattle.style.specs.Styles.{initial_style}
 use Rattle.box_gen.specs.declared.inline.InlineItem.TheVariants as item
-use Rattle.box_gen.specs.Bodies.{Noted, noted, Walks, walks, CanAll, CanInNote, WalkBuildsFlow, after_all, after_both, body_at, is_end, note_begun, note_ended, notes_after, outside, walks_start}
+use Rattle.box_gen.specs.Bodies.{Noted, noted, Walks, walks, CanInNote, WalkBuildsFlow, after_all, after_both, body_at, is_end, note_begun, note_ended, notes_after, outside, walks_start}
 use Rattle.box_gen.specs.Flow.{Built, bodies_in, bodies_of, body_in, closed, first_items, generated_items, last_items, node_bodies, note_first_items, note_root, nothing, text_item}
-use Rattle.box_gen.specs.Gather.{Gathered, adds, begun, called, gather_node, gathered, make}
+use Rattle.box_gen.specs.Gather.{Gathered, adds, begun, called, make}
 use Rattle.box_gen.specs.Sources.{AreInRange, IsInRange}
-use Rattle.box_gen.specs.Steps.{CanEnd, CanTo}
+use Rattle.box_gen.specs.Steps.{CanEnd}
 use Rattle.box_gen.specs.Trees.{Source, Forest, none, node, side_by_side, below, forest_of, in_note, Role, text, hidden, inline, block, note, role_of}
 use Rattle.box_gen.specs.Walk.{Walk, after_step, after_steps, element_style, enter_by, enter_node, innermost, leave_by, leave_node, style_around, walk}
 use Rattle.box_gen.proofs.FlowLemmas.{grows-full}
 use Rattle.box_gen.proofs.OwnerLemmas.{IsGoodLead, IsOwned}
 use Rattle.box_gen.proofs.SoundLemmas.{Fine, can-end, can-walk, fine-adds, fine-gathered, good-append, good-first, good-generated, steps-more}
 use Rattle.box_gen.proofs.WalkLemmas.{Greater, Placed, PlacedIn, all-steps, own-note, placed-in, placed-kids, steps_in, walk-main, walks-in}
+use Rattle.box_gen.proofs.Gathering.{gather_node, gathered}
+use Rattle.box_gen.proofs.Walkable.{CanAll, CanTo}
 
 -- ---- steps below a node
 

@@ -14,7 +14,7 @@ use Rattle.style.specs.Styles.{initial_style}
 use Rattle.box_gen.specs.declared.inline.InlineItem.{InlineItem}
 use Rattle.box_gen.specs.declared.inline.InlineItem.TheVariants as item
 use Rattle.box_gen.specs.Flow.{Built, built_of, close_by, end, nothing, put_by, shut, with_run, first_items, last_items}
-use Rattle.box_gen.specs.Gather.{Gathered, adds, begun, gather_node, gathered, make}
+use Rattle.box_gen.specs.Gather.{Gathered, adds, begun, make}
 use Rattle.box_gen.specs.Leaves.{leaf_by, leaf_style_of}
 use Rattle.box_gen.specs.Props.{anonymous_props, props_of}
 use Rattle.box_gen.specs.Runs.{spans_of, text_of}
@@ -22,6 +22,7 @@ use Rattle.box_gen.specs.Trees.{Source, Forest, none, node, side_by_side, below,
 use Rattle.box_gen.proofs.FlowLemmas.{grown-end, grows, opens-gathered}
 use Rattle.box_gen.proofs.TreeLemmas.{opens, opens-box, opens-close, opens-leaf, opens-opened, opens-run}
 use Rattle.box_gen.proofs.WalkLemmas.{Under, under, parent-child}
+use Rattle.box_gen.proofs.Gathering.{gather_node, gathered}
 
 -- ---- trees
 

@@ -14,13 +14,14 @@ use Rattle.style.specs.Styles.{initial_style}
 use Rattle.box_gen.specs.declared.inline.InlineItem.{InlineItem}
 use Rattle.box_gen.specs.declared.inline.InlineItem.TheVariants as item
 use Rattle.box_gen.specs.Flow.{Built, bodies_in, bodies_of, built_of, calls_of, first_items, generated_by, generated_items, last_items, node_bodies, nothing, put_by, represented_items, starts_by, text_item, with_run}
-use Rattle.box_gen.specs.Gather.{Gathered, adds, begun, called, ended, gather_node, gathered, make}
+use Rattle.box_gen.specs.Gather.{Gathered, adds, begun, called, ended, make}
 use Rattle.box_gen.specs.Leaves.{leaf_style_of}
 use Rattle.box_gen.specs.Props.{anonymous_props}
 use Rattle.box_gen.specs.Represented.{represented_text}
 use Rattle.box_gen.specs.Runs.{marks_in, printed_in, starts_from, starts_of, text_of}
 use Rattle.box_gen.specs.Trees.{Source, Forest, none, node, forest_of, is_block, is_note_element, Role, text, hidden, inline, block, note, role_by, role_of, shown_role}
 use Rattle.box_gen.proofs.DepthLemmas.{built-gathered}
+use Rattle.box_gen.proofs.Gathering.{gather_node, gathered}
 
 -- ---- the elements that begin in a run
 

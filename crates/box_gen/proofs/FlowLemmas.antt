@@ -10,8 +10,9 @@ use Rattle.box_gen.specs.Props.{props_of}
 use Rattle.box_gen.specs.Runs.{text_of, starts_of}
 use Rattle.box_gen.specs.Trees.{Source, Forest, none, node, Role, text, hidden, inline, block, note, role_of}
 use Rattle.box_gen.specs.Flow.{Content, end, run, box, with_item, with_items, with_node, content_of, has_block, Built, built, grown, with_run, closed, opened, text_item, first_items, generated_items, last_items}
-use Rattle.box_gen.specs.Gather.{Gathered, make, adds, begun, gather_node, gathered}
+use Rattle.box_gen.specs.Gather.{Gathered, make, adds, begun}
 use Rattle.box_gen.proofs.TreeLemmas.{opens, opens-opened, opens-run, opens-shut, EndsClosed, shut-ends, ends-takes, box-takes}
+use Rattle.box_gen.proofs.Gathering.{gather_node, gathered}
 
 -- whether a node puts a block into the block around it, and whether one of some nodes does
 abbrev pub node_blocks : Role → Bool → Bool

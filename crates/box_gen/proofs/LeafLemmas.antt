@@ -1,40 +1,29 @@
 -- The spans of a run cover its text, and are as good as its texts.
-use Rattle.std.proofs.Common.{◌≡◌, ◌∙◌, ℕ, suc, ◌+◌, ◌<◌, ◌≤◌, Bool, true, false, cond, ltb, List, [], ◌∷◌, ◌++◌, length, get_or, refl, sym, ap, subst, arith, length-append, append_assoc, append-nil}
+use Rattle.std.proofs.Common.{◌≡◌, ◌∙◌, ℕ, ◌+◌, ◌<◌, ◌≤◌, Bool, true, false, cond, ltb, List, [], ◌∷◌, ◌++◌, length, refl, sym, ap, subst, arith, length-append, append_assoc, append-nil}
 use Rattle.std.specs.List.{All}
-use Rattle.std.specs.Str.{IsUtf8, IsCharBoundary}
-use Rattle.std.proofs.lemmas.Str.{IsUtf8-append, IsUtf8-nil, IsCharBoundary-at_seam}
+use Rattle.std.specs.Str.{IsCharBoundary}
 use Rattle.std.proofs.lemmas.List.Elements.{All-nil, All-cons, All-head, All-tail}
 use Rattle.std.proofs.lemmas.Bool.Decides.{nat_tests}
 use Rattle.bk_num.specs.Limits.{most_text_bytes}
 use Rattle.boxes.specs.Contents.{AreSpans, IsGoodSpan}
 use Rattle.boxes.specs.declared.leaf.Span.{Span}
+use Rattle.inline_text.specs.Joined.{ends_from, joined}
 use Rattle.box_gen.specs.declared.text_style.TextStyle.{TextStyle}
 use Rattle.box_gen.specs.TextStyles.{IsGoodTextStyle, span_by}
 use Rattle.box_gen.specs.declared.inline.InlineItem.{InlineItem}
 use Rattle.box_gen.specs.declared.leaf.RunText.{RunText}
 use Rattle.box_gen.specs.Leaves.{IsGoodRun}
-use Rattle.box_gen.specs.Runs.{joined, marks_in, printed_in, spans_from, styles_in, AreTexts}
+use Rattle.box_gen.specs.Runs.{marks_in, printed_in, spans_from, styles_in}
 use Rattle.box_gen.proofs.TextLemmas.{printed-length}
 
-pub are_texts : (ts : List (List ℕ)) → ((k : ℕ) → k < length ts → IsUtf8 (get_or ts k [])) → AreTexts ts
-are_texts [] h = tt
-are_texts (t ∷ ts) h = (h 0 (omega arith), are_texts ts (λ k l. h (suc k) (omega arith)))
-
-joined_utf8 : (ts : List (List ℕ)) → AreTexts ts → IsUtf8 (joined ts)
-joined_utf8 [] u = IsUtf8-nil
-joined_utf8 (t ∷ ts) u = IsUtf8-append t (joined ts) u.0 (joined_utf8 ts u.1)
-
-pub spans_cover : (whole before : List ℕ) (ss : List TextStyle) (ts : List (List ℕ)) → length ts ≡ length ss → whole ≡ before ++ joined ts → AreTexts ts → AreSpans whole (length before) (spans_from (length before) ss ts)
+pub spans_cover : (whole before : List ℕ) (ss : List TextStyle) (ts : List (List ℕ)) → length ts ≡ length ss → whole ≡ before ++ joined ts → All (IsCharBoundary whole) (ends_from (length before) ts) → AreSpans whole (length before) (spans_from (length before) ss ts)
 spans_cover whole before [] [] n e u = sym (ap (λ (l : List ℕ). length l) (e ∙ append-nil before))
 spans_cover whole before [] (t ∷ ts) n e u = absurd (omega arith)
 spans_cover whole before (s ∷ ss) [] n e u = absurd (omega arith)
-spans_cover whole before (s ∷ ss) (t ∷ ts) n e u = by (subst (λ (k : ℕ). AreSpans whole k (spans_from k ss ts)) (length-append before t) (spans_cover whole (before ++ t) ss ts (omega arith) (e ∙ sym (append_assoc before t (joined ts))) u.1)) (ltb (length before) (length before + length t)) refl
+spans_cover whole before (s ∷ ss) (t ∷ ts) n e u = by (subst (λ (k : ℕ). AreSpans whole k (spans_from k ss ts)) (length-append before t) (spans_cover whole (before ++ t) ss ts (omega arith) (e ∙ sym (append_assoc before t (joined ts))) (subst (λ (n : ℕ). All (IsCharBoundary whole) (ends_from n ts)) (sym (length-append before t)) (All-tail (IsCharBoundary whole) (length before + length t) (ends_from (length before + length t) ts) u)))) (ltb (length before) (length before + length t)) refl
   where
-    there : whole ≡ (before ++ t) ++ joined ts
-    there = e ∙ sym (append_assoc before t (joined ts))
-
     by : AreSpans whole (length before + length t) (spans_from (length before + length t) ss ts) → (b : Bool) → ltb (length before) (length before + length t) ≡ b → AreSpans whole (length before) (cond b (span_by s (length before) (length before + length t) ∷ []) [] ++ spans_from (length before + length t) ss ts)
-    by rest true h = (refl, omega arith, subst (λ (k : ℕ). IsCharBoundary whole k) (length-append before t) (IsCharBoundary-at_seam whole (before ++ t) (joined ts) there (joined_utf8 ts u.1)), rest)
+    by rest true h = (refl, omega arith, All-head (IsCharBoundary whole) (length before + length t) (ends_from (length before + length t) ts) u, rest)
     by rest false h = let same : length before + length t ≡ length before = grind (arith, nat_tests) in subst (λ (k : ℕ). AreSpans whole k (spans_from (length before + length t) ss ts)) same rest
 
 pub spans_few : (at : ℕ) (ss : List TextStyle) (ts : List (List ℕ)) → length (spans_from at ss ts) ≤ length (joined ts)
@@ -56,7 +45,7 @@ spans_good at (s ∷ ss) (t ∷ ts) a = by (ltb at (at + length t)) (All-head Is
     by false g more = more
 
 -- a run whose text and spans are these is good
-pub good_run : (items : List InlineItem) (r : RunText) → r.text ≡ joined (printed_in items) → r.spans ≡ spans_from 0 (styles_in (marks_in items)) (printed_in items) → AreTexts (printed_in items) → length r.text ≤ most_text_bytes → IsGoodRun r
+pub good_run : (items : List InlineItem) (r : RunText) → r.text ≡ joined (printed_in items) → r.spans ≡ spans_from 0 (styles_in (marks_in items)) (printed_in items) → All (IsCharBoundary r.text) (ends_from 0 (printed_in items)) → length r.text ≤ most_text_bytes → IsGoodRun r
 good_run items r text spans u short =
     let ss : List TextStyle = styles_in (marks_in items) in
     let ts : List (List ℕ) = printed_in items in

@@ -1,5 +1,8 @@
+pub mod Gathering
+pub mod Walkable
 pub mod TextLemmas
 pub mod LeafLemmas
+pub mod FillLemmas
 pub mod TreeLemmas
 pub mod FlowLemmas
 pub mod WalkLemmas

@@ -12,7 +12,7 @@ use Rattle.metrics.specs.Face.{FontFace}
 use Rattle.style.specs.declared.style.Style.{Style}
 use Rattle.box_gen.specs.Faces.{AreFaced}
 use Rattle.box_gen.specs.Flow.{Built, bodies_in, bodies_of, body_in, first_items, generated_items, last_items, node_bodies, shut, with_run}
-use Rattle.box_gen.specs.Gather.{Gathered, gathered}
+use Rattle.box_gen.specs.Gather.{Gathered}
 use Rattle.box_gen.specs.Trees.{Source, Forest, none, side_by_side, below, in_note, Role, text, hidden, inline, block, note, role_of}
 use Rattle.box_gen.specs.Walk.{Walk, walk}
 use Rattle.box_gen.proofs.BodyLemmas.{body-is, note_full, note_start}
@@ -22,6 +22,7 @@ use Rattle.box_gen.proofs.FlowLemmas.{opens-gathered}
 use Rattle.box_gen.proofs.OwnerLemmas.{all-append}
 use Rattle.box_gen.proofs.TreeLemmas.{opens, opens-run, opens-shut, shut-ends}
 use Rattle.box_gen.proofs.WalkLemmas.{Placed, own-note, placed-kids, steps_in, walks-in}
+use Rattle.box_gen.proofs.Gathering.{gathered}
 
 -- what holds of the body of a note, but that it is a tree
 pub record IsGoodNote (faces : List FontFace) (b : Built) : Type 0 where

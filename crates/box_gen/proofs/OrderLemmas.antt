@@ -18,14 +18,15 @@ use Rattle.style.specs.declared.style.Style.{Style}
 use Rattle.style.specs.Nodes.{style_at}
 use Rattle.style.specs.Styles.{initial_style}
 use Rattle.box_gen.specs.declared.inline.InlineItem.{InlineItem}
-use Rattle.box_gen.specs.declared.inline.Mark.{Mark}
-use Rattle.box_gen.specs.declared.inline.Mark.TheVariants as mark
+use Rattle.box_gen.specs.declared.inline.ItemMark.{ItemMark}
+use Rattle.box_gen.specs.declared.inline.ItemMark.TheVariants as mark
 use Rattle.box_gen.specs.declared.leaf.LeafStyle.{LeafStyle}
 use Rattle.box_gen.specs.Flow.{Built, Content, end, run, box, assigns_at, built_of, calls_of, close_by, closed, content_of, grown, has_block, nothing, notes_by, opened, own_starts, page_resets, put, put_by, resets_at, resets_of, shut, start_at, starts_by, strings_of, with_run}
 use Rattle.box_gen.specs.Leaves.{leaf_by, leaf_style_of}
 use Rattle.box_gen.specs.Order.{StartsNeverFall}
 use Rattle.box_gen.specs.Props.{anonymous_props}
-use Rattle.box_gen.specs.Runs.{joined, marks_in, printed_in, spans_of, starts_from, starts_of, text_of}
+use Rattle.inline_text.specs.Joined.{joined}
+use Rattle.box_gen.specs.Runs.{marks_in, printed_in, spans_of, starts_from, starts_of, text_of}
 use Rattle.box_gen.specs.Trees.{Source, forest_of, is_note_element}
 
 -- ---- the order of places
@@ -82,7 +83,7 @@ place event offset = record { event = event; offset = offset }
 abbrev places : List Start → List Position
 places starts = map (λ (a : Start). a.at) starts
 
-starts-rise : (event at : ℕ) (marks : List Mark) (ts : List (List ℕ)) → Rise (place event at) (places (starts_by event (starts_from at marks ts))) (place event (at + length (joined ts)))
+starts-rise : (event at : ℕ) (marks : List ItemMark) (ts : List (List ℕ)) → Rise (place event at) (places (starts_by event (starts_from at marks ts))) (place event (at + length (joined ts)))
 starts-rise event at [] ts = along refl (omega arith)
 starts-rise event at (mark.Text s ∷ marks) [] = starts-rise event at marks []
 starts-rise event at (mark.Text s ∷ marks) (t ∷ ts) =

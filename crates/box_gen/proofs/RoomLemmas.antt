@@ -11,7 +11,7 @@ use Rattle.dom.specs.Walk.{node_of}
 use Rattle.dom.specs.declared.walk.Step.{Step}
 use Rattle.style.specs.declared.style.Style.{Style}
 use Rattle.box_gen.specs.declared.inline.InlineItem.{InlineItem}
-use Rattle.box_gen.specs.declared.put.Room.{Room}
+use Rattle.box_gen.specs.declared.put.TreeRoom.{TreeRoom}
 use Rattle.box_gen.specs.declared.put.Site.{Site}
 use Rattle.box_gen.specs.Bodies.{Walks, walks, after_all, after_both, is_end, note_ended, noted, notes_after}
 use Rattle.box_gen.specs.Flow.{Built, close_by, last_items, put_by, shut, with_run}
@@ -19,7 +19,7 @@ use Rattle.box_gen.specs.Gather.{Gathered, adds}
 use Rattle.box_gen.specs.Leaves.{leaf_by, leaf_style_of}
 use Rattle.box_gen.specs.Props.{anonymous_props}
 use Rattle.box_gen.specs.Runs.{spans_of, text_of}
-use Rattle.box_gen.specs.Sites.{IsCounted, IsWithin, leaf_bytes}
+use Rattle.box_gen.specs.Sites.{IsCounted, IsWithinRoom, leaf_bytes}
 use Rattle.box_gen.specs.Trees.{Source, in_note}
 use Rattle.box_gen.specs.Walk.{Walk, after_step, innermost}
 use Rattle.box_gen.specs.Walkers.{AreShared, all_bytes, bodies_bytes, body_bytes, body_bytes_after}
@@ -86,12 +86,12 @@ events-run src s wrap b items = by (length (text_of items) == 0) wrap
     by false false = let one = length-append b.tree.events (Leaf (length b.tree.leaves) ∷ []) in omega (arith, one)
 
 -- a tree to which a run was put, and then an event, is within its room
-pub within-step : (old put new : Site) → IsWithin old → length old.tree.events + 10 < old.room.events → IsCounted put → put.room ≡ old.room → length put.tree.events ≤ length old.tree.events + 3 →
-    new.room ≡ put.room → new.bytes ≡ put.bytes → leaf_bytes new.tree.leaves ≡ leaf_bytes put.tree.leaves → length new.tree.events ≤ length put.tree.events + 1 → IsWithin new
+pub within-step : (old put new : Site) → IsWithinRoom old → length old.tree.events + 10 < old.room.events → IsCounted put → put.room ≡ old.room → length put.tree.events ≤ length old.tree.events + 3 →
+    new.room ≡ put.room → new.bytes ≡ put.bytes → leaf_bytes new.tree.leaves ≡ leaf_bytes put.tree.leaves → length new.tree.events ≤ length put.tree.events + 1 → IsWithinRoom new
 within-step old put new w left counted room few same bytes leaves more =
-    let p = ap (λ (r : Room). r.events) room in
-    let e = ap (λ (r : Room). r.events) same in
-    let b = ap (λ (r : Room). r.bytes) same in
+    let p = ap (λ (r : TreeRoom). r.events) room in
+    let e = ap (λ (r : TreeRoom). r.events) same in
+    let b = ap (λ (r : TreeRoom). r.bytes) same in
     let n = counted.count in
     let f = counted.few in
     let m = counted.most in
@@ -103,7 +103,7 @@ within-step old put new w left counted room few same bytes leaves more =
     }
 
 -- the main tree's room is less by the body of a note that has ended
-pub kept-shared : (main new site : Site) (sites : List Site) → AreShared main sites → IsWithin site → IsTree site.tree → site.room.bytes + main.bytes ≡ main.room.bytes → site.room.events + length main.tree.events ≡ main.room.events →
+pub kept-shared : (main new site : Site) (sites : List Site) → AreShared main sites → IsWithinRoom site → IsTree site.tree → site.room.bytes + main.bytes ≡ main.room.bytes → site.room.events + length main.tree.events ≡ main.room.events →
     new.tree ≡ main.tree → new.bytes ≡ main.bytes → new.room.bytes + site.bytes ≡ main.room.bytes → new.room.events + length site.tree.events ≡ main.room.events → AreShared new (sites ++ site ∷ [])
 kept-shared main new site sites s w tree bytes events t b rb re =
     let l = ap (λ (t : Tree). leaf_bytes t.leaves) t in
@@ -130,10 +130,10 @@ kept-shared main new site sites s w tree bytes events t b rb re =
     }
 
 -- the main tree goes on in its room
-pub same-shared : (main new : Site) (sites : List Site) → AreShared main sites → IsWithin new → new.room ≡ main.room → AreShared new sites
+pub same-shared : (main new : Site) (sites : List Site) → AreShared main sites → IsWithinRoom new → new.room ≡ main.room → AreShared new sites
 same-shared main new sites s w same =
-    let b = ap (λ (r : Room). r.bytes) same in
-    let e = ap (λ (r : Room). r.events) same in
+    let b = ap (λ (r : TreeRoom). r.bytes) same in
+    let e = ap (λ (r : TreeRoom). r.events) same in
     let all = s.bytes in
     let every = s.events in
     record { within = w; bytes = omega (arith, b, all); events = omega (arith, e, every); trees = s.trees }

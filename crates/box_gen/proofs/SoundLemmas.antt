@@ -1,12 +1,10 @@
 -- Each step of the walk over a document may be taken.
-use Rattle.std.proofs.Common.{◌≡◌, ◌∙◌, ◌≤ℤ◌, ◌*ℤ◌, ◌*◌, ◌^◌, negsuc, rules, ℕ, ◌-◌, ◌==◌, Bool, true, false, cond, not, ◌&&◌, ◌||◌, is_some, IsTrue, List, [], ◌∷◌, ◌++◌, Option, None, Some, length, map, refl, sym, ap, subst, arith, append_assoc, inl, inr, pos, ℤ}
+use Rattle.std.proofs.Common.{◌≡◌, ◌∙◌, ℕ, ◌-◌, ◌==◌, Bool, true, false, cond, not, ◌&&◌, ◌||◌, is_some, IsTrue, List, [], ◌∷◌, ◌++◌, Option, None, Some, length, map, refl, sym, ap, subst, arith, append_assoc, inl, inr}
 use Rattle.std.specs.Prelude.{option_map, slice_get}
 use Rattle.std.specs.List.{All}
 use Rattle.std.proofs.lemmas.Bool.{eq-eqb}
 use Rattle.std.proofs.lemmas.Map.Views.{exact_unsigned_eq}
 use Rattle.std.proofs.lemmas.List.Elements.{All-nil, All-cons}
-use Rattle.std.proofs.lemmas.Int.{ints, clamps}
-use Rattle.bk_num.specs.Units.{clamped, rounded}
 use Rattle.bk_num.specs.declared.ids.FaceId.{FaceId}
 use Rattle.bk_num.specs.declared.values.WhiteSpace.{WhiteSpace}
 use Rattle.bk_num.specs.declared.values.Pseudo.{Pseudo}
@@ -23,7 +21,6 @@ use Rattle.dom.specs.declared.walk.Step.{Step}
 use Rattle.dom.specs.declared.walk.Step.TheVariants.{Enter, Leave}
 use Rattle.inline_text.specs.declared.space.TextPart.{TextPart}
 use Rattle.style.specs.declared.style.Style.{Style}
-use Rattle.style.specs.declared.values.LineHeight.{LineHeight}
 use Rattle.style.specs.declared.values.LineHeight.TheVariants as height
 use Rattle.style.specs.Nodes.{NodeStyles, style_at}
 use Rattle.style.specs.Styles.{initial_style}
@@ -31,17 +28,18 @@ use Rattle.box_gen.specs.declared.inline.InlineItem.{InlineItem}
 use Rattle.box_gen.specs.declared.inline.InlineItem.TheVariants as item
 use Rattle.box_gen.specs.declared.text_style.TextStyle.{TextStyle}
 use Rattle.box_gen.specs.Flow.{Built, built_of, nothing, without, with_run, put_by, leads_of, first_items, last_items, generated_by, generated_items, leads_by, represented_items, styled, text_item}
-use Rattle.box_gen.specs.Gather.{Gathered, make, adds, begun, called, ended, gather_node, gathered}
+use Rattle.box_gen.specs.Gather.{Gathered, make, adds, begun, called, ended}
 use Rattle.box_gen.specs.Leaves.{leaf_by, leaf_style_of}
 use Rattle.box_gen.specs.Markers.{has_marker, lead_by, marker_text}
 use Rattle.box_gen.specs.Props.{anonymous_props}
 use Rattle.box_gen.specs.Represented.{represented_text}
 use Rattle.box_gen.specs.Runs.{AreGoodTexts, marks_in, spans_of, styles_in, text_of}
-use Rattle.box_gen.specs.Sources.{AreInRange, IsHeight, IsInRange}
+use Rattle.box_gen.specs.Sources.{AreInRange, IsInRange}
 use Rattle.std.proofs.lemmas.List.{reverse-append}
 use Rattle.bk_num.specs.declared.ids.NodeId.{NodeId}
-use Rattle.box_gen.specs.Steps.{CanBegin, CanEnd, CanEnterNode, CanLeaveNode, CanPut, CanTo, CanWalk, EndsPut, styles_of}
-use Rattle.box_gen.specs.TextStyles.{IsGoodTextStyle, text_style_of, used_line_height}
+use Rattle.box_gen.specs.Steps.{CanBegin, CanEnd, CanEnterNode, CanLeaveNode, CanPut, styles_of}
+use Rattle.box_gen.specs.TextStyles.{IsGoodTextStyle, text_style_of}
+use Rattle.computed_values.proofs.RangeLemmas.{used_least}
 use Rattle.box_gen.specs.Trees.{Source, Forest, none, node, below, Role, text, hidden, inline, block, note, role_by, role_of, shown_role}
 use Rattle.box_gen.specs.Walk.{Walk, after_step, after_steps, enter_node, leave_node, innermost, style_around, style_or_initial, walk, walked}
 use Rattle.box_gen.proofs.TreeLemmas.{opens, opens-opened, opens-run, opens-shut, last-push, shut-ends}
@@ -49,30 +47,14 @@ use Rattle.box_gen.proofs.FlowLemmas.{run-none}
 use Rattle.box_gen.proofs.PutLemmas.{filled}
 use Rattle.box_gen.proofs.OwnerLemmas.{IsGoodLead, IsOwned, OwnedBy, all-append, all-shut, owned-more, owned-shut}
 use Rattle.box_gen.proofs.WalkLemmas.{Greater, Placed, PlacedIn, all-steps, own-of, placed-in, steps_in, text-only, walk-main}
+use Rattle.box_gen.proofs.Gathering.{gather_node, gathered}
+use Rattle.box_gen.proofs.Walkable.{CanTo, CanWalk, EndsPut}
 
 -- ---- sizes of texts
 
-times-low : (a b : ℤ) → pos 0 ≤ℤ a → pos 0 ≤ℤ b → pos 0 ≤ℤ (a *ℤ b)
-times-low (pos a) (pos b) h g = omega (arith, ints)
-times-low (pos a) (negsuc b) h g = absurd (omega (arith, ints))
-times-low (negsuc a) b h g = absurd (omega (arith, ints))
-
-rounded-low : (n : ℤ) (d : ℕ) → pos 0 ≤ℤ n → pos 0 ≤ℤ rounded n d
-unfolding rounded
-rounded-low (pos n) d h = search (rules, ints)
-rounded-low (negsuc n) d h = absurd (omega (arith, ints))
-
-clamped-low : (z : ℤ) → pos 0 ≤ℤ z → pos 0 ≤ℤ clamped z
-unfolding clamped
-clamped-low z h = omega (arith, ints, clamps)
-
-height-good : (size : ℤ) (h : LineHeight) → pos 0 ≤ℤ size → IsHeight h → pos 0 ≤ℤ used_line_height size h
-height-good size (height.Number d) l r = clamped-low (rounded (d.units *ℤ size) (10 ^ d.places * 1)) (rounded-low (d.units *ℤ size) (10 ^ d.places * 1) (times-low d.units size r l))
-height-good size (height.Px p) l r = r
-
 -- a style in range sets texts whose sizes aren't negative
 pub style-good : (s : Style) (space : WhiteSpace) (face : FaceId) → IsInRange s → IsGoodTextStyle (text_style_of s space face)
-style-good s space face r = record { size = r.size; line_height = height-good s.font_size s.line_height r.size r.height }
+style-good s space face r = record { size = r.size; line_height = used_least s.font_size s.line_height r.size r.height }
 
 pub good-append : (xs ys : List InlineItem) → AreGoodTexts xs → AreGoodTexts ys → AreGoodTexts (xs ++ ys)
 good-append xs ys a b = subst (All IsGoodTextStyle) (sym (styles-append xs ys)) (all-append IsGoodTextStyle (styles_in (marks_in xs)) (styles_in (marks_in ys)) a b)

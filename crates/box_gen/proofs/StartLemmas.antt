@@ -15,11 +15,12 @@ use Rattle.style.specs.declared.style.Style.{Style}
 use Rattle.style.specs.Nodes.{NodeStyles}
 use Rattle.box_gen.specs.Elements.{ElementsHaveStarts, node_shown, shown_in, shown_of, times}
 use Rattle.box_gen.specs.Flow.{Built, bodies_in, bodies_of, body_in, built_of, first_items, flow_of, generated_items, last_items, node_bodies, note_first_items, note_starts, own_starts, starts_in_note}
-use Rattle.box_gen.specs.Gather.{Gathered, gathered}
+use Rattle.box_gen.specs.Gather.{Gathered}
 use Rattle.box_gen.specs.Trees.{Source, Forest, none, node, side_by_side, below, forest_of, in_note, is_block, is_note_element, Role, text, hidden, inline, block, note, role_by, role_of, shown_role}
 use Rattle.box_gen.proofs.BodyLemmas.{body-is, note_full, note_start}
 use Rattle.box_gen.proofs.ElementLemmas.{IsFloat, elements_in, known-gathered, known-texts, main-elements, no-first, no-generated, node_elements, nodes-append, nodes_in, role-floats, run-nodes, run_nodes}
 use Rattle.box_gen.proofs.WalkLemmas.{Greater, Under, below-greater, parent-child, under}
+use Rattle.box_gen.proofs.Gathering.{gathered}
 
 abbrev one : Bool → ℕ
 one b = cond b 1 0

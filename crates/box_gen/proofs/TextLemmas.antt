@@ -1,6 +1,8 @@
 -- Lists that a loop passes, and the number of collapsed texts.
 use Rattle.std.proofs.Common.{◌≡◌, ◌∙◌, ℕ, zero, suc, ◌+◌, ◌<◌, true, false, List, [], ◌∷◌, map, length, drop, get_or, refl, sym, ap, arith}
-use Rattle.std.proofs.lemmas.List.{length-map}
+use Rattle.std.proofs.lemmas.List.{drop_more, length-map}
+use Rattle.inline_text.specs.Joined.{ends_from}
+use Rattle.inline_text.proofs.EndLemmas.{NextText, next-text}
 use Rattle.inline_text.specs.Space.{Char, appended, spelled, placed, squeezed, trimmed, chars_from}
 use Rattle.inline_text.specs.declared.space.TextPart.{TextPart}
 use Rattle.box_gen.specs.declared.inline.InlineItem.{InlineItem}
@@ -33,7 +35,10 @@ styles-length (item.Start n ∷ items) = styles-length items
 pub printed-length : (items : List InlineItem) → length (printed_in items) ≡ length (styles_in (marks_in items))
 printed-length items = placed-length (map (λ (p : TextPart). []) (parts_in items)) (squeezed true (trimmed false (chars_from 0 (parts_in items)))) ∙ length-map (parts_in items) (λ (p : TextPart). []) ∙ styles-length items
 
-pub text-is : (ts : List (List ℕ)) (i : ℕ) (t : List ℕ) → i < length ts → t ≡ get_or ts i t → get_or ts i [] ≡ t
-text-is [] i t h e = absurd (omega arith)
-text-is (x ∷ ts) zero t h e = sym e
-text-is (x ∷ ts) (suc i) t h e = text-is ts i t (omega arith) e
+-- a text ends where the next one begins
+pub ends-step : (ts : List (List ℕ)) (ends : List ℕ) (next at : ℕ) → next < length ends → drop next ends ≡ ends_from at (drop next ts) → NextText ts next at (get_or ends next 0) (drop (next + 1) ends)
+ends-step ts ends next at l h = next-text ts next at (get_or ends next 0) (drop (next + 1) ends) (sym (drop_more ends next 0 l) ∙ h)
+
+pub ends-length : (at : ℕ) (ts : List (List ℕ)) → length (ends_from at ts) ≡ length ts
+ends-length at [] = refl
+ends-length at (t ∷ ts) = ap suc (ends-length (at + length t) ts)

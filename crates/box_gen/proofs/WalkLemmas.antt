@@ -16,9 +16,10 @@ use Rattle.box_gen.specs.declared.inline.InlineItem.TheVariants as item
 use Rattle.box_gen.specs.Trees.{Source, Forest, none, node, side_by_side, below, forest_of, Role, text, hidden, inline, block, note, is_block, is_note_element, shown_role, element_role, role_by, role_of}
 use Rattle.style.specs.Styles.{initial_style}
 use Rattle.box_gen.specs.Flow.{built_of, end, nothing, with_run, first_items, text_item}
-use Rattle.box_gen.specs.Gather.{Gathered, make, adds, begun, called, gather_node, gathered}
+use Rattle.box_gen.specs.Gather.{Gathered, make, adds, begun, called}
 use Rattle.box_gen.specs.Walk.{Walk, walk, walked, element_style, style_or_initial, style_around, innermost, enter_node, leave_node, leave_by, after_step, after_steps}
 use Rattle.box_gen.proofs.FlowLemmas.{grows, grown-end}
+use Rattle.box_gen.proofs.Gathering.{gather_node, gathered}
 
 -- the steps through nodes
 unfoldable pub steps_in : Forest → List Step

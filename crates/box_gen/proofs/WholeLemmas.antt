@@ -9,13 +9,14 @@ use Rattle.style.specs.declared.style.Style.{Style}
 use Rattle.style.specs.Nodes.{NodeStyles, is_shown_in, style_of}
 use Rattle.style.specs.Styles.{initial_style}
 use Rattle.box_gen.specs.Flow.{Built, built_of, closed, nothing, shut, with_run, last_items}
-use Rattle.box_gen.specs.Gather.{Gathered, adds, begun, gather_node, gathered, make}
+use Rattle.box_gen.specs.Gather.{Gathered, adds, begun, make}
 use Rattle.box_gen.specs.Sources.{IsRootShown}
 use Rattle.box_gen.specs.Trees.{Source, Forest, below, Role, hidden, block, element_role, role_by, role_of, shown_role}
 use Rattle.box_gen.proofs.DepthLemmas.{built-gathered}
 use Rattle.box_gen.proofs.FlowLemmas.{opens-gathered, run-none}
 use Rattle.box_gen.proofs.SoundLemmas.{root-element}
 use Rattle.box_gen.proofs.TreeLemmas.{opens, opens-opened, opens-run, opens-shut, shut-ends}
+use Rattle.box_gen.proofs.Gathering.{gather_node, gathered}
 
 -- a root that is shown is a block
 root-block : (src : Source) → IsTree src.nodes → (r : IsRootShown src.styles) → role_of src 0 ≡ block r.style

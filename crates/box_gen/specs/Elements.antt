@@ -4,6 +4,7 @@ use Rattle.dom.specs.Nodes.{IsTree}
 use Rattle.box_gen.specs.Flow.{flow_of}
 use Rattle.box_gen.specs.Trees.{Source, Forest, none, node, forest_of, Role, text, hidden, inline, block, note, role_of}
 
+-- a node, where it is a shown element, and the shown elements below it
 abbrev pub node_shown : ℕ → Role → List ℕ → List ℕ
 node_shown n hidden inside = []
 node_shown n (text t) inside = []
@@ -16,6 +17,7 @@ unfoldable pub shown_in : Source → Forest → List ℕ
 shown_in src none = []
 shown_in src (node n kids more) = node_shown n (role_of src n) (shown_in src kids) ++ shown_in src more
 
+-- the shown elements of a document, in tree order
 abbrev pub shown_of : Source → List ℕ
 shown_of src = shown_in src (forest_of src.nodes)
 
@@ -29,5 +31,6 @@ pub record HaveStarts (src : Source) : Type 0 where
   pub each : (n : ℕ) → times n (map (λ a. a.node.0) (flow_of src).starts) ≡ times n (shown_of src)
   pub once : (n : ℕ) → times n (shown_of src) ≤ 1
 
+-- law: each shown element of a document has exactly one start
 abbrev pub ElementsHaveStarts : Type 0
 ElementsHaveStarts = (src : Source) → IsTree src.nodes → HaveStarts src

@@ -10,18 +10,23 @@ use Rattle.style.specs.Styles.{initial_style}
 use Rattle.box_gen.specs.Trees.{Source}
 use Rattle.box_gen.specs.Flow.{built_of}
 
+-- an element in another one, or the root
 abbrev pub element_in : Option ℕ → ℕ → List ℕ → Node
 element_in parent depth name = record { parent = parent; depth = depth; what = Element name [] }
 
+-- a text in an element
 abbrev pub text_in : ℕ → ℕ → List ℕ → Node
 text_in parent depth t = record { parent = Some parent; depth = depth; what = Text t }
 
+-- the initial style, of a block
 abbrev pub block_style : Style
 block_style = record initial_style { display = display.Block }
 
+-- a block whose white space is kept
 abbrev pub pre_style : Style
 pre_style = record block_style { white_space = space.Pre }
 
+-- the styles of a shown element without pseudo-elements
 abbrev pub shown : Style → NodeStyles
 shown s = own_style s true false false
 
@@ -57,15 +62,18 @@ tabbed = plain
     (element_in None 1 (codes "html") ∷ element_in (Some 0) 2 (codes "pre") ∷ text_in 1 3 (97 ∷ 9 ∷ 98 ∷ 10 ∷ []) ∷ [])
     (shown block_style ∷ shown pre_style ∷ no_styles ∷ [])
 
+-- the texts of the leaves that a document builds
 abbrev pub leaf_texts : Source → List (List ℕ)
 leaf_texts src = map (λ l. l.text) (built_of src).tree.leaves
 
 -- a block parts the text around it into leaves in anonymous boxes
 pub record PartsText : Type 0 where
   pub texts : leaf_texts parted ≡ codes "a" ∷ codes "b" ∷ codes "c" ∷ []
-  pub events : (built_of parted).tree.events ≡ Opens 0 ∷ Opens 1 ∷ Opens 2 ∷ Leaf 0 ∷ Closes 2 ∷ Opens 3 ∷ Leaf 1 ∷ Closes 3 ∷ Opens 4 ∷
+  pub events : (built_of parted).tree.events ≡ Opens 0 ∷ Opens 1 ∷ Opens 2 ∷ Leaf 0 ∷ Closes 2 ∷ Opens 3 ∷ Leaf 1 ∷
+      Closes 3 ∷ Opens 4 ∷
       Leaf 2 ∷ Closes 4 ∷ Closes 1 ∷ Closes 0 ∷ []
-  pub nodes : map (λ p. p.node) (built_of parted).tree.boxes ≡ Some (record { 0 = 0 }) ∷ Some (record { 0 = 1 }) ∷ None ∷
+  pub nodes : map (λ p. p.node) (built_of parted).tree.boxes ≡ Some (record { 0 = 0 }) ∷ Some (record { 0 = 1 }) ∷
+      None ∷
       Some (record { 0 = 3 }) ∷ None ∷ []
 
 -- white space collapses over the elements of a leaf, and a tab that is kept is eight spaces

@@ -12,10 +12,15 @@ use Rattle.box_gen.specs.declared.leaf.LeafStyle.{LeafStyle}
 use Rattle.box_gen.specs.declared.leaf.RunText.{RunText}
 use Rattle.box_gen.specs.TextStyles.{span_by, text_style_of}
 
--- what a block of a style gives to the leaves in it: its strut (CSS 2.1, 10.8.1), the indent of the first line (16.1), and how lines are
--- aligned (16.2)
+-- what a block of a style gives to the leaves in it: its strut (CSS 2.1, 10.8.1), the indent of the first line (16.1),
+-- and how lines are aligned (16.2)
 abbrev pub leaf_style_of : Style → FaceId → LeafStyle
-leaf_style_of s face = record { strut = text_style_of s s.white_space face; indent = s.text_indent; align = s.text_align }
+leaf_style_of s face = record {
+  strut = text_style_of s s.white_space face;
+  indent = s.text_indent;
+  align =
+      s.text_align;
+}
 
 -- the leaf of a text in a block, with the markers that hang before its first line
 unfoldable pub leaf_by : List ℕ → List Span → LeafStyle → List Lead → Leaf

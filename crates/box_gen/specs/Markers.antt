@@ -19,6 +19,7 @@ has_marker root s = not root && (is_list_item s.display && not s.float)
 abbrev pub list_values : Kept → ℕ → List ℤ
 list_values counters n = counter_values counters n pseudo.Element (codes "list-item")
 
+-- a marker has this text
 abbrev pub some_text : List ℕ → Option (List ℕ)
 some_text text = Some text
 

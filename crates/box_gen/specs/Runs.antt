@@ -1,14 +1,14 @@
 -- Runs of inline text: what they print, in which spans, and where elements begin in them (CSS 2.1, 9.2.2 and 16.6.1).
 use Rattle.std.specs.Prelude.{ℕ, ◌+◌, List, [], ◌∷◌, ◌++◌, map, length, nat_lt, if◌then◌else◌}
 use Rattle.std.specs.List.{All}
-use Rattle.std.specs.Str.{IsUtf8}
 use Rattle.boxes.specs.declared.leaf.Span.{Span}
 use Rattle.inline_text.specs.declared.space.TextPart.{TextPart}
+use Rattle.inline_text.specs.Joined.{joined}
 use Rattle.inline_text.specs.Space.{collapsed}
 use Rattle.box_gen.specs.declared.inline.InlineItem.{InlineItem}
 use Rattle.box_gen.specs.declared.inline.InlineItem.TheVariants as item
-use Rattle.box_gen.specs.declared.inline.Mark.{Mark}
-use Rattle.box_gen.specs.declared.inline.Mark.TheVariants.{Text, Start}
+use Rattle.box_gen.specs.declared.inline.ItemMark.{ItemMark}
+use Rattle.box_gen.specs.declared.inline.ItemMark.TheVariants.{Text, Start}
 use Rattle.box_gen.specs.declared.inline.InlineStart.{InlineStart}
 use Rattle.box_gen.specs.declared.text_style.TextStyle.{TextStyle}
 use Rattle.box_gen.specs.TextStyles.{IsGoodTextStyle, span_by}
@@ -24,28 +24,25 @@ abbrev pub printed_in : List InlineItem → List (List ℕ)
 printed_in items = collapsed (parts_in items)
 
 -- a run without the letters of its texts
-abbrev pub mark_of : InlineItem → Mark
+abbrev pub mark_of : InlineItem → ItemMark
 mark_of (item.Text t) = Text t.style
 mark_of (item.Start n) = Start n
 
-abbrev pub marks_in : List InlineItem → List Mark
+-- the items of a run without the letters of its texts
+abbrev pub marks_in : List InlineItem → List ItemMark
 marks_in items = map mark_of items
 
 -- how its texts are set
-abbrev pub styles_in : List Mark → List TextStyle
+abbrev pub styles_in : List ItemMark → List TextStyle
 styles_in [] = []
 styles_in (Text s ∷ marks) = s ∷ styles_in marks
 styles_in (Start n ∷ marks) = styles_in marks
-
--- some texts, one after the other
-abbrev pub joined : List (List ℕ) → List ℕ
-joined [] = []
-joined (t ∷ ts) = t ++ joined ts
 
 -- the text of a run
 unfoldable pub text_of : List InlineItem → List ℕ
 text_of items = joined (printed_in items)
 
+-- the span of a text, unless it is empty
 abbrev pub span_between : TextStyle → ℕ → ℕ → List Span
 span_between style from to = if nat_lt from to then span_by style from to ∷ [] else []
 
@@ -60,7 +57,7 @@ unfoldable pub spans_of : List InlineItem → List Span
 spans_of items = spans_from 0 (styles_in (marks_in items)) (printed_in items)
 
 -- where elements begin among texts, from an offset on: after what is printed before them
-abbrev pub starts_from : ℕ → List Mark → List (List ℕ) → List InlineStart
+abbrev pub starts_from : ℕ → List ItemMark → List (List ℕ) → List InlineStart
 starts_from at [] ts = []
 starts_from at (Text s ∷ marks) [] = starts_from at marks []
 starts_from at (Text s ∷ marks) (t ∷ ts) = starts_from (at + length t) marks ts
@@ -69,11 +66,6 @@ starts_from at (Start n ∷ marks) ts = record { node = n; offset = at } ∷ sta
 -- where the elements of a run begin in its text
 unfoldable pub starts_of : List InlineItem → List InlineStart
 starts_of items = starts_from 0 (marks_in items) (printed_in items)
-
--- each text is UTF-8
-abbrev pub AreTexts : List (List ℕ) → Type 0
-AreTexts [] = Unit {0}
-AreTexts (t ∷ ts) = IsUtf8 t × AreTexts ts
 
 -- no text of a run has a negative size or line height
 abbrev pub AreGoodTexts : List InlineItem → Type 0

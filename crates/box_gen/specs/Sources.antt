@@ -3,6 +3,7 @@ use Rattle.std.specs.Prelude.{◌≡◌, ◌≤ℤ◌, ◌&&◌, not, ℕ, pos, 
 use Rattle.bk_num.specs.declared.values.Pseudo.{Pseudo}
 use Rattle.bk_num.specs.declared.values.Pseudo.TheVariants as pseudo
 use Rattle.boxes.specs.Contents.{IsNotAuto, IsNotNegative}
+use Rattle.computed_values.specs.Values as values
 use Rattle.counters.specs.At.{Kept}
 use Rattle.dom.specs.Nodes.{Node}
 use Rattle.gen_text.specs.declared.generated.NodeTexts.{NodeTexts}
@@ -10,10 +11,9 @@ use Rattle.gen_text.specs.Generated.{assigned_strings, generated_text}
 use Rattle.metrics.specs.Face.{FontFace}
 use Rattle.style.specs.declared.style.Style.{Style}
 use Rattle.style.specs.declared.values.LineHeight.{LineHeight}
-use Rattle.style.specs.declared.values.LineHeight.TheVariants as height
 use Rattle.style.specs.Nodes.{NodeStyles, is_note_in, is_shown_in, style_at}
 use Rattle.style.specs.Styles.{initial_style}
-use Rattle.box_gen.specs.declared.input.Input.{Input}
+use Rattle.box_gen.specs.declared.input.FlowInput.{FlowInput}
 use Rattle.box_gen.specs.Faces.{face_of}
 use Rattle.box_gen.specs.Markers.{list_values}
 use Rattle.box_gen.specs.Trees.{Source}
@@ -32,7 +32,8 @@ source_of nodes styles counters faces texts = record {
   assigned = λ n. assigned_strings texts n;
 }
 
-abbrev pub source_in : Input → Source
+-- what a flow is made from, and in a note what is in the note
+abbrev pub source_in : FlowInput → Source
 source_in i = record (source_of i.dom.now i.styles.now i.counters.now i.faces.now i.texts.now) {
   is_note = λ n. not i.in_note && is_note_in (slice_get i.styles.now n);
 }
@@ -47,11 +48,12 @@ pub record IsRootShown (styles : List NodeStyles) : Type 0 where
 
 -- ---- ranges
 
+-- a line height that isn't negative
 abbrev pub IsHeight : LineHeight → Type 0
-IsHeight (height.Number d) = pos 0 ≤ℤ d.units
-IsHeight (height.Px p) = pos 0 ≤ℤ p
+IsHeight h = values.IsHeight h
 
--- what is asked of a style: no font size, line height, border width, padding or width is negative, and no padding or indent is auto (CSS 2.1, 8.4, 8.5.1, 10.2, 10.8.1, 15.7 and 16.1)
+-- what is asked of a style: no font size, line height, border width, padding or width is negative, and no padding or
+-- indent is auto (CSS 2.1, 8.4, 8.5.1, 10.2, 10.8.1, 15.7 and 16.1)
 pub record IsInRange (s : Style) : Type 0 where
   pub size : pos 0 ≤ℤ s.font_size
   pub height : IsHeight s.line_height
@@ -75,6 +77,6 @@ abbrev pub AreInRange : List NodeStyles → Type 0
 AreInRange styles = (n : ℕ) (p : Pseudo) (s : Style) → style_at styles n p ≡ Some s → IsInRange s
 
 -- what holds of the input of a walk
-pub record IsInput (i : Input) : Type 0 where
+pub record IsInput (i : FlowInput) : Type 0 where
   pub initial : i.initial.now ≡ initial_style
   pub ranges : AreInRange i.styles.now

@@ -1,13 +1,11 @@
 -- How texts are set (CSS 2.1, 10.8.1, 15 and 16.6; CSS Text 3, 5).
 use Rattle.std.specs.Prelude.{ℕ, ℤ, pos, ◌≤ℤ◌, Bool, true, false}
-use Rattle.bk_num.specs.Lengths.{part}
 use Rattle.bk_num.specs.declared.ids.FaceId.{FaceId}
 use Rattle.bk_num.specs.declared.values.WhiteSpace.{WhiteSpace}
 use Rattle.bk_num.specs.declared.values.WhiteSpace.TheVariants as space
 use Rattle.style.specs.declared.style.Style.{Style}
-use Rattle.style.specs.declared.values.LineHeight.{LineHeight}
-use Rattle.style.specs.declared.values.LineHeight.TheVariants as height
 use Rattle.boxes.specs.declared.leaf.Span.{Span}
+use Rattle.computed_values.specs.Values.{used_line_height}
 use Rattle.box_gen.specs.declared.text_style.TextStyle.{TextStyle}
 
 -- whether lines end in a text (CSS 2.1, 16.6)
@@ -17,11 +15,6 @@ wraps space.NoWrap = false
 wraps space.Pre = false
 wraps space.PreWrap = true
 wraps space.PreLine = true
-
--- the used height of lines: a number is of the font size (CSS 2.1, 10.8.1)
-abbrev pub used_line_height : ℤ → LineHeight → ℤ
-used_line_height size (height.Number d) = part d size 1
-used_line_height size (height.Px h) = h
 
 -- how a style sets a text in a face, where the text's white space is treated so
 abbrev pub text_style_of : Style → WhiteSpace → FaceId → TextStyle

@@ -14,6 +14,7 @@ pub data Forest : Type 0 where
   none : Forest
   node : ℕ → Forest → Forest → Forest
 
+-- nodes that stand side by side, each with what is below it
 abbrev pub side_by_side : (ℕ → Forest) → List ℕ → Forest
 side_by_side below [] = none
 side_by_side below (n ∷ ns) = node n (below n) (side_by_side below ns)
@@ -27,9 +28,9 @@ below ps (suc d) n = side_by_side (below ps d) (children_of ps n)
 abbrev pub forest_of : List Node → Forest
 forest_of nodes = node 0 (below (parents_of nodes) (length nodes - 1) 0) none
 
--- what a flow is made from: nodes with their styles, the values of the counter of list items at each element (the outermost scope
--- first), the face of each style, what each pseudo-element's content prints, which elements float to the notes, and the running strings
--- that each element assigns
+-- what a flow is made from: nodes with their styles, the values of the counter of list items at each element (the
+-- outermost scope first), the face of each style, what each pseudo-element's content prints, which elements float to
+-- the notes, and the running strings that each element assigns
 pub record Source : Type 0 where
   pub nodes : List Node
   pub styles : List NodeStyles
@@ -39,13 +40,15 @@ pub record Source : Type 0 where
   pub is_note : ℕ → Bool
   pub assigned : ℕ → List (List ℕ × List ℕ)
 
+-- whether `display` is of block level (CSS 2.1, 9.2.1)
 abbrev pub is_block_level : Display → Bool
 is_block_level display.Inline = false
 is_block_level display.Block = true
 is_block_level display.ListItem = true
 is_block_level display.Hidden = false
 
--- whether a shown element is a block: the root always is, and one that floats to the notes never (CSS 2.1, 9.2.1 and 9.7)
+-- whether a shown element is a block: the root always is, and one that floats to the notes never (CSS 2.1, 9.2.1 and
+-- 9.7)
 abbrev pub is_block : Bool → Style → Bool
 is_block root s = root || (not s.float && is_block_level s.display)
 
@@ -65,17 +68,21 @@ pub data Role : Type 0 where
   block : Style → Role
   note : Style → Role
 
+-- the role of a shown element of a style
 abbrev pub shown_role : Bool → Bool → Option Style → Role
 shown_role float root None = hidden
 shown_role float root (Some s) = if float then note s else (if is_block root s then block s else inline s)
 
+-- the role of an element
 abbrev pub element_role : Bool → Bool → Option NodeStyles → Role
 element_role float root None = hidden
 element_role float root (Some r) = if r.shown then shown_role float root r.own else hidden
 
+-- the role of a text or an element
 abbrev pub role_by : Bool → Bool → Option NodeStyles → Option (List ℕ) → Role
 role_by float root r None = element_role float root r
 role_by float root r (Some t) = text t
 
+-- what a node is to the flow
 abbrev pub role_of : Source → ℕ → Role
 role_of src n = role_by (is_note_element src n) (n == 0) (slice_get src.styles n) (text_at src.nodes n)

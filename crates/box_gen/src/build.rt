@@ -26,11 +26,11 @@ ghost use Rattle.style.specs.Nodes.{style_at};
 ghost use Rattle.box_gen.specs.Faces.{AreFaced};
 ghost use Rattle.box_gen.specs.Notes.{IsGoodBody, bytes_in, events_in};
 ghost use Rattle.box_gen.specs.Sites.{built_in};
-ghost use Rattle.box_gen.specs.Sources.{AreInRange, IsRootShown, source_in, source_of};
+ghost use Rattle.box_gen.specs.Sources.{AreInRange, IsInput, IsRootShown, source_in, source_of};
 
-use crate::builder::Builder;
+use crate::builder::FlowBuilder;
 use crate::inline::BuildErr;
-use crate::input::{Input, is_note_element};
+use crate::input::{FlowInput, is_note_element};
 use crate::notes::{Walker, walk_through};
 use crate::put::Site;
 use bk_num::items::Items;
@@ -65,7 +65,7 @@ fn push_assigned(
 }
 
 /// The running strings that are assigned where elements begin.
-fn strings_of(alloc: Global, input: &Input, starts: &[Start]) -> Result<Vec<Assign>, NoMem>
+fn strings_of(alloc: Global, input: &FlowInput, starts: &[Start]) -> Result<Vec<Assign>, NoMem>
     ensures { IfOk result (λ v. v.items ≡ spec.strings_of (source_in input.now) starts.now) }
 {
     let mut strings = Vec::new(alloc);
@@ -82,7 +82,8 @@ fn push_reset(
     at: Position,
     resets: &mut Vec<Reset>,
 ) -> Result<(), NoMem>
-    ensures { OnOk result (resets.new.items ≡ resets.old.items ++ resets_at at (page_values ((counter.now, value) ∷ []))) }
+    ensures { OnOk result (resets.new.items ≡ resets.old.items ++
+        resets_at at (page_values ((counter.now, value) ∷ []))) }
 {
     if counter.as_str() == "page" {
         resets.push(Reset { value, at })?;
@@ -101,8 +102,9 @@ fn push_resets(counters: &[(Name, i64)], at: Position, resets: &mut Vec<Reset>) 
 }
 
 /// Adds the resets of the page number at an element.
-fn push_resets_of(input: &Input, start: &Start, resets: &mut Vec<Reset>) -> Result<(), NoMem>
-    ensures list { OnOk result (resets.new.items ≡ resets.old.items ++ resets_at start.now.at (page_resets (style_at input.now.styles.now start.now.node.0 pseudo.Element))) }
+fn push_resets_of(input: &FlowInput, start: &Start, resets: &mut Vec<Reset>) -> Result<(), NoMem>
+    ensures list { OnOk result (resets.new.items ≡ resets.old.items ++
+        resets_at start.now.at (page_resets (style_at input.now.styles.now start.now.node.0 pseudo.Element))) }
     ensures small { OnOk result (All IsSmallReset resets.old.items → All IsSmallReset resets.new.items) }
 {
     match input.styles.of(start.node, Pseudo::Element) {
@@ -115,7 +117,7 @@ fn push_resets_of(input: &Input, start: &Start, resets: &mut Vec<Reset>) -> Resu
 }
 
 /// The resets of the page number where elements begin.
-fn resets_of(alloc: Global, input: &Input, starts: &[Start]) -> Result<Vec<Reset>, NoMem>
+fn resets_of(alloc: Global, input: &FlowInput, starts: &[Start]) -> Result<Vec<Reset>, NoMem>
     ensures list { IfOk result (λ v. v.items ≡ spec.resets_of (source_in input.now) starts.now) }
     ensures small { IfOk result (λ v. All IsSmallReset v.items) }
 {
@@ -128,13 +130,14 @@ fn resets_of(alloc: Global, input: &Input, starts: &[Start]) -> Result<Vec<Reset
 
 /// Adds the place of an element to those at which notes are called, or else to those at which elements begin.
 fn part_place(
-    input: &Input,
+    input: &FlowInput,
     place: Start,
     calls: &mut Vec<Position>,
     starts: &mut Vec<Start>,
 ) -> Result<(), NoMem>
     ensures calls { OnOk result (calls.new.items ≡ calls.old.items ++ calls_of (source_in input.now) (place ∷ [])) }
-    ensures starts { OnOk result (starts.new.items ≡ starts.old.items ++ own_starts (source_in input.now) (place ∷ [])) }
+    ensures starts { OnOk result (starts.new.items ≡
+        starts.old.items ++ own_starts (source_in input.now) (place ∷ [])) }
 {
     if is_note_element(input, place.node) {
         calls.push(place.at)?;
@@ -147,7 +150,7 @@ fn part_place(
 /// Parts the places of elements: where note elements are called, and where the others begin.
 fn parted(
     alloc: Global,
-    input: &Input,
+    input: &FlowInput,
     places: Vec<Start>,
 ) -> Result<(Vec<Position>, Vec<Start>), NoMem>
     ensures calls { IfOk result (λ r. r.0.items ≡ calls_of (source_in input.now) places.items) }
@@ -215,8 +218,64 @@ fn notes_of(
     Ok(notes)
 }
 
+/// What stands at places of a flow, beside its main tree: the notes that are called, where elements begin, the running
+/// strings that are assigned and the resets of the page number.
+#[derive(Drop)]
+struct Anchors {
+    notes: Vec<Note>,
+    starts: Vec<Start>,
+    strings: Vec<Assign>,
+    resets: Vec<Reset>,
+}
+
+/// The strings and the resets where elements begin.
+fn set_at(
+    alloc: Global,
+    input: &FlowInput,
+    starts: &[Start],
+) -> Result<(Vec<Assign>, Vec<Reset>), NoMem>
+    ensures strings { IfOk result (λ r. r.0.items ≡ spec.strings_of (source_in input.now) starts.now) }
+    ensures resets { IfOk result (λ r. r.1.items ≡ spec.resets_of (source_in input.now) starts.now) }
+    ensures small { IfOk result (λ r. All IsSmallReset r.1.items) }
+{
+    let strings = strings_of(alloc, input, starts)?;
+    let resets = resets_of(alloc, input, starts)?;
+    Ok((strings, resets))
+}
+
+/// What stands at the places of elements in the main tree, where the bodies of the notes that are called are given.
+fn anchors_of(
+    alloc: Global,
+    input: &FlowInput,
+    places: Vec<Start>,
+    bodies: Vec<Site>,
+) -> Result<Anchors, NoMem>
+    requires each { length bodies.items ≡ length (calls_of (source_in input.now) places.items) }
+    requires few { length bodies.items ≤ most_events }
+    ensures notes { IfOk result (λ a. a.notes.items ≡
+        notes_by (calls_of (source_in input.now) places.items) (map built_in bodies.items)) }
+    ensures starts { IfOk result (λ a. a.starts.items ≡
+        own_starts (source_in input.now) places.items ++ note_starts 0 (map built_in bodies.items)) }
+    ensures strings { IfOk result (λ a. a.strings.items ≡
+        spec.strings_of (source_in input.now) (own_starts (source_in input.now) places.items)) }
+    ensures resets { IfOk result (λ a. a.resets.items ≡
+        spec.resets_of (source_in input.now) (own_starts (source_in input.now) places.items)) }
+    ensures small { IfOk result (λ a. All IsSmallReset a.resets.items) }
+{
+    let (calls, starts) = parted(alloc, input, places)?;
+    let (strings, resets) = set_at(alloc, input, &starts)?;
+    let mut starts = starts;
+    let notes = notes_of(alloc, &calls, bodies, &mut starts)?;
+    Ok(Anchors {
+        notes,
+        starts,
+        strings,
+        resets,
+    })
+}
+
 /// The flow of what is built.
-fn finish(alloc: Global, input: &Input, walker: Walker) -> Result<Flow, NoMem>
+fn finish(alloc: Global, input: &FlowInput, walker: Walker) -> Result<Flow, NoMem>
     requires main { built_of (source_in input.now) ≡ built_in walker.main.site }
     requires bodies { map built_in walker.bodies.items ≡ bodies_of (source_in input.now) }
     requires few { length walker.bodies.items ≤ most_events }
@@ -224,25 +283,41 @@ fn finish(alloc: Global, input: &Input, walker: Walker) -> Result<Flow, NoMem>
     ensures small { IfOk result (λ flow. All IsSmallReset flow.resets) }
 {
     let Walker { main, bodies, .. } = walker;
-    let Builder { site, .. } = main;
+    let FlowBuilder { site, .. } = main;
     let Site { tree, starts, .. } = site;
-    let (calls, starts) = parted(alloc, input, starts)?;
-    let strings = strings_of(alloc, input, &starts)?;
-    let resets = resets_of(alloc, input, &starts)?;
-    let mut starts = starts;
-    let notes = notes_of(alloc, &calls, bodies, &mut starts)?;
+    let anchors = anchors_of(alloc, input, starts, bodies)?;
     Ok(Flow {
         main: tree,
-        notes: Items::of(notes),
-        starts: Items::of(starts),
-        strings: Items::of(strings),
-        resets: Items::of(resets),
+        notes: Items::of(anchors.notes),
+        starts: Items::of(anchors.starts),
+        strings: Items::of(anchors.strings),
+        resets: Items::of(anchors.resets),
     })
 }
 
-/// The flow of a document by its styles, its counters and its generated texts, set in some faces. Its main tree is whole
-/// where the root is shown, and so are the bodies of its notes; each has at most 2,048 boxes open at once, and its faces
-/// are there.
+/// The flow of what is given: its walks, and what is built by them.
+fn flow_by(alloc: Global, input: &FlowInput) -> Result<Flow, BuildErr>
+    requires { IsInput input.now }
+    ensures flow { IfOk result (λ flow. flow ≡ flow_of (source_in input.now)) }
+    ensures bodies { IfOk result (λ flow. All (IsGoodBody input.now.faces.now) flow.notes) }
+    ensures few { IfOk result (λ flow. bytes_in flow ≤ most_text_bytes) }
+    ensures events { IfOk result (λ flow. events_in flow ≤ most_events) }
+    ensures count { IfOk result (λ flow. length flow.notes ≤ most_entries) }
+    ensures small { IfOk result (λ flow. All IsSmallReset flow.resets) }
+    ensures cause { IfErr result (λ e. e ≡ BuildErr.Text → most_text_bytes < bytes_in (flow_of (source_in input.now))) }
+{
+    prove!(input.dom.len() > 0);
+    prove!(input.faces.len() > 0);
+    let walker = walk_through(alloc, input)?;
+    match finish(alloc, input, walker) {
+        Ok(flow) => Ok(flow),
+        Err(_) => Err(BuildErr::NoMemory),
+    }
+}
+
+/// The flow of a document by its styles, its counters and its generated texts, set in some faces. Its main tree is
+/// whole where the root is shown, and so are the bodies of its notes; each has at most 2,048 boxes open at once, and
+/// its faces are there.
 ///
 /// A document of `n` nodes is walked once; each character of it is passed once, and what is left of it is copied once.
 ///
@@ -259,7 +334,8 @@ pub fn build(
     texts: &Generated,
 ) -> Result<Flow, BuildErr>
     requires { AreInRange styles.now }
-    ensures flow { IfOk result (λ flow. flow ≡ flow_of (source_of dom.now styles.now counters.now faces.now texts.now)) }
+    ensures flow { IfOk result (λ flow. flow ≡
+        flow_of (source_of dom.now styles.now counters.now faces.now texts.now)) }
     ensures whole { IsRootShown styles.now → IfOk result (λ flow. IsWhole flow.main.events) }
     ensures depth { IfOk result (λ flow. depth_of flow.main.events ≤ most_open) }
     ensures faced { IfOk result (λ flow. AreFaced faces.now flow.main.leaves) }
@@ -271,14 +347,15 @@ pub fn build(
     ensures strings { IfOk result (λ flow. NeverFall (map (λ a. a.at) flow.strings)) }
     ensures resets { IfOk result (λ flow. NeverFall (map (λ r. r.at) flow.resets)) }
     ensures small { IfOk result (λ flow. All IsSmallReset flow.resets) }
-    ensures cause { IfErr result (λ e. e ≡ BuildErr.Text → most_text_bytes < bytes_in (flow_of (source_of dom.now styles.now counters.now faces.now texts.now))) }
+    ensures cause { IfErr result (λ e. e ≡ BuildErr.Text →
+        most_text_bytes < bytes_in (flow_of (source_of dom.now styles.now counters.now faces.now texts.now))) }
 {
     prove!(dom.len() > 0);
     prove!(faces.len() > 0);
     let Ok(initial) = Style::initial(alloc) else {
         return Err(BuildErr::NoMemory);
     };
-    let input = Input {
+    let input = FlowInput {
         dom,
         styles,
         counters,
@@ -287,9 +364,8 @@ pub fn build(
         initial: &initial,
         in_note: false,
     };
-    let walker = walk_through(alloc, &input)?;
-    match finish(alloc, &input, walker) {
+    match flow_by(alloc, &input) {
         Ok(flow) => Ok(flow),
-        Err(_) => Err(BuildErr::NoMemory),
+        Err(e) => Err(e),
     }
 }

@@ -10,20 +10,19 @@ ghost use Rattle.box_gen.specs.Flow as spec;
 ghost use Rattle.box_gen.specs.Flow.{closed, leads_of, opened};
 ghost use Rattle.box_gen.specs.declared.inline.InlineItem.TheVariants as item;
 ghost use Rattle.box_gen.specs.Gather.{adds, begun, ended, make};
-ghost use Rattle.box_gen.specs.Kinds.{HasRange, role_in};
-ghost use Rattle.box_gen.specs.Sites.{IsWithin, built_in, leaf_bytes};
+ghost use Rattle.box_gen.specs.Kinds.{HasRange, IsKindOf, role_in};
+ghost use Rattle.box_gen.specs.Sites.{IsWithinRoom, built_in, leaf_bytes};
 ghost use Rattle.box_gen.specs.Sources.{IsInput, IsInRange, source_in};
 ghost use Rattle.box_gen.specs.Steps.{CanBegin, CanEnd, CanEnterNode, CanLeaveNode, CanStep, styles_of, walk_in};
-ghost use Rattle.box_gen.specs.Trees.{role_of};
 ghost use Rattle.box_gen.specs.Walk as walk;
 ghost use Rattle.box_gen.specs.Walk.{after_step, enter_node, leave_node};
 
 use crate::inline::{BuildErr, InlineItem};
-use crate::input::{Input, Kind, kind_of, style_around, style_of};
+use crate::input::{FlowInput, NodeKind, kind_of, style_around, style_of};
 use crate::marker::{has_marker, lead_of, marker_text};
 use crate::pieces::{push_call, push_first, push_last, push_text};
 use crate::props::props_of;
-use crate::put::{Room, Site, has_room, put_run, start_at};
+use crate::put::{Site, TreeRoom, has_room, put_run, start_at};
 use crate::text_style::text_style;
 use bk_num::ids::NodeId;
 use bk_num::name::NoMem;
@@ -36,19 +35,19 @@ use style::style::Style;
 /// What the walk over a tree keeps: what is built, the run that isn't put yet, the open blocks, and the element that it
 /// passes over, which isn't shown or is a note.
 #[derive(Drop)]
-pub(crate) struct Builder {
+pub(crate) struct FlowBuilder<'a> {
     pub(crate) site: Site,
-    pub(crate) run: Vec<InlineItem>,
+    pub(crate) run: Vec<InlineItem<'a>>,
     pub(crate) blocks: Vec<NodeId>,
     pub(crate) unshown: Option<NodeId>,
 }
 
 /// A tree without events, which has this room.
-pub(crate) fn new_site(alloc: Global, room: Room) -> Site
+pub(crate) fn new_site(alloc: Global, room: TreeRoom) -> Site
     requires bytes { room.bytes ≤ most_text_bytes }
     requires events { room.events ≤ most_events }
     ensures built { built_in result ≡ spec.nothing }
-    ensures within { IsWithin result }
+    ensures within { IsWithinRoom result }
     ensures room { result.room ≡ room }
     ensures bytes { result.bytes ≡ 0 }
 {
@@ -62,14 +61,14 @@ pub(crate) fn new_site(alloc: Global, room: Room) -> Site
 }
 
 /// The builder before the first step.
-pub(crate) fn new_builder(alloc: Global, room: Room) -> Builder
+pub(crate) fn new_builder<'a>(alloc: Global, room: TreeRoom) -> FlowBuilder<'a>
     requires bytes { room.bytes ≤ most_text_bytes }
     requires events { room.events ≤ most_events }
     ensures walk { (styles : List NodeStyles) → walk_in styles result ≡ walk.walk (make spec.nothing []) [] None }
-    ensures within { IsWithin result.site }
+    ensures within { IsWithinRoom result.site }
     ensures room { result.site.room ≡ room }
 {
-    Builder {
+    FlowBuilder {
         site: new_site(alloc, room),
         run: Vec::new(alloc),
         blocks: Vec::new(alloc),
@@ -78,7 +77,7 @@ pub(crate) fn new_builder(alloc: Global, room: Room) -> Builder
 }
 
 /// The style of the innermost open block.
-pub(crate) fn innermost<'a>(input: &Input<'a>, blocks: &[NodeId]) -> &'a Style
+pub(crate) fn innermost<'a>(input: &FlowInput<'a>, blocks: &[NodeId]) -> &'a Style
     requires { IsInput input.now }
     ensures value { result.now ≡ walk.innermost (styles_of input.now.styles.now blocks.now) }
     ensures range { IsInRange result.now }
@@ -92,13 +91,14 @@ pub(crate) fn innermost<'a>(input: &Input<'a>, blocks: &[NodeId]) -> &'a Style
 /// Adds the marker of an element whose box has a number.
 fn push_lead(
     alloc: Global,
-    input: &Input,
+    input: &FlowInput,
     node: NodeId,
     style: &Style,
     owner: u32,
     pending: &mut Vec<Lead>,
 ) -> Result<(), NoMem>
-    ensures { OnOk result (pending.new.items ≡ pending.old.items ++ leads_of (source_in input.now) node.0 style.now owner) }
+    ensures { OnOk result (pending.new.items ≡ pending.old.items ++
+        leads_of (source_in input.now) node.0 style.now owner) }
 {
     if !has_marker(node.0 == 0, style) {
         return Ok(());
@@ -116,7 +116,7 @@ fn push_lead(
 /// Opens the box of a block.
 fn open_box(
     alloc: Global,
-    input: &Input,
+    input: &FlowInput,
     node: NodeId,
     style: &Style,
     site: &mut Site,
@@ -124,7 +124,8 @@ fn open_box(
     requires range { IsInRange style.now }
     requires few { length site.old.tree.events < 7999995 }
     requires place { IsTrue (takes_box site.old.tree.events) }
-    ensures built { OnOk result (built_in site.new ≡ opened (source_in input.now) node.0 style.now (built_in site.old)) }
+    ensures built { OnOk result (built_in site.new ≡
+        opened (source_in input.now) node.0 style.now (built_in site.old)) }
     ensures bytes { OnOk result (site.new.bytes ≡ site.old.bytes) }
     ensures room { OnOk result (site.new.room ≡ site.old.room) }
 {
@@ -166,56 +167,63 @@ fn close_box(site: &mut Site) -> Result<(), NoMem>
 }
 
 /// Enters an inline element.
-fn enter_inline(
-    alloc: Global,
-    input: &Input,
+fn enter_inline<'a>(
+    input: &FlowInput<'a>,
     node: NodeId,
     style: &Style,
-    run: &mut Vec<InlineItem>,
+    run: &mut Vec<InlineItem<'a>>,
 ) -> Result<(), NoMem>
     requires { node.0 < length input.now.dom.now }
-    ensures { OnOk result (run.new.items ≡ (run.old.items ++ item.Start node ∷ []) ++ spec.first_items (source_in input.now) style.now node.0) }
+    ensures { OnOk result (run.new.items ≡ (run.old.items ++ item.Start node ∷ []) ++
+        spec.first_items (source_in input.now) style.now node.0) }
 {
     run.push(InlineItem::Start(node))?;
-    push_first(alloc, input, node, style, run)?;
+    push_first(input, node, style, run)?;
     Ok(())
 }
 
 /// Enters a note element: its call stands where it would begin.
-fn enter_note(
-    alloc: Global,
-    input: &Input,
+fn enter_note<'a>(
+    input: &FlowInput<'a>,
     node: NodeId,
-    run: &mut Vec<InlineItem>,
+    run: &mut Vec<InlineItem<'a>>,
 ) -> Result<(), NoMem>
     ensures { OnOk result (run.new.items ≡
         (run.old.items ++ item.Start node ∷ []) ++ spec.generated_items (source_in input.now) node.0 pseudo.Call) }
 {
     let call = InlineItem::Start(node);
     run.push(call)?;
-    push_call(alloc, input, node, run)?;
+    push_call(input, node, run)?;
     Ok(())
 }
 
 /// Enters a block: the run before it is put, and its box opened.
-fn enter_block(
+fn enter_block<'a>(
     alloc: Global,
-    input: &Input,
+    input: &FlowInput<'a>,
     node: NodeId,
     style: &Style,
-    builder: &mut Builder,
+    builder: &mut FlowBuilder<'a>,
 ) -> Result<(), BuildErr>
     requires input { IsInput input.now }
     requires node { node.0 < length input.now.dom.now }
     requires range { IsInRange style.now }
-    requires within { IsWithin builder.old.site }
-    requires can { CanBegin (source_in input.now) (walk.innermost (styles_of input.now.styles.now builder.old.blocks.items)) (make (built_in builder.old.site) builder.old.run.items) }
-    ensures gathered { OnOk result (make (built_in builder.new.site) builder.new.run.items ≡ begun (source_in input.now) (walk.innermost (styles_of input.now.styles.now builder.old.blocks.items)) node.0 style.now (make (built_in builder.old.site) builder.old.run.items)) }
+    requires within { IsWithinRoom builder.old.site }
+    requires can { CanBegin (source_in input.now)
+        (walk.innermost (styles_of input.now.styles.now builder.old.blocks.items))
+        (make (built_in builder.old.site) builder.old.run.items) }
+    ensures gathered { OnOk result (make (built_in builder.new.site) builder.new.run.items ≡
+        begun (source_in input.now)
+        (walk.innermost (styles_of input.now.styles.now builder.old.blocks.items)) node.0 style.now
+        (make (built_in builder.old.site) builder.old.run.items)) }
     ensures blocks { OnOk result (builder.new.blocks.items ≡ builder.old.blocks.items ++ node ∷ []) }
     ensures unshown { OnOk result (builder.new.unshown ≡ builder.old.unshown) }
-    ensures within { OnOk result (IsWithin builder.new.site) }
+    ensures within { OnOk result (IsWithinRoom builder.new.site) }
     ensures room { OnOk result (builder.new.site.room ≡ builder.old.site.room) }
-    ensures cause { IfErr result (λ e. e ≡ BuildErr.Text → builder.old.site.room.bytes < leaf_bytes (begun (source_in input.now) (walk.innermost (styles_of input.now.styles.now builder.old.blocks.items)) node.0 style.now (make (built_in builder.old.site) builder.old.run.items)).built.tree.leaves) }
+    ensures cause { IfErr result (λ e. e ≡ BuildErr.Text → builder.old.site.room.bytes <
+        leaf_bytes (begun (source_in input.now)
+        (walk.innermost (styles_of input.now.styles.now builder.old.blocks.items)) node.0 style.now
+        (make (built_in builder.old.site) builder.old.run.items)).built.tree.leaves) }
 {
     if !has_room(&builder.site) {
         return Err(BuildErr::NoMemory);
@@ -229,34 +237,41 @@ fn enter_block(
     let Ok(()) = builder.blocks.push(node) else {
         return Err(BuildErr::NoMemory);
     };
-    let Ok(()) = push_first(alloc, input, node, style, &mut builder.run) else {
+    let Ok(()) = push_first(input, node, style, &mut builder.run) else {
         return Err(BuildErr::NoMemory);
     };
     Ok(())
 }
 
 /// Leaves a block of a style: the run at its end is put, and its box closed.
-pub(crate) fn leave_block(
+pub(crate) fn leave_block<'a>(
     alloc: Global,
-    input: &Input,
+    input: &FlowInput<'a>,
     node: NodeId,
     style: &Style,
-    builder: &mut Builder,
+    builder: &mut FlowBuilder<'a>,
 ) -> Result<(), BuildErr>
     requires range { IsInRange style.now }
-    requires within { IsWithin builder.old.site }
-    requires can { CanEnd (source_in input.now) style.now (adds (spec.last_items (source_in input.now) node.0) (make (built_in builder.old.site) builder.old.run.items)) }
-    ensures gathered { OnOk result (make (built_in builder.new.site) builder.new.run.items ≡ ended (source_in input.now) style.now (adds (spec.last_items (source_in input.now) node.0) (make (built_in builder.old.site) builder.old.run.items))) }
+    requires within { IsWithinRoom builder.old.site }
+    requires can { CanEnd (source_in input.now) style.now
+        (adds (spec.last_items (source_in input.now) node.0) (make (built_in builder.old.site) builder.old.run.items)) }
+    ensures gathered { OnOk result (make (built_in builder.new.site) builder.new.run.items ≡
+        ended (source_in input.now) style.now
+        (adds (spec.last_items (source_in input.now) node.0)
+        (make (built_in builder.old.site) builder.old.run.items))) }
     ensures blocks { OnOk result (builder.new.blocks ≡ builder.old.blocks) }
     ensures unshown { OnOk result (builder.new.unshown ≡ builder.old.unshown) }
-    ensures within { OnOk result (IsWithin builder.new.site) }
+    ensures within { OnOk result (IsWithinRoom builder.new.site) }
     ensures room { OnOk result (builder.new.site.room ≡ builder.old.site.room) }
-    ensures cause { IfErr result (λ e. e ≡ BuildErr.Text → builder.old.site.room.bytes < leaf_bytes (ended (source_in input.now) style.now (adds (spec.last_items (source_in input.now) node.0) (make (built_in builder.old.site) builder.old.run.items))).built.tree.leaves) }
+    ensures cause { IfErr result (λ e. e ≡ BuildErr.Text → builder.old.site.room.bytes <
+        leaf_bytes (ended (source_in input.now) style.now
+        (adds (spec.last_items (source_in input.now) node.0)
+        (make (built_in builder.old.site) builder.old.run.items))).built.tree.leaves) }
 {
     if !has_room(&builder.site) {
         return Err(BuildErr::NoMemory);
     }
-    let Ok(()) = push_last(alloc, input, node, &mut builder.run) else {
+    let Ok(()) = push_last(input, node, &mut builder.run) else {
         return Err(BuildErr::NoMemory);
     };
     let wrap = !builder.site.tree.takes_leaf();
@@ -269,41 +284,43 @@ pub(crate) fn leave_block(
 }
 
 /// The step into a node that is shown.
-fn enter(
+fn enter<'a>(
     alloc: Global,
-    input: &Input,
+    input: &FlowInput<'a>,
     node: NodeId,
-    kind: Kind,
-    builder: &mut Builder,
+    kind: NodeKind<'a>,
+    builder: &mut FlowBuilder<'a>,
 ) -> Result<(), BuildErr>
     requires input { IsInput input.now }
     requires node { node.0 < length input.now.dom.now }
-    requires role { role_in kind ≡ role_of (source_in input.now) node.0 }
-    requires range { HasRange kind }
+    requires kind { IsKindOf input.now node.0 kind }
     requires shown { builder.old.unshown ≡ None }
-    requires within { IsWithin builder.old.site }
+    requires within { IsWithinRoom builder.old.site }
     requires can { CanEnterNode (source_in input.now) (role_in kind) (walk_in input.now.styles.now builder.old) }
-    ensures walk { OnOk result (walk_in input.now.styles.now builder.new ≡ enter_node (source_in input.now) node.0 (role_in kind.entry) (walk_in input.now.styles.now builder.old)) }
-    ensures within { OnOk result (IsWithin builder.new.site) }
+    ensures walk { OnOk result (walk_in input.now.styles.now builder.new ≡
+        enter_node (source_in input.now) node.0 (role_in kind.entry) (walk_in input.now.styles.now builder.old)) }
+    ensures within { OnOk result (IsWithinRoom builder.new.site) }
     ensures room { OnOk result (builder.new.site.room ≡ builder.old.site.room) }
-    ensures cause { IfErr result (λ e. e ≡ BuildErr.Text → builder.old.site.room.bytes < leaf_bytes (enter_node (source_in input.now) node.0 (role_in kind.entry) (walk_in input.now.styles.now builder.old)).gathered.built.tree.leaves) }
+    ensures cause { IfErr result (λ e. e ≡ BuildErr.Text → builder.old.site.room.bytes <
+        leaf_bytes (enter_node (source_in input.now) node.0 (role_in kind.entry)
+        (walk_in input.now.styles.now builder.old)).gathered.built.tree.leaves) }
 {
     match kind {
-        Kind::Hidden => builder.unshown = Some(node),
-        Kind::Text(text) => {
+        NodeKind::Hidden => builder.unshown = Some(node),
+        NodeKind::Text(text) => {
             let style = style_around(input, node);
-            let Ok(()) = push_text(alloc, input, style, text, &mut builder.run) else {
+            let Ok(()) = push_text(input, style, text, &mut builder.run) else {
                 return Err(BuildErr::NoMemory);
             };
         }
-        Kind::Inline(style) => {
-            let Ok(()) = enter_inline(alloc, input, node, style, &mut builder.run) else {
+        NodeKind::Inline(style) => {
+            let Ok(()) = enter_inline(input, node, style, &mut builder.run) else {
                 return Err(BuildErr::NoMemory);
             };
         }
-        Kind::Block(style) => enter_block(alloc, input, node, style, builder)?,
-        Kind::Note(_) => {
-            let Ok(()) = enter_note(alloc, input, node, &mut builder.run) else {
+        NodeKind::Block(style) => enter_block(alloc, input, node, style, builder)?,
+        NodeKind::Note(_) => {
+            let Ok(()) = enter_note(input, node, &mut builder.run) else {
                 return Err(BuildErr::NoMemory);
             };
             builder.unshown = Some(node);
@@ -313,30 +330,33 @@ fn enter(
 }
 
 /// The step out of a node that is shown.
-fn leave(
+fn leave<'a>(
     alloc: Global,
-    input: &Input,
+    input: &FlowInput<'a>,
     node: NodeId,
-    kind: Kind,
-    builder: &mut Builder,
+    kind: NodeKind<'a>,
+    builder: &mut FlowBuilder<'a>,
 ) -> Result<(), BuildErr>
     requires range { HasRange kind }
     requires shown { builder.old.unshown ≡ None }
-    requires within { IsWithin builder.old.site }
+    requires within { IsWithinRoom builder.old.site }
     requires can { CanLeaveNode (source_in input.now) node.0 (role_in kind) (walk_in input.now.styles.now builder.old) }
-    ensures walk { OnOk result (walk_in input.now.styles.now builder.new ≡ leave_node (source_in input.now) node.0 (role_in kind.entry) (walk_in input.now.styles.now builder.old)) }
-    ensures within { OnOk result (IsWithin builder.new.site) }
+    ensures walk { OnOk result (walk_in input.now.styles.now builder.new ≡
+        leave_node (source_in input.now) node.0 (role_in kind.entry) (walk_in input.now.styles.now builder.old)) }
+    ensures within { OnOk result (IsWithinRoom builder.new.site) }
     ensures room { OnOk result (builder.new.site.room ≡ builder.old.site.room) }
-    ensures cause { IfErr result (λ e. e ≡ BuildErr.Text → builder.old.site.room.bytes < leaf_bytes (leave_node (source_in input.now) node.0 (role_in kind.entry) (walk_in input.now.styles.now builder.old)).gathered.built.tree.leaves) }
+    ensures cause { IfErr result (λ e. e ≡ BuildErr.Text → builder.old.site.room.bytes <
+        leaf_bytes (leave_node (source_in input.now) node.0 (role_in kind.entry)
+        (walk_in input.now.styles.now builder.old)).gathered.built.tree.leaves) }
 {
     match kind {
-        Kind::Hidden | Kind::Text(_) | Kind::Note(_) => {}
-        Kind::Inline(_) => {
-            let Ok(()) = push_last(alloc, input, node, &mut builder.run) else {
+        NodeKind::Hidden | NodeKind::Text(_) | NodeKind::Note(_) => {}
+        NodeKind::Inline(_) => {
+            let Ok(()) = push_last(input, node, &mut builder.run) else {
                 return Err(BuildErr::NoMemory);
             };
         }
-        Kind::Block(style) => {
+        NodeKind::Block(style) => {
             leave_block(alloc, input, node, style, builder)?;
             builder.blocks.pop();
         }
@@ -345,20 +365,23 @@ fn leave(
 }
 
 /// A step of the walk. Nothing is gathered in an element that is passed over, up to the step out of it.
-pub(crate) fn pass(
+pub(crate) fn pass<'a>(
     alloc: Global,
-    input: &Input,
+    input: &FlowInput<'a>,
     step: Step,
-    builder: &mut Builder,
+    builder: &mut FlowBuilder<'a>,
 ) -> Result<(), BuildErr>
     requires input { IsInput input.now }
     requires node { node_of step < length input.now.dom.now }
-    requires within { IsWithin builder.old.site }
+    requires within { IsWithinRoom builder.old.site }
     requires can { CanStep (source_in input.now) (walk_in input.now.styles.now builder.old) step }
-    ensures walk { OnOk result (walk_in input.now.styles.now builder.new ≡ after_step (source_in input.now) (walk_in input.now.styles.now builder.old) step) }
-    ensures within { OnOk result (IsWithin builder.new.site) }
+    ensures walk { OnOk result (walk_in input.now.styles.now builder.new ≡
+        after_step (source_in input.now) (walk_in input.now.styles.now builder.old) step) }
+    ensures within { OnOk result (IsWithinRoom builder.new.site) }
     ensures room { OnOk result (builder.new.site.room ≡ builder.old.site.room) }
-    ensures cause { IfErr result (λ e. e ≡ BuildErr.Text → builder.old.site.room.bytes < leaf_bytes (after_step (source_in input.now) (walk_in input.now.styles.now builder.old) step).gathered.built.tree.leaves) }
+    ensures cause { IfErr result (λ e. e ≡ BuildErr.Text → builder.old.site.room.bytes <
+        leaf_bytes (after_step (source_in input.now)
+        (walk_in input.now.styles.now builder.old) step).gathered.built.tree.leaves) }
 {
     match (step, builder.unshown) {
         (Step::Enter(node), None) => enter(alloc, input, node, kind_of(input, node), builder),

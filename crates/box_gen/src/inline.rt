@@ -2,25 +2,25 @@
 
 use crate::text_style::TextStyle;
 use bk_num::ids::NodeId;
-use inline_text::space::TextPart;
+use inline_text::part::BorrowedPart;
 
-/// A text, how its white space is treated, and how it is set.
+/// A text where it stands in the document, how its white space is treated, and how it is set.
 #[derive(Drop)]
-pub struct StyledText {
-    pub part: TextPart,
+pub struct StyledText<'a> {
+    pub part: BorrowedPart<'a>,
     pub style: TextStyle,
 }
 
 /// What a run of inline text is made of: texts, and places at which inline elements begin.
 #[derive(Drop)]
-pub enum InlineItem {
-    Text(StyledText),
+pub enum InlineItem<'a> {
+    Text(StyledText<'a>),
     Start(NodeId),
 }
 
 /// An item without the letters of its text.
 #[derive(Clone, Copy)]
-pub(crate) enum Mark {
+pub(crate) enum ItemMark {
     Text(TextStyle),
     Start(NodeId),
 }

@@ -21,7 +21,7 @@ use style::values::Display;
 /// A document with its styles, its counters and its generated texts, the faces that set it, the initial style, and
 /// whether what is meant stands in a note.
 #[derive(Clone, Copy)]
-pub(crate) struct Input<'a> {
+pub(crate) struct FlowInput<'a> {
     pub(crate) dom: &'a Dom,
     pub(crate) styles: &'a Styles,
     pub(crate) counters: &'a CounterAt,
@@ -33,7 +33,7 @@ pub(crate) struct Input<'a> {
 
 /// What a node is to the flow.
 #[derive(Clone, Copy)]
-pub(crate) enum Kind<'a> {
+pub(crate) enum NodeKind<'a> {
     Text(&'a str),
     Hidden,
     Inline(&'a Style),
@@ -42,10 +42,10 @@ pub(crate) enum Kind<'a> {
 }
 
 /// The same in a note.
-pub(crate) fn within_note<'a>(input: &Input<'a>) -> Input<'a>
+pub(crate) fn within_note<'a>(input: &FlowInput<'a>) -> FlowInput<'a>
     ensures same { result ≡ record input.now { in_note = true } }
 {
-    Input {
+    FlowInput {
         in_note: true,
         ..*input
     }
@@ -68,7 +68,7 @@ fn is_block(root: bool, style: &Style) -> bool
 }
 
 /// Whether an element is one that floats to the notes, unless it is in one.
-pub(crate) fn is_note_element(input: &Input, node: NodeId) -> bool
+pub(crate) fn is_note_element(input: &FlowInput, node: NodeId) -> bool
     ensures { result ≡ spec.is_note_element (source_in input.now) node.0 }
 {
     node.0 != 0 && !input.in_note && input.styles.is_note(node)
@@ -100,31 +100,31 @@ fn shown_style(styles: &Styles, node: NodeId) -> Option<&Style>
 }
 
 /// What a node is to the flow.
-pub(crate) fn kind_of<'a>(input: &Input<'a>, node: NodeId) -> Kind<'a>
+pub(crate) fn kind_of<'a>(input: &FlowInput<'a>, node: NodeId) -> NodeKind<'a>
     requires input { IsInput input.now }
     requires node { node.0 < length input.now.dom.now }
     ensures role { role_in result ≡ spec.role_of (source_in input.now) node.0 }
     ensures range { HasRange result }
 {
     if let Some(text) = input.dom.text(node) {
-        return Kind::Text(text);
+        return NodeKind::Text(text);
     }
     match shown_style(input.styles, node) {
-        None => Kind::Hidden,
+        None => NodeKind::Hidden,
         Some(style) => {
             if is_note_element(input, node) {
-                Kind::Note(style)
+                NodeKind::Note(style)
             } else if is_block(node.0 == 0, style) {
-                Kind::Block(style)
+                NodeKind::Block(style)
             } else {
-                Kind::Inline(style)
+                NodeKind::Inline(style)
             }
         }
     }
 }
 
 /// The style of an element, or the initial one.
-pub(crate) fn style_of<'a>(input: &Input<'a>, node: NodeId) -> &'a Style
+pub(crate) fn style_of<'a>(input: &FlowInput<'a>, node: NodeId) -> &'a Style
     requires { IsInput input.now }
     ensures value { result.now ≡ element_style (source_in input.now) (Some node.0) }
     ensures range { IsInRange result.now }
@@ -136,7 +136,7 @@ pub(crate) fn style_of<'a>(input: &Input<'a>, node: NodeId) -> &'a Style
 }
 
 /// The style of the element around a node.
-pub(crate) fn style_around<'a>(input: &Input<'a>, node: NodeId) -> &'a Style
+pub(crate) fn style_around<'a>(input: &FlowInput<'a>, node: NodeId) -> &'a Style
     requires input { IsInput input.now }
     requires node { node.0 < length input.now.dom.now }
     ensures { result.now ≡ style_around (source_in input.now) node.0 }

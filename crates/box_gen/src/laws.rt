@@ -1,4 +1,5 @@
-//! A law of flows, and the flows of small documents, which show what the definitions say. Each function is empty and carries one.
+//! A law of flows, and the flows of small documents, which show what the definitions say. Each function is empty and
+//! carries one.
 
 ghost use Rattle.box_gen.specs.Elements.{ElementsHaveStarts};
 ghost use Rattle.box_gen.specs.Examples.{Collapses, PartsText};
@@ -15,8 +16,8 @@ pub fn white_space_collapses()
     ensures { Collapses }
 {}
 
-/// Law: two walks over the nodes, one of them in notes, with a stack of the open blocks each and no look ahead, build the
-/// main tree and the bodies of notes.
+/// Law: two walks over the nodes, one of them in notes, with a stack of the open blocks each and no look ahead, build
+/// the main tree and the bodies of notes.
 pub fn a_walk_builds_the_flow()
     ensures { WalkBuildsFlow }
 {}

@@ -1,25 +1,41 @@
 //! The leaves of inline text.
 
-ghost use Rattle.std.specs.Prelude.{◌≡◌, ◌<◌, ◌≤◌, ◌+◌, ◌++◌, ◌∷◌, [], length, IfOk, IfErr, OnOk, MatchOption, IfSome, string_bytes};
+ghost use Rattle.std.specs.Prelude.{◌≡◌, ◌<◌, ◌≤◌, ◌++◌, ◌∷◌, [], List, ℕ, length, IfOk, IfErr, OnOk};
 ghost use Rattle.std.specs.List.{All};
+ghost use Rattle.std.specs.Str.{IsCharBoundary};
+ghost use Rattle.inline_text.specs.Joined.{ends_from, laid_texts};
 ghost use Rattle.bk_num.specs.Limits.{most_text_bytes};
 ghost use Rattle.boxes.specs.Contents.{IsGoodLeaf, IsGoodSpan, IsNotAuto};
 ghost use Rattle.metrics.specs.Choice.{Chooses};
 ghost use Rattle.box_gen.specs.Faces.{face_of};
 ghost use Rattle.box_gen.specs.Leaves.{IsGoodRun, leaf_by, leaf_style_of};
-ghost use Rattle.box_gen.specs.Runs.{AreGoodTexts, AreTexts, joined, mark_of, marks_in, parts_in, span_between, spans_from, spans_of, starts_from, starts_of, styles_in, text_of};
+ghost use Rattle.box_gen.specs.Runs.{
+  AreGoodTexts,
+  mark_of,
+  marks_in,
+  parts_in,
+  span_between,
+  spans_from,
+  spans_of,
+  starts_from,
+  starts_of,
+  styles_in,
+  text_of,
+};
 ghost use Rattle.box_gen.specs.TextStyles.{IsGoodTextStyle};
 
-use crate::inline::{BuildErr, InlineItem, InlineStart, Mark};
+use crate::inline::{BuildErr, InlineItem, InlineStart, ItemMark};
 use crate::text_style::{TextStyle, span_by, text_style};
 use bk_num::ids::NodeId;
 use bk_num::items::{Items, Text};
 use bk_num::length::Len;
-use bk_num::name::{Name, NoMem};
+use bk_num::name::NoMem;
 use bk_num::values::Align;
 use boxes::leaf::{Leads, Leaf, Span, Spans};
+use inline_text::joined::JoinedText;
+use inline_text::part::BorrowedPart;
 use inline_text::places::opportunities;
-use inline_text::space::{TextPart, collapse};
+use inline_text::space::collapse_joined;
 use metrics::Faces;
 use std::alloc::Global;
 use style::style::Style;
@@ -44,7 +60,8 @@ pub struct LeafStyle {
 pub fn leaf_style(faces: &Faces, style: &Style) -> LeafStyle
     ensures value { result ≡ leaf_style_of style.now (face_of faces.now style.now) }
     ensures face { result.strut.face.0 < length faces.now }
-    ensures chosen { Chooses faces.now style.now.font_family style.now.font_style style.now.font_weight result.strut.face }
+    ensures chosen { Chooses faces.now style.now.font_family style.now.font_style style.now.font_weight
+        result.strut.face }
 {
     LeafStyle {
         strut: text_style(faces, style, style.white_space),
@@ -53,30 +70,33 @@ pub fn leaf_style(faces: &Faces, style: &Style) -> LeafStyle
     }
 }
 
-fn push_item(
-    parts: &mut Vec<TextPart>,
-    marks: &mut Vec<Mark>,
-    item: InlineItem,
+fn push_item<'a>(
+    parts: &mut Vec<BorrowedPart<'a>>,
+    marks: &mut Vec<ItemMark>,
+    item: InlineItem<'a>,
 ) -> Result<(), NoMem>
-    ensures parts { OnOk result (parts.new.items ≡ parts.old.items ++ parts_in (item ∷ [])) }
-    ensures marks { OnOk result (marks.new.items ≡ marks.old.items ++ mark_of item ∷ []) }
+    ensures parts { OnOk result (parts.new.items ≡ parts.old.items ++ parts_in (item.entry ∷ [])) }
+    ensures marks { OnOk result (marks.new.items ≡ marks.old.items ++ mark_of item.entry ∷ []) }
 {
     match item {
         InlineItem::Text(text) => {
             parts.push(text.part)?;
-            marks.push(Mark::Text(text.style))?;
+            marks.push(ItemMark::Text(text.style))?;
         }
         InlineItem::Start(node) => {
-            marks.push(Mark::Start(node))?;
+            marks.push(ItemMark::Start(node))?;
         }
     }
     Ok(())
 }
 
 /// The texts of a run, and the run without their letters.
-fn split(alloc: Global, items: Vec<InlineItem>) -> Result<(Vec<TextPart>, Vec<Mark>), NoMem>
-    ensures parts { IfOk result (λ r. r.0.items ≡ parts_in items.items) }
-    ensures marks { IfOk result (λ r. r.1.items ≡ marks_in items.items) }
+fn split<'a>(
+    alloc: Global,
+    items: Vec<InlineItem<'a>>,
+) -> Result<(Vec<BorrowedPart<'a>>, Vec<ItemMark>), NoMem>
+    ensures parts { IfOk result (λ r. r.0.items ≡ parts_in items.entry.items) }
+    ensures marks { IfOk result (λ r. r.1.items ≡ marks_in items.entry.items) }
 {
     let mut parts = Vec::new(alloc);
     let mut marks = Vec::new(alloc);
@@ -86,23 +106,6 @@ fn split(alloc: Global, items: Vec<InlineItem>) -> Result<(Vec<TextPart>, Vec<Ma
     Ok((parts, marks))
 }
 
-/// How many bytes texts have together, unless they have more than a number.
-fn joined_len(texts: &[Name], most: u32) -> Option<usize>
-    ensures len { MatchOption result (most < length (joined texts.now)) (λ n. n ≡ length (joined texts.now)) }
-    ensures few { IfSome result (λ n. n ≤ most) }
-    ensures utf8 { IfSome result (λ n. AreTexts texts.now) }
-{
-    let mut room = most as usize;
-    for text in texts {
-        let len = text.as_str().len();
-        if len > room {
-            return None;
-        }
-        room -= len;
-    }
-    Some(most as usize - room)
-}
-
 /// Adds a span, unless it is empty.
 fn push_span(spans: &mut Vec<Span>, style: &TextStyle, from: u32, to: u32) -> Result<(), NoMem>
     ensures { OnOk result (spans.new.items ≡ spans.old.items ++ span_between style.now from to) }
@@ -110,25 +113,6 @@ fn push_span(spans: &mut Vec<Span>, style: &TextStyle, from: u32, to: u32) -> Re
     if from < to {
         spans.push(span_by(style, from, to))?;
     }
-    Ok(())
-}
-
-/// Adds a text and its span.
-fn push_text(
-    text: &mut String,
-    spans: &mut Vec<Span>,
-    style: &TextStyle,
-    more: &str,
-) -> Result<(), NoMem>
-    requires short { length (string_bytes text.old) + length more.now ≤ most_text_bytes }
-    ensures text { OnOk result (string_bytes text.new ≡ string_bytes text.old ++ more.now) }
-    ensures spans { OnOk result (spans.new.items ≡ spans.old.items ++
-        span_between style.now (length (string_bytes text.old)) (length (string_bytes text.old) + length more.now)) }
-{
-    let from = text.len() as u32;
-    text.push_str(more)?;
-    let to = text.len() as u32;
-    push_span(spans, style, from, to)?;
     Ok(())
 }
 
@@ -143,46 +127,52 @@ fn push_start(starts: &mut Vec<InlineStart>, node: NodeId, offset: usize) -> Res
     Ok(())
 }
 
-/// Puts texts one after the other, with their spans, and notes where elements begin.
+/// Adds the spans of texts that stand one after the other and end at some offsets, and notes where elements begin
+/// among them.
 fn fill(
-    marks: &[Mark],
-    texts: &[Name],
-    text: &mut String,
+    marks: &[ItemMark],
+    ends: &[usize],
     spans: &mut Vec<Span>,
     starts: &mut Vec<InlineStart>,
 ) -> Result<(), NoMem>
-    requires each { length texts.now ≡ length (styles_in marks.now) }
-    requires short { length (string_bytes text.old) + length (joined texts.now) ≤ most_text_bytes }
-    ensures text { OnOk result (string_bytes text.new ≡ string_bytes text.old ++ joined texts.now) }
-    ensures spans { OnOk result (spans.new.items ≡ spans.old.items ++
-        spans_from (length (string_bytes text.old)) (styles_in marks.now) texts.now) }
-    ensures starts { OnOk result (starts.new.items ≡ starts.old.items ++ starts_from (length (string_bytes text.old)) marks.now texts.now) }
+    requires each { length ends.now ≡ length (styles_in marks.now) }
+    requires short { All (λ e. e ≤ most_text_bytes) ends.now }
+    ensures spans { (texts : List (List ℕ)) → ends.now ≡ ends_from 0 texts →
+        OnOk result (spans.new.items ≡ spans.old.items ++ spans_from 0 (styles_in marks.now) texts) }
+    ensures starts { (texts : List (List ℕ)) → ends.now ≡ ends_from 0 texts →
+        OnOk result (starts.new.items ≡ starts.old.items ++ starts_from 0 marks.now texts) }
 {
     let mut next = 0;
+    let mut at = 0;
     for mark in marks {
         match mark {
-            Mark::Text(style) => {
-                push_text(text, spans, style, texts[next].as_str())?;
+            ItemMark::Text(style) => {
+                let to = ends[next];
+                push_span(spans, style, at as u32, to as u32)?;
+                at = to;
                 next += 1;
             }
-            Mark::Start(node) => push_start(starts, *node, text.len())?,
+            ItemMark::Start(node) => push_start(starts, *node, at)?,
         }
     }
     Ok(())
 }
 
-/// The text of a run whose printed texts are given, with room for as many bytes from the start.
-fn joined_run(alloc: Global, marks: &[Mark], texts: &[Name], room: usize) -> Result<RunText, NoMem>
-    requires each { length texts.now ≡ length (styles_in marks.now) }
-    requires short { length (joined texts.now) ≤ most_text_bytes }
-    ensures text { IfOk result (λ run. run.text ≡ joined texts.now) }
-    ensures spans { IfOk result (λ run. run.spans ≡ spans_from 0 (styles_in marks.now) texts.now) }
-    ensures starts { IfOk result (λ run. run.starts ≡ starts_from 0 marks.now texts.now) }
+/// The text of a run whose texts are joined.
+fn marked_run(alloc: Global, marks: &[ItemMark], joined: JoinedText) -> Result<RunText, NoMem>
+    requires each { length joined.ends ≡ length (styles_in marks.now) }
+    requires short { length joined.bytes ≤ most_text_bytes }
+    ensures text { IfOk result (λ run. run.text ≡ joined.bytes) }
+    ensures spans { (texts : List (List ℕ)) → joined ≡ laid_texts texts →
+        IfOk result (λ run. run.spans ≡ spans_from 0 (styles_in marks.now) texts) }
+    ensures starts { (texts : List (List ℕ)) → joined ≡ laid_texts texts →
+        IfOk result (λ run. run.starts ≡ starts_from 0 marks.now texts) }
+    ensures stand { All (IsCharBoundary joined.bytes) joined.ends }
 {
-    let mut text = String::with_capacity(alloc, room)?;
+    let (text, ends) = joined.into_parts();
     let mut spans = Vec::new(alloc);
     let mut starts = Vec::new(alloc);
-    fill(marks, texts, &mut text, &mut spans, &mut starts)?;
+    fill(marks, &ends, &mut spans, &mut starts)?;
     Ok(RunText {
         text: Text::of(text),
         spans: Items::of(spans),
@@ -192,7 +182,7 @@ fn joined_run(alloc: Global, marks: &[Mark], texts: &[Name], room: usize) -> Res
 
 /// The text of a run with its white space collapsed, its spans, and where its elements begin.
 ///
-/// Each character is passed once by `collapse`, and what is left of it is copied once.
+/// Each character is passed once, and what is left of it is copied once, from where it stands in the document.
 ///
 /// # Errors
 ///
@@ -200,24 +190,24 @@ fn joined_run(alloc: Global, marks: &[Mark], texts: &[Name], room: usize) -> Res
 #[tactic(auto, unfolding(crate::specs::Runs::text_of, crate::specs::Runs::spans_of, crate::specs::Runs::starts_of))]
 pub fn run_text(alloc: Global, items: Vec<InlineItem>, most: u32) -> Result<RunText, BuildErr>
     requires { most ≤ most_text_bytes }
-    ensures text { IfOk result (λ run. run.text ≡ text_of items.items) }
-    ensures spans { IfOk result (λ run. run.spans ≡ spans_of items.items) }
-    ensures starts { IfOk result (λ run. run.starts ≡ starts_of items.items) }
+    ensures text { IfOk result (λ run. run.text ≡ text_of items.entry.items) }
+    ensures spans { IfOk result (λ run. run.spans ≡ spans_of items.entry.items) }
+    ensures starts { IfOk result (λ run. run.starts ≡ starts_of items.entry.items) }
     ensures good { IfOk result (λ run. IsGoodRun run) }
-    ensures sizes { AreGoodTexts items.items → IfOk result (λ run. All IsGoodSpan run.spans) }
+    ensures sizes { AreGoodTexts items.entry.items → IfOk result (λ run. All IsGoodSpan run.spans) }
     ensures most { IfOk result (λ run. length run.text ≤ most) }
-    ensures cause { IfErr result (λ e. e ≡ BuildErr.Text → most < length (text_of items.items)) }
+    ensures cause { IfErr result (λ e. e ≡ BuildErr.Text → most < length (text_of items.entry.items)) }
 {
     let Ok((parts, marks)) = split(alloc, items) else {
         return Err(BuildErr::NoMemory);
     };
-    let Ok(texts) = collapse(alloc, &parts) else {
+    let Ok(joined) = collapse_joined(alloc, &parts) else {
         return Err(BuildErr::NoMemory);
     };
-    let Some(len) = joined_len(texts.as_slice(), most) else {
+    if joined.text().len() > most as usize {
         return Err(BuildErr::Text);
-    };
-    match joined_run(alloc, &marks, texts.as_slice(), len) {
+    }
+    match marked_run(alloc, &marks, joined) {
         Ok(run) => Ok(run),
         Err(_) => Err(BuildErr::NoMemory),
     }

@@ -16,8 +16,8 @@ use std::alloc::Global;
 use style::style::Style;
 use style::values::Display;
 
-/// Whether an element, the root or another one, has a marker: a list item that doesn't float to the notes, and isn't the root, which is a
-/// block.
+/// Whether an element, the root or another one, has a marker: a list item that doesn't float to the notes, and isn't
+/// the root, which is a block.
 pub fn has_marker(root: bool, style: &Style) -> bool
     ensures { result ≡ spec.has_marker root style.now }
 {

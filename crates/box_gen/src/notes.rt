@@ -29,20 +29,20 @@ ghost use Rattle.box_gen.specs.Bodies as bodies;
 ghost use Rattle.box_gen.specs.Bodies.{CanInNote, CanNotes, after_both, note_begun, note_ended, noted, notes_after, outside};
 ghost use Rattle.box_gen.specs.Flow.{bodies_of, built_of, last_items, note_root};
 ghost use Rattle.box_gen.specs.Gather.{adds};
-ghost use Rattle.box_gen.specs.Sites.{IsWithin, built_in, leaf_bytes};
+ghost use Rattle.box_gen.specs.Sites.{IsWithinRoom, built_in, leaf_bytes};
 ghost use Rattle.box_gen.specs.Sources.{IsInput, IsInRange, source_in};
 ghost use Rattle.box_gen.specs.Steps.{CanEnd, CanStep, walk_in};
 ghost use Rattle.box_gen.specs.Trees.{in_note};
 ghost use Rattle.box_gen.specs.Walk as walk;
 ghost use Rattle.box_gen.specs.Walk.{after_step};
-ghost use Rattle.box_gen.specs.Walkers.{AreShared, IsBody, IsSound, all_bytes, bodies_bytes, body_bytes_after, body_in, over_in, walks_in};
+ghost use Rattle.box_gen.specs.Walkers.{AreShared, IsBody, AreSoundWalks, all_bytes, bodies_bytes, body_bytes_after, body_in, over_in, walks_in};
 
-use crate::builder::{Builder, innermost, leave_block, new_builder, new_site, pass};
+use crate::builder::{FlowBuilder, innermost, leave_block, new_builder, new_site, pass};
 use crate::inline::BuildErr;
-use crate::input::{Input, Kind, kind_of, within_note};
+use crate::input::{FlowInput, NodeKind, kind_of, within_note};
 use crate::pieces::push_note_first;
 use crate::props::props_of;
-use crate::put::{Room, Site, has_room, start_at};
+use crate::put::{Site, TreeRoom, has_room, start_at};
 use bk_num::ids::NodeId;
 use bk_num::limits::{MOST_EVENTS, MOST_TEXT_BYTES};
 use bk_num::name::NoMem;
@@ -52,32 +52,32 @@ use style::style::Style;
 
 /// The walk over the main tree, that in the body of the note it passes over, and the bodies of the notes before it.
 #[derive(Drop)]
-pub(crate) struct Walker {
-    pub(crate) main: Builder,
-    pub(crate) body: Option<Builder>,
+pub(crate) struct Walker<'a> {
+    pub(crate) main: FlowBuilder<'a>,
+    pub(crate) body: Option<FlowBuilder<'a>>,
     pub(crate) bodies: Vec<Site>,
 }
 
 /// What a tree leaves of its room.
-fn room_after(site: &Site) -> Room
-    requires { IsWithin site.now }
+fn room_after(site: &Site) -> TreeRoom
+    requires { IsWithinRoom site.now }
     ensures bytes { result.bytes + site.now.bytes ≡ site.now.room.bytes }
     ensures events { result.events + length site.now.tree.events ≡ site.now.room.events }
 {
-    Room {
+    TreeRoom {
         bytes: site.room.bytes - site.bytes,
         events: site.room.events - site.tree.count(),
     }
 }
 
 /// The root of a note: the box of its element, which hangs no marker.
-fn note_site(alloc: Global, node: NodeId, style: &Style, room: Room) -> Result<Site, NoMem>
+fn note_site(alloc: Global, node: NodeId, style: &Style, room: TreeRoom) -> Result<Site, NoMem>
     requires range { IsInRange style.now }
     requires bytes { room.bytes ≤ most_text_bytes }
     requires events { room.events ≤ most_events }
     requires some { 0 < room.events }
     ensures built { IfOk result (λ site. built_in site ≡ note_root node.0 style.now) }
-    ensures within { IfOk result (λ site. IsWithin site) }
+    ensures within { IfOk result (λ site. IsWithinRoom site) }
     ensures room { IfOk result (λ site. site.room ≡ room) }
 {
     let mut site = new_site(alloc, room);
@@ -87,29 +87,30 @@ fn note_site(alloc: Global, node: NodeId, style: &Style, room: Room) -> Result<S
 }
 
 /// The walk in a note begins.
-fn note_builder(
+fn note_builder<'a>(
     alloc: Global,
-    input: &Input,
+    input: &FlowInput<'a>,
     node: NodeId,
     style: &Style,
-    room: Room,
-) -> Result<Builder, NoMem>
+    room: TreeRoom,
+) -> Result<FlowBuilder<'a>, NoMem>
     requires node { node.0 < length input.now.dom.now }
     requires own { style_at input.now.styles.now node.0 pseudo.Element ≡ Some style.now }
     requires range { IsInRange style.now }
     requires bytes { room.bytes ≤ most_text_bytes }
     requires events { room.events ≤ most_events }
     requires some { 0 < room.events }
-    ensures walk { IfOk result (λ b. walk_in input.now.styles.now b ≡ note_begun (source_in input.now) node.0 style.now) }
-    ensures within { IfOk result (λ b. IsWithin b.site) }
+    ensures walk { IfOk result (λ b. walk_in input.now.styles.now b ≡
+        note_begun (source_in input.now) node.0 style.now) }
+    ensures within { IfOk result (λ b. IsWithinRoom b.site) }
     ensures room { IfOk result (λ b. b.site.room ≡ room) }
 {
     let site = note_site(alloc, node, style, room)?;
     let mut run = Vec::new(alloc);
-    push_note_first(alloc, input, node, style, &mut run)?;
+    push_note_first(input, node, style, &mut run)?;
     let mut blocks = Vec::new(alloc);
     blocks.push(node)?;
-    Ok(Builder {
+    Ok(FlowBuilder {
         site,
         run,
         blocks,
@@ -118,20 +119,21 @@ fn note_builder(
 }
 
 /// Begins a note, where the main tree leaves room.
-fn begin_note(
+fn begin_note<'a>(
     alloc: Global,
-    input: &Input,
+    input: &FlowInput<'a>,
     node: NodeId,
     style: &Style,
     main: &Site,
-) -> Result<Builder, BuildErr>
+) -> Result<FlowBuilder<'a>, BuildErr>
     requires input { IsInput input.now }
     requires node { node.0 < length input.now.dom.now }
     requires own { style_at input.now.styles.now node.0 pseudo.Element ≡ Some style.now }
     requires range { IsInRange style.now }
-    requires within { IsWithin main.now }
-    ensures walk { IfOk result (λ b. walk_in input.now.styles.now b ≡ note_begun (in_note (source_in input.now)) node.0 style.now) }
-    ensures within { IfOk result (λ b. IsWithin b.site) }
+    requires within { IsWithinRoom main.now }
+    ensures walk { IfOk result (λ b. walk_in input.now.styles.now b ≡
+        note_begun (in_note (source_in input.now)) node.0 style.now) }
+    ensures within { IfOk result (λ b. IsWithinRoom b.site) }
     ensures bytes { IfOk result (λ b. b.site.room.bytes + main.now.bytes ≡ main.now.room.bytes) }
     ensures events { IfOk result (λ b. b.site.room.events + length main.now.tree.events ≡ main.now.room.events) }
     ensures cause { IfErr result (λ e. e ≡ BuildErr.NoMemory) }
@@ -147,30 +149,32 @@ fn begin_note(
 }
 
 /// A step outside notes, and the body of the note that it begins.
-fn pass_outside(
+fn pass_outside<'a>(
     alloc: Global,
-    input: &Input,
+    input: &FlowInput<'a>,
     step: Step,
-    main: &mut Builder,
-) -> Result<Option<Builder>, BuildErr>
+    main: &mut FlowBuilder<'a>,
+) -> Result<Option<FlowBuilder<'a>>, BuildErr>
     requires input { IsInput input.now }
     requires node { node_of step < length input.now.dom.now }
-    requires within { IsWithin main.old.site }
+    requires within { IsWithinRoom main.old.site }
     requires can { CanStep (source_in input.now) (walk_in input.now.styles.now main.old) step }
     ensures walk { OnOk result (walk_in input.now.styles.now main.new ≡
         after_step (source_in input.now) (walk_in input.now.styles.now main.old) step) }
-    ensures body { IfOk result (λ b. body_in input.now.styles.now b ≡ outside (source_in input.now) (over_in main.old) step) }
-    ensures within { OnOk result (IsWithin main.new.site) }
+    ensures body { IfOk result (λ b. body_in input.now.styles.now b ≡
+        outside (source_in input.now) (over_in main.old) step) }
+    ensures within { OnOk result (IsWithinRoom main.new.site) }
     ensures room { OnOk result (main.new.site.room ≡ main.old.site.room) }
     ensures sound { IfOk result (λ b. ForSome b (IsBody main.new)) }
     ensures cause { IfErr result (λ e. e ≡ BuildErr.Text → main.old.site.room.bytes <
-        leaf_bytes (after_step (source_in input.now) (walk_in input.now.styles.now main.old) step).gathered.built.tree.leaves) }
+        leaf_bytes (after_step (source_in input.now)
+        (walk_in input.now.styles.now main.old) step).gathered.built.tree.leaves) }
 {
     let over = main.unshown;
     pass(alloc, input, step, main)?;
     match (step, over) {
         (Step::Enter(node), None) => match kind_of(input, node) {
-            Kind::Note(style) => Ok(Some(begin_note(alloc, input, node, style, &main.site)?)),
+            NodeKind::Note(style) => Ok(Some(begin_note(alloc, input, node, style, &main.site)?)),
             _ => Ok(None),
         },
         _ => Ok(None),
@@ -188,17 +192,24 @@ fn is_end(step: Step, over: Option<NodeId>) -> bool
 }
 
 /// Ends a note: its last run is put, and its root closed.
-fn end_note(alloc: Global, input: &Input, node: NodeId, body: Builder) -> Result<Site, BuildErr>
+fn end_note<'a>(
+    alloc: Global,
+    input: &FlowInput<'a>,
+    node: NodeId,
+    body: FlowBuilder<'a>,
+) -> Result<Site, BuildErr>
     requires input { IsInput input.now }
-    requires within { IsWithin body.site }
-    requires can { CanEnd (in_note (source_in input.now)) (walk.innermost (walk_in input.now.styles.now body).blocks) (adds (last_items
+    requires within { IsWithinRoom body.site }
+    requires can { CanEnd (in_note (source_in input.now)) (walk.innermost (walk_in input.now.styles.now body).blocks)
+        (adds (last_items
         (in_note (source_in input.now)) node.0) (walk_in input.now.styles.now body).gathered) }
     ensures built { IfOk result (λ site. built_in site ≡
-        note_ended (in_note (source_in input.now)) node.0 (walk_in input.now.styles.now body)) }
-    ensures within { IfOk result (λ site. IsWithin site) }
-    ensures room { IfOk result (λ site. site.room ≡ body.site.room) }
-    ensures cause { IfErr result (λ e. e ≡ BuildErr.Text → body.site.room.bytes <
-        leaf_bytes (note_ended (in_note (source_in input.now)) node.0 (walk_in input.now.styles.now body)).tree.leaves) }
+        note_ended (in_note (source_in input.now)) node.0 (walk_in input.now.styles.now body.entry)) }
+    ensures within { IfOk result (λ site. IsWithinRoom site) }
+    ensures room { IfOk result (λ site. site.room ≡ body.entry.site.room) }
+    ensures cause { IfErr result (λ e. e ≡ BuildErr.Text → body.entry.site.room.bytes <
+        leaf_bytes (note_ended (in_note (source_in input.now)) node.0
+        (walk_in input.now.styles.now body.entry)).tree.leaves) }
 {
     let mut body = body;
     let style = innermost(input, &body.blocks);
@@ -207,9 +218,9 @@ fn end_note(alloc: Global, input: &Input, node: NodeId, body: Builder) -> Result
 }
 
 /// Keeps the body of a note that has ended: the main tree's room is less by it.
-fn keep_body(site: Site, main: &mut Builder, bodies: &mut Vec<Site>) -> Result<(), NoMem>
+fn keep_body(site: Site, main: &mut FlowBuilder, bodies: &mut Vec<Site>) -> Result<(), NoMem>
     requires shared { AreShared main.old.site bodies.old.items }
-    requires within { IsWithin site }
+    requires within { IsWithinRoom site }
     requires bytes { site.room.bytes + main.old.site.bytes ≡ main.old.site.room.bytes }
     requires events { site.room.events + length main.old.site.tree.events ≡ main.old.site.room.events }
     ensures shared { OnOk result (AreShared main.new.site bodies.new.items) }
@@ -236,12 +247,12 @@ fn node_in(step: Step) -> NodeId
 }
 
 /// The step out of a note: its body is kept, and the walk over the main tree goes on.
-fn end_inside(
+fn end_inside<'a>(
     alloc: Global,
-    input: &Input,
+    input: &FlowInput<'a>,
     step: Step,
-    body: Builder,
-    main: &mut Builder,
+    body: FlowBuilder<'a>,
+    main: &mut FlowBuilder<'a>,
     bodies: &mut Vec<Site>,
 ) -> Result<(), BuildErr>
     requires input { IsInput input.now }
@@ -249,12 +260,14 @@ fn end_inside(
     requires body { IsBody main.old body }
     requires can { CanInNote (in_note (source_in input.now)) (walk_in input.now.styles.now body) step true }
     ensures main { OnOk result (walk_in input.now.styles.now main.new ≡
-        walk.walk (walk_in input.now.styles.now main.old).gathered (walk_in input.now.styles.now main.old).blocks None) }
+        walk.walk (walk_in input.now.styles.now main.old).gathered
+        (walk_in input.now.styles.now main.old).blocks None) }
     ensures bodies { OnOk result (map built_in bodies.new.items ≡ map built_in bodies.old.items ++
-        note_ended (in_note (source_in input.now)) (node_of step) (walk_in input.now.styles.now body) ∷ []) }
+        note_ended (in_note (source_in input.now)) (node_of step) (walk_in input.now.styles.now body.entry) ∷ []) }
     ensures shared { OnOk result (AreShared main.new.site bodies.new.items) }
-    ensures cause { IfErr result (λ e. e ≡ BuildErr.Text → body.site.room.bytes <
-        leaf_bytes (note_ended (in_note (source_in input.now)) (node_of step) (walk_in input.now.styles.now body)).tree.leaves) }
+    ensures cause { IfErr result (λ e. e ≡ BuildErr.Text → body.entry.site.room.bytes <
+        leaf_bytes (note_ended (in_note (source_in input.now)) (node_of step)
+        (walk_in input.now.styles.now body.entry)).tree.leaves) }
 {
     let site = end_note(alloc, input, node_in(step), body)?;
     let Ok(()) = keep_body(site, main, bodies) else {
@@ -264,30 +277,36 @@ fn end_inside(
 }
 
 /// A step in a note that doesn't end it.
-fn pass_body(alloc: Global, input: &Input, step: Step, body: &mut Builder) -> Result<(), BuildErr>
+fn pass_body<'a>(
+    alloc: Global,
+    input: &FlowInput<'a>,
+    step: Step,
+    body: &mut FlowBuilder<'a>,
+) -> Result<(), BuildErr>
     requires input { IsInput input.now }
     requires node { node_of step < length input.now.dom.now }
-    requires within { IsWithin body.old.site }
+    requires within { IsWithinRoom body.old.site }
     requires can { CanInNote (in_note (source_in input.now)) (walk_in input.now.styles.now body.old) step false }
     ensures walk { OnOk result (walk_in input.now.styles.now body.new ≡
         after_step (in_note (source_in input.now)) (walk_in input.now.styles.now body.old) step) }
-    ensures within { OnOk result (IsWithin body.new.site) }
+    ensures within { OnOk result (IsWithinRoom body.new.site) }
     ensures room { OnOk result (body.new.site.room ≡ body.old.site.room) }
     ensures cause { IfErr result (λ e. e ≡ BuildErr.Text → body.old.site.room.bytes <
-        leaf_bytes (after_step (in_note (source_in input.now)) (walk_in input.now.styles.now body.old) step).gathered.built.tree.leaves) }
+        leaf_bytes (after_step (in_note (source_in input.now))
+        (walk_in input.now.styles.now body.old) step).gathered.built.tree.leaves) }
 {
     pass(alloc, &within_note(input), step, body)
 }
 
 /// A step in a note, and its body as long as it lasts.
-fn pass_inside(
+fn pass_inside<'a>(
     alloc: Global,
-    input: &Input,
+    input: &FlowInput<'a>,
     step: Step,
-    body: Builder,
-    main: &mut Builder,
+    body: FlowBuilder<'a>,
+    main: &mut FlowBuilder<'a>,
     bodies: &mut Vec<Site>,
-) -> Result<Option<Builder>, BuildErr>
+) -> Result<Option<FlowBuilder<'a>>, BuildErr>
     requires input { IsInput input.now }
     requires node { node_of step < length input.now.dom.now }
     requires shared { AreShared main.old.site bodies.old.items }
@@ -296,12 +315,13 @@ fn pass_inside(
     ensures main { OnOk result (walk_in input.now.styles.now main.new ≡
         after_step (source_in input.now) (walk_in input.now.styles.now main.old) step) }
     ensures notes { IfOk result (λ b. noted (body_in input.now.styles.now b) (map built_in bodies.new.items) ≡
-        notes_after (source_in input.now) (over_in main.old) (Some (walk_in input.now.styles.now body)) (map built_in bodies.old.items)
+        notes_after (source_in input.now) (over_in main.old) (Some (walk_in input.now.styles.now body.entry))
+        (map built_in bodies.old.items)
         step) }
     ensures shared { OnOk result (AreShared main.new.site bodies.new.items) }
     ensures sound { IfOk result (λ b. ForSome b (IsBody main.new)) }
-    ensures cause { IfErr result (λ e. e ≡ BuildErr.Text → body.site.room.bytes <
-        body_bytes_after (source_in input.now) (over_in main.old) (walk_in input.now.styles.now body) step) }
+    ensures cause { IfErr result (λ e. e ≡ BuildErr.Text → body.entry.site.room.bytes <
+        body_bytes_after (source_in input.now) (over_in main.old) (walk_in input.now.styles.now body.entry) step) }
 {
     if is_end(step, main.unshown) {
         end_inside(alloc, input, step, body, main, bodies)?;
@@ -313,15 +333,21 @@ fn pass_inside(
 }
 
 /// A step of the walks over a document.
-fn pass_all(alloc: Global, input: &Input, step: Step, walker: &mut Walker) -> Result<(), BuildErr>
+fn pass_all<'a>(
+    alloc: Global,
+    input: &FlowInput<'a>,
+    step: Step,
+    walker: &mut Walker<'a>,
+) -> Result<(), BuildErr>
     requires input { IsInput input.now }
     requires node { node_of step < length input.now.dom.now }
-    requires sound { IsSound walker.old }
+    requires sound { AreSoundWalks walker.old }
     requires can { CanStep (source_in input.now) (walk_in input.now.styles.now walker.old.main) step }
-    requires notes { CanNotes (source_in input.now) (over_in walker.old.main) (body_in input.now.styles.now walker.old.body) step }
+    requires notes { CanNotes (source_in input.now) (over_in walker.old.main)
+        (body_in input.now.styles.now walker.old.body) step }
     ensures walks { OnOk result (walks_in input.now.styles.now walker.new ≡
         after_both (source_in input.now) (walks_in input.now.styles.now walker.old) step) }
-    ensures sound { OnOk result (IsSound walker.new) }
+    ensures sound { OnOk result (AreSoundWalks walker.new) }
     ensures cause { IfErr result (λ e. e ≡ BuildErr.Text → most_text_bytes <
         all_bytes (after_both (source_in input.now) (walks_in input.now.styles.now walker.old) step)) }
 {
@@ -334,11 +360,11 @@ fn pass_all(alloc: Global, input: &Input, step: Step, walker: &mut Walker) -> Re
 }
 
 /// The walks before the first step.
-fn new_walker(alloc: Global) -> Walker
+fn new_walker<'a>(alloc: Global) -> Walker<'a>
     ensures walks { (styles : List NodeStyles) → walks_in styles result ≡ bodies.walks_start }
-    ensures sound { IsSound result }
+    ensures sound { AreSoundWalks result }
 {
-    let room = Room {
+    let room = TreeRoom {
         bytes: MOST_TEXT_BYTES as u32,
         events: MOST_EVENTS,
     };
@@ -350,7 +376,7 @@ fn new_walker(alloc: Global) -> Walker
 }
 
 /// The whole walk.
-pub(crate) fn walk_through(alloc: Global, input: &Input) -> Result<Walker, BuildErr>
+pub(crate) fn walk_through<'a>(alloc: Global, input: &FlowInput<'a>) -> Result<Walker<'a>, BuildErr>
     requires input { IsInput input.now }
     ensures main { IfOk result (λ w. built_of (source_in input.now) ≡ built_in w.main.site) }
     ensures bodies { IfOk result (λ w. map built_in w.bodies.items ≡ bodies_of (source_in input.now)) }

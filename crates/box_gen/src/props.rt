@@ -15,24 +15,9 @@ pub fn props_of(style: &Style, node: NodeId) -> BoxProps
     ensures { result ≡ props_of style.now node.0 }
 {
     BoxProps {
-        margin: [
-            style.margin_top,
-            style.margin_right,
-            style.margin_bottom,
-            style.margin_left,
-        ],
-        border: [
-            style.border_top_width,
-            style.border_right_width,
-            style.border_bottom_width,
-            style.border_left_width,
-        ],
-        padding: [
-            style.padding_top,
-            style.padding_right,
-            style.padding_bottom,
-            style.padding_left,
-        ],
+        margin: style.margins().array(),
+        border: style.border_widths().array(),
+        padding: style.paddings().array(),
         width: style.width,
         before: style.break_before,
         after: style.break_after,
@@ -41,12 +26,7 @@ pub fn props_of(style: &Style, node: NodeId) -> BoxProps
         orphans: style.orphans,
         name: style.page,
         background: style.background_color,
-        colors: [
-            style.border_top_color,
-            style.border_right_color,
-            style.border_bottom_color,
-            style.border_left_color,
-        ],
+        colors: style.border_colors().array(),
         node: Some(node),
     }
 }

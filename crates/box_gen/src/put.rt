@@ -3,7 +3,7 @@
 ghost use Rattle.std.specs.Prelude.{◌≡◌, suc, ◌+◌, ◌<◌, ◌≤◌, ◌++◌, length, OnOk, IfErr, IsTrue, if◌then◌else◌};
 ghost use Rattle.std.specs.List.{All};
 ghost use Rattle.bk_num.specs.Limits.{most_text_bytes};
-ghost use Rattle.boxes.specs.Contents.{IsGoodBox, IsGoodLeaf, IsGoodSpan, IsNotAuto};
+ghost use Rattle.boxes.specs.Contents.{IsGoodBox, IsGoodLeaf, IsGoodSpan};
 ghost use Rattle.boxes.specs.Tree.{HaveOwners, takes_box, takes_leaf, with_box, with_leaf};
 ghost use Rattle.box_gen.specs.Faces.{face_of};
 ghost use Rattle.box_gen.specs.Flow as spec;
@@ -11,12 +11,11 @@ ghost use Rattle.box_gen.specs.Flow.{put, shut, starts_by};
 ghost use Rattle.box_gen.specs.Leaves.{IsGoodRun, leaf_style_of};
 ghost use Rattle.box_gen.specs.Props as props;
 ghost use Rattle.box_gen.specs.Runs.{AreGoodTexts};
-ghost use Rattle.box_gen.specs.Sites.{IsCounted, IsWithin, built_in, leaf_bytes, with_any, with_text};
+ghost use Rattle.box_gen.specs.Sites.{IsCounted, IsWithinRoom, TakesRun, built_in, leaf_bytes, with_any, with_text};
 ghost use Rattle.box_gen.specs.Sources.{IsInRange};
-ghost use Rattle.box_gen.specs.TextStyles.{IsGoodTextStyle};
 
 use crate::inline::{BuildErr, InlineItem, InlineStart};
-use crate::leaf::{LeafStyle, RunText, leaf_of, leaf_style, run_text};
+use crate::leaf::{RunText, leaf_of, leaf_style, run_text};
 use crate::props::anonymous_props;
 use bk_num::ids::NodeId;
 use bk_num::items::Items;
@@ -32,7 +31,7 @@ use style::style::Style;
 
 /// How many bytes the leaves of a tree may have, and how many events the tree: what the other trees of the flow leave.
 #[derive(Clone, Copy)]
-pub(crate) struct Room {
+pub(crate) struct TreeRoom {
     pub(crate) bytes: u32,
     pub(crate) events: u32,
 }
@@ -45,13 +44,13 @@ pub(crate) struct Site {
     pub(crate) starts: Vec<Start>,
     pub(crate) pending: Vec<Lead>,
     pub(crate) bytes: u32,
-    pub(crate) room: Room,
+    pub(crate) room: TreeRoom,
 }
 
 /// Whether a step may add its events, of which there are four at most. It always may: a document of 400,000 nodes
 /// has fewer than 800,000 steps.
 pub(crate) fn has_room(site: &Site) -> bool
-    requires { IsWithin site.now }
+    requires { IsWithinRoom site.now }
     ensures few { IsTrue result → length site.now.tree.events < 7999990 }
     ensures room { IsTrue result → length site.now.tree.events + 10 < site.now.room.events }
 {
@@ -100,7 +99,8 @@ fn put_leaf(tree: &mut BoxTree, wrap: bool, anonymous: BoxProps, leaf: Leaf) -> 
     requires boxed { IsGoodBox anonymous }
     requires good { IsGoodLeaf leaf }
     requires owners { HaveOwners tree.old.events leaf.leads }
-    ensures { OnOk result (tree.new ≡ (if wrap then shut (with_leaf (with_box tree.old anonymous) leaf) else with_leaf tree.old leaf)) }
+    ensures { OnOk result (tree.new ≡
+        (if wrap then shut (with_leaf (with_box tree.old anonymous) leaf) else with_leaf tree.old leaf)) }
 {
     if wrap {
         put_wrapped(tree, anonymous, leaf)
@@ -118,39 +118,8 @@ fn leaf_event(tree: &BoxTree, wrap: bool) -> u32
     if wrap { tree.count() + 1 } else { tree.count() }
 }
 
-/// Puts a text that isn't empty: a leaf, which takes the markers that wait.
+/// Puts a text that isn't empty into a block of a style: a leaf, which takes the markers that wait.
 fn put_some(
-    alloc: Global,
-    site: &mut Site,
-    wrap: bool,
-    look: &LeafStyle,
-    anonymous: BoxProps,
-    run: RunText,
-) -> Result<(), NoMem>
-    requires some { 0 < length run.text }
-    requires good { IsGoodRun run }
-    requires sizes { All IsGoodSpan run.spans }
-    requires strut { IsGoodTextStyle look.now.strut }
-    requires indent { IsNotAuto look.now.indent }
-    requires boxed { IsGoodBox anonymous }
-    requires few { length site.old.tree.events < 7999990 }
-    requires place { IsTrue (if wrap then takes_box site.old.tree.events else takes_leaf site.old.tree.events) }
-    requires owners { HaveOwners site.old.tree.events site.old.pending.items }
-    requires leads { All (λ lead. IsGoodSpan lead.span) site.old.pending.items }
-    ensures built { OnOk result (built_in site.new ≡ with_text wrap look.now anonymous (built_in site.old) run.text run.spans run.starts) }
-    ensures bytes { OnOk result (site.new.bytes ≡ site.old.bytes) }
-    ensures room { OnOk result (site.new.room ≡ site.old.room) }
-{
-    let event = leaf_event(&site.tree, wrap);
-    push_starts(&mut site.starts, event, run.starts.as_slice())?;
-    let leads = std::mem::replace(&mut site.pending, Vec::new(alloc));
-    let leaf = leaf_of(alloc, run, look, Items::of(leads))?;
-    put_leaf(&mut site.tree, wrap, anonymous, leaf)?;
-    Ok(())
-}
-
-/// Puts a text that isn't empty into a block of a style.
-fn put_styled(
     alloc: Global,
     faces: &Faces,
     style: &Style,
@@ -162,19 +131,23 @@ fn put_styled(
     requires range { IsInRange style.now }
     requires good { IsGoodRun run }
     requires sizes { All IsGoodSpan run.spans }
-    requires few { length site.old.tree.events < 7999990 }
-    requires place { IsTrue (if wrap then takes_box site.old.tree.events else takes_leaf site.old.tree.events) }
-    requires owners { HaveOwners site.old.tree.events site.old.pending.items }
-    requires leads { All (λ lead. IsGoodSpan lead.span) site.old.pending.items }
-    ensures built { OnOk result (built_in site.new ≡ with_text wrap (leaf_style_of style.now (face_of faces.now style.now)) (props.anonymous_props style.now) (built_in site.old) run.text run.spans run.starts) }
+    requires takes { TakesRun wrap site.old }
+    ensures built { OnOk result (built_in site.new ≡
+        with_text wrap (leaf_style_of style.now (face_of faces.now style.now)) (props.anonymous_props style.now)
+        (built_in site.old) run.text run.spans run.starts) }
     ensures bytes { OnOk result (site.new.bytes ≡ site.old.bytes) }
     ensures room { OnOk result (site.new.room ≡ site.old.room) }
 {
     let look = leaf_style(faces, style);
-    put_some(alloc, site, wrap, &look, anonymous_props(style), run)
+    let event = leaf_event(&site.tree, wrap);
+    push_starts(&mut site.starts, event, run.starts.as_slice())?;
+    let leads = std::mem::replace(&mut site.pending, Vec::new(alloc));
+    let leaf = leaf_of(alloc, run, &look, Items::of(leads))?;
+    put_leaf(&mut site.tree, wrap, anonymous_props(style), leaf)?;
+    Ok(())
 }
 
-/// Puts a text into a block of a style, or only the places where elements begin in it, which take no style.
+/// Puts the text of a run into a block of a style, and the places where its elements begin.
 fn put_any(
     alloc: Global,
     faces: &Faces,
@@ -186,11 +159,10 @@ fn put_any(
     requires range { IsInRange style.now }
     requires good { IsGoodRun run }
     requires sizes { All IsGoodSpan run.spans }
-    requires few { length site.old.tree.events < 7999990 }
-    requires place { IsTrue (if wrap then takes_box site.old.tree.events else takes_leaf site.old.tree.events) }
-    requires owners { HaveOwners site.old.tree.events site.old.pending.items }
-    requires leads { All (λ lead. IsGoodSpan lead.span) site.old.pending.items }
-    ensures built { OnOk result (built_in site.new ≡ with_any wrap (leaf_style_of style.now (face_of faces.now style.now)) (props.anonymous_props style.now) (built_in site.old) run.text run.spans run.starts) }
+    requires takes { TakesRun wrap site.old }
+    ensures built { OnOk result (built_in site.new ≡
+        with_any wrap (leaf_style_of style.now (face_of faces.now style.now)) (props.anonymous_props style.now)
+        (built_in site.old) run.text run.spans run.starts) }
     ensures bytes { OnOk result (site.new.bytes ≡ site.old.bytes) }
     ensures room { OnOk result (site.new.room ≡ site.old.room) }
 {
@@ -199,7 +171,7 @@ fn put_any(
         push_starts(&mut site.starts, event, run.starts.as_slice())?;
         Ok(())
     } else {
-        put_styled(alloc, faces, style, wrap, site, run)
+        put_some(alloc, faces, style, wrap, site, run)
     }
 }
 
@@ -224,12 +196,11 @@ fn put_text(
     requires good { IsGoodRun run }
     requires sizes { All IsGoodSpan run.spans }
     requires room { site.old.bytes + length run.text ≤ site.old.room.bytes }
-    requires few { length site.old.tree.events < 7999990 }
-    requires place { IsTrue (if wrap then takes_box site.old.tree.events else takes_leaf site.old.tree.events) }
-    requires owners { HaveOwners site.old.tree.events site.old.pending.items }
-    requires leads { All (λ lead. IsGoodSpan lead.span) site.old.pending.items }
+    requires takes { TakesRun wrap site.old }
     requires count { IsCounted site.old }
-    ensures built { OnOk result (built_in site.new ≡ with_any wrap (leaf_style_of style.now (face_of faces.now style.now)) (props.anonymous_props style.now) (built_in site.old) run.text run.spans run.starts) }
+    ensures built { OnOk result (built_in site.new ≡
+        with_any wrap (leaf_style_of style.now (face_of faces.now style.now)) (props.anonymous_props style.now)
+        (built_in site.old) run.text run.spans run.starts) }
     ensures count { OnOk result (IsCounted site.new) }
     ensures room { OnOk result (site.new.room ≡ site.old.room) }
 {
@@ -244,25 +215,26 @@ fn put_text(
 /// # Errors
 ///
 /// `Text` where the leaves with that of the run have more bytes than there is room for.
-pub(crate) fn put_run(
+pub(crate) fn put_run<'a>(
     alloc: Global,
     faces: &Faces,
     style: &Style,
     wrap: bool,
     site: &mut Site,
-    items: Vec<InlineItem>,
+    items: Vec<InlineItem<'a>>,
 ) -> Result<(), BuildErr>
     requires range { IsInRange style.now }
     requires texts { AreGoodTexts items.items }
-    requires few { length site.old.tree.events < 7999990 }
-    requires place { IsTrue (if wrap then takes_box site.old.tree.events else takes_leaf site.old.tree.events) }
-    requires owners { HaveOwners site.old.tree.events site.old.pending.items }
-    requires leads { All (λ lead. IsGoodSpan lead.span) site.old.pending.items }
+    requires takes { TakesRun wrap site.old }
     requires count { IsCounted site.old }
-    ensures built { OnOk result (built_in site.new ≡ put (leaf_style_of style.now (face_of faces.now style.now)) (props.anonymous_props style.now) wrap (built_in site.old) items.items) }
+    ensures built { OnOk result (built_in site.new ≡
+        put (leaf_style_of style.now (face_of faces.now style.now)) (props.anonymous_props style.now) wrap
+        (built_in site.old) items.entry.items) }
     ensures count { OnOk result (IsCounted site.new) }
     ensures room { OnOk result (site.new.room ≡ site.old.room) }
-    ensures cause { IfErr result (λ e. e ≡ BuildErr.Text → site.old.room.bytes < leaf_bytes (put (leaf_style_of style.now (face_of faces.now style.now)) (props.anonymous_props style.now) wrap (built_in site.old) items.items).tree.leaves) }
+    ensures cause { IfErr result (λ e. e ≡ BuildErr.Text → site.old.room.bytes < leaf_bytes
+        (put (leaf_style_of style.now (face_of faces.now style.now)) (props.anonymous_props style.now) wrap
+        (built_in site.old) items.entry.items).tree.leaves) }
 {
     match run_text(alloc, items, site.room.bytes - site.bytes) {
         Err(e) => Err(e),

@@ -4,17 +4,16 @@ ghost use Rattle.std.specs.Prelude.{◌≡◌, ◌<◌, length};
 ghost use Rattle.metrics.specs.Choice.{Chooses};
 ghost use Rattle.box_gen.specs.Faces.{face_of};
 ghost use Rattle.box_gen.specs.TextStyles as spec;
-ghost use Rattle.box_gen.specs.TextStyles.{span_by, text_style_of, used_line_height};
+ghost use Rattle.box_gen.specs.TextStyles.{span_by, text_style_of};
 
 use bk_num::ids::FaceId;
-use bk_num::length::part_of;
 use bk_num::px::Px;
 use bk_num::values::{Color, WhiteSpace};
 use boxes::leaf::Span;
+use computed_values::fonts::used_line_height;
 use metrics::Faces;
 use metrics::chosen::choose;
 use style::style::Style;
-use style::values::LineHeight;
 
 /// How a text is set: its face, its size and used line height in units, its colour, and whether lines end in it.
 #[derive(Clone, Copy, Debug)]
@@ -34,16 +33,6 @@ fn wraps(space: WhiteSpace) -> bool
     match space {
         WhiteSpace::Normal | WhiteSpace::PreWrap | WhiteSpace::PreLine => true,
         WhiteSpace::NoWrap | WhiteSpace::Pre => false,
-    }
-}
-
-/// The used height of lines.
-fn used_line_height(size: Px, height: &LineHeight) -> Px
-    ensures { result ≡ used_line_height size height.now }
-{
-    match height {
-        LineHeight::Number(number) => part_of(*number, size.units() as i64, 1),
-        LineHeight::Px(height) => *height,
     }
 }
 

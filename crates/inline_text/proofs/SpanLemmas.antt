@@ -1,5 +1,6 @@
 -- The span of the character that ends at an offset.
 use Rattle.std.proofs.Common.{◌≡◌, ◌∙◌, ℕ, zero, suc, ◌<◌, ◌≤◌, Bool, true, false, ◌&&◌, ◌||◌, nat_lt, nat_le, List, [], ◌∷◌, length, get_or, refl, sym, ap, ap₂, subst, arith}
+use Rattle.std.proofs.Math.Bool.{and-false, or-false}
 use Rattle.std.proofs.lemmas.Bool.Decides.{nat_tests}
 use Rattle.std.specs.List.Sorted.{IsNonDecreasingBy}
 use Rattle.boxes.specs.Contents.{AreSpans}
@@ -9,24 +10,16 @@ use Rattle.inline_text.specs.Places.{ends_in}
 inside : (Span → Bool) → ℕ → Span → Bool
 inside p at s = p s && nat_lt s.from at && nat_le at s.to
 
-and_false : (b : Bool) → (b && false) ≡ false
-and_false true = refl
-and_false false = refl
-
 and_true : (b : Bool) → (b && true) ≡ b
 and_true true = refl
 and_true false = refl
 
-or_false : (b : Bool) → (b || false) ≡ b
-or_false true = refl
-or_false false = refl
-
 -- a span that begins at an offset or after it doesn't hold the character before it, nor does one that ends before it
 begins_later : (p : Span → Bool) (at : ℕ) (s : Span) → at ≤ s.from → (p s && nat_lt s.from at && nat_le at s.to) ≡ false
-begins_later p at s h = let e : nat_lt s.from at ≡ false = grind (arith, nat_tests) in ap (λ b. p s && b && nat_le at s.to) e ∙ ap (λ b. b && nat_le at s.to) (and_false (p s))
+begins_later p at s h = let e : nat_lt s.from at ≡ false = grind (arith, nat_tests) in ap (λ b. p s && b && nat_le at s.to) e ∙ ap (λ b. b && nat_le at s.to) (and-false (p s))
 
 ends_before : (p : Span → Bool) (at : ℕ) (s : Span) → s.to < at → (p s && nat_lt s.from at && nat_le at s.to) ≡ false
-ends_before p at s h = let e : nat_le at s.to ≡ false = grind (arith, nat_tests) in ap (λ b. p s && nat_lt s.from at && b) e ∙ and_false (p s && nat_lt s.from at)
+ends_before p at s h = let e : nat_le at s.to ≡ false = grind (arith, nat_tests) in ap (λ b. p s && nat_lt s.from at && b) e ∙ and-false (p s && nat_lt s.from at)
 
 holds : (p : Span → Bool) (at : ℕ) (s : Span) → s.from < at → at ≤ s.to → (p s && nat_lt s.from at && nat_le at s.to) ≡ p s
 holds p at s low high =
@@ -42,7 +35,7 @@ none_later p text from at (s ∷ spans) are low = ap₂ (λ a b. a || b) (begins
 pub first_holds : (p : Span → Bool) (text : List ℕ) (from at : ℕ) (spans : List Span) (n : ℕ) (d : Span) → AreSpans text from spans → ((k : ℕ) → k < n → (get_or spans k d).to < at) → n < length spans → at ≤ (get_or spans n d).to → (get_or spans n d).from < at →
     ends_in p spans at ≡ p (get_or spans n d)
 first_holds p text from at [] n d are before within high low = absurd (omega (arith, within))
-first_holds p text from at (s ∷ spans) zero d are before within high low = ap₂ (λ a b. a || b) (holds p at s low high) (none_later p text s.to at spans are.3 high) ∙ or_false (p s)
+first_holds p text from at (s ∷ spans) zero d are before within high low = ap₂ (λ a b. a || b) (holds p at s low high) (none_later p text s.to at spans are.3 high) ∙ or-false (p s)
 first_holds p text from at (s ∷ spans) (suc n) d are before within high low =
     ap₂ (λ a b. a || b) (ends_before p at s (before 0 (omega arith))) (first_holds p text s.to at spans n d are.3 (λ k h. before (suc k) (omega (arith, h))) (omega (arith, within)) high low)
 

@@ -1,5 +1,5 @@
 -- A word is put whole.
-use Rattle.std.proofs.Common.{◌≡◌, ◌∙◌, ℕ, zero, suc, ◌+◌, ◌-◌, ◌<◌, ◌≤◌, Bool, true, false, cond, ◌==◌, ◌||◌, ◌&&◌, not, ◌⊎◌, inl, inr, List, [], ◌∷◌, ◌++◌, length, get_or, take, drop, refl, sym, ap, subst, arith, append_assoc, append-nil, length-append}
+use Rattle.std.proofs.Common.{◌≡◌, ◌∙◌, ℕ, zero, suc, ◌+◌, ◌-◌, ◌<◌, ◌≤◌, Bool, true, false, cond, ◌==◌, ◌||◌, ◌&&◌, not, ◌⊎◌, inl, inr, List, [], ◌∷◌, ◌++◌, length, get_or, take, drop, refl, sym, ap, ap₂, subst, arith, append_assoc, append-nil, length-append}
 use Rattle.std.specs.Char.{encode_utf8}
 use Rattle.std.specs.Prelude.{encode_utf8_all}
 use Rattle.std.specs.List.{slice_range}
@@ -9,9 +9,10 @@ use Rattle.std.proofs.lemmas.Bool.Decides.{nat_tests}
 use Rattle.std.proofs.lemmas.List.{drop-drop, drop_more, get_or-append-add, get_or-drop, get_or-take, length-drop, length-take-le, map-append, take-append-drop}
 use Rattle.std.proofs.lemmas.Str.{chars-append, encode_ascii, encodes-chars, IsCharBoundary-after_ascii, IsUtf8-between, IsUtf8-drop, chars_past_char}
 use Rattle.bk_num.specs.declared.values.WhiteSpace.{WhiteSpace}
-use Rattle.inline_text.specs.Space.{Char, collapses, folds_newlines, class_of, mark, marked, appended, placed}
-use Rattle.inline_text.specs.Gaps.{is_joint, is_white, stops, left_from, next_gap, put_of, settled}
-use Rattle.inline_text.specs.declared.space.Class.TheVariants.{Blank, SoftBreak, HardBreak, Tab, Plain}
+use Rattle.inline_text.specs.Joined.{Laid, laid_on, reached, repeated}
+use Rattle.inline_text.specs.Space.{Char, collapses, folds_newlines, class_of, mark, marked}
+use Rattle.inline_text.specs.Gaps.{is_joint, is_white, laid, stops, left_from, next_gap, put_of, settled}
+use Rattle.inline_text.specs.declared.space.CharClass.TheVariants.{Blank, SoftBreak, HardBreak, Tab, Plain}
 use Rattle.inline_text.specs.declared.space.Gap.{Gap}
 use Rattle.inline_text.specs.declared.space.Gap.TheVariants.{Open, Pending}
 use Rattle.inline_text.proofs.GapLemmas.{goes}
@@ -80,74 +81,89 @@ single : (cs : List ℕ) → AreSingle (encode_utf8_all cs) → Single cs
 single [] h = tt
 single (c ∷ cs) h = (single_first c cs h, single cs (single_rest (encode_utf8 c) (encode_utf8_all cs) h))
 
-appended_twice : (ts : List (List ℕ)) (k : ℕ) (a b : List ℕ) → appended (appended ts k a) k b ≡ appended ts k (a ++ b)
-appended_twice [] k a b = refl
-appended_twice (t ∷ ts) zero a b = ap (λ (l : List ℕ). l ∷ ts) (append_assoc t a b)
-appended_twice (t ∷ ts) (suc k) a b = ap (λ (l : List (List ℕ)). t ∷ l) (appended_twice ts k a b)
+pub length-repeated : (n at : ℕ) → length (repeated n at) ≡ n
+length-repeated zero at = refl
+length-repeated (suc n) at = ap suc (length-repeated n at)
+
+none-repeated : (n at : ℕ) → n ≡ 0 → repeated n at ≡ []
+none-repeated n at e = ap (λ (k : ℕ). repeated k at) e
+
+-- as many ends as there are at least
+pub reached-length : (l : Laid) (n : ℕ) → length (reached l n).ends ≡ length l.ends + (n - length l.ends)
+reached-length l n = length-append l.ends (repeated (n - length l.ends) (length l.bytes)) ∙ ap (λ (k : ℕ). length l.ends + k) (length-repeated (n - length l.ends) (length l.bytes))
+
+laid_twice : (l : Laid) (k : ℕ) (a b : List ℕ) → laid_on (laid_on l k a) k b ≡ laid_on l k (a ++ b)
+laid_twice l k a b =
+    let n = reached-length l k in
+    let none : k - length (reached l k).ends ≡ 0 = omega (arith, n) in
+    ap₂ (λ (x y : List ℕ). laid_made x y) (append_assoc l.bytes a b) (ap (λ (x : List ℕ). (reached l k).ends ++ x) (none-repeated (k - length (reached l k).ends) (length (l.bytes ++ a)) none) ∙ append-nil (reached l k).ends)
+  where
+    laid_made : List ℕ → List ℕ → Laid
+    laid_made x y = record { bytes = x; ends = y }
 
 -- one plain character
-one : (ts : List (List ℕ)) (gap : Gap) (s : WhiteSpace) (k c : ℕ) (more : List Char) → is_white c ≡ false → placed ts (left_from gap (mark (class_of c s) c k ∷ more)) ≡ placed (appended (settled ts gap) k (encode_utf8 c)) (left_from Open more)
-one ts gap s k c more h = ap (λ q. placed ts (left_from gap (mark q c k ∷ more))) (plain c s h) ∙ goes ts gap Plain c k more
+one : (done : Laid) (gap : Gap) (s : WhiteSpace) (k c : ℕ) (more : List Char) → is_white c ≡ false → laid done (left_from gap (mark (class_of c s) c k ∷ more)) ≡ laid (laid_on (settled done gap) k (encode_utf8 c)) (left_from Open more)
+one done gap s k c more h = ap (λ q. laid done (left_from gap (mark q c k ∷ more))) (plain c s h) ∙ goes done gap Plain c k more
 
 -- a space between two words
-space_goes : (ts : List (List ℕ)) (s : WhiteSpace) (k d : ℕ) (more : List Char) → is_white d ≡ false → placed ts (left_from Open (mark (class_of 32 s) 32 k ∷ mark (class_of d s) d k ∷ more)) ≡ placed (appended ts k (32 ∷ [])) (left_from Open (mark (class_of d s) d k ∷ more))
-space_goes ts s k d more plain = by (collapses s)
+space_goes : (done : Laid) (s : WhiteSpace) (k d : ℕ) (more : List Char) → is_white d ≡ false → laid done (left_from Open (mark (class_of 32 s) 32 k ∷ mark (class_of d s) d k ∷ more)) ≡ laid (laid_on done k (32 ∷ [])) (left_from Open (mark (class_of d s) d k ∷ more))
+space_goes done s k d more plain = by (collapses s)
   where
     next : List Char
     next = mark (class_of d s) d k ∷ more
 
-    by : (b : Bool) → placed ts (left_from Open (mark (cond b Blank Plain) 32 k ∷ next)) ≡ placed (appended ts k (32 ∷ [])) (left_from Open next)
-    by true = goes ts Open Blank 32 k next ∙ one ts (Pending k) s k d more plain ∙ sym (one (appended ts k (32 ∷ [])) Open s k d more plain)
-    by false = goes ts Open Plain 32 k next ∙ ap (λ (l : List ℕ). placed (appended ts k l) (left_from Open next)) (encode_ascii 32 (omega arith))
+    by : (b : Bool) → laid done (left_from Open (mark (cond b Blank Plain) 32 k ∷ next)) ≡ laid (laid_on done k (32 ∷ [])) (left_from Open next)
+    by true = goes done Open Blank 32 k next ∙ one done (Pending k) s k d more plain ∙ sym (one (laid_on done k (32 ∷ [])) Open s k d more plain)
+    by false = goes done Open Plain 32 k next ∙ ap (λ (l : List ℕ). laid (laid_on done k l) (left_from Open next)) (encode_ascii 32 (omega arith))
 
 -- one more character of words
-next_goes : (ts : List (List ℕ)) (s : WhiteSpace) (k c : ℕ) (cs : List ℕ) (more : List Char) → (is_white c ≡ true → (c ≡ 32) × BeginsPlain cs) → placed ts (left_from Open (mark (class_of c s) c k ∷ marked s k cs ++ more)) ≡ placed (appended ts k (encode_utf8 c)) (left_from Open (marked s k cs ++ more))
-next_goes ts s k c cs more h = by (is_white c) refl
+next_goes : (done : Laid) (s : WhiteSpace) (k c : ℕ) (cs : List ℕ) (more : List Char) → (is_white c ≡ true → (c ≡ 32) × BeginsPlain cs) → laid done (left_from Open (mark (class_of c s) c k ∷ marked s k cs ++ more)) ≡ laid (laid_on done k (encode_utf8 c)) (left_from Open (marked s k cs ++ more))
+next_goes done s k c cs more h = by (is_white c) refl
   where
-    space : (cs : List ℕ) → c ≡ 32 → BeginsPlain cs → placed ts (left_from Open (mark (class_of c s) c k ∷ marked s k cs ++ more)) ≡ placed (appended ts k (encode_utf8 c)) (left_from Open (marked s k cs ++ more))
+    space : (cs : List ℕ) → c ≡ 32 → BeginsPlain cs → laid done (left_from Open (mark (class_of c s) c k ∷ marked s k cs ++ more)) ≡ laid (laid_on done k (encode_utf8 c)) (left_from Open (marked s k cs ++ more))
     space [] e none = absurd none
     space (d ∷ ds) e plain =
-        ap (λ (x : ℕ). placed ts (left_from Open (mark (class_of x s) x k ∷ marked s k (d ∷ ds) ++ more))) e
-        ∙ space_goes ts s k d (marked s k ds ++ more) plain
-        ∙ ap (λ (l : List ℕ). placed (appended ts k l) (left_from Open (marked s k (d ∷ ds) ++ more))) (sym (ap encode_utf8 e ∙ encode_ascii 32 (omega arith)))
+        ap (λ (x : ℕ). laid done (left_from Open (mark (class_of x s) x k ∷ marked s k (d ∷ ds) ++ more))) e
+        ∙ space_goes done s k d (marked s k ds ++ more) plain
+        ∙ ap (λ (l : List ℕ). laid (laid_on done k l) (left_from Open (marked s k (d ∷ ds) ++ more))) (sym (ap encode_utf8 e ∙ encode_ascii 32 (omega arith)))
 
-    by : (b : Bool) → is_white c ≡ b → placed ts (left_from Open (mark (class_of c s) c k ∷ marked s k cs ++ more)) ≡ placed (appended ts k (encode_utf8 c)) (left_from Open (marked s k cs ++ more))
+    by : (b : Bool) → is_white c ≡ b → laid done (left_from Open (mark (class_of c s) c k ∷ marked s k cs ++ more)) ≡ laid (laid_on done k (encode_utf8 c)) (left_from Open (marked s k cs ++ more))
     by true e = let r = h e in space cs r.0 r.1
-    by false e = one ts Open s k c (marked s k cs ++ more) e
+    by false e = one done Open s k c (marked s k cs ++ more) e
 
 -- more characters of words, after one
-others : (ts : List (List ℕ)) (s : WhiteSpace) (k : ℕ) (before cs : List ℕ) (more : List Char) → Single cs → placed (appended ts k before) (left_from Open (marked s k cs ++ more)) ≡ placed (appended ts k (before ++ encode_utf8_all cs)) (left_from Open more)
-others ts s k before [] more h = ap (λ (l : List ℕ). placed (appended ts k l) (left_from Open more)) (sym (append-nil before))
-others ts s k before (c ∷ cs) more h =
-    next_goes (appended ts k before) s k c cs more h.0
-    ∙ ap (λ (l : List (List ℕ)). placed l (left_from Open (marked s k cs ++ more))) (appended_twice ts k before (encode_utf8 c))
-    ∙ others ts s k (before ++ encode_utf8 c) cs more h.1
-    ∙ ap (λ (l : List ℕ). placed (appended ts k l) (left_from Open more)) (append_assoc before (encode_utf8 c) (encode_utf8_all cs))
+others : (done : Laid) (s : WhiteSpace) (k : ℕ) (before cs : List ℕ) (more : List Char) → Single cs → laid (laid_on done k before) (left_from Open (marked s k cs ++ more)) ≡ laid (laid_on done k (before ++ encode_utf8_all cs)) (left_from Open more)
+others done s k before [] more h = ap (λ (l : List ℕ). laid (laid_on done k l) (left_from Open more)) (sym (append-nil before))
+others done s k before (c ∷ cs) more h =
+    next_goes (laid_on done k before) s k c cs more h.0
+    ∙ ap (λ (x : Laid). laid x (left_from Open (marked s k cs ++ more))) (laid_twice done k before (encode_utf8 c))
+    ∙ others done s k (before ++ encode_utf8 c) cs more h.1
+    ∙ ap (λ (l : List ℕ). laid (laid_on done k l) (left_from Open more)) (append_assoc before (encode_utf8 c) (encode_utf8_all cs))
 
-characters : (ts : List (List ℕ)) (gap : Gap) (s : WhiteSpace) (k : ℕ) (cs : List ℕ) (more : List Char) → Single cs → BeginsPlain cs → placed ts (left_from gap (marked s k cs ++ more)) ≡ placed (appended (settled ts gap) k (encode_utf8_all cs)) (left_from Open more)
-characters ts gap s k [] more h first = absurd first
-characters ts gap s k (c ∷ cs) more h first = one ts gap s k c (marked s k cs ++ more) first ∙ others (settled ts gap) s k (encode_utf8 c) cs more h.1
+characters : (done : Laid) (gap : Gap) (s : WhiteSpace) (k : ℕ) (cs : List ℕ) (more : List Char) → Single cs → BeginsPlain cs → laid done (left_from gap (marked s k cs ++ more)) ≡ laid (laid_on (settled done gap) k (encode_utf8_all cs)) (left_from Open more)
+characters done gap s k [] more h first = absurd first
+characters done gap s k (c ∷ cs) more h first = one done gap s k c (marked s k cs ++ more) first ∙ others (settled done gap) s k (encode_utf8 c) cs more h.1
 
 -- words before other bytes
-put_whole : (ts : List (List ℕ)) (gap : Gap) (s : WhiteSpace) (part : ℕ) (word after : List ℕ) (more : List Char) → IsUtf8 word → 0 < length word → is_white (get_or word 0 0) ≡ false → AreSingle word →
-    placed ts (left_from gap (marked s part (chars (word ++ after)) ++ more)) ≡ placed (appended (settled ts gap) part word) (left_from Open (marked s part (chars after) ++ more))
-put_whole ts gap s part word after more utf8 some first are =
+put_whole : (done : Laid) (gap : Gap) (s : WhiteSpace) (part : ℕ) (word after : List ℕ) (more : List Char) → IsUtf8 word → 0 < length word → is_white (get_or word 0 0) ≡ false → AreSingle word →
+    laid done (left_from gap (marked s part (chars (word ++ after)) ++ more)) ≡ laid (laid_on (settled done gap) part word) (left_from Open (marked s part (chars after) ++ more))
+put_whole done gap s part word after more utf8 some first are =
     let bytes : encode_utf8_all (chars word) ≡ word = encodes-chars word utf8 in
     let begins : BeginsPlain (chars word) = begins_plain (chars word) (subst (λ (w : List ℕ). 0 < length w) (sym bytes) some) (subst (λ (w : List ℕ). is_white (get_or w 0 0) ≡ false) (sym bytes) first) in
-    ap (λ (l : List ℕ). placed ts (left_from gap (marked s part l ++ more))) (chars-append word after utf8)
-    ∙ ap (λ (l : List Char). placed ts (left_from gap (l ++ more))) (map-append (λ (c : ℕ). mark (class_of c s) c part) (chars word) (chars after))
-    ∙ ap (λ (l : List Char). placed ts (left_from gap l)) (append_assoc (marked s part (chars word)) (marked s part (chars after)) more)
-    ∙ characters ts gap s part (chars word) (marked s part (chars after) ++ more) (single (chars word) (subst AreSingle (sym bytes) are)) begins
-    ∙ ap (λ (w : List ℕ). placed (appended (settled ts gap) part w) (left_from Open (marked s part (chars after) ++ more))) bytes
+    ap (λ (l : List ℕ). laid done (left_from gap (marked s part l ++ more))) (chars-append word after utf8)
+    ∙ ap (λ (l : List Char). laid done (left_from gap (l ++ more))) (map-append (λ (c : ℕ). mark (class_of c s) c part) (chars word) (chars after))
+    ∙ ap (λ (l : List Char). laid done (left_from gap l)) (append_assoc (marked s part (chars word)) (marked s part (chars after)) more)
+    ∙ characters done gap s part (chars word) (marked s part (chars after) ++ more) (single (chars word) (subst AreSingle (sym bytes) are)) begins
+    ∙ ap (λ (w : List ℕ). laid (laid_on (settled done gap) part w) (left_from Open (marked s part (chars after) ++ more))) bytes
 
 -- the character at white space is put, and the next one begins after its byte
-pub white_goes : (ts : List (List ℕ)) (gap : Gap) (s : WhiteSpace) (part : ℕ) (text : List ℕ) (at : ℕ) (more : List Char) → IsUtf8 text → IsCharBoundary text at → at < length text → is_white (get_or text at 0) ≡ true →
-    placed ts (left_from gap (marked s part (chars (drop at text)) ++ more)) ≡ placed (put_of ts gap (class_of (get_or text at 0) s) (get_or text at 0) part) (left_from (next_gap gap (class_of (get_or text at 0) s) part) (marked s part (chars (drop (at + 1) text)) ++ more))
-white_goes ts gap s part text at more utf8 boundary within white =
+pub white_goes : (done : Laid) (gap : Gap) (s : WhiteSpace) (part : ℕ) (text : List ℕ) (at : ℕ) (more : List Char) → IsUtf8 text → IsCharBoundary text at → at < length text → is_white (get_or text at 0) ≡ true →
+    laid done (left_from gap (marked s part (chars (drop at text)) ++ more)) ≡ laid (put_of done gap (class_of (get_or text at 0) s) (get_or text at 0) part) (left_from (next_gap gap (class_of (get_or text at 0) s) part) (marked s part (chars (drop (at + 1) text)) ++ more))
+white_goes done gap s part text at more utf8 boundary within white =
     let c : ℕ = get_or text at 0 in
     let bytes : drop at text ≡ encode_utf8 c ++ drop (at + 1) text = drop_more text at 0 within ∙ ap (λ (l : List ℕ). l ++ drop (at + 1) text) (sym (encode_ascii c (white_ascii c white))) in
-    ap (λ (l : List ℕ). placed ts (left_from gap (marked s part l ++ more))) (chars_past_char (drop at text) (drop (at + 1) text) c (IsUtf8-drop text at utf8 boundary) bytes)
-    ∙ goes ts gap (class_of c s) c part (marked s part (chars (drop (at + 1) text)) ++ more)
+    ap (λ (l : List ℕ). laid done (left_from gap (marked s part l ++ more))) (chars_past_char (drop at text) (drop (at + 1) text) c (IsUtf8-drop text at utf8 boundary) bytes)
+    ∙ goes done gap (class_of c s) c part (marked s part (chars (drop (at + 1) text)) ++ more)
 
 pub past_white : (text : List ℕ) (at : ℕ) → IsUtf8 text → at < length text → is_white (get_or text at 0) ≡ true → IsCharBoundary text (at + 1)
 past_white text at utf8 within white = IsCharBoundary-after_ascii text at utf8 within (white_ascii (get_or text at 0) white)
@@ -185,11 +201,11 @@ goes_past text at to k within inside next stop = by (cases_lt (k + 1) (to - at))
         absurd (cc)
 
 -- words that stand at an offset of a text
-pub word_goes : (ts : List (List ℕ)) (gap : Gap) (s : WhiteSpace) (part : ℕ) (text : List ℕ) (at to : ℕ) (more : List Char) → IsUtf8 text → IsCharBoundary text at → IsCharBoundary text to → at < to → ((k : ℕ) → at ≤ k → k < to → stops text at k ≡ false) → (to < length text → is_white (get_or text to 0) ≡ true) →
-    placed ts (left_from gap (marked s part (chars (drop at text)) ++ more)) ≡ placed (appended (settled ts gap) part (slice_range text at to)) (left_from Open (marked s part (chars (drop to text)) ++ more))
-word_goes ts gap s part text at to more utf8 start end some plain stop =
-    ap (λ (l : List ℕ). placed ts (left_from gap (marked s part (chars l) ++ more))) split
-    ∙ put_whole ts gap s part word (drop to text) more (IsUtf8-between text at to utf8 (omega arith) start end) (omega (arith, size)) first are
+pub word_goes : (done : Laid) (gap : Gap) (s : WhiteSpace) (part : ℕ) (text : List ℕ) (at to : ℕ) (more : List Char) → IsUtf8 text → IsCharBoundary text at → IsCharBoundary text to → at < to → ((k : ℕ) → at ≤ k → k < to → stops text at k ≡ false) → (to < length text → is_white (get_or text to 0) ≡ true) →
+    laid done (left_from gap (marked s part (chars (drop at text)) ++ more)) ≡ laid (laid_on (settled done gap) part (slice_range text at to)) (left_from Open (marked s part (chars (drop to text)) ++ more))
+word_goes done gap s part text at to more utf8 start end some plain stop =
+    ap (λ (l : List ℕ). laid done (left_from gap (marked s part (chars l) ++ more))) split
+    ∙ put_whole done gap s part word (drop to text) more (IsUtf8-between text at to utf8 (omega arith) start end) (omega (arith, size)) first are
   where
     word : List ℕ
     word = take (to - at) (drop at text)

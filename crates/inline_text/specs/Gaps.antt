@@ -1,9 +1,9 @@
 -- What the pass over the characters keeps.
-use Rattle.std.specs.Prelude.{ℕ, ◌+◌, ◌<◌, ◌==◌, ◌||◌, ◌&&◌, not, nat_lt, Bool, true, false, List, [], ◌∷◌, length, map, slice_index, string_bytes, Vec, String}
-use Rattle.std.specs.Global.{Global}
-use Rattle.inline_text.specs.Space.{Char, mark, trimmed, squeezed, appended, spelled}
-use Rattle.inline_text.specs.declared.space.Class.{Class}
-use Rattle.inline_text.specs.declared.space.Class.TheVariants.{Blank, SoftBreak, HardBreak, Tab, Plain}
+use Rattle.std.specs.Prelude.{ℕ, ◌+◌, ◌==◌, ◌||◌, ◌&&◌, not, nat_lt, Bool, true, false, List, [], ◌∷◌, length, slice_index}
+use Rattle.inline_text.specs.Joined.{Laid, laid_on}
+use Rattle.inline_text.specs.Space.{Char, mark, trimmed, squeezed, spelled}
+use Rattle.inline_text.specs.declared.space.CharClass.{CharClass}
+use Rattle.inline_text.specs.declared.space.CharClass.TheVariants.{Blank, SoftBreak, HardBreak, Tab, Plain}
 use Rattle.inline_text.specs.declared.space.Gap.{Gap}
 use Rattle.inline_text.specs.declared.space.Gap.TheVariants.{Spaced, Pending, Open}
 
@@ -19,45 +19,47 @@ is_joint text k = slice_index text k == 32 && nat_lt (k + 1) (length text) && no
 abbrev pub stops : List ℕ → ℕ → ℕ → Bool
 stops text from k = is_white (slice_index text k) && (k == from || not (is_joint text k))
 
-abbrev pub texts_of : Vec (String Global) Global → List (List ℕ)
-texts_of v = map (λ t. string_bytes t) v.items
+-- each character at the end of its part's text, in the one text of all parts
+abbrev pub laid : Laid → List Char → Laid
+laid l [] = l
+laid l (c ∷ cs) = laid (laid_on l c.part (spelled c.class c.code)) cs
 
-abbrev pub IsWithin : Gap → ℕ → Type 0
-IsWithin Spaced n = Unit {0}
-IsWithin (Pending q) n = q < n
-IsWithin Open n = Unit {0}
-
--- what is left of the characters to come
+-- what is left of the characters to come, where this stands before them
 abbrev pub left_from : Gap → List Char → List Char
 left_from Spaced cs = squeezed true (trimmed false cs)
 left_from (Pending q) cs = squeezed false (trimmed false (mark Blank 32 q ∷ cs))
 left_from Open cs = squeezed false (trimmed false cs)
 
+-- what stands before the next character after a blank of a part
 abbrev pub next_blank : Gap → ℕ → Gap
 next_blank Spaced part = Spaced
 next_blank (Pending q) part = Pending q
 next_blank Open part = Pending part
 
-abbrev pub next_gap : Gap → Class → ℕ → Gap
+-- what stands before the next character after one of a class in a part
+abbrev pub next_gap : Gap → CharClass → ℕ → Gap
 next_gap gap Blank part = next_blank gap part
 next_gap gap SoftBreak part = Spaced
 next_gap gap HardBreak part = Spaced
 next_gap gap Tab part = Open
 next_gap gap Plain part = Open
 
-abbrev pub settled : List (List ℕ) → Gap → List (List ℕ)
-settled ts Spaced = ts
-settled ts (Pending q) = appended ts q (32 ∷ [])
-settled ts Open = ts
+-- the space that waits is put
+abbrev pub settled : Laid → Gap → Laid
+settled l Spaced = l
+settled l (Pending q) = laid_on l q (32 ∷ [])
+settled l Open = l
 
-abbrev pub folded : List (List ℕ) → Gap → ℕ → List (List ℕ)
-folded ts Spaced part = ts
-folded ts (Pending q) part = appended ts part (32 ∷ [])
-folded ts Open part = appended ts part (32 ∷ [])
+-- a newline that is a space is put: the space that waits goes
+abbrev pub folded : Laid → Gap → ℕ → Laid
+folded l Spaced part = l
+folded l (Pending q) part = laid_on l part (32 ∷ [])
+folded l Open part = laid_on l part (32 ∷ [])
 
-abbrev pub put_of : List (List ℕ) → Gap → Class → ℕ → ℕ → List (List ℕ)
-put_of ts gap Blank c part = ts
-put_of ts gap SoftBreak c part = folded ts gap part
-put_of ts gap HardBreak c part = appended ts part (spelled HardBreak c)
-put_of ts gap Tab c part = appended (settled ts gap) part (spelled Tab c)
-put_of ts gap Plain c part = appended (settled ts gap) part (spelled Plain c)
+-- a character of a class in a part is put, as far as it is already known to be left
+abbrev pub put_of : Laid → Gap → CharClass → ℕ → ℕ → Laid
+put_of l gap Blank c part = l
+put_of l gap SoftBreak c part = folded l gap part
+put_of l gap HardBreak c part = laid_on l part (spelled HardBreak c)
+put_of l gap Tab c part = laid_on (settled l gap) part (spelled Tab c)
+put_of l gap Plain c part = laid_on (settled l gap) part (spelled Plain c)

@@ -22,14 +22,17 @@ NoneBegins = (ps : List TextPart) (c : Char) → slice_get (left_of ps) 0 ≡ So
 
 -- no collapsible space is left after another one, or after a newline
 abbrev pub NoneAdjoin : Type 0
-NoneAdjoin = (ps : List TextPart) (i : ℕ) (c d : Char) → slice_get (left_of ps) i ≡ Some c → slice_get (left_of ps) (suc i) ≡ Some d → is_space d.class ≡ true → (is_space c.class ≡ false) × (is_newline c.class ≡ false)
+NoneAdjoin = (ps : List TextPart) (i : ℕ) (c d : Char) → slice_get (left_of ps) i ≡ Some c →
+    slice_get (left_of ps) (suc i) ≡ Some d → is_space d.class ≡ true → (is_space c.class ≡ false) ×
+    (is_newline c.class ≡ false)
 
 -- each part's text is what its characters that are left print, in their order
 abbrev pub TextsAreCharacters : Type 0
 TextsAreCharacters = (ps : List TextPart) (k : ℕ) → k < length ps →
     slice_get (collapsed ps) k ≡ Some (flat_map (λ c. spelled c.class c.code) (filter (λ c. c.part == k) (left_of ps)))
 
--- what is left where a space follows a character that is none and no newline: both stay side by side, after all others that come before
+-- what is left where a space follows a character that is none and no newline: both stay side by side, after all others
+-- that come before
 pub record StaysAfter (left before : List Char) (c s : Char) : Type 0 where
   pub front : List Char
   pub rest : List Char
@@ -39,4 +42,5 @@ pub record StaysAfter (left before : List Char) (c s : Char) : Type 0 where
 -- the first collapsible space after another character stays, unless it is a blank before a newline
 abbrev pub FirstStays : Type 0
 FirstStays = (ps : List TextPart) (before after : List Char) (c s : Char) → chars_from 0 ps ≡ before ++ c ∷ s ∷ after →
-    is_space c.class ≡ false → is_newline c.class ≡ false → is_space s.class ≡ true → (is_blank s.class ≡ true → meets_newline after ≡ false) → StaysAfter (left_of ps) before c s
+    is_space c.class ≡ false → is_newline c.class ≡ false → is_space s.class ≡ true →
+    (is_blank s.class ≡ true → meets_newline after ≡ false) → StaysAfter (left_of ps) before c s

@@ -7,7 +7,8 @@ use Rattle.unicode_segmentation.specs.Grapheme.{graphemes}
 use Rattle.unicode_segmentation.specs.Segments.{with_offsets}
 use Rattle.boxes.specs.declared.leaf.Span.{Span}
 
--- the characters after which a line may end: space, hyphen-minus, soft hyphen, zero width space, hyphen, en dash and em dash
+-- the characters after which a line may end: space, hyphen-minus, soft hyphen, zero width space, hyphen, en dash and em
+-- dash
 abbrev pub breaking : List ℕ
 breaking = 32 ∷ 45 ∷ 173 ∷ 8203 ∷ 8208 ∷ 8211 ∷ 8212 ∷ []
 

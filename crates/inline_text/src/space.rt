@@ -1,11 +1,14 @@
 //! White space over the parts of a leaf (CSS 2.1, 16.6.1).
 
-ghost use Rattle.std.specs.Prelude.{◌≡◌, ◌<◌, ◌≤◌, ◌++◌, [], ℕ, List, false, true, length, map, IfOk, OnOk, slice_index, vec_len};
-ghost use Rattle.std.specs.Char.{encode_utf8};
-ghost use Rattle.inline_text.specs.Space.{Char, class_of, chars_of_part, appended, placed, collapsed};
+ghost use Rattle.std.specs.Prelude.{◌≡◌, ◌<◌, ◌≤◌, ◌++◌, List, ℕ, false, true, length, IfOk, OnOk, slice_index};
+ghost use Rattle.inline_text.specs.Joined.{laid_on, laid_texts, reached};
+ghost use Rattle.inline_text.specs.Space.{Char, class_of, chars_from, chars_of_part, collapsed};
 ghost use Rattle.inline_text.specs.Space as spec;
-ghost use Rattle.inline_text.specs.Gaps.{IsWithin, is_joint, is_white, stops, left_from, next_gap, settled, put_of, texts_of};
+ghost use Rattle.inline_text.specs.Gaps.{is_joint, is_white, laid, left_from, next_gap, put_of, settled, stops};
+ghost use Rattle.inline_text.specs.declared.space.Gap.TheVariants as gap_before;
 
+use crate::joined::JoinedText;
+use crate::part::BorrowedPart;
 use bk_num::items::Items;
 use bk_num::name::{Name, NoMem};
 use bk_num::values::WhiteSpace;
@@ -23,7 +26,7 @@ pub struct TextPart {
 
 /// What a character is to the collapsing of white space.
 #[derive(Clone, Copy, PartialEq, Eq)]
-pub(crate) enum Class {
+pub(crate) enum CharClass {
     /// A space or a tab that collapses.
     Blank,
     /// A newline that is a space.
@@ -65,86 +68,66 @@ fn folds_newlines(space: WhiteSpace) -> bool
     }
 }
 
-fn class_of(c: char, space: WhiteSpace) -> Class
+fn class_of(c: char, space: WhiteSpace) -> CharClass
     ensures { result ≡ class_of c space }
 {
     match c {
-        ' ' if collapses(space) => Class::Blank,
-        '\t' if collapses(space) => Class::Blank,
-        '\t' => Class::Tab,
-        '\n' if folds_newlines(space) => Class::SoftBreak,
-        '\n' => Class::HardBreak,
-        _ => Class::Plain,
+        ' ' if collapses(space) => CharClass::Blank,
+        '\t' if collapses(space) => CharClass::Blank,
+        '\t' => CharClass::Tab,
+        '\n' if folds_newlines(space) => CharClass::SoftBreak,
+        '\n' => CharClass::HardBreak,
+        _ => CharClass::Plain,
     }
 }
 
-fn next_gap(gap: Gap, class: Class, part: usize) -> Gap
+fn next_gap(gap: Gap, class: CharClass, part: usize) -> Gap
     ensures { result ≡ next_gap gap class part }
 {
     match class {
-        Class::Blank => match gap {
+        CharClass::Blank => match gap {
             Gap::Open => Gap::Pending(part),
             _ => gap,
         },
-        Class::SoftBreak | Class::HardBreak => Gap::Spaced,
-        Class::Tab | Class::Plain => Gap::Open,
+        CharClass::SoftBreak | CharClass::HardBreak => Gap::Spaced,
+        CharClass::Tab | CharClass::Plain => Gap::Open,
     }
 }
 
-/// Appends a character to a text.
-fn append(texts: &mut Vec<String>, part: usize, c: char) -> Result<(), NoMem>
-    requires { part < vec_len texts.old }
-    ensures texts { OnOk result (texts_of texts.new ≡ appended (texts_of texts.old) part (encode_utf8 c)) }
-    ensures len { vec_len texts.new ≡ vec_len texts.old }
-{
-    let text = &mut texts[part];
-    text.push(c)?;
-    Ok(())
-}
-
-fn append_str(texts: &mut Vec<String>, part: usize, s: &str) -> Result<(), NoMem>
-    requires { part < vec_len texts.old }
-    ensures texts { OnOk result (texts_of texts.new ≡ appended (texts_of texts.old) part s.now) }
-    ensures len { vec_len texts.new ≡ vec_len texts.old }
-{
-    let text = &mut texts[part];
-    text.push_str(s)?;
-    Ok(())
-}
-
 /// Puts the space that isn't yet put, at the end of its part's text: the parts after it are empty so far.
-fn settle(texts: &mut Vec<String>, gap: Gap) -> Result<(), NoMem>
-    requires { IsWithin gap (vec_len texts.old) }
-    ensures texts { OnOk result (texts_of texts.new ≡ settled (texts_of texts.old) gap) }
-    ensures len { vec_len texts.new ≡ vec_len texts.old }
+fn settle(joined: &mut JoinedText, gap: Gap) -> Result<(), NoMem>
+    ensures { OnOk result (joined.new ≡ settled joined.old gap) }
 {
     match gap {
-        Gap::Pending(part) => append_str(texts, part, " "),
+        Gap::Pending(part) => joined.push_str(part, " "),
         Gap::Spaced | Gap::Open => Ok(()),
     }
 }
 
 /// Puts what is left of a character.
-fn put(texts: &mut Vec<String>, gap: Gap, class: Class, c: char, part: usize) -> Result<(), NoMem>
-    requires gap { IsWithin gap (vec_len texts.old) }
-    requires part { part < vec_len texts.old }
-    ensures texts { OnOk result (texts_of texts.new ≡ put_of (texts_of texts.old) gap class c part) }
-    ensures len { vec_len texts.new ≡ vec_len texts.old }
+fn put(
+    joined: &mut JoinedText,
+    gap: Gap,
+    class: CharClass,
+    c: char,
+    part: usize,
+) -> Result<(), NoMem>
+    ensures { OnOk result (joined.new ≡ put_of joined.old gap class c part) }
 {
     match class {
-        Class::Blank => Ok(()),
-        Class::SoftBreak => match gap {
+        CharClass::Blank => Ok(()),
+        CharClass::SoftBreak => match gap {
             Gap::Spaced => Ok(()),
-            Gap::Pending(_) | Gap::Open => append_str(texts, part, " "),
+            Gap::Pending(_) | Gap::Open => joined.push_str(part, " "),
         },
-        Class::HardBreak => append(texts, part, c),
-        Class::Tab => {
-            settle(texts, gap)?;
-            append_str(texts, part, TAB)
+        CharClass::HardBreak => joined.push(part, c),
+        CharClass::Tab => {
+            settle(joined, gap)?;
+            joined.push_str(part, TAB)
         }
-        Class::Plain => {
-            settle(texts, gap)?;
-            append(texts, part, c)
+        CharClass::Plain => {
+            settle(joined, gap)?;
+            joined.push(part, c)
         }
     }
 }
@@ -190,40 +173,38 @@ fn word_end(bytes: &[u8], from: usize) -> usize
 }
 
 /// Puts words whole: none of their characters changes or goes.
-fn put_word(texts: &mut Vec<String>, gap: Gap, word: &str, part: usize) -> Result<(), NoMem>
-    requires gap { IsWithin gap (vec_len texts.old) }
-    requires part { part < vec_len texts.old }
-    ensures texts { OnOk result (texts_of texts.new ≡ appended (settled (texts_of texts.old) gap) part word.now) }
-    ensures len { vec_len texts.new ≡ vec_len texts.old }
+fn put_word(joined: &mut JoinedText, gap: Gap, word: &str, part: usize) -> Result<(), NoMem>
+    ensures { OnOk result (joined.new ≡ laid_on (settled joined.old gap) part word.now) }
 {
-    settle(texts, gap)?;
-    append_str(texts, part, word)
+    settle(joined, gap)?;
+    joined.push_str(part, word)
 }
 
 /// Passes a part, and answers what stands before the next one.
-fn pass_part(texts: &mut Vec<String>, gap: Gap, part: &TextPart, index: usize) -> Result<Gap, NoMem>
-    requires gap { IsWithin gap (vec_len texts.old) }
-    requires index { index < vec_len texts.old }
-    ensures goes { IfOk result (λ g. (rest : List Char) →
-        placed (texts_of texts.old) (left_from gap (chars_of_part index part.now ++ rest)) ≡
-        placed (texts_of texts.new) (left_from g rest)) }
-    ensures within { IfOk result (λ g. IsWithin g (vec_len texts.new)) }
-    ensures len { vec_len texts.new ≡ vec_len texts.old }
+fn pass_part(
+    joined: &mut JoinedText,
+    gap: Gap,
+    part: &BorrowedPart,
+    index: usize,
+) -> Result<Gap, NoMem>
+    ensures { IfOk result (λ g. (rest : List Char) →
+        laid joined.old (left_from gap (chars_of_part index part.now ++ rest)) ≡ laid joined.new (left_from g rest)) }
 {
-    let text = part.text.as_str();
+    let text = part.text();
     let bytes = text.as_bytes();
+    let space = part.space();
     let mut gap = gap;
     let mut at = 0;
     while at < bytes.len() {
         let to = word_end(bytes, at);
         if at < to {
-            put_word(texts, gap, &text[at..to], index)?;
+            put_word(joined, gap, &text[at..to], index)?;
             gap = Gap::Open;
             at = to;
         } else {
             let c = bytes[at] as char;
-            let class = class_of(c, part.space);
-            put(texts, gap, class, c, index)?;
+            let class = class_of(c, space);
+            put(joined, gap, class, c, index)?;
             gap = next_gap(gap, class, index);
             at += 1;
         }
@@ -231,41 +212,48 @@ fn pass_part(texts: &mut Vec<String>, gap: Gap, part: &TextPart, index: usize) -
     Ok(gap)
 }
 
-/// As many empty texts as there are parts, each with room for its part.
-fn empty_texts(alloc: Global, parts: &[TextPart]) -> Result<Vec<String>, NoMem>
-    ensures texts { IfOk result (λ v. texts_of v ≡ map (λ p. []) parts.now) }
-    ensures len { IfOk result (λ v. vec_len v ≡ length parts.now) }
-{
-    let mut texts = Vec::new(alloc);
-    for part in parts {
-        let room = part.text.as_str().len();
-        texts.push(String::with_capacity(alloc, room)?)?;
-    }
-    Ok(texts)
-}
-
-/// The same texts as names.
-fn names_of(alloc: Global, texts: Vec<String>) -> Result<Items<Name>, NoMem>
-    ensures { IfOk result (λ names. names ≡ texts_of texts) }
-{
-    let mut names = Items::new(alloc);
-    for text in texts {
-        names.push(Name::from_string(text))?;
-    }
-    Ok(names)
-}
-
-/// Passes all parts, whose texts are empty so far.
-fn pass_parts(texts: &mut Vec<String>, parts: &[TextPart]) -> Result<(), NoMem>
-    requires empty { texts_of texts.old ≡ map (λ p. []) parts.now }
-    requires len { vec_len texts.old ≡ length parts.now }
-    ensures { OnOk result (texts_of texts.new ≡ collapsed parts.now) }
+/// Passes all parts.
+fn pass_parts(joined: &mut JoinedText, parts: &[BorrowedPart]) -> Result<(), NoMem>
+    ensures { OnOk result (joined.new ≡
+        reached (laid joined.old (left_from gap_before.Spaced (chars_from 0 parts.now))) (length parts.now)) }
 {
     let mut gap = Gap::Spaced;
     for index in 0..parts.len() {
-        gap = pass_part(texts, gap, &parts[index], index)?;
+        gap = pass_part(joined, gap, &parts[index], index)?;
     }
-    settle(texts, gap)
+    settle(joined, gap)?;
+    joined.reach(parts.len())
+}
+
+/// How many bytes parts have together, or the greatest number.
+fn room_of(parts: &[BorrowedPart]) -> usize {
+    let mut room: usize = 0;
+    for part in parts {
+        room = room.saturating_add(part.text().len());
+    }
+    room
+}
+
+/// The text of the parts of one leaf with their white space collapsed, and where the text of each part ends in it.
+///
+/// It is that of `collapse`, and each character that is left is copied once. Time is linear in the texts.
+pub fn collapse_joined(alloc: Global, parts: &[BorrowedPart]) -> Result<JoinedText, NoMem>
+    ensures { IfOk result (λ joined. joined ≡ laid_texts (collapsed parts.now)) }
+{
+    let mut joined = JoinedText::new(alloc, room_of(parts))?;
+    pass_parts(&mut joined, parts)?;
+    Ok(joined)
+}
+
+/// The same parts, borrowed.
+fn borrowed<'a>(alloc: Global, parts: &'a [TextPart]) -> Result<Vec<BorrowedPart<'a>>, NoMem>
+    ensures { IfOk result (λ v. v.items ≡ parts.entry.now) }
+{
+    let mut borrowed = Vec::new(alloc);
+    for part in parts {
+        borrowed.push(BorrowedPart::new(part.text.as_str(), part.space))?;
+    }
+    Ok(borrowed)
 }
 
 /// The texts of the parts of one leaf with their white space collapsed, one for each part (CSS 2.1, 16.6.1).
@@ -276,7 +264,13 @@ fn pass_parts(texts: &mut Vec<String>, parts: &[TextPart]) -> Result<(), NoMem>
 pub fn collapse(alloc: Global, parts: &[TextPart]) -> Result<Items<Name>, NoMem>
     ensures { IfOk result (λ names. names ≡ collapsed parts.now) }
 {
-    let mut texts = empty_texts(alloc, parts)?;
-    pass_parts(&mut texts, parts)?;
-    names_of(alloc, texts)
+    let joined = collapse_joined(alloc, &borrowed(alloc, parts)?)?;
+    let text = joined.text();
+    let mut names = Items::new(alloc);
+    let mut from = 0;
+    for to in joined.ends() {
+        names.push(Name::new(alloc, &text[from..*to])?)?;
+        from = *to;
+    }
+    Ok(names)
 }

@@ -1,8 +1,10 @@
-use Rattle.std.proofs.Common.{◌∙◌}
+use Rattle.std.proofs.Common.{refl}
+use Rattle.box_gen.specs.Flow.{calls_of}
 use Rattle.box_gen.specs.Sources.{source_in}
 use Rattle.box_gen.proofs.BuildLemmas.{calls-each}
 use Rattle.box_gen.proofs.build.finish.Goals as goal
 
-pub notes_of-requires-clause-each : goal.notes_of-requires-clause-each
-notes_of-requires-clause-each c =
-    calls-each (source_in c.args.input.now) c.args.walker.main.site c.args.walker.bodies.items c.deref-3.result.now c.requires.main c.requires.bodies (c.deref-3.ensures.value ∙ c.in_ok-calls.ensures.calls)
+pub anchors_of-requires-clause-each : goal.anchors_of-requires-clause-each
+anchors_of-requires-clause-each c =
+    let src = source_in c.args.input.now in
+    calls-each src c.args.walker.main.site c.args.walker.bodies.items (calls_of src c.args.walker.main.site.starts.items) c.requires.main c.requires.bodies refl

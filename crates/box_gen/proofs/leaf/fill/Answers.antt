@@ -1,36 +1,40 @@
-use Rattle.std.proofs.Common.{◌≡◌, ◌∙◌, ◌+◌, ◌∷◌, ℕ, suc, List, length, drop, string_bytes, ap, arith, length-append}
-use Rattle.box_gen.specs.Runs.{joined, styles_in}
-use Rattle.box_gen.specs.declared.inline.Mark.{Mark}
-use Rattle.box_gen.specs.declared.inline.Mark.TheVariants.{Text}
+use Rattle.std.proofs.Common.{◌≡◌, ◌∙◌, ◌+◌, ◌<◌, ◌∷◌, ◌++◌, [], ℕ, List, length, drop, get_or, ap, arith}
+use Rattle.boxes.specs.declared.leaf.Span.{Span}
+use Rattle.box_gen.specs.declared.inline.InlineStart.{InlineStart}
+use Rattle.box_gen.specs.declared.inline.ItemMark.{ItemMark}
+use Rattle.box_gen.specs.declared.inline.ItemMark.TheVariants.{Text, Start}
+use Rattle.box_gen.specs.Runs.{span_between, styles_in}
+use Rattle.box_gen.proofs.FillLemmas.{IsFilled, fill-start, fill-text, filled-as}
 use Rattle.box_gen.proofs.TextLemmas.{drop_step}
+use Rattle.box_gen.proofs.leaf.fill.Goals.{in-Text+in_ok-push_span-in-Text, in-Start+in_ok-push_start-in-Start}
 use Rattle.box_gen.proofs.leaf.fill.Goals as goal
 
-pub push_text-requires : goal.push_text-requires
-push_text-requires c =
-    let t = c.index-texts-next.result in
-    let texts = c.args.texts.now in
-    let rest : List (List ℕ) = drop (c.loop-mark.next + 1) texts in
-    let marks : List Mark = c.args.marks.now in
+pub loop-mark-preserved : goal.loop-mark-preserved
+loop-mark-preserved c =
+    let inv = c.loop-mark.invariant in
+    let marks : List ItemMark = c.args.marks.now in
+    let ends : List ℕ = c.args.ends.now in
     let i : ℕ = c.loop-mark.mark-index in
-    let mark : drop i marks ≡ Text c.in-Text.style ∷ drop (i + 1) marks = drop_step marks i c.mark-item.result (omega arith) c.mark-item.is ∙ ap (λ (m : Mark). m ∷ drop (i + 1) marks) c.in-Text.is in
-    let some : length (styles_in (drop i marks)) ≡ suc (length (styles_in (drop (i + 1) marks))) = ap (λ (l : List Mark). length (styles_in l)) mark in
-    let each = c.loop-mark.invariant.each in
-    let step = drop_step texts c.loop-mark.next t (omega (arith, some, each)) c.index-texts-next.is in
-    let whole = ap (λ (l : List ℕ). length l) c.loop-mark.invariant.text in
-    let left = length-append (string_bytes c.loop-mark.text) (joined (drop c.loop-mark.next texts)) in
-    let right = length-append (string_bytes c.args.text.now) (joined texts) in
-    let front = ap (λ l. length (joined l)) step in
-    let parts = length-append t (joined rest) in
-    let short = c.requires.short in
-    let same = ap (λ (l : List ℕ). length l) c.as_str.ensures in
-    record { short = omega (arith, whole, left, right, front, parts, short, same) }
-
-pub push_start-requires : goal.push_start-requires
-push_start-requires c =
-    let texts = c.args.texts.now in
-    let whole = ap (λ (l : List ℕ). length l) c.loop-mark.invariant.text in
-    let left = length-append (string_bytes c.loop-mark.text) (joined (drop c.loop-mark.next texts)) in
-    let right = length-append (string_bytes c.args.text.now) (joined texts) in
-    let short = c.requires.short in
-    let len = c.len.ensures in
-    omega (arith, whole, left, right, short, len)
+    let next : ℕ = c.loop-mark.next in
+    let at : ℕ = c.loop-mark.at in
+    let spans : List Span = c.loop-mark.spans.items in
+    let starts : List InlineStart = c.loop-mark.starts.items in
+    let f : IsFilled marks ends c.args.spans.now.items c.args.starts.now.items i next at spans starts = record { each = inv.each; short = inv.short; stops = inv.ends; filled = inv.spans; noted = inv.starts } in
+    let here : drop i marks ≡ c.mark-item.result ∷ drop (i + 1) marks = drop_step marks i c.mark-item.result c.loop-mark-test.true c.mark-item.is in
+    let g : IsFilled marks ends c.args.spans.now.items c.args.starts.now.items (i + 1) c.match-mark.next c.match-mark.at c.match-mark.spans.items c.match-mark.starts.items = elim c.match-mark.branch [
+      | in-Text+in_ok-push_span-in-Text w ↦
+          let mark : drop i marks ≡ Text w.in-Text.style ∷ drop (i + 1) marks = here ∙ ap (λ (m : ItemMark). m ∷ drop (i + 1) marks) w.in-Text.is in
+          let size = ap (λ (m : List ItemMark). length (styles_in m)) mark in
+          let each = inv.each in
+          let inside : next < length ends = omega (arith, each, size) in
+          let to : ℕ = get_or ends next 0 in
+          filled-as marks ends c.args.spans.now.items c.args.starts.now.items (i + 1) (next + 1) to (spans ++ span_between w.in-Text.style at to) starts c.match-mark.next c.match-mark.at c.match-mark.spans.items c.match-mark.starts.items
+          w.next-is w.at-is (ap (λ v. v.items) w.spans-is ∙ w.in_ok-push_span-in-Text.ensures) (ap (λ v. v.items) w.starts-is)
+          (fill-text marks ends c.args.spans.now.items c.args.starts.now.items i next at spans starts w.in-Text.style f mark inside (c.requires.short next 0 inside))
+      | in-Start+in_ok-push_start-in-Start w ↦
+          let mark : drop i marks ≡ Start w.in-Start.node ∷ drop (i + 1) marks = here ∙ ap (λ (m : ItemMark). m ∷ drop (i + 1) marks) w.in-Start.is in
+          filled-as marks ends c.args.spans.now.items c.args.starts.now.items (i + 1) next at spans (starts ++ record { node = w.in-Start.node; offset = at } ∷ []) c.match-mark.next c.match-mark.at c.match-mark.spans.items c.match-mark.starts.items
+          w.next-is w.at-is (ap (λ v. v.items) w.spans-is) (ap (λ v. v.items) w.starts-is ∙ w.in_ok-push_start-in-Start.ensures)
+          (fill-start marks ends c.args.spans.now.items c.args.starts.now.items i next at spans starts w.in-Start.node f mark)
+    ] in
+    record { each = g.each; short = g.short; ends = g.stops; spans = g.filled; starts = g.noted }

@@ -1,28 +1,43 @@
 use Rattle.std.proofs.Common.{◌≡◌, ◌∙◌, ℕ, List, length, ap, sym, subst, arith}
 use Rattle.std.specs.List.{All}
+use Rattle.std.specs.Str.{IsCharBoundary}
 use Rattle.boxes.specs.Contents.{IsGoodSpan}
+use Rattle.inline_text.specs.declared.space.TextPart.{TextPart}
+use Rattle.inline_text.specs.Joined.{Laid, ends_from, joined, laid_texts}
 use Rattle.inline_text.specs.Space.{collapsed}
-use Rattle.box_gen.specs.Runs.{AreTexts, joined, marks_in, printed_in, spans_from, styles_in}
-use Rattle.box_gen.proofs.TextLemmas.{printed-length}
+use Rattle.box_gen.specs.declared.inline.ItemMark.{ItemMark}
+use Rattle.box_gen.specs.Runs.{marks_in, printed_in, spans_from, styles_in}
+use Rattle.box_gen.proofs.TextLemmas.{ends-length, printed-length}
 use Rattle.box_gen.proofs.LeafLemmas.{good_run, spans_good}
 use Rattle.box_gen.proofs.leaf.run_text.Goals as goal
 
-pub joined_run-requires-clause-each : goal.joined_run-requires-clause-each
-joined_run-requires-clause-each c =
-    let texts : c.as_slice-2.result.now ≡ printed_in c.args.items.items = c.as_slice-2.ensures ∙ c.in-Ok-collapse.ensures ∙ ap collapsed (c.deref.ensures.value ∙ c.in-Ok.ensures.parts) in
-    let marks : c.deref-2.result.now ≡ marks_in c.args.items.items = c.deref-2.ensures.value ∙ c.in-Ok.ensures.marks in
-    ap (λ (l : List (List ℕ)). length l) texts ∙ printed-length c.args.items.items ∙ sym (ap (λ l. length (styles_in l)) marks)
+pub marked_run-requires-clause-each : goal.marked_run-requires-clause-each
+marked_run-requires-clause-each c =
+    let items = c.args.items.items in
+    let all : c.in-Ok-collapse_joined.joined ≡ laid_texts (printed_in items) = c.in-Ok-collapse_joined.ensures ∙ ap (λ (ps : List TextPart). laid_texts (collapsed ps)) (c.deref.ensures.value ∙ c.in-Ok.ensures.parts) in
+    let marks : c.deref-2.result.now ≡ marks_in items = c.deref-2.ensures.value ∙ c.in-Ok.ensures.marks in
+    ap (λ (j : Laid). length j.ends) all ∙ ends-length 0 (printed_in items) ∙ printed-length items ∙ sym (ap (λ (l : List ItemMark). length (styles_in l)) marks)
 
-pub returns-in-Ok-joined_run-clause-good : goal.returns-in-Ok-joined_run-clause-good
-returns-in-Ok-joined_run-clause-good c =
-    let one : c.as_slice.result.now ≡ printed_in c.args.items.items = c.as_slice.ensures ∙ c.in-Ok-collapse.ensures ∙ ap collapsed (c.deref.ensures.value ∙ c.in-Ok.ensures.parts) in
-    let texts : c.as_slice-2.result.now ≡ printed_in c.args.items.items = c.as_slice-2.ensures ∙ c.in-Ok-collapse.ensures ∙ ap collapsed (c.deref.ensures.value ∙ c.in-Ok.ensures.parts) in
-    let marks : c.deref-2.result.now ≡ marks_in c.args.items.items = c.deref-2.ensures.value ∙ c.in-Ok.ensures.marks in
-    let text : c.in-Ok-joined_run.run'.text ≡ joined (printed_in c.args.items.items) = c.in-Ok-joined_run.ensures.text ∙ ap joined texts in
-    let spans : c.in-Ok-joined_run.run'.spans ≡ spans_from 0 (styles_in (marks_in c.args.items.items)) (printed_in c.args.items.items) = c.in-Ok-joined_run.ensures.spans ∙ ap (λ l. spans_from 0 (styles_in l) c.as_slice-2.result.now) marks ∙ ap (spans_from 0 (styles_in (marks_in c.args.items.items))) texts in
-    good_run c.args.items.items c.in-Ok-joined_run.run' text spans (subst AreTexts one c.in-Some.ensures.utf8) (let fit = c.in-Some.ensures.len in let few = c.in-Some.ensures.few in let most = c.requires in let a = ap (λ (l : List (List ℕ)). length (joined l)) one in let b = ap (λ (l : List ℕ). length l) text in omega (arith, fit, few, most, a, b))
+pub returns-in-Ok-marked_run-clause-good : goal.returns-in-Ok-marked_run-clause-good
+returns-in-Ok-marked_run-clause-good c =
+    let items = c.args.items.items in
+    let run = c.in-Ok-marked_run.run' in
+    let all : c.in-Ok-collapse_joined.joined ≡ laid_texts (printed_in items) = c.in-Ok-collapse_joined.ensures ∙ ap (λ (ps : List TextPart). laid_texts (collapsed ps)) (c.deref.ensures.value ∙ c.in-Ok.ensures.parts) in
+    let marks : c.deref-2.result.now ≡ marks_in items = c.deref-2.ensures.value ∙ c.in-Ok.ensures.marks in
+    let text : run.text ≡ joined (printed_in items) = c.in-Ok-marked_run.ensures.text ∙ ap (λ (j : Laid). j.bytes) all in
+    let spans : run.spans ≡ spans_from 0 (styles_in (marks_in items)) (printed_in items) = c.in-Ok-marked_run.ensures.spans (printed_in items) all ∙ ap (λ (l : List ItemMark). spans_from 0 (styles_in l) (printed_in items)) marks in
+    let stand : All (IsCharBoundary run.text) (ends_from 0 (printed_in items)) =
+    subst (λ (t : List ℕ). All (IsCharBoundary t) (ends_from 0 (printed_in items))) (sym c.in-Ok-marked_run.ensures.text)
+    (subst (λ (es : List ℕ). All (IsCharBoundary c.in-Ok-collapse_joined.joined.bytes) es) (ap (λ (j : Laid). j.ends) all) c.in-Ok-marked_run.ensures.stand) in
+    let fit = c.if-text-most.false in
+    let most = c.requires in
+    let a = ap (λ (l : List ℕ). length l) c.text.ensures in
+    let b = ap (λ (l : List ℕ). length l) c.in-Ok-marked_run.ensures.text in
+    good_run items run text spans stand (omega (arith, fit, most, a, b))
 
-pub returns-in-Ok-joined_run-clause-sizes : goal.returns-in-Ok-joined_run-clause-sizes
-returns-in-Ok-joined_run-clause-sizes c = λ good.
-    let marks : c.deref-2.result.now ≡ marks_in c.args.items.items = c.deref-2.ensures.value ∙ c.in-Ok.ensures.marks in
-    subst (All IsGoodSpan) (sym (c.in-Ok-joined_run.ensures.spans ∙ ap (λ l. spans_from 0 (styles_in l) c.as_slice-2.result.now) marks)) (spans_good 0 (styles_in (marks_in c.args.items.items)) c.as_slice-2.result.now good)
+pub returns-in-Ok-marked_run-clause-sizes : goal.returns-in-Ok-marked_run-clause-sizes
+returns-in-Ok-marked_run-clause-sizes c = λ good.
+    let items = c.args.items.items in
+    let all : c.in-Ok-collapse_joined.joined ≡ laid_texts (printed_in items) = c.in-Ok-collapse_joined.ensures ∙ ap (λ (ps : List TextPart). laid_texts (collapsed ps)) (c.deref.ensures.value ∙ c.in-Ok.ensures.parts) in
+    let marks : c.deref-2.result.now ≡ marks_in items = c.deref-2.ensures.value ∙ c.in-Ok.ensures.marks in
+    subst (All IsGoodSpan) (sym (c.in-Ok-marked_run.ensures.spans (printed_in items) all ∙ ap (λ (l : List ItemMark). spans_from 0 (styles_in l) (printed_in items)) marks)) (spans_good 0 (styles_in (marks_in items)) (printed_in items) good)

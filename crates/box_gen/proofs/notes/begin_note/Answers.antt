@@ -1,9 +1,9 @@
 use Rattle.std.proofs.Common.{◌≡◌, subst}
-use Rattle.box_gen.specs.declared.input.Input.{Input}
+use Rattle.box_gen.specs.declared.input.FlowInput.{FlowInput}
 use Rattle.box_gen.specs.Bodies.{note_begun}
 use Rattle.box_gen.specs.Sources.{source_in}
 use Rattle.box_gen.specs.Steps.{walk_in}
 use Rattle.box_gen.proofs.notes.begin_note.Goals as goal
 
 pub returns-in-Ok-clause-walk : goal.returns-in-Ok-clause-walk
-returns-in-Ok-clause-walk c = subst (λ (i : Input). walk_in i.styles.now c.in-Ok.body ≡ note_begun (source_in i) c.args.node.0 c.args.style.now) c.within_note.ensures.same c.in-Ok.ensures.walk
+returns-in-Ok-clause-walk c = subst (λ (i : FlowInput). walk_in i.styles.now c.in-Ok.body ≡ note_begun (source_in i) c.args.node.0 c.args.style.now) c.within_note.ensures.same c.in-Ok.ensures.walk

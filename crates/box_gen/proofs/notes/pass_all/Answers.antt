@@ -2,7 +2,7 @@ use Rattle.std.proofs.Common.{◌<◌, Option, map, arith, subst, sym}
 use Rattle.std.proofs.lemmas.Result.{err_from_is_err_and}
 use Rattle.bk_num.specs.Limits.{most_text_bytes}
 use Rattle.boxes.specs.Tree.{Tree}
-use Rattle.box_gen.specs.declared.builder.Builder.{Builder}
+use Rattle.box_gen.specs.declared.builder.FlowBuilder.{FlowBuilder}
 use Rattle.box_gen.specs.declared.notes.Walker.{Walker}
 use Rattle.box_gen.specs.Bodies.{after_both, noted, walks}
 use Rattle.box_gen.specs.Sites.{built_in, leaf_bytes}
@@ -21,12 +21,12 @@ returns-in_err-body-in-Some-clause-cause c =
     let src = source_in c.args.input.now in
     let styles = c.args.input.now.styles.now in
     let w : Walker = c.args.walker.now in
-    let b : Builder = c.in-Some.inside in
+    let b : FlowBuilder = c.in-Some.inside in
     let body : IsBody w.main b = c.requires.sound.body b (sym c.in-Some.ensures.value) in
     let room = body.bytes in
     let count = c.requires.sound.shared.within.bytes.count in
     let sum = c.requires.sound.shared.bytes in
     let sites = sites-sum (λ (t : Tree). leaf_bytes t.leaves) w.bodies.items in
     let p = err_from_is_err_and c.from_residual-in_err-body-in-Some.result c.from_residual-in_err-body-in-Some.ensures.1 in
-    rw (p.1, p.2) (λ e. subst (λ (o : Option Builder). most_text_bytes < all_bytes (after_both src (walks (walk_in styles w.main) (noted (body_in styles o) (map built_in w.bodies.items))) c.args.step)) c.in-Some.ensures.value
+    rw (p.1, p.2) (λ e. subst (λ (o : Option FlowBuilder). most_text_bytes < all_bytes (after_both src (walks (walk_in styles w.main) (noted (body_in styles o) (map built_in w.bodies.items))) c.args.step)) c.in-Some.ensures.value
     (inside-cause src (walk_in styles w.main) (walk_in styles b) (map built_in w.bodies.items) c.args.step b.site.room.bytes (omega (arith, room, count, sum, sites)) (c.in_err-body-in-Some.ensures.cause e)))

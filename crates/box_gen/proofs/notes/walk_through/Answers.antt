@@ -1,11 +1,10 @@
 use Rattle.std.proofs.Common.{◌≡◌, ◌∙◌, None, List, [], ap, sym, subst, arith}
 use Rattle.dom.specs.Walk.{steps_of}
 use Rattle.dom.specs.declared.walk.Step.{Step}
-use Rattle.box_gen.specs.Bodies.{Walks, CanAll, after_all, after_both, all_walked, noted, walks_start}
+use Rattle.box_gen.specs.Bodies.{Walks, after_all, after_both, all_walked, noted, walks_start}
 use Rattle.box_gen.specs.Flow.{bodies_of, nothing}
 use Rattle.box_gen.specs.Gather.{make}
 use Rattle.box_gen.specs.Sources.{source_in}
-use Rattle.box_gen.specs.Steps.{CanWalk}
 use Rattle.box_gen.specs.Walk.{Walk, walk}
 use Rattle.box_gen.specs.Walkers.{all_bytes, walks_in}
 use Rattle.box_gen.proofs.BodyLemmas.{all-can}
@@ -13,6 +12,7 @@ use Rattle.box_gen.proofs.BuildLemmas.{all-bytes, all-is}
 use Rattle.box_gen.proofs.RoomLemmas.{more-all}
 use Rattle.box_gen.proofs.SoundLemmas.{built-is, can-all}
 use Rattle.box_gen.proofs.notes.walk_through.Goals as goal
+use Rattle.box_gen.proofs.Walkable.{CanAll, CanWalk}
 
 pub loop-step-init : goal.loop-step-init
 loop-step-init c =

@@ -1,5 +1,5 @@
 use Rattle.std.proofs.Common.{ap, arith}
-use Rattle.box_gen.specs.declared.put.Room.{Room}
+use Rattle.box_gen.specs.declared.put.TreeRoom.{TreeRoom}
 use Rattle.box_gen.specs.Faces.{face_of}
 use Rattle.box_gen.specs.Flow.{Built}
 use Rattle.box_gen.specs.Leaves.{leaf_style_of}
@@ -18,6 +18,6 @@ returns-clause-count c =
     let bytes = c.bytes_of-bytes.ensures in
     let n = c.requires.count.count in
     let room = c.requires.room in
-    let same = ap (λ (r : Room). r.bytes) c.in_ok-put_any.ensures.room in
+    let same = ap (λ (r : TreeRoom). r.bytes) c.in_ok-put_any.ensures.room in
     let most = c.requires.count.most in
     record { count = omega (arith, all, any, kept, bytes, n); few = omega (arith, kept, bytes, room, same); most = omega (arith, same, most) }

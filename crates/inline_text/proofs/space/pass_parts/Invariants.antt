@@ -1,11 +1,8 @@
-use Rattle.std.proofs.Common.{◌≡◌, drop, length, vec_len}
-use Rattle.inline_text.specs.Space.{chars_from, collapsed, placed}
-use Rattle.inline_text.specs.Gaps.{IsWithin, left_from, texts_of}
+use Rattle.std.proofs.Common.{◌≡◌, drop}
+use Rattle.inline_text.specs.Space.{chars_from}
+use Rattle.inline_text.specs.Gaps.{laid, left_from}
+use Rattle.inline_text.specs.declared.space.Gap.TheVariants.{Spaced}
 use Rattle.inline_text.proofs.space.pass_parts.Given as goal
 
 abbrev pub invariant-loop-index : goal.invariant-loop-index
-invariant-loop-index l = record {
-  within : IsWithin l.gap (vec_len l.texts);
-  len : vec_len l.texts ≡ length l.parts;
-  goes : collapsed l.parts ≡ placed (texts_of l.texts) (left_from l.gap (chars_from l.index (drop l.index l.parts)));
-}
+invariant-loop-index l = laid l.initial.joined (left_from Spaced (chars_from 0 l.parts)) ≡ laid l.joined (left_from l.gap (chars_from l.index (drop l.index l.parts)))
