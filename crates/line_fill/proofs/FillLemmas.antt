@@ -8,16 +8,16 @@ use Rattle.std.proofs.lemmas.Bool.{cases_lt}
 use Rattle.std.proofs.lemmas.Bool.Decides.{nat_tests, eqb_tells}
 use Rattle.std.proofs.lemmas.Int.{ints}
 use Rattle.std.proofs.lemmas.List.Elements.{Contains-get_or}
-use Rattle.metrics.specs.Face.{FontFace, face_at}
-use Rattle.metrics.specs.Pen.{PenView}
+use Rattle.metrics.specs.Face.{FontFace}
+use Rattle.metrics.specs.Widths.{byte_width, hyphen_width, sum_from}
 use Rattle.boxes.specs.declared.leaf.Leaf.{Leaf}
 use Rattle.boxes.specs.declared.leaf.Span.{Span}
 use Rattle.line_fill.specs.declared.line_width.LineWidth.{LineWidth}
 use Rattle.line_fill.specs.declared.found.Found.{Found}
-use Rattle.line_fill.specs.Widths.{sum_from, span_at, width_in, unit_at, is_hyphened, hyphen_at}
-use Rattle.line_fill.specs.Fill.{FitsIn, IsFilled, AreWidths, IsNext, AreFound, noted, chosen, passed_to, pen_unit, pen_width}
+use Rattle.line_fill.specs.Widths.{span_at, pen_of, unit_at, is_hyphened, hyphen_at, hyphen_in}
+use Rattle.line_fill.specs.Fill.{FitsIn, IsFilled, AreWidths, AreFound, noted, chosen, passed_to}
 use Rattle.line_fill.specs.LineEnd.{shown_len, stop_of, IsOrdinary, IsEmergency, IsLineEnd, at_ordinary, ends_anywhere}
-use Rattle.line_fill.proofs.LineLemmas.{widths-mono, shown-le, sum_from-le, stop-step, stop-newline, stop-after, stop-last, between_places, none_there}
+use Rattle.line_fill.proofs.LineLemmas.{IsNext, widths-mono, shown-le, sum_from-le, stop-step, stop-newline, stop-after, stop-last, between_places, none_there}
 use Rattle.line_fill.proofs.WidthLemmas.{IsShown, run_shown, goes_on, stop_quiet}
 use Rattle.line_fill.proofs.FoundLemmas.{Says, found_skip, found_noted, end_chosen}
 
@@ -26,17 +26,13 @@ passed_same u v text at zero r h = refl
 passed_same u v text at (suc n) r h =
     rw (passed_same u v text at n r (λ k a b. h k a (omega arith)), h (at + n) (omega arith) (omega arith)) refl
 
--- a pen at a span's face and size
-abbrev pub pen_of : List FontFace → Span → PenView
-pen_of faces s = record { face = face_at faces s.face; size = s.size }
-
 module _ (faces : List FontFace) (leaf : Leaf) (span : Span) (here : (k : ℕ) → span.from ≤ k → k < span.to → span_at leaf.spans k ≡ Some span) where
-  pub unit_here : (k : ℕ) → span.from ≤ k → k < span.to → pen_unit (pen_of faces span) leaf.text k ≡ unit_at faces leaf k
-  unfolding pen_unit unit_at width_in pen_width
+  pub unit_here : (k : ℕ) → span.from ≤ k → k < span.to → byte_width (pen_of faces span) leaf.text k ≡ unit_at faces leaf k
+  unfolding unit_at
   unit_here k a b = rw (here k a b) refl
 
-  pub hyphen_here : (to : ℕ) → IsCharBoundary leaf.text span.from → span.from < to → to ≤ span.to → cond (is_hyphened leaf.text to) (pen_width (pen_of faces span) 45) 0 ≡ hyphen_at faces leaf to
-  unfolding is_hyphened hyphen_at width_in pen_width
+  pub hyphen_here : (to : ℕ) → IsCharBoundary leaf.text span.from → span.from < to → to ≤ span.to → cond (is_hyphened leaf.text to) (hyphen_width (pen_of faces span)) 0 ≡ hyphen_at faces leaf to
+  unfolding is_hyphened hyphen_at
   hyphen_here to bound a b = ⊎_elim
       (λ (h : span.from < to - 1). rw (here (to - 2) (omega arith) (omega arith)) refl)
       (λ (h : to - 1 ≤ span.from). by (ltb to (length leaf.text)) (leb 2 to) (eqb (get_or leaf.text (to - 2) 0) 194) (eqb (get_or leaf.text (to - 1) 0) 173) (none h))
@@ -55,7 +51,7 @@ module _ (faces : List FontFace) (leaf : Leaf) (span : Span) (here : (k : ℕ) �
           (λ (l : length leaf.text ≤ to). inl (grind (arith, nat_tests)))
           (cases_lt to (length leaf.text))
 
-      by : (w x y z : Bool) → (w ≡ false) ⊎ (z ≡ false) → cond (w && x && y && z) (pen_width (pen_of faces span) 45) 0 ≡ cond (w && x && y && z) (width_in faces (span_at leaf.spans (to - 2)) 45) 0
+      by : (w x y z : Bool) → (w ≡ false) ⊎ (z ≡ false) → cond (w && x && y && z) (hyphen_width (pen_of faces span)) 0 ≡ cond (w && x && y && z) (hyphen_in faces (span_at leaf.spans (to - 2))) 0
       by false x y z h = refl
       by true false y z h = refl
       by true true false z h = refl
@@ -67,7 +63,7 @@ no_hyphen : (faces : List FontFace) (leaf : Leaf) (to : ℕ) → (get_or leaf.te
 unfolding hyphen_at is_hyphened
 no_hyphen faces leaf to (inl h) = let e : eqb (get_or leaf.text (to - 1) 0) 173 ≡ false = grind (arith, nat_tests) in rw e (by (ltb to (length leaf.text)) (leb 2 to) (eqb (get_or leaf.text (to - 2) 0) 194))
   where
-    by : (x y z : Bool) → cond (x && y && z && false) (width_in faces (span_at leaf.spans (to - 2)) 45) 0 ≡ 0
+    by : (x y z : Bool) → cond (x && y && z && false) (hyphen_in faces (span_at leaf.spans (to - 2))) 0 ≡ 0
     by false y z = refl
     by true false z = refl
     by true true false = refl
@@ -80,7 +76,7 @@ module _ (faces : List FontFace) (leaf : Leaf) (span : Span) (from : ℕ) (room 
     (ends_in : span.to ≤ length leaf.text) (low : span.from ≤ at) (less : at < to) (high : to ≤ span.to)
     (is : IsFilled faces leaf from room at r f)
     (quiet : (k : ℕ) → at ≤ k → k + 1 < to → get_or leaf.text k 0 ≢ 10)
-    (r_is : r' ≡ passed_to (pen_unit (pen_of faces span) leaf.text) leaf.text at (to - at) r) where
+    (r_is : r' ≡ passed_to (byte_width (pen_of faces span) leaf.text) leaf.text at (to - at) r) where
   begins : from < to
   begins = let l = is.low in omega arith
 
@@ -95,7 +91,7 @@ module _ (faces : List FontFace) (leaf : Leaf) (span : Span) (from : ℕ) (room 
       let n = to - at - 1 in
       let s : suc n ≡ to - at = omega arith in
       let t : suc (at + n) ≡ to = omega arith in
-      let same : passed_to (pen_unit (pen_of faces span) leaf.text) leaf.text at (suc n) r ≡ passed_to (unit_at faces leaf) leaf.text at (suc n) r = passed_same _ _ leaf.text at (suc n) r (λ k a b. unit_here faces leaf span here k (omega arith) (omega arith)) in
+      let same : passed_to (byte_width (pen_of faces span) leaf.text) leaf.text at (suc n) r ≡ passed_to (unit_at faces leaf) leaf.text at (suc n) r = passed_same _ _ leaf.text at (suc n) r (λ k a b. unit_here faces leaf span here k (omega arith) (omega arith)) in
       let run : IsShown (unit_at faces leaf) leaf.text from (suc (at + n)) (passed_to (unit_at faces leaf) leaf.text at (suc n) r) = run_shown (unit_at faces leaf) leaf.text from at n r is.low is.widths (λ k a b. quiet k a (omega arith)) in
       let e : r' ≡ passed_to (unit_at faces leaf) leaf.text at (suc n) r = rw (← s) at r_is ∙ same in
       subst (λ z. IsShown (unit_at faces leaf) leaf.text from z r') t (rw e run)
@@ -122,7 +118,7 @@ module _ (faces : List FontFace) (leaf : Leaf) (span : Span) (from : ℕ) (room 
   pub fits_stop : (get_or leaf.text (to - 1) 0 ≡ 10) ⊎ (to ≡ length leaf.text) → r'.shown ≤ℤ room → FitsIn faces leaf from room to
   fits_stop s h = rw (no_hyphen faces leaf to s, add-zero) (let e = shown_behind.shown in rw e at h)
 
-  pub says_fits : IsCharBoundary leaf.text span.from → (b : Bool) (hyphen : ℕ) → hyphen ≡ cond (is_hyphened leaf.text to) (pen_width (pen_of faces span) 45) 0 → MatchBool b ((r'.shown +ℤ pos hyphen) ≤ℤ room) (room <ℤ (r'.shown +ℤ pos hyphen)) → Says b (FitsIn faces leaf from room to)
+  pub says_fits : IsCharBoundary leaf.text span.from → (b : Bool) (hyphen : ℕ) → hyphen ≡ cond (is_hyphened leaf.text to) (hyphen_width (pen_of faces span)) 0 → MatchBool b ((r'.shown +ℤ pos hyphen) ≤ℤ room) (room <ℤ (r'.shown +ℤ pos hyphen)) → Says b (FitsIn faces leaf from room to)
   says_fits bound true hyphen e h = let s = shown_behind.shown in let w : hyphen ≡ hyphen_at faces leaf to = e ∙ hyphen_here faces leaf span here to bound (omega arith) high in omega (arith, ints)
   says_fits bound false hyphen e h = λ g. let s = shown_behind.shown in let w : hyphen ≡ hyphen_at faces leaf to = e ∙ hyphen_here faces leaf span here to bound (omega arith) high in omega (arith, ints)
 
@@ -215,7 +211,7 @@ pub record Stretch (faces : List FontFace) (leaf : Leaf) (span : Span) (from : �
   pub high : to ≤ span.to
   pub is : IsFilled faces leaf from room at r f
   pub quiet : (k : ℕ) → at ≤ k → k + 1 < to → get_or leaf.text k 0 ≢ 10
-  pub r_is : r' ≡ passed_to (pen_unit (pen_of faces span) leaf.text) leaf.text at (to - at) r
+  pub r_is : r' ≡ passed_to (byte_width (pen_of faces span) leaf.text) leaf.text at (to - at) r
   pub least : pos 0 ≤ℤ r'.total
   pub most : r'.total ≤ℤ pos (134217728 * to)
   pub some_is : some ≡ cond (span.wrap && span.anywhere) leaf.graphemes []
@@ -240,7 +236,7 @@ module _ (faces : List FontFace) (leaf : Leaf) (span : Span) (from : ℕ) (room 
   stop_end true h t m = ends_there faces leaf span from room at to r r' f s.here s.ends_in s.low s.less s.high s.is s.quiet s.r_is next next' some s.some_is s.up s.up' s.nexts s.nexts' s.below s.below' h m
   stop_end false h t m = absurd cc
 
-  pub noted_filled : (st o e fit : Bool) (hyphen : ℕ) → Stops st → Meets leaf.places next o → Meets some next' e → (st || o || e) ≡ true → st ≡ false → hyphen ≡ cond (is_hyphened leaf.text to) (pen_width (pen_of faces span) 45) 0 → MatchBool fit ((r'.shown +ℤ pos hyphen) ≤ℤ room) (room <ℤ (r'.shown +ℤ pos hyphen)) → IsFilled faces leaf from room to r' (noted fit o e from to f)
+  pub noted_filled : (st o e fit : Bool) (hyphen : ℕ) → Stops st → Meets leaf.places next o → Meets some next' e → (st || o || e) ≡ true → st ≡ false → hyphen ≡ cond (is_hyphened leaf.text to) (hyphen_width (pen_of faces span)) 0 → MatchBool fit ((r'.shown +ℤ pos hyphen) ≤ℤ room) (room <ℤ (r'.shown +ℤ pos hyphen)) → IsFilled faces leaf from room to r' (noted fit o e from to f)
   noted_filled true o e fit hyphen h i j k l w m = absurd cc
   noted_filled false o e fit hyphen h i j k l w m = filled_by faces leaf span from room at to r r' f s.here s.ends_in s.low s.less s.high s.is s.quiet s.r_is next next' some s.some_is s.up s.up' s.nexts s.nexts' s.below s.below' (noted fit o e from to f)
       (filled_noted faces leaf span from room at to r r' f s.here s.ends_in s.low s.less s.high s.is s.quiet s.r_is next next' some s.some_is s.up s.up' s.nexts s.nexts' s.below s.below' o e fit

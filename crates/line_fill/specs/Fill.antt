@@ -1,29 +1,32 @@
 -- What is known of a line while it is filled.
-use Rattle.std.specs.Prelude.{◌≡◌, ◌≢◌, ℕ, zero, suc, ◌+◌, ◌-◌, ◌*◌, ◌<◌, ◌≤◌, ℤ, pos, ◌≤ℤ◌, ◌+ℤ◌, List, slice_index, length, ◌==◌, ◌||◌, ◌&&◌, not, ◌⊎◌, Bool, unsigned_abs, if◌then◌else◌}
-use Rattle.metrics.specs.Face.{FontFace, advance_number, scaled}
-use Rattle.metrics.specs.Pen.{PenView}
+use Rattle.std.specs.Prelude.{◌≡◌, ◌≢◌, ℕ, zero, suc, ◌+◌, ◌-◌, ◌*◌, ◌<◌, ◌≤◌, ℤ, pos, ◌≤ℤ◌, ◌+ℤ◌, List, slice_index, length, ◌==◌, ◌||◌, ◌&&◌, not, ◌⊎◌, Bool, Some, if◌then◌else◌}
+use Rattle.metrics.specs.Face.{FontFace}
+use Rattle.metrics.specs.Widths.{sum_from}
+use Rattle.std.specs.Str.{IsCharBoundary}
 use Rattle.boxes.specs.declared.leaf.Leaf.{Leaf}
+use Rattle.boxes.specs.declared.leaf.Span.{Span}
 use Rattle.line_fill.specs.declared.line_width.LineWidth.{LineWidth}
 use Rattle.line_fill.specs.declared.found.Found.{Found}
-use Rattle.line_fill.specs.Widths.{is_lead, char_at, has_width, sum_from, unit_at}
+use Rattle.line_fill.specs.Widths.{span_at, unit_at}
 use Rattle.line_fill.specs.LineEnd.{stop_of, spaceless_len, width_to, IsOrdinary, IsEmergency}
-
--- the width of a character by a pen
-unfoldable pub pen_width : PenView → ℕ → ℕ
-pen_width p c = if has_width c then unsigned_abs (scaled (advance_number p.face c) p.size p.face.units) else 0
-
--- what the byte at a place adds to a width where a pen writes
-unfoldable pub pen_unit : PenView → List ℕ → ℕ → ℕ
-pen_unit p text k = if is_lead (slice_index text k) then pen_width p (char_at text k) else 0
 
 -- the widths with one more byte
 unfoldable pub passed : ℕ → ℕ → LineWidth → LineWidth
-passed byte width r = record { total = r.total +ℤ pos width; shown = if byte == 32 || byte == 10 then r.shown else r.total +ℤ pos width }
+passed byte width r =
+    record { total = r.total +ℤ pos width; shown = if byte == 32 || byte == 10 then r.shown else r.total +ℤ pos width }
 
 -- the widths with n more bytes, from a place on
 abbrev pub passed_to : (ℕ → ℕ) → List ℕ → ℕ → ℕ → LineWidth → LineWidth
 passed_to unit text at zero r = r
 passed_to unit text at (suc n) r = passed (slice_index text (at + n)) (unit (at + n)) (passed_to unit text at n r)
+
+-- a span of a leaf: its face is there, it has a size, begins at a character, and the bytes up to its end stand in it
+pub record IsSpanOf (faces : List FontFace) (leaf : Leaf) (span : Span) : Type 0 where
+  pub face : span.face.0 < length faces
+  pub size : pos 0 ≤ℤ span.size
+  pub begins : IsCharBoundary leaf.text span.from
+  pub ends : span.to ≤ length leaf.text
+  pub here : (k : ℕ) → span.from ≤ k → k < span.to → span_at leaf.spans k ≡ Some span
 
 -- whether a line is no wider than the room it has
 abbrev pub FitsIn : List FontFace → Leaf → ℕ → ℤ → ℕ → Type 0
@@ -42,8 +45,8 @@ noted fits ordinary emergency from to f = record {
   least = if f.least == from then to else f.least;
 }
 
--- the end, where no later place fits: an ordinary place that fits, else an emergency place that fits, else the least place, which is `to`
--- if there was none
+-- the end, where no later place fits: an ordinary place that fits, else an emergency place that fits, else the least
+-- place, which is `to` if there was none
 unfoldable pub chosen : ℕ → ℕ → Found → ℕ
 chosen from to f = if not (f.best == from) then f.best else if not (f.emergency == from) then f.emergency else
     if not (f.least == from) then f.least else to
@@ -58,17 +61,13 @@ pub record AreFound (Fitting Ordinary Emergency : ℕ → Type 0) (from at : ℕ
   pub before : (q : ℕ) → Ordinary q ⊎ Emergency q → q ≤ at → (f.least ≢ from) × (f.least ≤ q)
 
 -- a line that isn't ended is filled up to a place
-pub record IsFilled (faces : List FontFace) (leaf : Leaf) (from : ℕ) (room : ℤ) (at : ℕ) (r : LineWidth) (f : Found) : Type 0 where
+pub record IsFilled (faces : List FontFace) (leaf : Leaf) (from : ℕ) (room : ℤ) (at : ℕ) (r : LineWidth)
+    (f : Found) : Type 0 where
   pub low : from ≤ at
   pub more : at < length leaf.text
   pub widths : AreWidths (unit_at faces leaf) leaf.text from at r
   pub not_negative : pos 0 ≤ℤ r.total
   pub small : r.total ≤ℤ pos (134217728 * at)
   pub same_stop : stop_of leaf.text from ≡ stop_of leaf.text at
-  pub found : AreFound (FitsIn faces leaf from room) (IsOrdinary leaf.text leaf.places from) (IsEmergency leaf from) from at f
-
--- the places of a list at or before a place are those before an index
-pub record IsNext (places : List ℕ) (at next : ℕ) : Type 0 where
-  pub within : next ≤ length places
-  pub passed : (k : ℕ) → k < next → slice_index places k ≤ at
-  pub coming : (k : ℕ) → next ≤ k → k < length places → at < slice_index places k
+  pub found : AreFound (FitsIn faces leaf from room) (IsOrdinary leaf.text leaf.places from)
+      (IsEmergency leaf from) from at f

@@ -1,46 +1,33 @@
 //! Where a line of a leaf ends.
 
-ghost use Rattle.std.specs.Prelude.{◌≡◌, ◌≢◌, ℕ, ◌<◌, ◌≤◌, ◌+◌, ◌-◌, ◌*◌, ◌^◌, pos, ◌≤ℤ◌, ◌<ℤ◌, ◌+ℤ◌, length, slice_index, slice_index_or, unsigned_abs, max, Some, MatchOption, MatchBool, ◌⊎◌, ◌||◌, if◌then◌else◌};
+ghost use Rattle.std.specs.Prelude.{◌≡◌, ◌≢◌, ◌<◌, ◌≤◌, ◌+◌, ◌-◌, ◌*◌, ◌^◌, pos, ◌≤ℤ◌, ◌<ℤ◌, ◌+ℤ◌, length, slice_index, slice_index_or, max, Some, MatchOption, MatchBool, ◌⊎◌, ◌||◌, if◌then◌else◌};
 ghost use Rattle.std.specs.List.{All};
-ghost use Rattle.std.specs.Str.{IsCharBoundary};
 ghost use Rattle.boxes.specs.Contents.{AreSpans, IsGoodLeaf};
 ghost use Rattle.boxes.specs.declared.leaf.Span.{Span};
-ghost use Rattle.line_fill.specs.LineEnd.{IsLineEnd, IsOrdinary, IsEmergency, line_measure};
-ghost use Rattle.line_fill.specs.Widths.{span_at, is_hyphened};
-ghost use Rattle.line_fill.specs.Fill.{FitsIn, IsFilled, pen_width};
+ghost use Rattle.line_fill.specs.LineEnd.{IsLineEnd, IsOrdinary, IsEmergency};
+ghost use Rattle.line_fill.specs.Widths.{is_hyphened};
+ghost use Rattle.line_fill.specs.Fill.{FitsIn, IsFilled, IsSpanOf};
+ghost use Rattle.metrics.specs.Widths.{hyphen_width};
 
 use crate::found::Found;
-use crate::line_width::{LineWidth, ascii_width, pass_run};
+use crate::line_width::{LineWidth, pass_stretch};
 use crate::places::{after, count_up_to, emergencies, is_place, mark};
 use boxes::leaf::{Leaf, Span};
-use boxes::span::used_units;
 use metrics::{Faces, Pen};
 
 /// Where a line begins, and the units that it has.
 #[derive(Clone, Copy)]
-pub(crate) struct Room {
+pub(crate) struct LineRoom {
     pub from: usize,
     pub units: i64,
-}
-
-/// The measure of the line that begins at a place.
-#[tactic(auto, unfolding(crate::specs::LineEnd::line_measure))]
-pub(crate) fn measure_at(leaf: &Leaf, from: u32, measure: i64) -> i64
-    requires { unsigned_abs measure ≤ 2 ^ 40 }
-    ensures { result ≡ line_measure leaf.now from measure }
-{
-    if from == 0 {
-        measure - used_units(leaf.indent, measure)
-    } else {
-        measure
-    }
 }
 
 /// Whether a line that holds the byte before a place ends there in any case.
 fn is_stop(bytes: &[u8], to: usize) -> bool
     requires some { 0 < to }
     requires within { to ≤ length bytes.now }
-    ensures { MatchBool result ((slice_index bytes.now (to - 1) ≡ 10) ⊎ (to ≡ length bytes.now)) ((slice_index bytes.now (to - 1) ≢ 10) ×
+    ensures { MatchBool result ((slice_index bytes.now (to - 1) ≡ 10) ⊎ (to ≡ length bytes.now))
+        ((slice_index bytes.now (to - 1) ≢ 10) ×
         (to < length bytes.now)) }
 {
     bytes[to - 1] == b'\n' || to == bytes.len()
@@ -60,20 +47,20 @@ pub(crate) fn is_hyphened(bytes: &[u8], to: usize) -> bool
     to < bytes.len() && 2 <= to && bytes[to - 2] == 194 && bytes[to - 1] == 173
 }
 
-/// The width of the hyphen that is shown at a place.
-fn hyphen_width(pen: &Pen<'_>, bytes: &[u8], to: usize) -> u32
-    ensures value { result ≡ (if is_hyphened bytes.now to then pen_width pen.now 45 else 0) }
+/// The width of the hyphen that is shown at a place, 0 where none is.
+fn hyphen_at(pen: &Pen<'_>, bytes: &[u8], to: usize) -> u32
+    ensures value { result ≡ (if is_hyphened bytes.now to then hyphen_width pen.now else 0) }
     ensures most { result ≤ 2 ^ 27 }
 {
     if is_hyphened(bytes, to) {
-        ascii_width(pen, b'-')
+        pen.hyphen_width()
     } else {
         0
     }
 }
 
 /// Whether a line of a width and a hyphen is no wider than its room.
-fn fits(shown: LineWidth, hyphen: u32, room: Room) -> bool
+fn fits(shown: LineWidth, hyphen: u32, room: LineRoom) -> bool
     requires low { pos 0 ≤ℤ shown.shown }
     requires high { shown.shown ≤ℤ pos (2 ^ 60) }
     ensures { MatchBool result ((shown.shown +ℤ pos hyphen) ≤ℤ room.units) (room.units <ℤ (shown.shown +ℤ pos hyphen)) }
@@ -86,21 +73,19 @@ fn pass_span(
     faces: &Faces,
     leaf: &Leaf,
     span: &Span,
-    room: Room,
+    room: LineRoom,
     line_width: &mut LineWidth,
     found: &mut Found,
 ) -> Option<usize>
     requires good { IsGoodLeaf leaf.now }
     requires few { length leaf.now.text < 2 ^ 32 }
-    requires face { span.now.face.0 < length faces.now }
-    requires size { pos 0 ≤ℤ span.now.size }
-    requires begins { IsCharBoundary leaf.now.text span.now.from }
-    requires ends { span.now.to ≤ length leaf.now.text }
+    requires span { IsSpanOf faces.now leaf.now span.now }
     requires order { max room.from span.now.from ≤ span.now.to }
-    requires here { (k : ℕ) → span.now.from ≤ k → k < span.now.to → span_at leaf.now.spans k ≡ Some span.now }
-    requires filled { IsFilled faces.now leaf.now room.from room.units (max room.from span.now.from) line_width.old found.old }
+    requires filled { IsFilled faces.now leaf.now room.from room.units
+        (max room.from span.now.from) line_width.old found.old }
     ensures { MatchOption result (IsFilled faces.now leaf.now room.from room.units span.now.to line_width.new found.new)
-        (λ to. IsLineEnd (FitsIn faces.now leaf.now room.from room.units) (IsOrdinary leaf.now.text leaf.now.places room.from)
+        (λ to. IsLineEnd (FitsIn faces.now leaf.now room.from room.units)
+        (IsOrdinary leaf.now.text leaf.now.places room.from)
         (IsEmergency leaf.now room.from) to) }
 {
     let text = leaf.text.as_str();
@@ -113,10 +98,10 @@ fn pass_span(
     let mut next = count_up_to(places, at);
     let mut next_grapheme = count_up_to(graphemes, at);
     while at < end {
-        let stretch = mark(graphemes, next_grapheme, mark(places, next, end));
-        let run = pass_run(&pen, text, at, stretch, *line_width);
-        *line_width = run.line_width;
-        at = run.to;
+        let stop = mark(graphemes, next_grapheme, mark(places, next, end));
+        let stretch = pass_stretch(&pen, text, at, stop, *line_width);
+        *line_width = stretch.line_width;
+        at = stretch.to;
         let stops = is_stop(bytes, at);
         let ordinary = is_place(places, next, at);
         let emergency = is_place(graphemes, next_grapheme, at);
@@ -127,7 +112,7 @@ fn pass_span(
             if stops {
                 return Some(at);
             }
-            let fits = fits(*line_width, hyphen_width(&pen, bytes, at), room);
+            let fits = fits(*line_width, hyphen_at(&pen, bytes, at), room);
             *found = found.note(fits, ordinary, emergency, room.from, at);
         }
         next = after(next, ordinary);
@@ -148,12 +133,13 @@ fn first_span(text: &str, spans: &[Span], from: usize) -> usize
 }
 
 /// Where a line ends.
-pub(crate) fn line_end(faces: &Faces, leaf: &Leaf, room: Room) -> usize
+pub(crate) fn line_end(faces: &Faces, leaf: &Leaf, room: LineRoom) -> usize
     requires good { IsGoodLeaf leaf.now }
     requires few { length leaf.now.text < 2 ^ 32 }
     requires faced { All (λ s. s.face.0 < length faces.now) leaf.now.spans }
     requires from { room.from < length leaf.now.text }
-    ensures { IsLineEnd (FitsIn faces.now leaf.now room.from room.units) (IsOrdinary leaf.now.text leaf.now.places room.from)
+    ensures { IsLineEnd (FitsIn faces.now leaf.now room.from room.units)
+        (IsOrdinary leaf.now.text leaf.now.places room.from)
         (IsEmergency leaf.now room.from) result }
 {
     let text = leaf.text.as_str();

@@ -1,7 +1,8 @@
 //! How wide a line is so far.
 
 ghost use Rattle.std.specs.Prelude.{◌≡◌, ℕ, ◌<◌, ◌≤◌, ◌+◌, ◌*◌, ◌-◌, ◌^◌, ◌≢◌, ◌⊎◌, pos, ◌≤ℤ◌, ◌+ℤ◌, length, slice_index};
-ghost use Rattle.line_fill.specs.Fill.{passed, passed_to, pen_unit, pen_width};
+ghost use Rattle.metrics.specs.Widths.{byte_width};
+ghost use Rattle.line_fill.specs.Fill.{passed, passed_to};
 
 use metrics::Pen;
 
@@ -12,9 +13,9 @@ pub struct LineWidth {
     pub shown: i64,
 }
 
-/// The end of a run of bytes, and the widths there.
+/// The end of a stretch of bytes, and the widths there.
 #[derive(Clone, Copy)]
-pub(crate) struct Run {
+pub(crate) struct Stretch {
     pub to: usize,
     pub line_width: LineWidth,
 }
@@ -44,69 +45,14 @@ impl LineWidth {
     }
 }
 
-/// The width of a character.
-#[tactic(auto, unfolding(crate::specs::Fill::pen_width, crate::specs::Widths::has_width))]
-fn char_width(pen: &Pen<'_>, c: char) -> u32
-    ensures value { result ≡ pen_width pen.now c }
-    ensures most { result ≤ 2 ^ 27 }
-{
-    if matches!(c, '\u{AD}' | '\u{200B}' | '\n') {
-        0
-    } else {
-        pen.advance(c)
-    }
-}
-
-/// The width of an ASCII character.
-#[inline]
-#[tactic(auto, unfolding(crate::specs::Fill::pen_width, crate::specs::Widths::has_width))]
-pub(crate) fn ascii_width(pen: &Pen<'_>, byte: u8) -> u32
-    requires { byte < 128 }
-    ensures value { result ≡ pen_width pen.now byte }
-    ensures most { result ≤ 2 ^ 27 }
-{
-    if byte == b'\n' { 0 } else { pen.ascii(byte) }
-}
-
-/// What a byte that isn't ASCII adds to a width: that of the character which it begins, else nothing.
-fn wide_unit(pen: &Pen<'_>, text: &str, at: usize) -> u32
-    requires within { at < length text.now }
-    requires wide { 128 ≤ slice_index text.now at }
-    ensures value { result ≡ pen_unit pen.now text.now at }
-    ensures most { result ≤ 2 ^ 27 }
-{
-    if text.as_bytes()[at] < 192 {
-        return 0;
-    }
-    match text[at..].chars().next() {
-        Some(c) => char_width(pen, c),
-        None => 0,
-    }
-}
-
-/// What a byte adds to a width.
-#[inline]
-fn unit(pen: &Pen<'_>, text: &str, at: usize) -> u32
-    requires { at < length text.now }
-    ensures value { result ≡ pen_unit pen.now text.now at }
-    ensures most { result ≤ 2 ^ 27 }
-{
-    let byte = text.as_bytes()[at];
-    if byte < 128 {
-        ascii_width(pen, byte)
-    } else {
-        wide_unit(pen, text, at)
-    }
-}
-
 /// The bytes from a place on, up to another place or after the first newline before it.
-pub(crate) fn pass_run(
+pub(crate) fn pass_stretch(
     pen: &Pen<'_>,
     text: &str,
     at: usize,
     end: usize,
     line_width: LineWidth,
-) -> Run
+) -> Stretch
     requires order { at < end }
     requires within { end ≤ length text.now }
     requires few { length text.now < 2 ^ 32 }
@@ -116,7 +62,8 @@ pub(crate) fn pass_run(
     ensures within { result.to ≤ end }
     ensures quiet { (k : ℕ) → at ≤ k → k + 1 < result.to → slice_index text.now k ≢ 10 }
     ensures ends { (result.to ≡ end) ⊎ (slice_index text.now (result.to - 1) ≡ 10) }
-    ensures line_width { result.line_width ≡ passed_to (pen_unit pen.now text.now) text.now at (result.to - at) line_width }
+    ensures line_width { result.line_width ≡ passed_to (byte_width pen.now text.now) text.now at
+        (result.to - at) line_width }
     ensures low { pos 0 ≤ℤ result.line_width.total }
     ensures high { result.line_width.total ≤ℤ pos (134217728 * result.to) }
 {
@@ -124,15 +71,15 @@ pub(crate) fn pass_run(
     let mut line_width = line_width;
     for k in at..end {
         let byte = bytes[k];
-        line_width = line_width.pass(byte, unit(pen, text, k));
+        line_width = line_width.pass(byte, pen.byte_width(text, k));
         if byte == b'\n' {
-            return Run {
+            return Stretch {
                 to: k + 1,
                 line_width,
             };
         }
     }
-    Run {
+    Stretch {
         to: end,
         line_width,
     }

@@ -5,8 +5,9 @@ use Rattle.bk_num.specs.declared.values.Align.TheVariants as align
 use Rattle.metrics.specs.Face.{FontFace}
 use Rattle.boxes.specs.Lines.{LineView}
 use Rattle.boxes.specs.declared.leaf.Leaf.{Leaf}
+use Rattle.line_fill.specs.LineEnd.{indent_of}
 use Rattle.line_place.specs.declared.place.Setting.{Setting}
-use Rattle.line_place.specs.Placing.{free_end, has_shares, hyphens_of, indent_of, runs_of, setting_of, shift_of, slack_of}
+use Rattle.line_place.specs.Placing.{free_end, has_shares, hyphens_of, runs_of, setting_of, shift_of, slack_of}
 use Rattle.line_place.specs.Runs.{is_free, line_pieces}
 use Rattle.line_place.specs.Sums.{run_of}
 

@@ -3,13 +3,14 @@ use Rattle.std.proofs.Common.{◌≡◌, ◌∙◌, ℕ, suc, ◌+◌, ◌-◌, 
 use Rattle.metrics.specs.Face.{FontFace}
 use Rattle.boxes.specs.declared.leaf.Leaf.{Leaf}
 use Rattle.boxes.specs.declared.leaf.Span.{Span}
-use Rattle.line_fill.specs.Widths.{sum_from, span_at, unit_at}
+use Rattle.metrics.specs.Widths.{byte_width, sum_from}
+use Rattle.line_fill.specs.Widths.{pen_of, span_at, unit_at}
 use Rattle.line_place.specs.declared.sums.Sums.{Sums}
-use Rattle.line_place.specs.Runs.{is_free, unit_in}
+use Rattle.line_place.specs.Runs.{is_free}
 use Rattle.line_place.specs.Sums.{AreSums, one}
 
 -- inside a span its style counts
-unit_here : (faces : List FontFace) (leaf : Leaf) (s : Span) (k : ℕ) → span_at leaf.spans k ≡ Some s → unit_in faces s leaf.text k ≡ unit_at faces leaf k
+unit_here : (faces : List FontFace) (leaf : Leaf) (s : Span) (k : ℕ) → span_at leaf.spans k ≡ Some s → byte_width (pen_of faces s) leaf.text k ≡ unit_at faces leaf k
 unfolding unit_at
 unit_here faces leaf s k here = rw here refl
 
@@ -23,7 +24,7 @@ sum_step unit from at low =
     let f : from + (at - from) ≡ at = omega arith in
     ap (sum_from unit from) e ∙ ap (λ (k : ℕ). sum_from unit from (at - from) + unit k) f
 
-pub sums_step : (faces : List FontFace) (leaf : Leaf) (s : Span) (end from at width : ℕ) (free : Bool) (before after : Sums) → from ≤ at → AreSums faces leaf end from at before → span_at leaf.spans at ≡ Some s → width ≡ unit_in faces s leaf.text at → width ≤ 134217728 → free ≡ is_free leaf.text end at →
+pub sums_step : (faces : List FontFace) (leaf : Leaf) (s : Span) (end from at width : ℕ) (free : Bool) (before after : Sums) → from ≤ at → AreSums faces leaf end from at before → span_at leaf.spans at ≡ Some s → width ≡ byte_width (pen_of faces s) leaf.text at → width ≤ 134217728 → free ≡ is_free leaf.text end at →
     after.width ≡ before.width + width → after.passed ≡ before.passed + one free → AreSums faces leaf end from (at + 1) after
 sums_step faces leaf s end from at width free before after low sums here unit most shared w p =
     let e : at + 1 - from ≡ suc (at - from) = omega arith in

@@ -1,15 +1,15 @@
 -- The runs of a line: the part of each span in it, cut after the spaces over which slack is shared.
-use Rattle.std.specs.Prelude.{◌≡◌, ◌<◌, ◌≤◌, ℕ, zero, suc, ◌+◌, ◌-◌, ◌*◌, ◌/◌, ◌%◌, min, max, List, [], ◌∷◌, ◌++◌, Bool, ◌==◌, ◌&&◌, nat_lt, slice_index, length, if◌then◌else◌, Some}
-use Rattle.metrics.specs.Face.{FontFace}
+use Rattle.std.specs.Prelude.{◌≡◌, ◌<◌, ◌≤◌, ℕ, zero, suc, ◌+◌, ◌-◌, ◌*◌, ◌/◌, ◌%◌, min, max, List, [], ◌∷◌, ◌++◌, Bool, ◌==◌, ◌&&◌, nat_lt, slice_index, length, if◌then◌else◌}
 use Rattle.boxes.specs.Contents.{AreSpans}
 use Rattle.boxes.specs.declared.leaf.Span.{Span}
-use Rattle.line_fill.specs.Widths.{is_lead, char_at, width_in}
 use Rattle.line_place.specs.declared.pieces.Piece.{Piece}
 
--- whether a place is a space that takes a share: one before the spaces that hang. In a line without shares the end is its beginning
+-- whether a place is a space that takes a share: one before the spaces that hang. In a line without shares the end is
+-- its beginning
 abbrev pub is_free : List ℕ → ℕ → ℕ → Bool
 is_free text end k = nat_lt k end && (slice_index text k == 32)
 
+-- what is left of a piece at the end; nothing where it is empty
 abbrev pub last_piece : ℕ → ℕ → ℕ → List Piece
 last_piece span start at = if start == at then [] else record { span = span; from = start; to = at } ∷ []
 
@@ -24,6 +24,7 @@ cut_pieces free span start at (suc n) =
 abbrev pub cut_here : Bool → ℕ → ℕ → ℕ → List Piece
 cut_here free span start at = if free then record { span = span; from = start; to = at + 1 } ∷ [] else []
 
+-- where the next piece begins
 abbrev pub next_start : Bool → ℕ → ℕ → ℕ
 next_start free start at = if free then at + 1 else start
 
@@ -43,12 +44,9 @@ Covers from (p ∷ pieces) to = (p.from ≡ from) × (p.from < p.to) × Covers p
 
 -- the pieces of a line cover it once
 abbrev pub PiecesCover : Type 0
-PiecesCover = (text : List ℕ) (free : ℕ → Bool) (spans : List Span) (from to : ℕ) → AreSpans text 0 spans → from ≤ to → to ≤ length text →
+PiecesCover = (text : List ℕ) (free : ℕ → Bool) (spans : List Span) (from to : ℕ) → AreSpans text 0 spans → from ≤ to →
+    to ≤ length text →
     Covers from (line_pieces free from to 0 spans) to
-
--- what the byte at a place of a text in a span's style adds to a width
-abbrev pub unit_in : List FontFace → Span → List ℕ → ℕ → ℕ
-unit_in faces s text k = if is_lead (slice_index text k) then width_in faces (Some s) (char_at text k) else 0
 
 -- what of the slack stands before k of n spaces are passed: the odd units go to the first ones
 abbrev pub share_of : ℕ → ℕ → ℕ → ℕ

@@ -1,15 +1,18 @@
 -- What a line has up to an offset.
-use Rattle.std.specs.Prelude.{◌≡◌, ◌≤◌, ◌<◌, ℕ, ◌+◌, ◌-◌, ◌*◌, ℤ, pos, ◌+ℤ◌, Bool, false, if◌then◌else◌, List, length, slice_index_or, Some}
+use Rattle.std.specs.Prelude.{◌≡◌, ◌≤◌, ◌<◌, ◌^◌, ℕ, ◌+◌, ◌-◌, ◌*◌, ℤ, pos, neg_ℤ, ◌≤ℤ◌, ◌+ℤ◌, Bool, false, if◌then◌else◌, List, length, slice_index_or, Some}
+use Rattle.std.specs.List.{All}
 use Rattle.metrics.specs.Face.{FontFace}
 use Rattle.boxes.specs.declared.leaf.Leaf.{Leaf}
 use Rattle.boxes.specs.declared.leaf.Span.{Span}
-use Rattle.line_fill.specs.Widths.{span_at, sum_from, unit_at}
+use Rattle.metrics.specs.Widths.{sum_from}
+use Rattle.line_fill.specs.Widths.{span_at, unit_at}
 use Rattle.line_place.specs.declared.sums.Sums.{Sums}
 use Rattle.line_place.specs.declared.pieces.Piece.{Piece}
 use Rattle.line_place.specs.declared.place.Run.{Run}
 use Rattle.line_place.specs.declared.place.Setting.{Setting}
-use Rattle.line_place.specs.Runs.{is_free, share_of}
+use Rattle.line_place.specs.Runs.{Covers, is_free, share_of}
 
+-- 1 for a place that counts, else 0
 abbrev pub one : Bool → ℕ
 one b = if b then 1 else 0
 
@@ -29,11 +32,30 @@ pub record IsInside (spans : List Span) (p : Piece) : Type 0 where
   pub there : p.span < length spans
   pub here : (d : Span) (k : ℕ) → p.from ≤ k → k < p.to → span_at spans k ≡ Some (slice_index_or spans p.span d)
 
--- how a line is set: where its first character begins, its slack, and how many spaces share it. The place of an offset is as far from the
--- beginning as the text between is wide, with the shares of the spaces passed
+-- the bytes between two offsets stand in a span, whose face is there and which has a size
+pub record StandsIn (faces : List FontFace) (leaf : Leaf) (span : Span) (from to : ℕ) : Type 0 where
+  pub face : span.face.0 < length faces
+  pub size : pos 0 ≤ℤ span.size
+  pub here : (k : ℕ) → from ≤ k → k < to → span_at leaf.spans k ≡ Some span
+
+-- the pieces of a part of a leaf's text: they cover it once, each in its span
+pub record ArePieces (leaf : Leaf) (from to : ℕ) (pieces : List Piece) : Type 0 where
+  pub within : to ≤ length leaf.text
+  pub covers : Covers from pieces to
+  pub inside : All (IsInside leaf.spans) pieces
+
+-- a line begins and has slack within bounds that no sum of places passes
+pub record IsBounded (s : Setting) : Type 0 where
+  pub slack : s.slack ≤ 2 ^ 42
+  pub low : neg_ℤ (pos (2 ^ 44)) ≤ℤ s.start
+  pub high : s.start ≤ℤ pos (2 ^ 44)
+
+-- how a line is set: where its first character begins, its slack, and how many spaces share it. The place of an offset
+-- is as far from the beginning as the text between is wide, with the shares of the spaces passed
 abbrev pub left_at : List FontFace → Leaf → ℕ → ℕ → Setting → ℕ → ℤ
 left_at faces leaf end from s at =
-    s.start +ℤ pos (sum_from (unit_at faces leaf) from (at - from) + share_of s.slack s.count (count_free leaf.text end from (at - from)))
+    s.start +ℤ pos (sum_from (unit_at faces leaf) from (at - from) + share_of s.slack s.count
+    (count_free leaf.text end from (at - from)))
 
 -- the run of a piece
 abbrev pub run_of : List FontFace → Leaf → ℕ → ℕ → Setting → Piece → Run

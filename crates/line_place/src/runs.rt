@@ -2,62 +2,31 @@
 
 ghost use Rattle.std.specs.Prelude.{◌≡◌, ◌<◌, ◌≤◌, ◌+◌, ◌-◌, ◌*◌, ◌^◌, pos, neg_ℤ, ◌≤ℤ◌, ◌+ℤ◌, ◌-ℤ◌, length, unsigned_abs, slice_index_or, Some, true, ◌∷◌, [], ◌++◌, map, OnOk, if◌then◌else◌, IfOk};
 ghost use Rattle.std.specs.Int.{int_max};
-ghost use Rattle.std.specs.List.{All};
 ghost use Rattle.bk_num.specs.declared.values.Align.TheVariants as align;
 ghost use Rattle.boxes.specs.Contents.{IsGoodLeaf};
 ghost use Rattle.boxes.specs.declared.leaf.Span.{Span};
-ghost use Rattle.line_fill.specs.LineEnd.{line_measure, shown_len};
-ghost use Rattle.line_fill.specs.Widths.{hyphen_at, span_at, sum_from, unit_at};
+ghost use Rattle.metrics.specs.Widths.{sum_from};
+ghost use Rattle.line_fill.specs.LineEnd.{indent_of, shown_len};
+ghost use Rattle.line_fill.specs.Widths.{hyphen_at, span_at, unit_at};
 ghost use Rattle.line_place.specs.Conditions.{HasFaces, IsInLeaf};
 ghost use Rattle.line_place.specs.Placing as spec;
-ghost use Rattle.line_place.specs.Placing.{free_end, hyphens_of, indent_of, number_at, runs_of, setting_of, shift_of, slack_of};
-ghost use Rattle.line_place.specs.Runs.{Covers, is_free, line_pieces};
-ghost use Rattle.line_place.specs.Sums.{AreSums, IsInside, count_free, run_of};
+ghost use Rattle.line_place.specs.Placing.{free_end, hyphens_of, number_at, runs_of, setting_of, shift_of, slack_of};
+ghost use Rattle.line_place.specs.Runs.{is_free, line_pieces};
+ghost use Rattle.line_place.specs.Sums.{ArePieces, AreSums, IsBounded, count_free, run_of};
 
 use crate::pieces::{Ends, Piece, pieces_of};
 use crate::place::{Run, Setting, left, push_runs};
 use crate::shown::shown_end;
 use crate::spans::count_ended;
 use crate::sums::{Sums, add_piece};
-use crate::units::ascii_width;
 use bk_num::items::Items;
 use bk_num::name::NoMem;
 use bk_num::values::Align;
 use boxes::leaf::Leaf;
 use boxes::line::Line;
-use boxes::span::used_units;
+use line_fill::measure::{indent_at, measure_at};
 use metrics::Faces;
 use std::alloc::Global;
-
-/// The indent of the line that begins at an offset.
-#[tactic(auto, unfolding(crate::specs::Placing::indent_of))]
-fn indent_at(leaf: &Leaf, from: u32, measure: i64) -> i64
-    requires { unsigned_abs measure ≤ 2 ^ 40 }
-    ensures value { result ≡ indent_of leaf.now from measure }
-    ensures low { neg_ℤ (pos (2 ^ 27)) ≤ℤ result }
-    ensures high { result ≤ℤ pos (2 ^ 27) }
-{
-    if from == 0 {
-        used_units(leaf.indent, measure)
-    } else {
-        0
-    }
-}
-
-/// The measure of the line that begins at an offset.
-#[tactic(auto, unfolding(line_fill::specs::LineEnd::line_measure))]
-fn measure_at(leaf: &Leaf, from: u32, measure: i64) -> i64
-    requires { unsigned_abs measure ≤ 2 ^ 40 }
-    ensures value { result ≡ line_measure leaf.now from measure }
-    ensures high { result ≤ℤ pos (2 ^ 41) }
-    ensures low { neg_ℤ (pos (2 ^ 41)) ≤ℤ result }
-{
-    if from == 0 {
-        measure - used_units(leaf.indent, measure)
-    } else {
-        measure
-    }
-}
 
 /// What a width leaves of a measure, at least nothing.
 fn left_of(measure: i64, width: u64) -> u64
@@ -101,9 +70,7 @@ fn sum_pieces(faces: &Faces, leaf: &Leaf, ends: Ends, pieces: &[Piece]) -> Sums
     requires good { IsGoodLeaf leaf.now }
     requires faced { HasFaces faces.now leaf.now }
     requires few { ends.to < 2 ^ 32 }
-    requires within { ends.to ≤ length leaf.now.text }
-    requires covers { Covers ends.from pieces.now ends.to }
-    requires inside { All (IsInside leaf.now.spans) pieces.now }
+    requires pieces { ArePieces leaf.now ends.from ends.to pieces.now }
     ensures { AreSums faces.now leaf.now ends.free ends.from ends.to result }
 {
     let spans = leaf.spans.as_slice();
@@ -153,9 +120,9 @@ fn hyphen_span(leaf: &Leaf, to: u32) -> usize
     count_ended(leaf.text.as_str(), leaf.spans.as_slice(), to - 2)
 }
 
-/// The width of the hyphen that a line shows, in the style of its soft hyphen.
-#[tactic(auto, unfolding(line_fill::specs::Widths::hyphen_at, line_fill::specs::Widths::is_hyphened, line_fill::specs::Widths::width_in, line_fill::specs::Fill::pen_width))]
-fn hyphen_width(faces: &Faces, leaf: &Leaf, line: Line) -> u32
+/// The width of the hyphen that a line shows, in the style of its soft hyphen; 0 where it shows none.
+#[tactic(auto, unfolding(line_fill::specs::Widths::hyphen_at, line_fill::specs::Widths::is_hyphened))]
+fn hyphen_at(faces: &Faces, leaf: &Leaf, line: Line) -> u32
     requires good { IsGoodLeaf leaf.now }
     requires faced { HasFaces faces.now leaf.now }
     requires line { IsInLeaf leaf.now line }
@@ -167,7 +134,7 @@ fn hyphen_width(faces: &Faces, leaf: &Leaf, line: Line) -> u32
     }
     let number = hyphen_span(leaf, line.to());
     let span = &leaf.spans.as_slice()[number];
-    ascii_width(&faces.pen(span.face, span.size), b'-')
+    faces.pen(span.face, span.size).hyphen_width()
 }
 
 /// What a line leaves of its measure, where its part without hanging spaces has a width.
@@ -177,12 +144,13 @@ fn slack_at(faces: &Faces, leaf: &Leaf, line: Line, measure: i64, width: u64) ->
     requires faced { HasFaces faces.now leaf.now }
     requires line { IsInLeaf leaf.now line }
     requires measure { unsigned_abs measure ≤ 2 ^ 40 }
-    requires width { width ≡ sum_from (unit_at faces.now leaf.now) line.from (shown_len leaf.now.text line.from (line.to - line.from)) }
+    requires width { width ≡ sum_from (unit_at faces.now leaf.now) line.from
+        (shown_len leaf.now.text line.from (line.to - line.from)) }
     requires wide { width ≤ 2 ^ 59 }
     ensures value { result ≡ slack_of faces.now leaf.now line measure }
     ensures most { result ≤ 2 ^ 41 }
 {
-    let hyphen = u64::from(hyphen_width(faces, leaf, line));
+    let hyphen = u64::from(hyphen_at(faces, leaf, line));
     left_of(measure_at(leaf, line.from(), measure), width + hyphen)
 }
 
@@ -238,9 +206,7 @@ fn setting_at(leaf: &Leaf, line: Line, measure: i64, ends: Ends, slack: u64, pas
     requires passed { passed ≡ count_free leaf.now.text ends.to line.from (ends.to - line.from) }
     ensures value { result ≡ setting_of leaf.now line measure slack }
     ensures count { result.count ≡ count_free leaf.now.text ends.free line.from (ends.free - line.from) }
-    ensures slack { result.slack ≤ 2 ^ 42 }
-    ensures low { neg_ℤ (pos (2 ^ 44)) ≤ℤ result.start }
-    ensures high { result.start ≤ℤ pos (2 ^ 44) }
+    ensures bounded { IsBounded result }
 {
     let start = start_at(leaf, line.from(), measure, slack);
     let count = count_at(leaf, line, ends, slack, passed);
@@ -257,7 +223,8 @@ fn push_hyphen(runs: &mut Items<Run>, leaf: &Leaf, line: Line, x: i64) -> Result
     requires good { IsGoodLeaf leaf.now }
     requires line { IsInLeaf leaf.now line }
     ensures { OnOk result (runs.new ≡ runs.old ++ (if line.hyphen then
-        record { x = x; from = line.to; to = line.to; span = number_at leaf.now.spans (line.to - 2); hyphen = true } ∷ [] else [])) }
+        record { x = x; from = line.to; to = line.to; span = number_at leaf.now.spans (line.to - 2); hyphen = true }
+        ∷ [] else [])) }
 {
     if line.hyphen() {
         let span = hyphen_span(leaf, line.to()) as u32;
@@ -285,11 +252,10 @@ fn set_runs(
     requires faced { HasFaces faces.now leaf.now }
     requires line { IsInLeaf leaf.now line }
     requires count { setting.count ≡ count_free leaf.now.text free line.from (free - line.from) }
-    requires slack { setting.slack ≤ 2 ^ 42 }
-    requires low { neg_ℤ (pos (2 ^ 44)) ≤ℤ setting.start }
-    requires high { setting.start ≤ℤ pos (2 ^ 44) }
+    requires setting { IsBounded setting }
     ensures { IfOk result (λ v. v ≡ map (run_of faces.now leaf.now free line.from setting)
-        (line_pieces (is_free leaf.now.text free) line.from line.to 0 leaf.now.spans) ++ hyphens_of faces.now leaf.now line free setting) }
+        (line_pieces (is_free leaf.now.text free) line.from line.to 0 leaf.now.spans)
+        ++ hyphens_of faces.now leaf.now line free setting) }
 {
     let ends = Ends {
         from: line.from(),
@@ -357,9 +323,9 @@ fn measured_runs(
 /// The runs of a line of a leaf at a measure in units, in order, with their places from the left of the measure.
 ///
 /// A run is the part of one span in the line. The line begins at the indent, if it is the leaf's first, and is moved by
-/// its slack where it is aligned right, by half of it where it is centred (CSS 2.1, 16.1 and 16.2). A justified line with
-/// slack that ends neither with a newline nor at the leaf's end is cut after each space that doesn't hang, and shares the
-/// slack over these, the odd units to the first ones. A shown hyphen is the last run, without text.
+/// its slack where it is aligned right, by half of it where it is centred (CSS 2.1, 16.1 and 16.2). A justified line
+/// with slack that ends neither with a newline nor at the leaf's end is cut after each space that doesn't hang, and
+/// shares the slack over these, the odd units to the first ones. A shown hyphen is the last run, without text.
 pub fn runs(
     alloc: Global,
     faces: &Faces,

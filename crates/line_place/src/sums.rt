@@ -1,12 +1,10 @@
 //! Widths of a line's pieces, and the spaces in them that take shares.
 
-ghost use Rattle.std.specs.Prelude.{◌≡◌, ℕ, ◌<◌, ◌≤◌, ◌+◌, ◌^◌, pos, ◌≤ℤ◌, length, Some};
+ghost use Rattle.std.specs.Prelude.{◌≡◌, ◌<◌, ◌≤◌, ◌+◌, ◌^◌, length};
 ghost use Rattle.boxes.specs.declared.leaf.Leaf.{Leaf};
-ghost use Rattle.line_fill.specs.Widths.{span_at};
-ghost use Rattle.line_place.specs.Sums.{AreSums, one};
+ghost use Rattle.line_place.specs.Sums.{AreSums, StandsIn, one};
 
 use crate::pieces::{Ends, Piece, is_free};
-use crate::units::unit;
 use boxes::leaf::{Leaf, Span};
 use metrics::Faces;
 
@@ -41,12 +39,10 @@ pub(crate) fn add_piece(
     piece: Piece,
     sums: Sums,
 ) -> Sums
-    requires face { span.now.face.0 < length faces.now }
-    requires size { pos 0 ≤ℤ span.now.size }
+    requires stands { StandsIn faces.now leaf.now span.now piece.from piece.to }
     requires within { piece.to ≤ length leaf.now.text }
     requires begins { ends.from ≤ piece.from }
     requires order { piece.from ≤ piece.to }
-    requires here { (k : ℕ) → piece.from ≤ k → k < piece.to → span_at leaf.now.spans k ≡ Some span.now }
     requires sums { AreSums faces.now leaf.now ends.free ends.from piece.from sums }
     ensures { AreSums faces.now leaf.now ends.free ends.from piece.to result }
 {
@@ -55,7 +51,7 @@ pub(crate) fn add_piece(
     let pen = faces.pen(span.face, span.size);
     let mut sums = sums;
     for at in piece.from..piece.to {
-        let width = unit(&pen, text, at as usize);
+        let width = pen.byte_width(text, at as usize);
         sums = sums.with(width, is_free(bytes, ends.free, at));
     }
     sums

@@ -1,11 +1,11 @@
 //! The faces of a metrics text.
 
 ghost use Rattle.std.specs.Prelude.{◌≡◌, ◌<◌, ◌≤◌, ◌^◌, pos, ◌≤ℤ◌, length, IfOk};
-ghost use Rattle.metrics.specs.Choice.{Chooses};
+ghost use Rattle.metrics.specs.Choice.{Chooses, family_name, names_some};
 ghost use Rattle.metrics.specs.Face.{FontFace, advance_of, ascent_of, descent_of, face_at};
 ghost use Rattle.metrics.specs.Text.{AreFaces};
 
-use crate::choice::choose;
+use crate::choice::{choose, names_some};
 use crate::face::Face;
 use crate::face_lines::FaceLines;
 use crate::pen::Pen;
@@ -62,6 +62,14 @@ impl Faces {
         ensures choice { Chooses self.now families.now italic weight result }
     {
         choose(&self.faces, families, italic, weight)
+    }
+
+    /// Whether a family names a face: its name, lower-cased and with one dash for each run of spaces, is that of a
+    /// face.
+    pub fn names(&self, family: &str) -> bool
+        ensures { result ≡ names_some self.now (family_name family.now) }
+    {
+        names_some(&self.faces, family)
     }
 
     #[tactic(auto, using(crate::proofs::ScaleLemmas::bounds))]

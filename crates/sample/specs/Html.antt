@@ -7,6 +7,7 @@ use Rattle.sample.specs.Words.{words, words_end}
 unfoldable pub link : ℕ → List ℕ
 link i = codes "<p><a href=\"#c" ++ decimal i ++ codes "\">Chapter " ++ decimal i ++ codes " </a></p>\n"
 
+-- the heading of the chapter of a number
 unfoldable pub heading : ℕ → List ℕ
 heading i = codes "<h1 id=\"c" ++ decimal i ++ codes "\">Chapter " ++ decimal i ++ codes "</h1>\n"
 
@@ -23,7 +24,8 @@ note_paragraph x =
 -- a chapter has 212 words: five paragraphs of forty, and the note of the third
 unfoldable pub chapter : ℕ → ℕ → List ℕ
 chapter i x =
-    heading i ++ paragraph x ++ paragraph (words_end 40 x) ++ note_paragraph (words_end 80 x) ++ paragraph (words_end 132 x) ++
+    heading i ++ paragraph x ++ paragraph (words_end 40 x) ++ note_paragraph (words_end 80 x)
+    ++ paragraph (words_end 132 x) ++
     paragraph (words_end 172 x)
 
 -- the chapter of a number in the book of n chapters, whose state begins as n

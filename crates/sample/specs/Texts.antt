@@ -5,7 +5,8 @@ use Rattle.std.specs.Prelude.{ℕ, List, ◌++◌, codes}
 unfoldable pub metrics_text : List ℕ
 metrics_text = codes "bookmetrics 1\nface text normal 400 16 12 4 8\n"
 
--- pages of 320 px by 480 px with the chapter above and the page number below, chapters on new pages, notes, and page references
+-- pages of 320 px by 480 px with the chapter above and the page number below, chapters on new pages, notes, and page
+-- references
 unfoldable pub css_text : List ℕ
 css_text =
     codes "@page{size:320px 480px;margin:40px;@top-center{content:string(c)}@bottom-center{content:counter(page)}}" ++

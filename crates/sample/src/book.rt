@@ -33,7 +33,8 @@ fn push_links(out: &mut String, chapters: u32) -> Result<(), AllocError>
 /// Appends the chapters.
 fn push_chapters(out: &mut String, chapters: u32) -> Result<(), AllocError>
     requires { chapters ≤ 2000 }
-    ensures { OnOk result (string_bytes out.new ≡ string_bytes out.old ++ flat_map (chapter_of chapters) (range_with_len 1 chapters)) }
+    ensures { OnOk result (string_bytes out.new ≡ string_bytes out.old
+        ++ flat_map (chapter_of chapters) (range_with_len 1 chapters)) }
 {
     let mut draws = Draws::new(chapters);
     for before in 0..chapters {

@@ -11,7 +11,8 @@ pub(crate) fn metrics() -> &'static str
     "bookmetrics 1\nface text normal 400 16 12 4 8\n"
 }
 
-/// The style sheet: small pages with running heads and page numbers, chapters on pages of their own, notes, and page references.
+/// The style sheet: small pages with running heads and page numbers, chapters on pages of their own, notes, and page
+/// references.
 #[tactic(auto, unfolding(crate::specs::Texts::css_text))]
 pub(crate) fn css() -> &'static str
     ensures { result.now ≡ css_text }

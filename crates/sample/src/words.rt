@@ -17,7 +17,8 @@ pub(crate) fn push_text(out: &mut String, text: &str) -> Result<(), AllocError>
 /// Appends a drawn letter.
 #[tactic(auto, unfolding(crate::specs::Draws::letter))]
 fn push_letter(out: &mut String, draws: &mut Draws) -> Result<(), AllocError>
-    ensures text { OnOk result (string_bytes out.new ≡ string_bytes out.old ++ letter (drawn 26 (next_state draws.old)) ∷ []) }
+    ensures text { OnOk result (string_bytes out.new ≡ string_bytes out.old ++ letter (drawn 26 (next_state draws.old))
+        ∷ []) }
     ensures state { draws.new ≡ next_state draws.old }
 {
     let place = draws.draw(26) as u8;

@@ -7,34 +7,34 @@ use Rattle.line_fill.specs.LineEnd.{IsLineEnd, IsOrdinary, IsEmergency}
 use Rattle.line_fill.proofs.LineLemmas.{IsMark, marked, next_after}
 use Rattle.line_fill.proofs.FillLemmas.{Stretch, chosen_end, stop_end, noted_filled, skipped_filled, shown_bounds}
 use Rattle.line_fill.proofs.end.pass_span.Goals as goal
-use Rattle.line_fill.proofs.end.pass_span.Goals.{After-mark-stretch, After-pass_run-run, After-is_place-emergency, then-is_any+else-line_width-room+else-stops, else-is_any}
+use Rattle.line_fill.proofs.end.pass_span.Goals.{After-mark-stop, After-pass_stretch-stretch, After-is_place-emergency, then-is_any+else-line_width-room+else-stops, else-is_any}
 
-abbrev MarkOf : After-mark-stretch → Type 0
-MarkOf c = IsMark c.as_slice-places.result.now c.emergencies-graphemes.result.now c.loop-at.at c.loop-at.next c.loop-at.next_grapheme c.args.span.now.to c.mark-stretch.result
+abbrev MarkOf : After-mark-stop → Type 0
+MarkOf c = IsMark c.as_slice-places.result.now c.emergencies-graphemes.result.now c.loop-at.at c.loop-at.next c.loop-at.next_grapheme c.args.span.now.to c.mark-stop.result
 
-mark_of : (c : After-mark-stretch) → MarkOf c
-mark_of c = marked c.as_slice-places.result.now c.emergencies-graphemes.result.now c.loop-at.at c.loop-at.next c.loop-at.next_grapheme c.args.span.now.to c.mark.result c.mark-stretch.result c.loop-at-test.true c.loop-at.invariant.next c.loop-at.invariant.next_grapheme c.mark.ensures c.mark-stretch.ensures
+mark_of : (c : After-mark-stop) → MarkOf c
+mark_of c = marked c.as_slice-places.result.now c.emergencies-graphemes.result.now c.loop-at.at c.loop-at.next c.loop-at.next_grapheme c.args.span.now.to c.mark.result c.mark-stop.result c.loop-at-test.true c.loop-at.invariant.next c.loop-at.invariant.next_grapheme c.mark.ensures c.mark-stop.ensures
 
-pub pass_run-run-requires-clause-order : goal.pass_run-run-requires-clause-order
-pass_run-run-requires-clause-order c = (mark_of (goal.at.pass_run-run-requires-clause-order c).After-mark-stretch).after_at
+pub pass_stretch-stretch-requires-clause-order : goal.pass_stretch-stretch-requires-clause-order
+pass_stretch-stretch-requires-clause-order c = (mark_of (goal.at.pass_stretch-stretch-requires-clause-order c).After-mark-stop).after_at
 
-pub pass_run-run-requires-clause-within : goal.pass_run-run-requires-clause-within
-pass_run-run-requires-clause-within c = rw c.as_str-text.ensures (let m = (mark_of (goal.at.pass_run-run-requires-clause-within c).After-mark-stretch).most in let e = c.requires.ends in omega arith)
+pub pass_stretch-stretch-requires-clause-within : goal.pass_stretch-stretch-requires-clause-within
+pass_stretch-stretch-requires-clause-within c = rw c.as_str-text.ensures (let m = (mark_of (goal.at.pass_stretch-stretch-requires-clause-within c).After-mark-stop).most in let e = c.requires.span.ends in omega arith)
 
-run_low : (c : After-pass_run-run) → c.pass_run-run.result.to ≤ length c.args.leaf.now.text
-run_low c = let m = (marked c.as_slice-places.result.now c.emergencies-graphemes.result.now c.loop-at.at c.loop-at.next c.loop-at.next_grapheme c.args.span.now.to c.mark.result c.mark-stretch.result c.loop-at-test.true c.loop-at.invariant.next c.loop-at.invariant.next_grapheme c.mark.ensures c.mark-stretch.ensures).most in let e = c.requires.ends in let w = c.pass_run-run.ensures.within in omega arith
+run_low : (c : After-pass_stretch-stretch) → c.pass_stretch-stretch.result.to ≤ length c.args.leaf.now.text
+run_low c = let m = (marked c.as_slice-places.result.now c.emergencies-graphemes.result.now c.loop-at.at c.loop-at.next c.loop-at.next_grapheme c.args.span.now.to c.mark.result c.mark-stop.result c.loop-at-test.true c.loop-at.invariant.next c.loop-at.invariant.next_grapheme c.mark.ensures c.mark-stop.ensures).most in let e = c.requires.span.ends in let w = c.pass_stretch-stretch.ensures.within in omega arith
 
 pub is_stop-stops-requires-clause-within : goal.is_stop-stops-requires-clause-within
-is_stop-stops-requires-clause-within c = rw (c.as_bytes-bytes.ensures.value, c.as_str-text.ensures) (run_low (goal.at.is_stop-stops-requires-clause-within c).After-pass_run-run)
+is_stop-stops-requires-clause-within c = rw (c.as_bytes-bytes.ensures.value, c.as_str-text.ensures) (run_low (goal.at.is_stop-stops-requires-clause-within c).After-pass_stretch-stretch)
 
 pub is_place-ordinary-requires : goal.is_place-ordinary-requires
-is_place-ordinary-requires c = let r = run_low (goal.at.is_place-ordinary-requires c).After-pass_run-run in let f = c.requires.few in omega arith
+is_place-ordinary-requires c = let r = run_low (goal.at.is_place-ordinary-requires c).After-pass_stretch-stretch in let f = c.requires.few in omega arith
 
 pub is_place-emergency-requires : goal.is_place-emergency-requires
-is_place-emergency-requires c = let r = run_low (goal.at.is_place-emergency-requires c).After-pass_run-run in let f = c.requires.few in omega arith
+is_place-emergency-requires c = let r = run_low (goal.at.is_place-emergency-requires c).After-pass_stretch-stretch in let f = c.requires.few in omega arith
 
 abbrev KnownOf : After-is_place-emergency → Type 0
-KnownOf c = Stretch c.args.faces.now c.args.leaf.now c.args.span.now c.args.room.from c.args.room.units c.loop-at.at c.pass_run-run.result.to c.loop-at.line_width c.pass_run-run.result.line_width c.loop-at.found c.loop-at.next c.loop-at.next_grapheme c.emergencies-graphemes.result.now
+KnownOf c = Stretch c.args.faces.now c.args.leaf.now c.args.span.now c.args.room.from c.args.room.units c.loop-at.at c.pass_stretch-stretch.result.to c.loop-at.line_width c.pass_stretch-stretch.result.line_width c.loop-at.found c.loop-at.next c.loop-at.next_grapheme c.emergencies-graphemes.result.now
 
 ascends : (b : Bool) (xs : List ℕ) → IsStrictlyIncreasing xs → IsStrictlyIncreasing (cond b xs [])
 ascends true xs up = up
@@ -42,13 +42,13 @@ ascends false xs up = λ k h. absurd (omega arith)
 
 known : (c : After-is_place-emergency) → KnownOf c
 known c =
-    let m = marked c.as_slice-places.result.now c.emergencies-graphemes.result.now c.loop-at.at c.loop-at.next c.loop-at.next_grapheme c.args.span.now.to c.mark.result c.mark-stretch.result c.loop-at-test.true c.loop-at.invariant.next c.loop-at.invariant.next_grapheme c.mark.ensures c.mark-stretch.ensures in
-    let run = c.pass_run-run.ensures in
+    let m = marked c.as_slice-places.result.now c.emergencies-graphemes.result.now c.loop-at.at c.loop-at.next c.loop-at.next_grapheme c.args.span.now.to c.mark.result c.mark-stop.result c.loop-at-test.true c.loop-at.invariant.next c.loop-at.invariant.next_grapheme c.mark.ensures c.mark-stop.ensures in
+    let run = c.pass_stretch-stretch.ensures in
     let inv = c.loop-at.invariant in
     record {
-      here = c.requires.here;
-      bound = c.requires.begins;
-      ends_in = c.requires.ends;
+      here = c.requires.span.here;
+      bound = c.requires.span.begins;
+      ends_in = c.requires.span.ends;
       few = c.requires.few;
       low = inv.low;
       less = run.goes;
@@ -72,8 +72,8 @@ EndOf c to = IsLineEnd (FitsIn c.args.faces.now c.args.leaf.now c.args.room.from
 
 -- what the three tests say, of the leaf's own text and places
 record Tests (c : After-is_place-emergency) : Type 0 where
-  stops : MatchBool c.is_stop-stops.result ((get_or c.args.leaf.now.text (c.pass_run-run.result.to - 1) 0 ≡ 10) ⊎ (c.pass_run-run.result.to ≡ length c.args.leaf.now.text)) ((get_or c.args.leaf.now.text (c.pass_run-run.result.to - 1) 0 ≢ 10) × (c.pass_run-run.result.to < length c.args.leaf.now.text))
-  ordinary : MatchBool c.is_place-ordinary.result ((c.loop-at.next < length c.args.leaf.now.places) × (get_or c.args.leaf.now.places c.loop-at.next 0 ≡ c.pass_run-run.result.to)) (c.loop-at.next < length c.args.leaf.now.places → get_or c.args.leaf.now.places c.loop-at.next 0 ≢ c.pass_run-run.result.to)
+  stops : MatchBool c.is_stop-stops.result ((get_or c.args.leaf.now.text (c.pass_stretch-stretch.result.to - 1) 0 ≡ 10) ⊎ (c.pass_stretch-stretch.result.to ≡ length c.args.leaf.now.text)) ((get_or c.args.leaf.now.text (c.pass_stretch-stretch.result.to - 1) 0 ≢ 10) × (c.pass_stretch-stretch.result.to < length c.args.leaf.now.text))
+  ordinary : MatchBool c.is_place-ordinary.result ((c.loop-at.next < length c.args.leaf.now.places) × (get_or c.args.leaf.now.places c.loop-at.next 0 ≡ c.pass_stretch-stretch.result.to)) (c.loop-at.next < length c.args.leaf.now.places → get_or c.args.leaf.now.places c.loop-at.next 0 ≢ c.pass_stretch-stretch.result.to)
 
 tests : (c : After-is_place-emergency) → Tests c
 tests c = record {
@@ -106,13 +106,13 @@ loop-at-preserved c =
     let k = known d in
     record {
       filled = elim c.if-is_any.branch [
-        | then-is_any+else-line_width-room+else-stops w ↦ rw w.found-is (rw w.note.ensures (noted_filled _ _ _ _ _ _ _ _ _ _ _ _ _ k c.is_stop-stops.result c.is_place-ordinary.result c.is_place-emergency.result w.fits-fits.result w.hyphen_width.result t.stops t.ordinary c.is_place-emergency.ensures (sym c.is_any.ensures ∙ w.if-is_any.true) w.if-stops.false (rw (← c.as_str-text.ensures, ← c.as_bytes-bytes.ensures.value, ← c.pen-pen.ensures) w.hyphen_width.ensures.value) w.fits-fits.ensures))
+        | then-is_any+else-line_width-room+else-stops w ↦ rw w.found-is (rw w.note.ensures (noted_filled _ _ _ _ _ _ _ _ _ _ _ _ _ k c.is_stop-stops.result c.is_place-ordinary.result c.is_place-emergency.result w.fits-fits.result w.hyphen_at.result t.stops t.ordinary c.is_place-emergency.ensures (sym c.is_any.ensures ∙ w.if-is_any.true) w.if-stops.false (rw (← c.as_str-text.ensures, ← c.as_bytes-bytes.ensures.value, ← c.pen-pen.ensures) w.hyphen_at.ensures.value) w.fits-fits.ensures))
         | else-is_any w ↦ rw w.found-is (skipped_filled _ _ _ _ _ _ _ _ _ _ _ _ _ k c.is_stop-stops.result c.is_place-ordinary.result c.is_place-emergency.result t.stops t.ordinary c.is_place-emergency.ensures (sym c.is_any.ensures ∙ w.if-is_any.false))
       ];
       low = let a = k.low in let b = k.less in omega arith;
       high = k.high;
-      next = rw (c.after-next.ensures, c.as_slice-places.ensures) (next_after c.args.leaf.now.places c.loop-at.at c.pass_run-run.result.to c.loop-at.next k.up k.nexts k.less k.below c.is_place-ordinary.result t.ordinary);
-      next_grapheme = rw c.after-next_grapheme.ensures (next_after c.emergencies-graphemes.result.now c.loop-at.at c.pass_run-run.result.to c.loop-at.next_grapheme k.up' k.nexts' k.less k.below' c.is_place-emergency.result c.is_place-emergency.ensures);
+      next = rw (c.after-next.ensures, c.as_slice-places.ensures) (next_after c.args.leaf.now.places c.loop-at.at c.pass_stretch-stretch.result.to c.loop-at.next k.up k.nexts k.less k.below c.is_place-ordinary.result t.ordinary);
+      next_grapheme = rw c.after-next_grapheme.ensures (next_after c.emergencies-graphemes.result.now c.loop-at.at c.pass_stretch-stretch.result.to c.loop-at.next_grapheme k.up' k.nexts' k.less k.below' c.is_place-emergency.result c.is_place-emergency.ensures);
     }
 
 pub returns : goal.returns

@@ -1,5 +1,6 @@
 use Rattle.std.proofs.Common.{◌-◌, ◌≤◌}
-use Rattle.line_fill.specs.Fill.{IsFilled, IsNext}
+use Rattle.line_fill.specs.Fill.{IsFilled}
+use Rattle.line_fill.proofs.LineLemmas.{IsNext}
 use Rattle.line_fill.proofs.end.pass_span.Given as goal
 
 abbrev pub invariant-loop-at : goal.invariant-loop-at

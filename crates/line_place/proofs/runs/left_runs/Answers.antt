@@ -1,7 +1,8 @@
 use Rattle.std.proofs.Common.{◌≡◌, ◌∙◌, ◌+ℤ◌, pos, List, rules, subst, to_z, of_z, w64}
 use Rattle.std.specs.Prelude.{IfOk}
 use Rattle.line_place.specs.declared.place.Run.{Run}
-use Rattle.line_place.specs.Placing.{indent_of, shift_of}
+use Rattle.line_fill.specs.LineEnd.{indent_of}
+use Rattle.line_place.specs.Placing.{shift_of}
 use Rattle.line_place.proofs.LeftLemmas.{runs_set}
 use Rattle.line_place.proofs.runs.left_runs.Goals as goal
 

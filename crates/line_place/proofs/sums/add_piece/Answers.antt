@@ -1,8 +1,7 @@
 use Rattle.std.proofs.Common.{◌≡◌, ◌∙◌, ℕ, List, ap, ap₂, arith}
 use Rattle.metrics.specs.Pen.{PenView}
-use Rattle.line_fill.specs.Fill.{pen_unit}
+use Rattle.metrics.specs.Widths.{byte_width}
 use Rattle.line_place.specs.Runs.{is_free}
-use Rattle.line_place.proofs.UnitLemmas.{pen_in}
 use Rattle.line_place.proofs.SumLemmas.{sums_step}
 use Rattle.line_place.proofs.sums.add_piece.Goals as goal
 
@@ -16,10 +15,10 @@ loop-at-preserved c =
     record {
       low = omega (arith, low);
       high = omega (arith, test);
-      sums = sums_step c.args.faces.now c.args.leaf.now c.args.span.now c.args.ends.free c.args.ends.from c.loop-at.at c.unit-width.result c.is_free.result c.loop-at.sums c.with-sums.result
-          (omega (arith, low, begins)) inv.sums (c.requires.here c.loop-at.at low test)
-          (c.unit-width.ensures.value ∙ ap₂ (λ (p : PenView) (t : List ℕ). pen_unit p t c.loop-at.at) c.pen-pen.ensures c.as_str-text.ensures ∙ pen_in c.args.faces.now c.args.span.now c.args.leaf.now.text c.loop-at.at)
-          (let most = c.unit-width.ensures.most in omega (arith, most))
+      sums = sums_step c.args.faces.now c.args.leaf.now c.args.span.now c.args.ends.free c.args.ends.from c.loop-at.at c.byte_width-width.result c.is_free.result c.loop-at.sums c.with-sums.result
+          (omega (arith, low, begins)) inv.sums (c.requires.stands.here c.loop-at.at low test)
+          (c.byte_width-width.ensures.value ∙ ap₂ (λ (p : PenView) (t : List ℕ). byte_width p t c.loop-at.at) c.pen-pen.ensures c.as_str-text.ensures)
+          (let most = c.byte_width-width.ensures.most in omega (arith, most))
           (c.is_free.ensures ∙ ap (λ (t : List ℕ). is_free t c.args.ends.free c.loop-at.at) text)
           c.with-sums.ensures.width c.with-sums.ensures.passed;
     }
