@@ -1,15 +1,16 @@
 //! How far a page's cut reads.
 
-ghost use Rattle.std.specs.Prelude.{◌≡◌, ℕ, ℤ, Bool, List, true, false, pos, neg_ℤ, ◌+◌, ◌<◌, ◌≤◌, ◌^◌, length, Some, ◌∷◌, ◌++◌, [], ◌≤ℤ◌, ◌+ℤ◌};
+ghost use Rattle.std.specs.Prelude.{◌≡◌, ℕ, ℤ, Bool, List, true, false, ◌+◌, ◌<◌, ◌≤◌, length, ◌∷◌, ◌++◌, [], ◌≤ℤ◌, ◌+ℤ◌};
 ghost use Rattle.bk_num.specs.Limits.{most_entries};
 ghost use Rattle.cuts.specs.Areas.{AreTold, IsArea};
 ghost use Rattle.cuts.specs.Cuts.{NoteLists};
 ghost use Rattle.cuts.specs.Prefixes.{HasMissed, HasRead, IsLook, is_break};
-ghost use Rattle.cuts.specs.Rows.{IsSmall, is_joined, top_gap};
-ghost use Rattle.cuts.specs.declared.row.Row.{Row};
+ghost use Rattle.cuts.specs.Rows.{IsSmallRow, is_joined};
+ghost use Rattle.cuts.specs.declared.row.SolidRow.{SolidRow};
 
-use crate::reach::Reach;
-use crate::row::{Room, Row};
+use crate::reach::fits_above;
+use crate::row::{PageRoom, SolidRow, gap_above};
+use notes::reach::Reach;
 
 /// What is kept of the solids of a page while they are read: whether there are any, how far they reach, whether some
 /// point has fitted, the most widows that the lines at their end ask for, and, once a point misses, how many lines more
@@ -24,7 +25,7 @@ pub struct Look {
 }
 
 /// The most widows that the lines at the end ask for, with one more solid.
-fn least_with(least: u32, row: &Row) -> u32
+fn least_with(least: u32, row: &SolidRow) -> u32
     ensures own { row.now.widows ≤ result }
     ensures kept { is_joined row.now ≡ true → least ≤ result }
 {
@@ -36,7 +37,7 @@ fn least_with(least: u32, row: &Row) -> u32
 }
 
 /// How many lines more are to be read behind a point that misses, once a solid more is.
-fn left_after(left: u32, row: &Row) -> u32
+fn left_after(left: u32, row: &SolidRow) -> u32
     ensures { is_joined row.now ≡ true → left ≤ result + 1 }
 {
     if row.joins() {
@@ -63,62 +64,47 @@ impl Look {
 
     /// Whether the solids read so far tell the cut.
     pub fn is_enough(&self) -> bool
-        ensures { result ≡ true → (kept : Bool) (height : ℤ) (list : NoteLists) (c : ℕ) (rows : List Row) →
+        ensures { result ≡ true → (kept : Bool) (height : ℤ) (list : NoteLists) (c : ℕ) (rows : List SolidRow) →
             IsLook kept height list c rows self.now → HasMissed kept height list c rows 0 }
     {
         self.left == Some(0)
     }
 
-    /// The gap above the next solid.
-    fn gap_above(&self, row: &Row, room: &Room) -> i64
-        requires { IsSmall row.now }
-        ensures top { self.now.some ≡ false → result ≡ top_gap room.now.kept (Some row.now) }
-        ensures below { self.now.some ≡ true → result ≡ row.now.seam.whole_gap }
-        ensures low { neg_ℤ (pos (2 ^ 32)) ≤ℤ result }
-        ensures high { result ≤ℤ pos (2 ^ 32) }
-    {
-        if self.some {
-            row.seam.whole_gap
-        } else if room.kept {
-            row.seam.kept_gap
-        } else {
-            0
-        }
-    }
-
     /// Whether the seam before the next solid may be a break point that fits.
-    fn fits(&self, row: &Row, area: i64, room: &Room) -> bool
+    fn fits(&self, row: &SolidRow, area: i64, room: &PageRoom) -> bool
         requires read { HasRead most_entries self.now }
         requires area { IsArea area }
         ensures point { result ≡ true → (self.now.some ≡ true) × (is_break row.now ≡ true) }
         ensures fits { result ≡ true → (self.now.reach.extent +ℤ area) ≤ℤ room.now.height }
     {
-        self.some && row.breaks() && self.reach.fits_above(area, room.height)
+        self.some && row.breaks() && fits_above(&self.reach, area, room.height)
     }
 
-    /// Whether the seam before the next solid may be a break point that misses: with the notes that have to stand on the
-    /// page once some point has fitted, before with the carried notes alone.
-    fn misses(&self, row: &Row, area: i64, room: &Room) -> bool
+    /// Whether the seam before the next solid may be a break point that misses: with the notes that have to stand on
+    /// the page once some point has fitted, before with the carried notes alone.
+    fn misses(&self, row: &SolidRow, area: i64, room: &PageRoom) -> bool
         requires read { HasRead most_entries self.now }
         requires area { IsArea area }
         requires carried { IsArea room.now.carried }
         ensures point { result ≡ true → (self.now.some ≡ true) × (is_break row.now ≡ true) }
-        ensures fitted { result ≡ true → self.now.fitted ≡ true → ¬ ((self.now.reach.extent +ℤ area) ≤ℤ room.now.height) }
-        ensures none { result ≡ true → self.now.fitted ≡ false → ¬ ((self.now.reach.extent +ℤ room.now.carried) ≤ℤ room.now.height) }
+        ensures fitted { result ≡ true → self.now.fitted ≡ true →
+            ¬ ((self.now.reach.extent +ℤ area) ≤ℤ room.now.height) }
+        ensures none { result ≡ true → self.now.fitted ≡ false →
+            ¬ ((self.now.reach.extent +ℤ room.now.carried) ≤ℤ room.now.height) }
     {
         let needed = if self.fitted { area } else { room.carried };
-        self.some && row.breaks() && !self.reach.fits_above(needed, room.height)
+        self.some && row.breaks() && !fits_above(&self.reach, needed, room.height)
     }
 
     /// Takes the next solid of a page. `area` is that of the notes that have to stand on the page where it ends before
     /// that solid, in units of 1/64 px, or any number above the frame's height where that area is; before the first
     /// solid it isn't read.
-    pub fn take(&mut self, row: &Row, area: i64, room: &Room)
+    pub fn take(&mut self, row: &SolidRow, area: i64, room: &PageRoom)
         requires read { HasRead most_entries self.old }
-        requires small { IsSmall row.now }
+        requires small { IsSmallRow row.now }
         requires area { IsArea area }
         requires carried { IsArea room.now.carried }
-        ensures look { (rows : List Row) (list : NoteLists) (c : ℕ) →
+        ensures look { (rows : List SolidRow) (list : NoteLists) (c : ℕ) →
             (0 < length rows → AreTold room.now.height list c (length rows) area room.now.carried) →
             IsLook room.now.kept room.now.height list c rows self.old →
             IsLook room.now.kept room.now.height list c (rows ++ row.now ∷ []) self.new }
@@ -134,7 +120,7 @@ impl Look {
             return;
         }
         self.fitted = self.fits(row, area, room) | self.fitted;
-        let gap = self.gap_above(row, room);
+        let gap = gap_above(&row.seam, !self.some, room.kept);
         self.reach.place(gap, row.height);
         self.some = true;
     }

@@ -11,8 +11,8 @@ use Rattle.cursor.specs.Remainder.{SolidView, IsRemainder}
 use Rattle.boxes.specs.Tree.{Tree}
 use Rattle.boxes.specs.declared.place.Position.{Position}
 use Rattle.notes.specs.Notes.{IsCarryCount, IsPlaced, area_of, must_of}
-use Rattle.note_list.specs.Conditions.{AreCarried, Ascend, IsAtSolid, IsHeld}
-use Rattle.note_list.specs.Lists.{AreNoted, NotePart, called_parts, carried_parts, noted, rows_of as note_rows}
+use Rattle.note_list.specs.Conditions.{AreCarried, NotesAscend, IsAtSolid, IsHeld}
+use Rattle.note_list.specs.Lists.{AreNoted, NotePart, called_parts, carried_parts, noted, note_rows}
 use Rattle.note_list.specs.Places.{IsPlacing, least_of}
 use Rattle.note_list.specs.Reads.{IsCarriedList, IsReadOf}
 use Rattle.note_list.specs.declared.carried.Carried.{Carried}
@@ -22,9 +22,7 @@ use Rattle.note_list.specs.declared.solid.NotedSolid.{NotedSolid}
 use Rattle.note_list.proofs.NotedLemmas.{called_none}
 use Rattle.page_list.specs.Cuts.{IsNotesCut, place_after}
 use Rattle.fragment.proofs.PlaceLemmas.{before_end}
-
-some-same : {A : Type 0} {x y : A} → Some x ≡ Some y → x ≡ y
-some-same h = cc
+use Rattle.seams.proofs.WidthLemmas.{some-same}
 
 rest_some : (faces : List FontFace) (t : Tree) (width : ℤ) (at : Position) (k : ℕ) (solids : List SolidView) → solid_after t at.event ≡ Some k → IsRemainder faces t width at solids → 0 < length solids
 rest_some faces t width at k [] found r = absurd (let h : None ≡ Some k = sym r ∙ found in cc)
@@ -65,7 +63,7 @@ module _ (faces : List FontFace) (flow : Flow) (frame : Frame) (carried : List C
       }
 
 -- what is carried after the flow's end
-pub carried_on : (flow : Flow) (left : List Carried) (all : ℕ) → all ≡ length flow.notes → All (IsHeld flow.notes) left → Ascend left → All (λ (c : Carried). c.note < max all all) left → AreCarried flow (place_after flow.main None) left
+pub carried_on : (flow : Flow) (left : List Carried) (all : ℕ) → all ≡ length flow.notes → All (IsHeld flow.notes) left → NotesAscend left → All (λ (c : Carried). c.note < max all all) left → AreCarried flow (place_after flow.main None) left
 carried_on flow left all is held order below = record {
   held = held;
   called = λ k d h. let low = below k d h in let e = before_end flow.main flow.notes in omega arith;

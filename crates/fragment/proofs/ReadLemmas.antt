@@ -11,7 +11,7 @@ use Rattle.cuts.specs.Areas.{IsArea, Tells, area_after, area_or}
 use Rattle.cuts.proofs.AppendLemmas.{get-append}
 use Rattle.notes.specs.Notes.{area_of, must_of}
 use Rattle.note_list.specs.Calls.{called_before}
-use Rattle.note_list.specs.Lists.{AreNoted, NotePart, called_parts, carried_parts, rows_of as note_rows}
+use Rattle.note_list.specs.Lists.{AreNoted, NotePart, called_parts, carried_parts, note_rows}
 use Rattle.note_list.specs.Reads.{EndInNotes, IsCarriedList, IsReadOf, IsReady}
 use Rattle.note_list.specs.declared.carried.Carried.{Carried}
 use Rattle.note_list.specs.declared.solid.NotedSolid.{NotedSolid}

@@ -15,7 +15,8 @@ use Rattle.note_list.specs.declared.carried.Carried.{Carried}
 use Rattle.page_list.specs.declared.cut.Cut.{Cut}
 use Rattle.page_list.specs.declared.cut.CutFrom.{CutFrom}
 use Rattle.page_list.specs.Cuts.{IsFlowCut, place_after}
-use Rattle.page_list.specs.Pages.{PageFrames, State, IsStep, IsEnded, IsPaged, LeavesSome, AreBlanks, AddsBlanks, meets_at, name_at, is_forced, has_some, blank_at, flow_page, flow_page_of, notes_page, notes_page_of, after_flow, start_of}
+use Rattle.boxes.specs.Frames.{PageFrames}
+use Rattle.page_list.specs.Pages.{State, IsStep, IsEnded, IsPaged, LeavesSome, AreBlanks, AddsBlanks, meets_at, name_at, is_forced, has_some, blank_at, flow_page, flow_page_of, notes_page, notes_page_of, after_flow, start_of}
 use Rattle.page_list.specs.Pages.IsStep.{blank}
 use Rattle.note_list.specs.Calls.{called_before, start_place}
 use Rattle.note_list.specs.Conditions.{AreCarried, IsHeld}

@@ -22,7 +22,7 @@ use Rattle.cursor.specs.Fields.{solid_view}
 use Rattle.cursor.specs.Remainder.{SolidView, IsSolid, IsContent, IsLineSolid, IsRemainder, IsSmallSolid, leaf_measure, end_of}
 use Rattle.cursor.specs.Remainder.IsContent.{of_line, of_open, of_close}
 use Rattle.cursor.proofs.RemLemmas.{Stands, solid_stands, begins_of, found_of, solid_within}
-use Rattle.cuts.specs.Rows.{IsSmall}
+use Rattle.cuts.specs.Rows.{IsSmallRow}
 use Rattle.note_list.specs.Conditions.{text_size, size_of}
 use Rattle.page_list.specs.Cuts.{row_of, rows_of, place_after}
 
@@ -39,8 +39,8 @@ view_at [] k s h = absurd (cc)
 view_at (x ∷ xs) zero s h = let same : x ≡ s = cc in ap (λ (y : Solid). Some (solid_view y)) same
 view_at (x ∷ xs) (suc k) s h = view_at xs k s h
 
-pub small_rows : (t : Tree) (solids : List Solid) → All (λ s. IsSmallSolid (solid_view s)) solids → All IsSmall (rows_of t (map solid_view solids))
-small_rows t solids small = All-map IsSmall (row_of t) (map solid_view solids) (All-map (λ v. IsSmall (row_of t v)) solid_view solids (λ k d h. let s = small k d h in record { kept_low = s.kept_low; kept_high = s.kept_high; gap_low = s.whole_low; gap_high = s.whole_high; height_low = s.height_low; height_high = s.height_high }))
+pub small_rows : (t : Tree) (solids : List Solid) → All (λ s. IsSmallSolid (solid_view s)) solids → All IsSmallRow (rows_of t (map solid_view solids))
+small_rows t solids small = All-map IsSmallRow (row_of t) (map solid_view solids) (All-map (λ v. IsSmallRow (row_of t v)) solid_view solids (λ k d h. let s = small k d h in record { kept = s.kept; whole = s.whole; height = s.height; some = s.some }))
 
 -- where a cut ends is a place of the tree, where its solids stand at such places
 pub holds_after : (t : Tree) (views : List SolidView) → All (λ (v : SolidView). Holds t v.placed_at) views → (k : ℕ) → Holds t (place_after t (slice_get views k))

@@ -1,9 +1,11 @@
 -- Solids on their page, one under the other.
-use Rattle.std.proofs.Common.{◌≡◌, ◌<◌, ◌≤◌, ◌+◌, ◌*◌, ◌^◌, ℕ, ℤ, pos, neg_ℤ, ◌+ℤ◌, ◌≤ℤ◌, List, [], ◌∷◌, ◌++◌, Some, drop, slice_get, sym, ap, ◌∙◌, arith, add-one, append_assoc}
+use Rattle.std.proofs.Common.{◌≡◌, ◌≤◌, ◌+◌, ◌*◌, ◌^◌, ℕ, ℤ, pos, neg_ℤ, ◌+ℤ◌, ◌≤ℤ◌, List, [], ◌∷◌, ◌++◌, Some, drop, slice_get, refl, sym, ap, ◌∙◌, arith, add-one, append_assoc}
+use Rattle.std.specs.Int.{int_max}
 use Rattle.std.proofs.lemmas.Int.{ints}
 use Rattle.boxes.specs.declared.page.Placed.{Placed}
 use Rattle.cursor.specs.Remainder.{SolidView}
 use Rattle.page_list.specs.Cuts.{placed_from, placed_below, placed_at}
+use Rattle.fragment.specs.Solids.{foot_from}
 use Rattle.fragment.proofs.SolidLemmas.{drop_get}
 
 -- the first solid stands under the gap of the page
@@ -26,15 +28,14 @@ place_more first bottom under views s at items pushed there placed under_is push
     placed ∙ ap (λ (xs : List SolidView). items ++ placed_below bottom xs) rest ∙ ap (λ (z : ℤ). items ++ p ∷ placed_below z (drop (at + 1) views)) (sym under_is)
     ∙ sym (append_assoc items (p ∷ []) tail) ∙ ap (λ (ps : List Placed). ps ++ tail) (sym push_is)
 
+-- the greatest bottom with one solid more
+pub foot_push : (least : ℤ) (items : List Placed) (p : Placed) → foot_from least (items ++ p ∷ []) ≡ int_max (foot_from least items) (p.top +ℤ p.height)
+foot_push least [] p = refl
+foot_push least (x ∷ items) p = foot_push (int_max least (x.top +ℤ x.height)) items p
+
 -- each solid is at most 2^34 units farther down
 pub low_more : (bottom under : ℤ) (at : ℕ) → neg_ℤ (pos (2 ^ 34 * at)) ≤ℤ bottom → bottom ≤ℤ (under +ℤ pos (2 ^ 32)) → neg_ℤ (pos (2 ^ 34 * (at + 1))) ≤ℤ under
 low_more bottom under at low more = omega (arith, ints)
 
 pub high_more : (bottom under : ℤ) (at : ℕ) → bottom ≤ℤ pos (2 ^ 34 * at) → under ≤ℤ (bottom +ℤ pos (2 ^ 33)) → under ≤ℤ pos (2 ^ 34 * (at + 1))
 high_more bottom under at high more = omega (arith, ints)
-
-pub low_enough : (bottom : ℤ) (at n : ℕ) → neg_ℤ (pos (2 ^ 34 * at)) ≤ℤ bottom → at < n → n ≤ 2 ^ 26 → neg_ℤ (pos (2 ^ 60)) ≤ℤ bottom
-low_enough bottom at n low less few = omega (arith, ints)
-
-pub high_enough : (bottom : ℤ) (at n : ℕ) → bottom ≤ℤ pos (2 ^ 34 * at) → at < n → n ≤ 2 ^ 26 → bottom ≤ℤ pos (2 ^ 60)
-high_enough bottom at n high less few = omega (arith, ints)

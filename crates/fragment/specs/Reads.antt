@@ -15,17 +15,19 @@ use Rattle.cuts.specs.Prefixes.{Decides}
 use Rattle.notes.specs.Notes.{IsCarryCount, area_of, must_of}
 use Rattle.page_seq.specs.Places.{anchor_of, is_before}
 use Rattle.note_list.specs.Calls.{called_before}
-use Rattle.note_list.specs.Lists.{AreNoted, NotePart, called_parts, carried_parts, rows_of as note_rows}
+use Rattle.note_list.specs.Lists.{AreNoted, NotePart, called_parts, carried_parts, note_rows}
 use Rattle.note_list.specs.Reads.{EndInNotes, IsReadOf, IsReady}
 use Rattle.note_list.specs.declared.carried.Carried.{Carried}
 use Rattle.note_list.specs.declared.solid.NotedSolid.{NotedSolid}
 use Rattle.page_list.specs.Cuts.{rows_of}
 use Rattle.fragment.specs.declared.page_notes.PageNotes.{PageNotes}
 
--- how many notes are called where a page ends with a solid, by the place where that solid ends: all where no solid follows
+-- how many notes are called where a page ends with a solid, by the place where that solid ends: all where no solid
+-- follows
 abbrev pub called_by : Tree → List Note → Position → ℕ
 called_by t notes end =
-    if is_some (solid_after t end.event) then prefix_len (λ n. is_before (anchor_of t n.call) end) notes else length notes
+    if is_some (solid_after t end.event) then prefix_len (λ n.
+    is_before (anchor_of t n.call) end) notes else length notes
 
 -- the same after the last one of some solids, and so many before any
 abbrev pub called_or : Tree → List Note → ℕ → Option Position → ℕ
@@ -46,7 +48,8 @@ abbrev pub parts_to : Flow → Position → List Carried → ℕ → List NotePa
 parts_to flow at carried to = carried_parts carried ++ called_parts (called_before flow.main flow.notes at) to
 
 -- the notes of a page that are read with solids that end at some places
-pub record AreRead (faces : List FontFace) (flow : Flow) (frame : Frame) (at : Position) (carried : List Carried) (ends : List Position)
+pub record AreRead (faces : List FontFace) (flow : Flow) (frame : Frame) (at : Position) (carried : List Carried)
+    (ends : List Position)
     (p : PageNotes) : Type 0 where
   pub ready : IsReady p.list
   pub held : EndInNotes flow.notes p.list
@@ -62,13 +65,16 @@ pub record AreRead (faces : List FontFace) (flow : Flow) (frame : Frame) (at : P
   pub small : All IsArea p.areas.items
   pub told : (j : ℕ) → j < length ends → (notes : List NotedSolid) →
       AreNoted faces flow.notes frame.width (parts_to flow at carried (called_in flow at ends (suc j))) notes →
-      Tells frame.height (area_after p.areas.items (suc j)) (area_of (note_rows notes) (must_of (note_rows notes) p.list.own))
+      Tells frame.height (area_after p.areas.items (suc j))
+      (area_of (note_rows notes) (must_of (note_rows notes) p.list.own))
 
 -- a prefix of the solids that are left, which tells the cut of a page of a frame, with whatever notes those areas tell
-pub record IsPagePrefix (faces : List FontFace) (t : Tree) (frame : Frame) (from : Position) (kept : Bool) (c : ℕ) (areas : List ℤ)
+pub record IsPagePrefix (faces : List FontFace) (t : Tree) (frame : Frame) (from : Position) (kept : Bool) (c : ℕ)
+    (areas : List ℤ)
     (carried : ℤ) (prefix : List SolidView) : Type 0 where
   pub rest : List SolidView
   pub are : IsRemainder faces t frame.width from (prefix ++ rest)
   pub some : (rest ≡ []) ⊎ (0 < length prefix)
-  pub decides : (list : NoteLists) → AreLonger list → c ≤ length (list 0) → AreAreas frame.height list c (length prefix) areas carried →
+  pub decides : (list : NoteLists) → AreLonger list → c ≤ length (list 0) →
+      AreAreas frame.height list c (length prefix) areas carried →
       Decides kept frame.height list c (rows_of t prefix) (rows_of t rest)

@@ -8,7 +8,8 @@ use Rattle.boxes.specs.declared.flow.Flow.{Flow}
 use Rattle.boxes.specs.declared.page.Page.{Page}
 use Rattle.note_list.specs.Conditions.{AreCarried, IsAtSolid}
 use Rattle.page_list.specs.Cuts.{place_after}
-use Rattle.page_list.specs.Pages.{PageFrames, State, IsStep, start_of}
+use Rattle.boxes.specs.Frames.{PageFrames}
+use Rattle.page_list.specs.Pages.{State, IsStep, start_of}
 use Rattle.fragment.specs.declared.paginate.FlowPages.{FlowPages}
 
 -- pages from the start of a flow up to a state

@@ -15,7 +15,7 @@ use bk_num::name::NoMem;
 use bk_num::steps::Steps;
 use boxes::flow::Flow;
 use boxes::frames::Frame;
-use cuts::row::Room;
+use cuts::row::PageRoom;
 use metrics::Faces;
 use note_list::carried::Carried;
 use page_list::cut::{Cut, CutFrom};
@@ -23,8 +23,8 @@ use std::alloc::Global;
 use std::sync::ledger::Ledger;
 
 /// The cut of the next page of a flow, whose page has a frame and has to place what is carried to it: where it ends, at
-/// which level, what it places, with tops within 2^60 units and heights from 0 to 2^32, and what it carries on. At levels 0
-/// to 2 each solid ends inside the frame, above the notes.
+/// which level, what it places, with tops within 2^60 units and heights from 0 to 2^32, and what it carries on. At
+/// levels 0 to 2 each solid ends inside the frame, above the notes.
 pub fn next_cut<L: Ledger>(
     alloc: Global,
     flow: &Flow,
@@ -47,23 +47,15 @@ pub fn next_cut<L: Ledger>(
 {
     let mut notes = PageNotes::start(alloc, flow, faces, from.at, carried, frame, steps)?;
     let called = notes.called;
-    let room = Room {
+    let room = PageRoom {
         kept: from.kept,
         height: frame.height,
         carried: notes.list.own_area(),
     };
-    let solids = prefix(alloc, flow, faces, from, frame, &room, &mut notes, steps)?;
-    if solids.is_empty() {
+    let read = prefix(alloc, flow, faces, from, frame, &room, &mut notes, steps)?;
+    if read.solids.is_empty() {
         notes.take(flow, faces, from.at, frame, steps)?;
         return cut_end(alloc, flow, carried, called, &notes, &room);
     }
-    cut_solids(
-        alloc,
-        flow,
-        solids.as_slice(),
-        carried,
-        called,
-        &notes,
-        &room,
-    )
+    cut_solids(alloc, flow, &read, carried, called, &notes, &room)
 }

@@ -10,6 +10,7 @@ use bk_num::name::NoMem;
 use bk_num::steps::Steps;
 use boxes::flow::Flow;
 use boxes::frames::Frame;
+use cuts::cut::CutLevel;
 use metrics::Faces;
 use note_list::carried::Carried;
 use note_list::list::{NoteList, NoteRoom, PlacedList};
@@ -39,7 +40,7 @@ pub fn next_notes<L: Ledger>(
     let list = NoteList::carried(alloc, flow, faces, carried, frame, steps)?;
     let all = flow.notes.as_slice().len() as u32;
     let room = NoteRoom {
-        level: 4,
+        level: CutLevel::Over,
         to: all,
         height: frame.height,
         room: frame.height,

@@ -101,7 +101,8 @@ impl PageNotes {
         Ok(())
     }
 
-    /// The area of the notes that have to stand on the page where it ends with the last solid that is read; 0 before any.
+    /// The area of the notes that have to stand on the page where it ends with the last solid that is read; 0 before
+    /// any.
     pub(crate) fn area(&self) -> i64
         requires { All IsArea self.now.areas.items }
         ensures area { result ≡ area_after self.now.areas.items (length self.now.areas.items) }

@@ -30,7 +30,7 @@ use page_list::laws::{
     breaks_hold, main_stands_once, notes_begin_in_time, notes_stand_once, pages_are_few,
     pages_end_inside,
 };
-use seams::seam::asked_at;
+use seams::seam::seam;
 use std::alloc::Global;
 use std::sync::ledger::Ledger;
 
@@ -113,9 +113,9 @@ fn notes_page_of(
 fn empty_before<Fr: Frames>(frames: &Fr, index: u32, demand: Option<Demand>) -> u32
     requires low { 1 ≤ index }
     requires high { index ≤ most_pages + 1 }
-    ensures meets { meets_at (record { meets = Fr.meets frames.now; frame_of = Fr.frame_of frames.now }) (index + result) demand ≡ true }
+    ensures meets { meets_at (Fr.view frames.now) (index + result) demand ≡ true }
     ensures least { (k : ℕ) → k < result →
-        meets_at (record { meets = Fr.meets frames.now; frame_of = Fr.frame_of frames.now }) (index + k) demand ≡ false }
+        meets_at (Fr.view frames.now) (index + k) demand ≡ false }
 {
     match demand {
         None => 0,
@@ -137,13 +137,13 @@ fn add_blanks<Fr: Frames>(
     requires high { index ≤ most_pages + 1 }
     ensures count { IfOk result (λ to. length pages.new.items + 1 ≡ to) }
     ensures few { IfOk result (λ to. to ≤ most_pages) }
-    ensures meets { IfOk result (λ to. meets_at (record { meets = Fr.meets frames.now; frame_of = Fr.frame_of frames.now }) to demand ≡
+    ensures meets { IfOk result (λ to. meets_at (Fr.view frames.now) to demand ≡
         true) }
     ensures blanks { IfOk result
-        (λ to. AddsBlanks (record { meets = Fr.meets frames.now; frame_of = Fr.frame_of frames.now }) name demand index to pages.old.items
+        (λ to. AddsBlanks (Fr.view frames.now) name demand index to pages.old.items
         pages.new.items) }
     ensures many { IfErr result (λ err. err ≡ PageErr.Pages →
-        AddsBlanks (record { meets = Fr.meets frames.now; frame_of = Fr.frame_of frames.now }) name demand index (most_pages + 1)
+        AddsBlanks (Fr.view frames.now) name demand index (most_pages + 1)
         pages.old.items pages.new.items) }
 {
     let empty = empty_before(frames, index, demand);
@@ -168,8 +168,10 @@ fn has_text(tree: &BoxTree, event: u32)
     requires { event < length tree.now.events }
     ensures { HasText tree.now event }
 {
+    // the count tells that the tree is one that can be built
     let _count = tree.count();
     if let Event::Leaf(number) = tree.event(event) {
+        // a text that is read is known to be UTF-8
         let _text = tree.leaf(number).text.as_str();
     }
 }
@@ -209,11 +211,13 @@ fn flow_pages<Fr: Frames, L: Ledger>(
     steps: &mut Steps<L>,
 ) -> Result<FlowPages, PageErr>
     requires flow { CanBePaged faces.now flow.now }
-    ensures pages { IfOk result (λ p. EndsFlow faces.now flow.now (record { meets = Fr.meets frames.now; frame_of = Fr.frame_of frames.now }) p) }
+    ensures pages { IfOk result (λ p. EndsFlow faces.now flow.now (Fr.view frames.now) p) }
     ensures tops { IfOk result (λ p. HaveNearTops p.pages.items) }
-    ensures many { IfErr result (λ err. err ≡ PageErr.Pages → LeavesSome faces.now flow.now (record { meets = Fr.meets frames.now; frame_of = Fr.frame_of frames.now }) most_pages) }
+    ensures many { IfErr result (λ err. err ≡ PageErr.Pages →
+        LeavesSome faces.now flow.now (Fr.view frames.now) most_pages) }
 {
     let tree = &flow.main;
+    // the count tells that the tree is one that can be built
     let _count = tree.count();
     let mut pages = Vec::new(alloc);
     let mut from = CutFrom {
@@ -224,11 +228,12 @@ fn flow_pages<Fr: Frames, L: Ledger>(
         kept: true,
     };
     let mut index = 1;
-    let mut demand = asked_at(tree, from.at).forced;
+    let mut demand = seam(tree, from.at, 0).forced;
     let mut carried = Items::new(alloc);
     for turn in 0..MOST_PAGES {
+        // the invariant counts the turns
         let _turn = turn;
-        let name = asked_at(tree, from.at).name;
+        let name = seam(tree, from.at, 0).name;
         index = match add_blanks(alloc, &mut pages, frames, index, name, demand) {
             Ok(to) => to,
             Err(err) => return Err(err),
@@ -271,12 +276,13 @@ fn with_notes<Fr: Frames, L: Ledger>(
     steps: &mut Steps<L>,
 ) -> Result<PageList, PageErr>
     requires flow { CanBePaged faces.now flow.now }
-    requires pages { EndsFlow faces.now flow.now (record { meets = Fr.meets frames.now; frame_of = Fr.frame_of frames.now }) made }
+    requires pages { EndsFlow faces.now flow.now (Fr.view frames.now) made }
     requires tops { HaveNearTops made.pages.items }
-    ensures pages { IfOk result (λ list. IsPaged faces.now flow.now (record { meets = Fr.meets frames.now; frame_of = Fr.frame_of frames.now }) list.pages) }
+    ensures pages { IfOk result (λ list. IsPaged faces.now flow.now (Fr.view frames.now) list.pages) }
     ensures tops { IfOk result (λ list. HaveNearTops list.pages) }
     ensures few { IfOk result (λ list. length list.pages ≤ most_pages) }
-    ensures many { IfErr result (λ err. err ≡ PageErr.Pages → LeavesSome faces.now flow.now (record { meets = Fr.meets frames.now; frame_of = Fr.frame_of frames.now }) most_pages) }
+    ensures many { IfErr result (λ err. err ≡ PageErr.Pages →
+        LeavesSome faces.now flow.now (Fr.view frames.now) most_pages) }
 {
     let FlowPages {
         mut pages,
@@ -284,6 +290,7 @@ fn with_notes<Fr: Frames, L: Ledger>(
         mut carried,
     } = made;
     for turn in 0..=MOST_PAGES {
+        // the invariant counts the turns
         let _turn = turn;
         if carried.as_slice().is_empty() {
             return Ok(PageList {
@@ -319,19 +326,20 @@ fn pages_of<Fr: Frames, L: Ledger>(
     steps: &mut Steps<L>,
 ) -> Result<PageList, PageErr>
     requires flow { CanBePaged faces.now flow.now }
-    ensures pages { IfOk result (λ list. IsPaged faces.now flow.now (record { meets = Fr.meets frames.now; frame_of = Fr.frame_of frames.now }) list.pages) }
+    ensures pages { IfOk result (λ list. IsPaged faces.now flow.now (Fr.view frames.now) list.pages) }
     ensures tops { IfOk result (λ list. HaveNearTops list.pages) }
     ensures few { IfOk result (λ list. length list.pages ≤ most_pages) }
-    ensures many { IfErr result (λ err. err ≡ PageErr.Pages → LeavesSome faces.now flow.now (record { meets = Fr.meets frames.now; frame_of = Fr.frame_of frames.now }) most_pages) }
+    ensures many { IfErr result (λ err. err ≡ PageErr.Pages →
+        LeavesSome faces.now flow.now (Fr.view frames.now) most_pages) }
 {
     let made = flow_pages(alloc, flow, faces, frames, steps)?;
     with_notes(alloc, flow, faces, frames, made, steps)
 }
 
 /// The pages of a flow with its notes, each ended by its best cut, with blank pages where a side is asked, and pages of
-/// notes after its end. Each edge stands once and in order, and the lines part the text of each leaf in order, in the main
-/// tree and, note after note, in the notes; no note begins before its call. Tops are within 2^60 units, and heights from 0
-/// to 2^32. `Pages` comes exactly where 100,000 pages leave something unplaced.
+/// notes after its end. Each edge stands once and in order, and the lines part the text of each leaf in order, in the
+/// main tree and, note after note, in the notes; no note begins before its call. Tops are within 2^60 units, and
+/// heights from 0 to 2^32. `Pages` comes exactly where 100,000 pages leave something unplaced.
 pub fn paginate<Fr: Frames, L: Ledger>(
     alloc: Global,
     flow: &Flow,
@@ -340,16 +348,18 @@ pub fn paginate<Fr: Frames, L: Ledger>(
     steps: &mut Steps<L>,
 ) -> Result<PageList, PageErr>
     requires flow { CanBePaged faces.now flow.now }
-    ensures pages { IfOk result (λ list. IsPaged faces.now flow.now (record { meets = Fr.meets frames.now; frame_of = Fr.frame_of frames.now }) list.pages) }
+    ensures pages { IfOk result (λ list. IsPaged faces.now flow.now (Fr.view frames.now) list.pages) }
     ensures main { IfOk result (λ list. HoldsMain flow.now list.pages) }
     ensures notes { IfOk result (λ list. HoldsNotes flow.now list.pages) }
     ensures begins { IfOk result (λ list. BeginInTime flow.now list.pages) }
-    ensures breaks { IfOk result (λ list. HoldsBreaks flow.now.main (record { meets = Fr.meets frames.now; frame_of = Fr.frame_of frames.now }) list.pages) }
+    ensures breaks { IfOk result (λ list. HoldsBreaks flow.now.main (Fr.view frames.now) list.pages) }
     ensures inside { IfOk result (λ list. EndInside list.pages) }
-    ensures bound { IfOk result (λ list. length list.pages ≤ most_pages_of (Fr.is_free frames.now) (Fr.bound frames.now) flow.now) }
+    ensures bound { IfOk result (λ list.
+        length list.pages ≤ most_pages_of (Fr.is_free frames.now) (Fr.bound frames.now) flow.now) }
     ensures tops { IfOk result (λ list. HaveNearTops list.pages) }
     ensures few { IfOk result (λ list. length list.pages ≤ most_pages) }
-    ensures many { IfErr result (λ err. err ≡ PageErr.Pages → LeavesSome faces.now flow.now (record { meets = Fr.meets frames.now; frame_of = Fr.frame_of frames.now }) most_pages) }
+    ensures many { IfErr result (λ err. err ≡ PageErr.Pages →
+        LeavesSome faces.now flow.now (Fr.view frames.now) most_pages) }
 {
     main_stands_once();
     notes_stand_once();

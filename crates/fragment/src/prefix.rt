@@ -1,17 +1,16 @@
 //! The solids that tell a page's cut.
 
 ghost use Rattle.std.specs.Prelude.{◌≡◌, List, All, map, None, [], is_some, IfOk, true, false};
-ghost use Rattle.boxes.specs.Frames.{IsGoodFrame};
 ghost use Rattle.boxes.specs.Tree.{Holds};
-ghost use Rattle.cuts.specs.Areas.{IsArea};
 ghost use Rattle.cursor.specs.Fields.{solid_view};
 ghost use Rattle.cursor.specs.Remainder.{IsSmallSolid};
-ghost use Rattle.note_list.specs.Conditions.{CanBePaged};
 ghost use Rattle.note_list.specs.declared.carried.Carried.{Carried};
+ghost use Rattle.fragment.specs.Conditions.{CanRead};
 ghost use Rattle.fragment.specs.Reads.{AreRead, IsPagePrefix};
+ghost use Rattle.page_list.specs.Cuts.{rows_of};
 
 use crate::page_notes::PageNotes;
-use crate::rows::row_of;
+use crate::rows::{PageSolids, row_of};
 use bk_num::name::NoMem;
 use bk_num::steps::Steps;
 use boxes::flow::Flow;
@@ -19,7 +18,7 @@ use boxes::frames::Frame;
 use cursor::next_solid;
 use cursor::solid::Solid;
 use cuts::look::Look;
-use cuts::row::Room;
+use cuts::row::PageRoom;
 use metrics::Faces;
 use page_list::cut::CutFrom;
 use seams::seam::widths_at;
@@ -35,37 +34,35 @@ fn ends_page(solid: &Solid<'_>, is_first: bool) -> bool
     !is_first && solid.seam.forced.is_some()
 }
 
-/// The solids of a flow that tell a page's cut: those up to the first forced seam after the first one, or up to the first
-/// point that misses, and as many lines after it as widows ask for; else all that are left. The notes called in them are
-/// read with them.
+/// The solids of a flow that tell a page's cut: those up to the first forced seam after the first one, or up to the
+/// first point that misses, and as many lines after it as widows ask for; else all that are left. The notes called in
+/// them are read with them.
 pub(crate) fn prefix<'t, L: Ledger>(
     alloc: Global,
     flow: &'t Flow,
     faces: &Faces,
     from: CutFrom,
     frame: Frame,
-    room: &Room,
+    room: &PageRoom,
     notes: &mut PageNotes,
     steps: &mut Steps<L>,
-) -> Result<Vec<Solid<'t>>, NoMem>
-    requires flow { CanBePaged faces.now flow.now }
-    requires holds { Holds flow.now.main from.at }
-    requires frame { IsGoodFrame frame }
-    requires kept { room.now.kept ≡ from.kept }
-    requires height { room.now.height ≡ frame.height }
-    requires carried { IsArea room.now.carried }
-    requires read { (carried : List Carried) × AreRead faces.now flow.now frame from.at carried [] notes.old }
+) -> Result<PageSolids<'t>, NoMem>
+    requires { CanRead faces.now flow.now from frame room.now notes.old }
     ensures own { IfOk result (λ v. notes.new.list.own ≡ notes.old.list.own) }
-    ensures read { IfOk result (λ v. (carried : List Carried) → AreRead faces.now flow.now frame from.at carried [] notes.old →
-        AreRead faces.now flow.now frame from.at carried (map (λ s. s.end) (map solid_view v.items)) notes.new) }
+    ensures read { IfOk result (λ v. (carried : List Carried) →
+        AreRead faces.now flow.now frame from.at carried [] notes.old →
+        AreRead faces.now flow.now frame from.at carried (map (λ s. s.end) (map solid_view v.solids.items)) notes.new) }
     ensures prefix { IfOk result (λ v. IsPagePrefix faces.now flow.now.main frame from.at from.kept notes.old.list.own
-        notes.new.areas.items room.now.carried (map solid_view v.items)) }
-    ensures small { IfOk result (λ v. All IsSmallSolid (map solid_view v.items)) }
-    ensures placed { IfOk result (λ v. All (λ s. Holds flow.now.main s.placed_at) (map solid_view v.items)) }
+        notes.new.areas.items room.now.carried (map solid_view v.solids.items)) }
+    ensures small { IfOk result (λ v. All IsSmallSolid (map solid_view v.solids.items)) }
+    ensures placed { IfOk result (λ v. All (λ s. Holds flow.now.main s.placed_at) (map solid_view v.solids.items)) }
+    ensures rows { IfOk result (λ v. v.rows.items ≡ rows_of flow.now.main (map solid_view v.solids.items)) }
 {
     let tree = &flow.main;
+    // the count tells that the tree is one that can be built
     let _count = tree.count();
     let mut solids = Vec::new(alloc);
+    let mut rows = Vec::new(alloc);
     let mut look = Look::start();
     let mut widths = Widths::none();
     widths_at(tree, from.at, frame.width, &mut widths);
@@ -74,17 +71,19 @@ pub(crate) fn prefix<'t, L: Ledger>(
         at = solid.end;
         let is_first = solids.is_empty();
         let ends = ends_page(&solid, is_first);
-        look.take(&row_of(tree, &solid), notes.area(), room);
+        let row = row_of(tree, &solid);
+        look.take(&row, notes.area(), room);
         notes.take(flow, faces, at, frame, steps)?;
+        rows.push(row)?;
         if solids.push(solid).is_err() {
             return Err(NoMem);
         }
         if ends {
-            return Ok(solids);
+            return Ok(PageSolids { solids, rows });
         }
         if look.is_enough() {
-            return Ok(solids);
+            return Ok(PageSolids { solids, rows });
         }
     }
-    Ok(solids)
+    Ok(PageSolids { solids, rows })
 }

@@ -14,7 +14,7 @@ use Rattle.notes.specs.Notes.{area_of}
 use Rattle.seams.specs.Runs.{solid_after}
 use Rattle.note_list.specs.Calls.{start_place}
 use Rattle.note_list.specs.Conditions.{IsHeld}
-use Rattle.note_list.specs.Lists.{AreNoted, NotePart, called_parts, carried_parts, noted, rows_of}
+use Rattle.note_list.specs.Lists.{AreNoted, NotePart, called_parts, carried_parts, noted, note_rows}
 use Rattle.note_list.specs.Reads.{HasReadOn, IsReadOf, has_begin}
 use Rattle.note_list.specs.declared.carried.Carried.{Carried}
 use Rattle.note_list.specs.declared.list.NoteList.{NoteList}
@@ -52,7 +52,7 @@ reads_all faces body width height p at old new r none room = record {
 
 -- or a prefix of it, up to the end of a solid
 pub reads_over : (faces : List FontFace) (body : Tree) (width height : ℤ) (p : NotePart) (at : Position) (s : SolidView) (old new : NoteList) → IsTree body → Stands body at → IsSolid faces body width at s → Reads faces body width p s.end old.solids.items new.solids.items → new.over ≡ true →
-    height <ℤ area_of (rows_of new.solids.items) (length new.solids.items) → HasReadOn faces body width height p old new
+    height <ℤ area_of (note_rows new.solids.items) (length new.solids.items) → HasReadOn faces body width height p old new
 reads_over faces body width height p at s old new tree holds is r over past =
     let stands : Stands body s.end = solid_stands faces body width at s tree holds is in
     let rest = remainder_from faces body width s.end tree stands in
@@ -104,7 +104,7 @@ list_full faces notes width height p note old new tree holds has start full item
     more = r.more ++ own;
     is = ap (λ (xs : List NotedSolid). xs ++ own) r.is ∙ append_assoc old.solids.items r.more own ∙ ap (λ (xs : List NotedSolid). xs ++ (r.more ++ own)) (sym items);
     all = λ e. absurd (let f : true ≡ false = sym full ∙ sym over ∙ e in cc);
-    past = λ e. subst (λ (xs : List NotedSolid). height <ℤ area_of (rows_of xs) (length xs)) (sym items) (r.past full);
+    past = λ e. subst (λ (xs : List NotedSolid). height <ℤ area_of (note_rows xs) (length xs)) (sym items) (r.past full);
     begun = begun ∙ ap (λ (b : Bool). b || old.begun) (sym (begins p.called refl)) ∙ ap (λ (b : Bool). has_begin own || b) r.begun ∙ swap (has_begin own) (has_begin r.more) ∙ sym (list_any-append (λ (s : NotedSolid). s.row.begins) r.more own);
   },
 )
@@ -179,7 +179,7 @@ read_same height list old new items over begun r = record {
   more = r.more;
   is = r.is ∙ ap (λ (xs : List NotedSolid). xs ++ r.more) (sym items);
   all = λ e. r.all (sym over ∙ e);
-  past = λ e. subst (λ (xs : List NotedSolid). height <ℤ area_of (rows_of xs) (length xs)) (sym items) (r.past (sym over ∙ e));
+  past = λ e. subst (λ (xs : List NotedSolid). height <ℤ area_of (note_rows xs) (length xs)) (sym items) (r.past (sym over ∙ e));
   begun = begun ∙ r.begun;
 }
 

@@ -47,16 +47,16 @@ prefix_at p (x ∷ xs) (suc n) within before after =
 
 -- ---- the order of places
 
-before_trans : (a b c : Position) → is_before b a ≡ false → is_before c b ≡ false → is_before c a ≡ false
+pub before_trans : (a b c : Position) → is_before b a ≡ false → is_before c b ≡ false → is_before c a ≡ false
 before_trans a b c f g = grind (arith, nat_tests)
 
-before_self : (a : Position) → is_before a a ≡ false
+pub before_self : (a : Position) → is_before a a ≡ false
 before_self a = grind (arith, nat_tests)
 
-before_lower : (a b c : Position) → is_before b a ≡ false → is_before b c ≡ true → is_before a c ≡ true
+pub before_lower : (a b c : Position) → is_before b a ≡ false → is_before b c ≡ true → is_before a c ≡ true
 before_lower a b c f g = grind (arith, nat_tests)
 
-never_fall : (places : List Position) → NeverFall places → (d i j : ℕ) (a b : Position) → i + d ≡ j → slice_get places i ≡ Some a → slice_get places j ≡ Some b → is_before b a ≡ false
+pub never_fall : (places : List Position) → NeverFall places → (d i j : ℕ) (a b : Position) → i + d ≡ j → slice_get places i ≡ Some a → slice_get places j ≡ Some b → is_before b a ≡ false
 never_fall places order zero i j a b n e f =
     let at : i ≡ j = omega arith in
     let same : a ≡ b = (let g : Some a ≡ Some b = sym e ∙ ap (slice_get places) at ∙ f in cc) in

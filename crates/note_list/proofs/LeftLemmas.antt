@@ -15,6 +15,7 @@ use Rattle.note_list.specs.Left.{left_at, left_from, left_in, left_part}
 use Rattle.note_list.specs.Lists.{AreNoted, NotePart, is_of, left_after, noted}
 use Rattle.note_list.specs.declared.carried.Carried.{Carried}
 use Rattle.note_list.specs.declared.solid.NotedSolid.{NotedSolid}
+use Rattle.seams.proofs.WidthLemmas.{some-same}
 
 -- the place at which a part begins
 abbrev pub start_of : NotePart → Carried
@@ -24,9 +25,6 @@ start_of p = record { note = p.note; at = p.at }
 abbrev pub Rise : ℕ → List NotePart → Type 0
 Rise low [] = Unit {0}
 Rise low (p ∷ parts) = (low ≤ p.note) × Rise (suc p.note) parts
-
-some-same : {A : Type 0} {x y : A} → Some x ≡ Some y → x ≡ y
-some-same h = cc
 
 skip_own : (note : Note) (p : NotePart) (solids : List SolidView) (more : List NotedSolid) → left_after (Some p.note) (map (noted note.body p) solids ++ more) ≡ left_after (Some p.note) more
 skip_own note p [] more = refl

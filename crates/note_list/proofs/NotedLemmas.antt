@@ -14,9 +14,7 @@ use Rattle.note_list.specs.Conditions.{CanBeCut, IsHeld}
 use Rattle.note_list.specs.Lists.{AreNoted, NotePart, called_parts, carried_parts, noted}
 use Rattle.note_list.specs.declared.carried.Carried.{Carried}
 use Rattle.note_list.specs.declared.solid.NotedSolid.{NotedSolid}
-
-some-same : {A : Type 0} {x y : A} → Some x ≡ Some y → x ≡ y
-some-same h = cc
+use Rattle.seams.proofs.WidthLemmas.{some-same}
 
 -- what holds of each element holds of one
 pub all_get : {X : Type 0} (P : X → Type 0) (xs : List X) (k : ℕ) (x : X) → All P xs → slice_get xs k ≡ Some x → P x

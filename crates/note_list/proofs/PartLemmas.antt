@@ -14,14 +14,15 @@ use Rattle.boxes.specs.declared.page.Placed.{Placed}
 use Rattle.boxes.specs.declared.place.Position.{Position}
 use Rattle.cursor.specs.Remainder.{SolidView}
 use Rattle.notes.specs.declared.solid.NoteSolid.{NoteSolid}
-use Rattle.notes.specs.Notes.{IsCarryCount, IsPlaced, IsSmallNote, area_of, must_of, separator}
+use Rattle.bk_num.specs.Limits.{separator}
+use Rattle.notes.specs.Notes.{IsCarryCount, IsPlaced, IsSmallNote, area_of, must_of}
 use Rattle.cursor.proofs.RemLemmas.{holds_next, solid_within}
 use Rattle.seams.specs.Runs.{solid_after}
 use Rattle.seams.proofs.RunLemmas.{after_solid}
 use Rattle.note_list.specs.Calls.{start_place}
-use Rattle.note_list.specs.Conditions.{Ascend, IsAtSolid, IsHeld}
+use Rattle.note_list.specs.Conditions.{NotesAscend, IsAtSolid, IsHeld}
 use Rattle.note_list.specs.Left.{left_after_last, left_at, left_from, left_in, left_of_last, left_part, next_of, whole_notes}
-use Rattle.note_list.specs.Lists.{AreNoted, NotePart, called_parts, carried_parts, left_of, noted, placed_notes, rows_of}
+use Rattle.note_list.specs.Lists.{AreNoted, NotePart, called_parts, carried_parts, left_of, noted, placed_notes, note_rows}
 use Rattle.note_list.specs.Places.{IsNear, IsPlacing, least_of}
 use Rattle.note_list.specs.Reads.{IsReadOf, IsReady}
 use Rattle.note_list.specs.declared.carried.Carried.{Carried}
@@ -111,7 +112,7 @@ rise_append : (low mid high : ℕ) (cs ds : List Carried) → RiseBy low mid cs 
 rise_append low mid high [] ds r q = rise_lower low mid high ds r q
 rise_append low mid high (c ∷ cs) ds r q = (r.0, rise_append (suc c.note) mid high cs ds r.1 q)
 
-rise_carried : (low high : ℕ) (cs : List Carried) → low ≤ high → ((c : Carried) → slice_get cs 0 ≡ Some c → low ≤ c.note) → Ascend cs → All (λ c. c.note < high) cs → RiseBy low high cs
+rise_carried : (low high : ℕ) (cs : List Carried) → low ≤ high → ((c : Carried) → slice_get cs 0 ≡ Some c → low ≤ c.note) → NotesAscend cs → All (λ c. c.note < high) cs → RiseBy low high cs
 rise_carried low high [] h first up below = h
 rise_carried low high (c ∷ cs) h first up below =
     let own : c.note < high = below 0 c (omega arith) in
@@ -125,7 +126,7 @@ rise_range from (suc count) =
     (omega arith, subst (λ (k : ℕ). RiseBy k (from + suc count) (map (λ n. record { note = n; at = start_place }) (range_with_len (from + 1) count))) next (subst (λ (k : ℕ). RiseBy (from + 1) k (map (λ n. record { note = n; at = start_place }) (range_with_len (from + 1) count))) end (rise_range (from + 1) count)))
 
 -- the notes of a page ascend
-pub rise_all : (carried : List Carried) (from to : ℕ) → from ≤ to → Ascend carried → All (λ c. c.note < from) carried → RiseBy 0 to (carried ++ whole_notes from to)
+pub rise_all : (carried : List Carried) (from to : ℕ) → from ≤ to → NotesAscend carried → All (λ c. c.note < from) carried → RiseBy 0 to (carried ++ whole_notes from to)
 rise_all carried from to low up below =
     let end : from + (to - from) ≡ to = omega arith in
     rise_append 0 from to carried (whole_notes from to) (rise_carried 0 from carried (omega arith) (λ c e. omega arith) up below) (subst (λ (k : ℕ). RiseBy from k (whole_notes from to)) end (rise_range from (to - from)))
@@ -168,13 +169,13 @@ least_level level must other own carried f = by (cases_lt level 3)
     by (inr h) = let off : nat_lt level 3 ≡ false = grind (arith, nat_tests) in ap (λ (b : Bool). cond b must (cond (level == 3) own (cond (carried == 0) 0 1))) off ∙ sym (ap (λ (b : Bool). cond b other (cond (level == 3) own (cond (carried == 0) 0 1))) off)
 
 -- how many are placed of the list is told by what is read of it
-module _ (l : NoteList) (list later own : List NotedSolid) (level : ℕ) (height room : ℤ) (ready : IsReady l) (of : IsReadOf height (list ++ later) l) (counts : IsCarryCount (rows_of own) (length own) height l.own) (longer : (more : List NotedSolid) × (list ≡ own ++ more)) (low : room ≤ℤ height)
-    (fits : level ≤ 2 → area_of (rows_of list) (must_of (rows_of list) l.own) ≤ℤ room) where
+module _ (l : NoteList) (list later own : List NotedSolid) (level : ℕ) (height room : ℤ) (ready : IsReady l) (of : IsReadOf height (list ++ later) l) (counts : IsCarryCount (note_rows own) (length own) height l.own) (longer : (more : List NotedSolid) × (list ≡ own ++ more)) (low : room ≤ℤ height)
+    (fits : level ≤ 2 → area_of (note_rows list) (must_of (note_rows list) l.own) ≤ℤ room) where
   abbrev PlacesOf : List NotedSolid → ℕ → ℕ → Type 0
-  PlacesOf read c number = IsPlaced (rows_of read) (least_of level (must_of (rows_of read) c) c c) room number
+  PlacesOf read c number = IsPlaced (note_rows read) (least_of level (must_of (note_rows read) c) c c) room number
 
   abbrev Wanted : ℕ → Type 0
-  Wanted number = IsPlaced (rows_of list) (least_of level (must_of (rows_of list) l.own) l.own (length own)) room number
+  Wanted number = IsPlaced (note_rows list) (least_of level (must_of (note_rows list) l.own) l.own (length own)) room number
 
   carried_least : (must : ℕ) → least_of level must l.own l.own ≡ least_of level must l.own (length own)
   carried_least must = least_same level must l.own (length own)
@@ -190,14 +191,14 @@ module _ (l : NoteList) (list later own : List NotedSolid) (level : ℕ) (height
 
   -- where all of it is read
   whole_placed : (number : ℕ) → PlacesOf list l.own number → Wanted number
-  whole_placed number p = subst (λ (k : ℕ). IsPlaced (rows_of list) k room number) (carried_least (must_of (rows_of list) l.own)) p
+  whole_placed number p = subst (λ (k : ℕ). IsPlaced (note_rows list) k room number) (carried_least (must_of (note_rows list) l.own)) p
 
   -- where a prefix is that takes more room than there is
-  prefix_placed : (rest : List NotedSolid) (number : ℕ) → list ≡ l.solids.items ++ rest → height <ℤ area_of (rows_of l.solids.items) (length l.solids.items) → PlacesOf l.solids.items l.own number → Wanted number
+  prefix_placed : (rest : List NotedSolid) (number : ℕ) → list ≡ l.solids.items ++ rest → height <ℤ area_of (note_rows l.solids.items) (length l.solids.items) → PlacesOf l.solids.items l.own number → Wanted number
   prefix_placed rest number is past p =
-      let rows : List NoteSolid = rows_of l.solids.items in
-      let more : List NoteSolid = rows_of rest in
-      let rows_are : rows_of list ≡ rows ++ more = ap (λ (xs : List NotedSolid). rows_of xs) is ∙ map-append (λ (s : NotedSolid). s.row) l.solids.items rest in
+      let rows : List NoteSolid = note_rows l.solids.items in
+      let more : List NoteSolid = note_rows rest in
+      let rows_are : note_rows list ≡ rows ++ more = ap (λ (xs : List NotedSolid). note_rows xs) is ∙ map-append (λ (s : NotedSolid). s.row) l.solids.items rest in
       let over : height <ℤ area_of rows (length rows) = subst (λ (n : ℕ). height <ℤ area_of rows n) (sym (length-map l.solids.items (λ s. s.row))) past in
       let placed : IsPlaced (rows ++ more) (least_of level (must_of rows l.own) l.own l.own) room number = placed_prefix rows more height room (least_of level (must_of rows l.own) l.own l.own) number low over p in
       let must : level ≤ 2 → must_of rows l.own ≡ must_of (rows ++ more) l.own = λ h. sym (must_prefix rows more height l.own over (let f = subst (λ (rs : List NoteSolid). area_of rs (must_of rs l.own) ≤ℤ room) rows_are (fits h) in omega (arith, ints))) in
@@ -269,20 +270,20 @@ drop_get [] k s e = absurd (cc)
 drop_get (x ∷ xs) zero s e = let same : x ≡ s = cc in ap (λ (y : NotedSolid). y ∷ xs) same
 drop_get (x ∷ xs) (suc k) s e = drop_get xs k s e
 
-pub small_at : (xs : List NotedSolid) (k : ℕ) (d : NotedSolid) → k < length xs → All IsSmallNote (rows_of xs) → IsSmallNote (get_or xs k d).row
+pub small_at : (xs : List NotedSolid) (k : ℕ) (d : NotedSolid) → k < length xs → All IsSmallNote (note_rows xs) → IsSmallNote (get_or xs k d).row
 small_at [] k d low all = absurd (omega arith)
 small_at (x ∷ xs) zero d low all = all 0 x.row (omega arith)
 small_at (x ∷ xs) (suc k) d low all = small_at xs k d (omega arith) (λ i e l. all (suc i) e (omega arith))
 
 -- the tops of what is placed are near
-pub near_notes : (k : ℕ) (bottom : ℤ) (list : List NotedSolid) → k + length list ≤ 2 ^ 26 → neg_ℤ (pos (2 ^ 33 * k)) ≤ℤ bottom → bottom ≤ℤ pos (2 ^ 33 * k + 512) → All IsSmallNote (rows_of list) → All (λ n. IsNear n.1) (placed_notes bottom list)
+pub near_notes : (k : ℕ) (bottom : ℤ) (list : List NotedSolid) → k + length list ≤ 2 ^ 26 → neg_ℤ (pos (2 ^ 33 * k)) ≤ℤ bottom → bottom ≤ℤ pos (2 ^ 33 * k + 512) → All IsSmallNote (note_rows list) → All (λ n. IsNear n.1) (placed_notes bottom list)
 near_notes k bottom [] few low high small = All-nil (λ (n : ℕ × Placed). IsNear n.1)
 near_notes k bottom (s ∷ list) few low high small =
     let own : IsSmallNote s.row = small 0 s.row (omega arith) in
     let gap = own.gap in
     let height = own.height in
     let some = own.some in
-    All-cons (λ (n : ℕ × Placed). IsNear n.1) _ _ (record { top_low = omega (arith, ints); top_high = omega (arith, ints); height_low = omega (arith, ints); height_high = omega (arith, ints) })
+    All-cons (λ (n : ℕ × Placed). IsNear n.1) _ _ (record { top = omega (arith, ints); height = omega (arith, ints); some = omega (arith, ints) })
     (near_notes (suc k) ((bottom +ℤ s.row.gap) +ℤ s.row.height) list (omega arith) (omega (arith, ints)) (omega (arith, ints)) (λ i d less. small (suc i) d (omega arith)))
 
 -- ---- a page's list
@@ -308,7 +309,7 @@ parts_held : (notes : List Note) (carried : List Carried) (from to : ℕ) → Al
 parts_held notes carried from to held within = All-append (λ (p : NotePart). IsHeld notes (start_of p)) (carried_parts carried) (called_parts from to) (carried_held notes carried held) (called_held notes from to within)
 
 -- what is left of a page's list
-pub left_told : (faces : List FontFace) (notes : List Note) (width : ℤ) (carried : List Carried) (from to : ℕ) (list read : List NotedSolid) (number : ℕ) → All (IsHeld notes) carried → Ascend carried → All (λ c. c.note < from) carried → from ≤ to → to ≤ length notes → AreNoted faces notes width (carried_parts carried ++ called_parts from to) list →
+pub left_told : (faces : List FontFace) (notes : List Note) (width : ℤ) (carried : List Carried) (from to : ℕ) (list read : List NotedSolid) (number : ℕ) → All (IsHeld notes) carried → NotesAscend carried → All (λ c. c.note < from) carried → from ≤ to → to ≤ length notes → AreNoted faces notes width (carried_parts carried ++ called_parts from to) list →
     All (λ s. IsHeld notes (record { note = s.note; at = s.end })) read → number ≤ length read → take number list ≡ take number read → left_after_last notes carried from to (slice_get (take number read) (length (take number read) - 1)) ≡ left_of (drop number list)
 left_told faces notes width carried from to list read number held up below order within are ends low same = by number low same
   where
@@ -337,7 +338,7 @@ left_told faces notes width carried from to list read number held up below order
         ∙ sym (left_some faces notes width 0 parts list k s rise all are at end)
 
 -- the notes of a page's list are below the first one that is called after it
-pub list_below : (faces : List FontFace) (notes : List Note) (width : ℤ) (carried : List Carried) (from to : ℕ) (list : List NotedSolid) → Ascend carried → All (λ c. c.note < from) carried → from ≤ to → AreNoted faces notes width (carried_parts carried ++ called_parts from to) list → All (IsBelow to) list
+pub list_below : (faces : List FontFace) (notes : List Note) (width : ℤ) (carried : List Carried) (from to : ℕ) (list : List NotedSolid) → NotesAscend carried → All (λ c. c.note < from) carried → from ≤ to → AreNoted faces notes width (carried_parts carried ++ called_parts from to) list → All (IsBelow to) list
 list_below faces notes width carried from to list up below order are =
     noted_high faces notes width to (carried_parts carried ++ called_parts from to) list (below_parts 0 to (carried_parts carried ++ called_parts from to) (subst (RiseBy 0 to) (sym (starts_are carried from to)) (rise_all carried from to order up below))) are
 
@@ -376,14 +377,14 @@ rise_from notes next low high (c ∷ cs) h r = by (cases_lt c.note next) (rise_f
         subst (λ (b : Bool). RiseBy (max low next) high (cond b (left_part notes c) [] ++ flat_map (left_from notes next) cs)) (sym some)
         (rise_part notes c (max low next) high (flat_map (left_from notes next) cs) (omega arith) (rise_lower (suc c.note) (max (suc c.note) next) high (flat_map (left_from notes next) cs) (omega arith) more))
 
-pub rise_left : (notes : List Note) (carried : List Carried) (from to : ℕ) (last : Option NotedSolid) → from ≤ to → Ascend carried → All (λ c. c.note < from) carried → next_of last ≤ to → RiseBy 0 to (left_after_last notes carried from to last)
+pub rise_left : (notes : List Note) (carried : List Carried) (from to : ℕ) (last : Option NotedSolid) → from ≤ to → NotesAscend carried → All (λ c. c.note < from) carried → next_of last ≤ to → RiseBy 0 to (left_after_last notes carried from to last)
 rise_left notes carried from to None order up below low = rise_lower 0 (max 0 0) to (flat_map (left_from notes 0) (carried ++ whole_notes from to)) (omega arith) (rise_from notes 0 0 to (carried ++ whole_notes from to) (omega arith) (rise_all carried from to order up below))
 rise_left notes carried from to (Some s) order up below low =
     let rest = flat_map (left_from notes (suc s.note)) (carried ++ whole_notes from to) in
     rise_lower 0 s.note to (left_part notes (record { note = s.note; at = s.end }) ++ rest) (omega arith) (rise_part notes (record { note = s.note; at = s.end }) s.note to rest (omega arith)
     (rise_lower (suc s.note) (max 0 (suc s.note)) to rest (omega arith) (rise_from notes (suc s.note) 0 to (carried ++ whole_notes from to) low (rise_all carried from to order up below))))
 
-pub rise_ascends : (low high : ℕ) (cs : List Carried) → RiseBy low high cs → Ascend cs
+pub rise_ascends : (low high : ℕ) (cs : List Carried) → RiseBy low high cs → NotesAscend cs
 rise_ascends low high [] r k a b e f = absurd (cc)
 rise_ascends low high (c ∷ []) r k a b e f = absurd (cc)
 rise_ascends low high (c ∷ d ∷ cs) r zero a b e f =
@@ -450,16 +451,16 @@ next_low (Some s) to h = h
 
 -- a page's list, placed
 pub placing : (faces : List FontFace) (notes : List Note) (width height : ℤ) (l : NoteList) (carried : List Carried) (from to level : ℕ) (room : ℤ) (own list later : List NotedSolid) (read number : ℕ) (p : PlacedList) →
-    IsReady l → All (λ s. IsHeld notes (record { note = s.note; at = s.end })) (take read l.solids.items) → All (IsHeld notes) carried → Ascend carried → All (λ c. c.note < from) carried → from ≤ to → to ≤ length notes → room ≤ℤ height →
+    IsReady l → All (λ s. IsHeld notes (record { note = s.note; at = s.end })) (take read l.solids.items) → All (IsHeld notes) carried → NotesAscend carried → All (λ c. c.note < from) carried → from ≤ to → to ≤ length notes → room ≤ℤ height →
     read ≤ length l.solids.items → All (IsBelow to) (take read l.solids.items) → ((s : NotedSolid) → slice_get l.solids.items read ≡ Some s → to ≤ s.note) →
-    IsPlaced (rows_of (take read l.solids.items)) (least_of level (must_of (rows_of (take read l.solids.items)) (min l.own (length (take read l.solids.items)))) (min l.own (length (take read l.solids.items))) (min l.own (length (take read l.solids.items)))) room number →
+    IsPlaced (note_rows (take read l.solids.items)) (least_of level (must_of (note_rows (take read l.solids.items)) (min l.own (length (take read l.solids.items)))) (min l.own (length (take read l.solids.items))) (min l.own (length (take read l.solids.items)))) room number →
     p.notes ≡ placed_notes separator (take number (take read l.solids.items)) → p.left ≡ left_after_last notes carried from to (slice_get (take number (take read l.solids.items)) (length (take number (take read l.solids.items)) - 1)) →
-    AreNoted faces notes width (carried_parts carried) own → AreNoted faces notes width (carried_parts carried ++ called_parts from to) list → All (IsFrom to) later → IsReadOf height (list ++ later) l → IsCarryCount (rows_of own) (length own) height l.own →
-    (level ≤ 2 → area_of (rows_of list) (must_of (rows_of list) l.own) ≤ℤ room) → IsPlacing list level l.own (length own) room p
+    AreNoted faces notes width (carried_parts carried) own → AreNoted faces notes width (carried_parts carried ++ called_parts from to) list → All (IsFrom to) later → IsReadOf height (list ++ later) l → IsCarryCount (note_rows own) (length own) height l.own →
+    (level ≤ 2 → area_of (note_rows list) (must_of (note_rows list) l.own) ≤ℤ room) → IsPlacing list level l.own (length own) room p
 placing faces notes width height l carried from to level room own list later read number p ready ends held up below order within low few under stops placed notes_is left_is owned listed after of counts fits =
     let cut = parted to list later l.solids.items of.more read of.is (list_below faces notes width carried from to list up below order listed) after few under stops in
     let most = placed.within in
-    let size : length (rows_of (take read l.solids.items)) ≡ length (take read l.solids.items) = length-map (take read l.solids.items) (λ s. s.row) in
+    let size : length (note_rows (take read l.solids.items)) ≡ length (take read l.solids.items) = length-map (take read l.solids.items) (λ s. s.row) in
     let number_low : number ≤ length (take read l.solids.items) = omega arith in
     let same = read_taken list l.solids.items of.more read number cut number_low in
     record {
@@ -469,10 +470,10 @@ placing faces notes width height l carried from to level room own list later rea
       left_is = left_is ∙ left_told faces notes width carried from to list (take read l.solids.items) number held up below order within listed ends number_low same;
     }
 
-pub small_taken : (xs : List NotedSolid) (n : ℕ) → All IsSmallNote (rows_of xs) → All IsSmallNote (rows_of (take n xs))
+pub small_taken : (xs : List NotedSolid) (n : ℕ) → All IsSmallNote (note_rows xs) → All IsSmallNote (note_rows (take n xs))
 small_taken xs zero all = All-nil IsSmallNote
 small_taken [] (suc n) all = All-nil IsSmallNote
-small_taken (x ∷ xs) (suc n) all = All-cons IsSmallNote x.row (rows_of (take n xs)) (all 0 x.row (omega arith)) (small_taken xs n (λ k d l. all (suc k) d (omega arith)))
+small_taken (x ∷ xs) (suc n) all = All-cons IsSmallNote x.row (note_rows (take n xs)) (all 0 x.row (omega arith)) (small_taken xs n (λ k d l. all (suc k) d (omega arith)))
 
 take_low : (xs : List NotedSolid) (n : ℕ) → length (take n xs) ≤ length xs
 take_low xs zero = omega arith

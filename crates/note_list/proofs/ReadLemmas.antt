@@ -8,10 +8,10 @@ use Rattle.bk_num.specs.Limits.{most_entries}
 use Rattle.notes.specs.declared.solid.NoteSolid.{NoteSolid}
 use Rattle.notes.specs.Notes.{IsCarryCount, IsSmallNote, area_of, last_begin, must_of, note_bottom, note_extent}
 use Rattle.notes.proofs.NoteLemmas.{IsReach, area_prefix, area_some, must_within}
-use Rattle.note_list.specs.Lists.{rows_of}
+use Rattle.note_list.specs.Lists.{note_rows}
 use Rattle.note_list.specs.Reads.{HasReached, IsReadOf, IsReady, has_begin}
 use Rattle.note_list.specs.declared.list.NoteList.{NoteList}
-use Rattle.note_list.specs.declared.reach.Reach.{Reach}
+use Rattle.notes.specs.declared.reach.Reach.{Reach}
 use Rattle.note_list.specs.declared.solid.NotedSolid.{NotedSolid}
 use Rattle.note_list.proofs.RowLemmas.{area_high, area_low, bottom_next, carry_prefix, extent_next, must_kept, must_next, need_past, need_told, reach_of}
 
@@ -20,23 +20,23 @@ length_next [] x = refl
 length_next (y ∷ xs) x = ap suc (length_next xs x)
 
 -- the bounds of what is read
-pub ready_reach : (l : NoteList) → IsReady l → IsReach (rows_of l.solids.items) (length l.solids.items) l.reach.bottom l.reach.extent
+pub ready_reach : (l : NoteList) → IsReady l → IsReach (note_rows l.solids.items) (length l.solids.items) l.reach.bottom l.reach.extent
 ready_reach l r =
-    let rows : List NoteSolid = rows_of l.solids.items in
+    let rows : List NoteSolid = note_rows l.solids.items in
     let n : ℕ = length l.solids.items in
     let count : length rows ≡ n = length-map l.solids.items (λ s. s.row) in
     subst (λ (b : ℤ). IsReach rows n b l.reach.extent) (sym r.reached.bottom) (subst (λ (e : ℤ). IsReach rows n (note_bottom rows n) e) (sym r.reached.extent) (reach_of rows n (omega arith) r.small))
 
 -- the area of all that is read
-pub area_all : (l : NoteList) → IsReady l → 0 < length l.solids.items → pos 512 +ℤ l.reach.extent ≡ area_of (rows_of l.solids.items) (length l.solids.items)
-area_all l r some = ap (λ (e : ℤ). pos 512 +ℤ e) r.reached.extent ∙ sym (area_some (rows_of l.solids.items) (length l.solids.items) some)
+pub area_all : (l : NoteList) → IsReady l → 0 < length l.solids.items → pos 512 +ℤ l.reach.extent ≡ area_of (note_rows l.solids.items) (length l.solids.items)
+area_all l r some = ap (λ (e : ℤ). pos 512 +ℤ e) r.reached.extent ∙ sym (area_some (note_rows l.solids.items) (length l.solids.items) some)
 
 module _ (old : NoteList) (s : NotedSolid) (r : IsReady old) where
   abbrev xs : List NotedSolid
   xs = old.solids.items
 
   abbrev rows : List NoteSolid
-  rows = rows_of xs
+  rows = note_rows xs
 
   abbrev more : List NotedSolid
   more = xs ++ s ∷ []
@@ -44,10 +44,10 @@ module _ (old : NoteList) (s : NotedSolid) (r : IsReady old) where
   count : length rows ≡ length xs
   count = length-map xs (λ x. x.row)
 
-  rows_are : rows_of more ≡ rows ++ s.row ∷ []
+  rows_are : note_rows more ≡ rows ++ s.row ∷ []
   rows_are = map-append (λ (x : NotedSolid). x.row) xs (s ∷ [])
 
-  at_end : (f : List NoteSolid → ℕ → ℤ) → f (rows_of more) (length more) ≡ f (rows ++ s.row ∷ []) (suc (length rows))
+  at_end : (f : List NoteSolid → ℕ → ℤ) → f (note_rows more) (length more) ≡ f (rows ++ s.row ∷ []) (suc (length rows))
   at_end f = ap (λ (rs : List NoteSolid). f rs (length more)) rows_are ∙ ap (f (rows ++ s.row ∷ [])) (length_next xs s ∙ ap suc (sym count))
 
   at_all : (f : List NoteSolid → ℕ → ℤ) → f rows (length xs) ≡ f rows (length rows)
@@ -61,36 +61,36 @@ module _ (old : NoteList) (s : NotedSolid) (r : IsReady old) where
         extent = e ∙ ap (λ (z : ℤ). int_max z new.bottom) (r.reached.extent ∙ at_all note_extent) ∙ ap (int_max (note_extent rows (length rows))) bottom ∙ sym (extent_next rows s.row) ∙ sym (at_end note_extent);
       }
 
-  prefix_area : (n : ℕ) → n ≤ length xs → area_of (rows_of more) n ≡ area_of rows n
+  prefix_area : (n : ℕ) → n ≤ length xs → area_of (note_rows more) n ≡ area_of rows n
   prefix_area n low = ap (λ (rs : List NoteSolid). area_of rs n) rows_are ∙ area_prefix rows (s.row ∷ []) n (let c = count in omega arith)
 
-  area_more : (new : Reach) → HasReached more new → pos 512 +ℤ new.extent ≡ area_of (rows_of more) (suc (length rows))
+  area_more : (new : Reach) → HasReached more new → pos 512 +ℤ new.extent ≡ area_of (note_rows more) (suc (length rows))
   area_more new h =
       let last : length more ≡ suc (length rows) = length_next xs s ∙ ap suc (sym count) in
-      ap (λ (e : ℤ). pos 512 +ℤ e) h.extent ∙ ap (λ (n : ℕ). pos 512 +ℤ note_extent (rows_of more) n) last ∙ sym (area_some (rows_of more) (suc (length rows)) (omega arith))
+      ap (λ (e : ℤ). pos 512 +ℤ e) h.extent ∙ ap (λ (n : ℕ). pos 512 +ℤ note_extent (note_rows more) n) last ∙ sym (area_some (note_rows more) (suc (length rows)) (omega arith))
 
-  needed_more : (new : Reach) (needed : ℤ) → HasReached more new → (b : Bool) → s.row.begins ≡ b → (b ≡ true → needed ≡ pos 512 +ℤ new.extent) → (b ≡ false → needed ≡ old.needed) → needed ≡ area_of (rows_of more) (must_of (rows_of more) old.own)
+  needed_more : (new : Reach) (needed : ℤ) → HasReached more new → (b : Bool) → s.row.begins ≡ b → (b ≡ true → needed ≡ pos 512 +ℤ new.extent) → (b ≡ false → needed ≡ old.needed) → needed ≡ area_of (note_rows more) (must_of (note_rows more) old.own)
   needed_more new needed h true e all same =
       let c = count in
       let w = r.within in
-      all refl ∙ area_more new h ∙ ap (area_of (rows_of more)) (sym (must_next rows s.row old.own e (omega arith)) ∙ ap (λ (rs : List NoteSolid). must_of rs old.own) (sym rows_are))
+      all refl ∙ area_more new h ∙ ap (area_of (note_rows more)) (sym (must_next rows s.row old.own e (omega arith)) ∙ ap (λ (rs : List NoteSolid). must_of rs old.own) (sym rows_are))
   needed_more new needed h false e all same =
       let c = count in
       let w = r.within in
       let within = must_within rows old.own (omega arith) in
-      same refl ∙ r.needed_is ∙ sym (prefix_area (must_of rows old.own) (omega arith)) ∙ ap (area_of (rows_of more)) (sym (must_kept rows s.row old.own e) ∙ ap (λ (rs : List NoteSolid). must_of rs old.own) (sym rows_are))
+      same refl ∙ r.needed_is ∙ sym (prefix_area (must_of rows old.own) (omega arith)) ∙ ap (area_of (note_rows more)) (sym (must_kept rows s.row old.own e) ∙ ap (λ (rs : List NoteSolid). must_of rs old.own) (sym rows_are))
 
-  ready_by : (new : NoteList) → new.solids.items ≡ more → IsSmallNote s.row → length xs < most_entries → HasReached more new.reach → new.own ≡ old.own → new.own_area ≡ old.own_area → new.needed ≡ area_of (rows_of more) (must_of (rows_of more) old.own) → IsReady new
+  ready_by : (new : NoteList) → new.solids.items ≡ more → IsSmallNote s.row → length xs < most_entries → HasReached more new.reach → new.own ≡ old.own → new.own_area ≡ old.own_area → new.needed ≡ area_of (note_rows more) (must_of (note_rows more) old.own) → IsReady new
   ready_by new items small few reached own own_area needed =
       let len = length_next xs s in
       let w = r.within in
       record {
         few = subst (λ (ys : List NotedSolid). length ys ≤ most_entries) (sym items) (omega arith);
-        small = subst (λ (ys : List NotedSolid). All IsSmallNote (rows_of ys)) (sym items) (subst (All IsSmallNote) (sym rows_are) (All-push IsSmallNote rows s.row r.small small));
+        small = subst (λ (ys : List NotedSolid). All IsSmallNote (note_rows ys)) (sym items) (subst (All IsSmallNote) (sym rows_are) (All-push IsSmallNote rows s.row r.small small));
         reached = subst (λ (ys : List NotedSolid). HasReached ys new.reach) (sym items) reached;
         within = subst (λ (ys : List NotedSolid). new.own ≤ length ys) (sym items) (omega arith);
-        own_is = subst (λ (ys : List NotedSolid). new.own_area ≡ area_of (rows_of ys) new.own) (sym items) (own_area ∙ r.own_is ∙ sym (prefix_area old.own w) ∙ ap (area_of (rows_of more)) (sym own));
-        needed_is = subst (λ (ys : List NotedSolid). new.needed ≡ area_of (rows_of ys) (must_of (rows_of ys) new.own)) (sym items) (needed ∙ ap (λ (k : ℕ). area_of (rows_of more) (must_of (rows_of more) k)) (sym own));
+        own_is = subst (λ (ys : List NotedSolid). new.own_area ≡ area_of (note_rows ys) new.own) (sym items) (own_area ∙ r.own_is ∙ sym (prefix_area old.own w) ∙ ap (area_of (note_rows more)) (sym own));
+        needed_is = subst (λ (ys : List NotedSolid). new.needed ≡ area_of (note_rows ys) (must_of (note_rows ys) new.own)) (sym items) (needed ∙ ap (λ (k : ℕ). area_of (note_rows more) (must_of (note_rows more) k)) (sym own));
       }
 
 -- one solid more
@@ -115,16 +115,16 @@ reach_high old s bottom extent r small few b e =
     omega (arith, ints, clamps)
 
 -- the area of what is read with one solid more
-pub area_next : (old : NoteList) (s : NotedSolid) (items : List NotedSolid) (bottom extent : ℤ) → IsReady old → items ≡ old.solids.items ++ s ∷ [] → bottom ≡ (old.reach.bottom +ℤ s.row.gap) +ℤ s.row.height → extent ≡ int_max old.reach.extent bottom → pos 512 +ℤ extent ≡ area_of (rows_of items) (length items)
+pub area_next : (old : NoteList) (s : NotedSolid) (items : List NotedSolid) (bottom extent : ℤ) → IsReady old → items ≡ old.solids.items ++ s ∷ [] → bottom ≡ (old.reach.bottom +ℤ s.row.gap) +ℤ s.row.height → extent ≡ int_max old.reach.extent bottom → pos 512 +ℤ extent ≡ area_of (note_rows items) (length items)
 area_next old s items bottom extent r e b x =
     let reached = reached_more old s r (record { bottom = bottom; extent = extent }) b x in
-    let last : length (old.solids.items ++ s ∷ []) ≡ suc (length (rows_of old.solids.items)) = length_next old.solids.items s ∙ ap suc (sym (count old s r)) in
-    subst (λ (ys : List NotedSolid). pos 512 +ℤ extent ≡ area_of (rows_of ys) (length ys)) (sym e) (area_more old s r (record { bottom = bottom; extent = extent }) reached ∙ ap (area_of (rows_of (old.solids.items ++ s ∷ []))) (sym last))
+    let last : length (old.solids.items ++ s ∷ []) ≡ suc (length (note_rows old.solids.items)) = length_next old.solids.items s ∙ ap suc (sym (count old s r)) in
+    subst (λ (ys : List NotedSolid). pos 512 +ℤ extent ≡ area_of (note_rows ys) (length ys)) (sym e) (area_more old s r (record { bottom = bottom; extent = extent }) reached ∙ ap (area_of (note_rows (old.solids.items ++ s ∷ []))) (sym last))
 
 -- areas that are kept are within 2^60
 pub needed_small : (l : NoteList) → IsReady l → (pos 0 ≤ℤ l.needed) × (l.needed ≤ℤ pos (2 ^ 60))
 needed_small l r =
-    let rows = rows_of l.solids.items in
+    let rows = note_rows l.solids.items in
     let n : length rows ≡ length l.solids.items = length-map l.solids.items (λ x. x.row) in
     let w = r.within in
     let within = must_within rows l.own (omega arith) in
@@ -133,7 +133,7 @@ needed_small l r =
 
 pub own_small : (l : NoteList) → IsReady l → (pos 0 ≤ℤ l.own_area) × (l.own_area ≤ℤ pos (2 ^ 60))
 own_small l r =
-    let rows = rows_of l.solids.items in
+    let rows = note_rows l.solids.items in
     let n : length rows ≡ length l.solids.items = length-map l.solids.items (λ x. x.row) in
     let w = r.within in
     let few = r.few in
@@ -141,41 +141,41 @@ own_small l r =
 
 -- ---- what is told of a list
 
-rows_more : (xs more : List NotedSolid) → rows_of (xs ++ more) ≡ rows_of xs ++ rows_of more
+rows_more : (xs more : List NotedSolid) → note_rows (xs ++ more) ≡ note_rows xs ++ note_rows more
 rows_more xs more = map-append (λ (x : NotedSolid). x.row) xs more
 
-begin_of : (n : ℕ) (more : List NotedSolid) (b : Bool) → has_begin more ≡ b → ((b ≡ true) × (n < last_begin n (rows_of more))) ⊎ ((b ≡ false) × (last_begin n (rows_of more) ≡ 0))
+begin_of : (n : ℕ) (more : List NotedSolid) (b : Bool) → has_begin more ≡ b → ((b ≡ true) × (n < last_begin n (note_rows more))) ⊎ ((b ≡ false) × (last_begin n (note_rows more) ≡ 0))
 begin_of n [] b e = inr (sym e, refl)
 begin_of n (s ∷ more) b e = by s.row.begins refl (begin_of (suc n) more (has_begin more) refl)
   where
-    by : (a : Bool) → s.row.begins ≡ a → ((has_begin more ≡ true) × (suc n < last_begin (suc n) (rows_of more))) ⊎ ((has_begin more ≡ false) × (last_begin (suc n) (rows_of more) ≡ 0)) → ((b ≡ true) × (n < last_begin n (rows_of (s ∷ more)))) ⊎ ((b ≡ false) × (last_begin n (rows_of (s ∷ more)) ≡ 0))
+    by : (a : Bool) → s.row.begins ≡ a → ((has_begin more ≡ true) × (suc n < last_begin (suc n) (note_rows more))) ⊎ ((has_begin more ≡ false) × (last_begin (suc n) (note_rows more) ≡ 0)) → ((b ≡ true) × (n < last_begin n (note_rows (s ∷ more)))) ⊎ ((b ≡ false) × (last_begin n (note_rows (s ∷ more)) ≡ 0))
     by true f rest =
-        let own : last_begin n (rows_of (s ∷ more)) ≡ max (suc n) (last_begin (suc n) (rows_of more)) = ap (λ (x : Bool). max (cond x (suc n) 0) (last_begin (suc n) (rows_of more))) f in
+        let own : last_begin n (note_rows (s ∷ more)) ≡ max (suc n) (last_begin (suc n) (note_rows more)) = ap (λ (x : Bool). max (cond x (suc n) 0) (last_begin (suc n) (note_rows more))) f in
         inl (sym e ∙ ap (λ (x : Bool). x || has_begin more) f, omega arith)
     by false f (inl h) =
-        let own : last_begin n (rows_of (s ∷ more)) ≡ max 0 (last_begin (suc n) (rows_of more)) = ap (λ (x : Bool). max (cond x (suc n) 0) (last_begin (suc n) (rows_of more))) f in
+        let own : last_begin n (note_rows (s ∷ more)) ≡ max 0 (last_begin (suc n) (note_rows more)) = ap (λ (x : Bool). max (cond x (suc n) 0) (last_begin (suc n) (note_rows more))) f in
         let l = h.1 in
         inl (sym e ∙ ap (λ (x : Bool). x || has_begin more) f ∙ h.0, omega arith)
     by false f (inr h) =
-        let own : last_begin n (rows_of (s ∷ more)) ≡ max 0 (last_begin (suc n) (rows_of more)) = ap (λ (x : Bool). max (cond x (suc n) 0) (last_begin (suc n) (rows_of more))) f in
+        let own : last_begin n (note_rows (s ∷ more)) ≡ max 0 (last_begin (suc n) (note_rows more)) = ap (λ (x : Bool). max (cond x (suc n) 0) (last_begin (suc n) (note_rows more))) f in
         let l = h.1 in
         inr (sym e ∙ ap (λ (x : Bool). x || has_begin more) f ∙ h.0, omega arith)
 
 module _ (l : NoteList) (r : IsReady l) (height : ℤ) (list : List NotedSolid) (of : IsReadOf height list l) where
   abbrev read : List NoteSolid
-  read = rows_of l.solids.items
+  read = note_rows l.solids.items
 
   abbrev later : List NoteSolid
-  later = rows_of of.more
+  later = note_rows of.more
 
-  all_rows : rows_of list ≡ read ++ later
-  all_rows = ap (λ (xs : List NotedSolid). rows_of xs) of.is ∙ rows_more l.solids.items of.more
+  all_rows : note_rows list ≡ read ++ later
+  all_rows = ap (λ (xs : List NotedSolid). note_rows xs) of.is ∙ rows_more l.solids.items of.more
 
   counted : length read ≡ length l.solids.items
   counted = length-map l.solids.items (λ x. x.row)
 
   -- the area of the carried solids that have to stand
-  pub own_told : l.own_area ≡ area_of (rows_of list) l.own
+  pub own_told : l.own_area ≡ area_of (note_rows list) l.own
   own_told = r.own_is ∙ sym (area_prefix read later l.own (let c = counted in let w = r.within in omega arith)) ∙ ap (λ (rs : List NoteSolid). area_of rs l.own) (sym all_rows)
 
   past_of : (b : Bool) → l.over ≡ b → l.begun ≡ true → height <ℤ area_of read (length l.solids.items)
@@ -183,46 +183,46 @@ module _ (l : NoteList) (r : IsReady l) (height : ℤ) (list : List NotedSolid) 
   past_of false e h = absurd (let none : has_begin of.more ≡ has_begin [] = ap has_begin (of.all e) in let f : true ≡ false = sym h ∙ of.begun ∙ none in cc)
 
   -- and of all that have to, where no note begins after those that are read
-  pub needed_told : l.begun ≡ false → l.needed ≡ area_of (rows_of list) (must_of (rows_of list) l.own)
+  pub needed_told : l.begun ≡ false → l.needed ≡ area_of (note_rows list) (must_of (note_rows list) l.own)
   needed_told e = by (begin_of (length read) of.more (has_begin of.more) refl)
     where
-      by : ((has_begin of.more ≡ true) × (length read < last_begin (length read) later)) ⊎ ((has_begin of.more ≡ false) × (last_begin (length read) later ≡ 0)) → l.needed ≡ area_of (rows_of list) (must_of (rows_of list) l.own)
+      by : ((has_begin of.more ≡ true) × (length read < last_begin (length read) later)) ⊎ ((has_begin of.more ≡ false) × (last_begin (length read) later ≡ 0)) → l.needed ≡ area_of (note_rows list) (must_of (note_rows list) l.own)
       by (inl h) = absurd (let f : true ≡ false = sym h.0 ∙ sym of.begun ∙ e in cc)
       by (inr h) = r.needed_is ∙ sym (need_told read later l.own (let c = counted in let w = r.within in omega arith) h.1) ∙ ap (λ (rs : List NoteSolid). area_of rs (must_of rs l.own)) (sym all_rows)
 
   -- or they take more room than there is, as those that are read do
-  pub needed_past : l.begun ≡ true → (height <ℤ area_of read (length l.solids.items)) × (height <ℤ area_of (rows_of list) (must_of (rows_of list) l.own))
+  pub needed_past : l.begun ≡ true → (height <ℤ area_of read (length l.solids.items)) × (height <ℤ area_of (note_rows list) (must_of (note_rows list) l.own))
   needed_past e = (past_of l.over refl e, by (begin_of (length read) of.more (has_begin of.more) refl))
     where
       past : height <ℤ area_of read (length read)
       past = subst (λ (n : ℕ). height <ℤ area_of read n) (sym counted) (past_of l.over refl e)
 
-      by : ((has_begin of.more ≡ true) × (length read < last_begin (length read) later)) ⊎ ((has_begin of.more ≡ false) × (last_begin (length read) later ≡ 0)) → height <ℤ area_of (rows_of list) (must_of (rows_of list) l.own)
+      by : ((has_begin of.more ≡ true) × (length read < last_begin (length read) later)) ⊎ ((has_begin of.more ≡ false) × (last_begin (length read) later ≡ 0)) → height <ℤ area_of (note_rows list) (must_of (note_rows list) l.own)
       by (inl h) = subst (λ (rs : List NoteSolid). height <ℤ area_of rs (must_of rs l.own)) (sym all_rows) (need_past read later l.own height past h.1)
       by (inr h) = absurd (let f : true ≡ false = sym e ∙ of.begun ∙ h.0 in cc)
 
 -- the count of the carried solids that have to stand, by those that are read
-pub counts_told : (l : NoteList) (height : ℤ) (list : List NotedSolid) → pos 0 ≤ℤ height → IsReadOf height list l → IsCarryCount (rows_of l.solids.items) (length l.solids.items) height l.own → IsCarryCount (rows_of list) (length list) height l.own
+pub counts_told : (l : NoteList) (height : ℤ) (list : List NotedSolid) → pos 0 ≤ℤ height → IsReadOf height list l → IsCarryCount (note_rows l.solids.items) (length l.solids.items) height l.own → IsCarryCount (note_rows list) (length list) height l.own
 counts_told l height list low of own = by l.over refl
   where
-    count : length (rows_of l.solids.items) ≡ length l.solids.items
+    count : length (note_rows l.solids.items) ≡ length l.solids.items
     count = length-map l.solids.items (λ x. x.row)
 
-    rows_are : rows_of list ≡ rows_of l.solids.items ++ rows_of of.more
-    rows_are = ap (λ (xs : List NotedSolid). rows_of xs) of.is ∙ rows_more l.solids.items of.more
+    rows_are : note_rows list ≡ note_rows l.solids.items ++ note_rows of.more
+    rows_are = ap (λ (xs : List NotedSolid). note_rows xs) of.is ∙ rows_more l.solids.items of.more
 
-    size : length list ≡ length (rows_of l.solids.items ++ rows_of of.more)
+    size : length list ≡ length (note_rows l.solids.items ++ note_rows of.more)
     size = sym (length-map list (λ x. x.row)) ∙ ap (λ (rs : List NoteSolid). length rs) rows_are
 
-    own_rows : IsCarryCount (rows_of l.solids.items) (length (rows_of l.solids.items)) height l.own
-    own_rows = subst (λ (n : ℕ). IsCarryCount (rows_of l.solids.items) n height l.own) (sym count) own
+    own_rows : IsCarryCount (note_rows l.solids.items) (length (note_rows l.solids.items)) height l.own
+    own_rows = subst (λ (n : ℕ). IsCarryCount (note_rows l.solids.items) n height l.own) (sym count) own
 
-    on : (rows_of of.more ≡ []) ⊎ (height <ℤ area_of (rows_of l.solids.items) (length (rows_of l.solids.items))) → IsCarryCount (rows_of list) (length list) height l.own
+    on : (note_rows of.more ≡ []) ⊎ (height <ℤ area_of (note_rows l.solids.items) (length (note_rows l.solids.items))) → IsCarryCount (note_rows list) (length list) height l.own
     on which =
-        subst (λ (n : ℕ). IsCarryCount (rows_of list) n height l.own) (sym size)
-        (subst (λ (rs : List NoteSolid). IsCarryCount rs (length (rows_of l.solids.items ++ rows_of of.more)) height l.own) (sym rows_are)
-        (carry_prefix (rows_of l.solids.items) (rows_of of.more) height l.own low which own_rows))
+        subst (λ (n : ℕ). IsCarryCount (note_rows list) n height l.own) (sym size)
+        (subst (λ (rs : List NoteSolid). IsCarryCount rs (length (note_rows l.solids.items ++ note_rows of.more)) height l.own) (sym rows_are)
+        (carry_prefix (note_rows l.solids.items) (note_rows of.more) height l.own low which own_rows))
 
-    by : (b : Bool) → l.over ≡ b → IsCarryCount (rows_of list) (length list) height l.own
-    by true e = on (inr (subst (λ (n : ℕ). height <ℤ area_of (rows_of l.solids.items) n) (sym count) (of.past e)))
-    by false e = on (inl (ap (λ (xs : List NotedSolid). rows_of xs) (of.all e)))
+    by : (b : Bool) → l.over ≡ b → IsCarryCount (note_rows list) (length list) height l.own
+    by true e = on (inr (subst (λ (n : ℕ). height <ℤ area_of (note_rows l.solids.items) n) (sym count) (of.past e)))
+    by false e = on (inl (ap (λ (xs : List NotedSolid). note_rows xs) (of.all e)))

@@ -7,7 +7,7 @@ use Rattle.bk_num.proofs.ListLemmas.{slice_get_at}
 use Rattle.bk_num.specs.Limits.{most_entries}
 use Rattle.notes.specs.declared.solid.NoteSolid.{NoteSolid}
 use Rattle.notes.specs.Notes.{IsCarryCount, IsSmallNote, area_of, last_begin, must_of, note_bottom, note_extent, note_gap, note_height}
-use Rattle.notes.proofs.NoteLemmas.{IsReach, area_never_falls, area_prefix, area_some, must_within, reach_start, reach_step}
+use Rattle.notes.proofs.NoteLemmas.{IsReach, area_never_falls, area_prefix, area_some, must_within, reach_start, reach_step, bottom_prefix, extent_prefix, begin_within}
 use Rattle.note_list.proofs.NotedLemmas.{all_get}
 
 -- ---- bounds
@@ -32,26 +32,9 @@ area_high rows (suc n) h few small =
 
 -- ---- one solid more
 
-get_prefix : (list more : List NoteSolid) (k : ℕ) → k < length list → slice_get (list ++ more) k ≡ slice_get list k
-get_prefix [] more k less = absurd (omega arith)
-get_prefix (x ∷ xs) more zero less = refl
-get_prefix (x ∷ xs) more (suc k) less = get_prefix xs more k (omega arith)
-
 get_next : (list more : List NoteSolid) (s : NoteSolid) → slice_get (list ++ s ∷ more) (length list) ≡ Some s
 get_next [] more s = refl
 get_next (x ∷ xs) more s = get_next xs more s
-
-bottom_prefix : (list more : List NoteSolid) (n : ℕ) → n ≤ length list → note_bottom (list ++ more) n ≡ note_bottom list n
-bottom_prefix list more zero low = refl
-bottom_prefix list more (suc n) low =
-    let at = get_prefix list more n (omega arith) in
-    let rest = bottom_prefix list more n (omega arith) in
-    ap (λ (z : ℤ). (z +ℤ note_gap (slice_get (list ++ more) n)) +ℤ note_height (slice_get (list ++ more) n)) rest ∙ ap (λ (o : Option NoteSolid). (note_bottom list n +ℤ note_gap o) +ℤ note_height o) at
-
-extent_prefix : (list more : List NoteSolid) (n : ℕ) → n ≤ length list → note_extent (list ++ more) n ≡ note_extent list n
-extent_prefix list more zero low = refl
-extent_prefix list more (suc n) low =
-    ap (λ (z : ℤ). int_max z (note_bottom (list ++ more) (suc n))) (extent_prefix list more n (omega arith)) ∙ ap (λ (z : ℤ). int_max (note_extent list n) z) (bottom_prefix list more (suc n) low)
 
 pub bottom_next : (list : List NoteSolid) (s : NoteSolid) → note_bottom (list ++ s ∷ []) (suc (length list)) ≡ (note_bottom list (length list) +ℤ s.gap) +ℤ s.height
 bottom_next list s =
@@ -72,14 +55,6 @@ begin_append n (s ∷ list) more =
     let count : suc n + length list ≡ n + length (s ∷ list) = omega arith in
     let last : last_begin (suc n + length list) more ≡ last_begin (n + length (s ∷ list)) more = ap (λ (k : ℕ). last_begin k more) count in
     omega arith
-
-begin_within : (n : ℕ) (list : List NoteSolid) → last_begin n list ≤ n + length list
-begin_within n [] = omega arith
-begin_within n (s ∷ list) = by s.begins (begin_within (suc n) list)
-  where
-    by : (b : Bool) → last_begin (suc n) list ≤ suc n + length list → max (cond b (suc n) 0) (last_begin (suc n) list) ≤ n + length (s ∷ list)
-    by true low = omega arith
-    by false low = omega arith
 
 -- where none of some solids begins a note, nothing more has to stand
 pub must_same : (list more : List NoteSolid) (c : ℕ) → last_begin (length list) more ≡ 0 → must_of (list ++ more) c ≡ must_of list c

@@ -16,6 +16,7 @@ use Rattle.seams.specs.Runs.{solid_after}
 use Rattle.note_list.specs.Calls.{called_before}
 use Rattle.note_list.specs.declared.carried.Carried.{Carried}
 
+-- the bytes of a leaf, 0 where none is
 abbrev pub size_of : Option LeafData → ℕ
 size_of None = 0
 size_of (Some leaf) = length leaf.text
@@ -53,11 +54,13 @@ pub record IsAtSolid (notes : List Note) (c : Carried) : Type 0 where
   pub solid : solid_after note.body c.at.event ≡ Some c.at.event
 
 -- the numbers of the notes ascend
-abbrev pub Ascend : List Carried → Type 0
-Ascend carried = (k : ℕ) (a b : Carried) → slice_get carried k ≡ Some a → slice_get carried (suc k) ≡ Some b → a.note < b.note
+abbrev pub NotesAscend : List Carried → Type 0
+NotesAscend carried = (k : ℕ) (a b : Carried) → slice_get carried k ≡ Some a → slice_get carried (suc k) ≡ Some b →
+    a.note < b.note
 
--- what is carried to a page that begins at a place: notes that are called before it, each once and in order, each from a place of its body
+-- what is carried to a page that begins at a place: notes that are called before it, each once and in order, each from
+-- a place of its body
 pub record AreCarried (flow : Flow) (at : Position) (carried : List Carried) : Type 0 where
   pub held : All (IsHeld flow.notes) carried
   pub called : All (λ c. c.note < called_before flow.main flow.notes at) carried
-  pub order : Ascend carried
+  pub order : NotesAscend carried

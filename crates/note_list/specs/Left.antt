@@ -10,8 +10,14 @@ use Rattle.note_list.specs.declared.solid.NotedSolid.{NotedSolid}
 -- where a note goes on at or after a place of its body, at the first solid there
 abbrev pub left_at : Carried → Option ℕ → List Carried
 left_at c None = []
-left_at c (Some event) = record { note = c.note; at = record { event = event; offset = if event == c.at.event then c.at.offset else 0 } } ∷ []
+left_at c (Some event) =
+    record {
+      note = c.note;
+      at =
+          record { event = event; offset = if event == c.at.event then c.at.offset else 0 };
+    } ∷ []
 
+-- the same, where the note is there
 abbrev pub left_in : Carried → Option Note → List Carried
 left_in c None = []
 left_in c (Some note) = left_at c (solid_after note.body c.at.event)
@@ -34,10 +40,12 @@ abbrev pub left_of_last : List Note → Option NotedSolid → List Carried
 left_of_last notes None = []
 left_of_last notes (Some s) = left_part notes (record { note = s.note; at = s.end })
 
+-- the notes from a number up to another, each from its start
 abbrev pub whole_notes : ℕ → ℕ → List Carried
 whole_notes from to = map (λ n. record { note = n; at = start_place }) (range_with_len from (to - from))
 
--- what is left after the last solid that is placed, of the carried notes and of those called from a number up to another
+-- what is left after the last solid that is placed, of the carried notes and of those called from a number up to
+-- another
 abbrev pub left_after_last : List Note → List Carried → ℕ → ℕ → Option NotedSolid → List Carried
 left_after_last notes carried from to last =
     left_of_last notes last ++ flat_map (left_from notes (next_of last)) (carried ++ whole_notes from to)

@@ -9,25 +9,25 @@ use Rattle.cursor.specs.Remainder.{IsRemainder, SolidView}
 use Rattle.metrics.specs.Face.{FontFace}
 use Rattle.notes.specs.Notes.{IsCarryCount, IsSmallNote, area_of, must_of, note_bottom, note_extent}
 use Rattle.note_list.specs.Conditions.{IsHeld}
-use Rattle.note_list.specs.Lists.{AreNoted, NotePart, carried_parts, noted, rows_of}
+use Rattle.note_list.specs.Lists.{AreNoted, NotePart, carried_parts, noted, note_rows}
 use Rattle.note_list.specs.declared.carried.Carried.{Carried}
-use Rattle.note_list.specs.declared.reach.Reach.{Reach}
+use Rattle.notes.specs.declared.reach.Reach.{Reach}
 use Rattle.note_list.specs.declared.solid.NotedSolid.{NotedSolid}
 use Rattle.note_list.specs.declared.list.NoteList.{NoteList}
 
 -- how far solids reach
 pub record HasReached (list : List NotedSolid) (r : Reach) : Type 0 where
-  pub bottom : r.bottom ≡ note_bottom (rows_of list) (length list)
-  pub extent : r.extent ≡ note_extent (rows_of list) (length list)
+  pub bottom : r.bottom ≡ note_bottom (note_rows list) (length list)
+  pub extent : r.extent ≡ note_extent (note_rows list) (length list)
 
 -- what is kept of the solids that are read: how far they reach, and the room of those that have to stand on the page
 pub record IsReady (l : NoteList) : Type 0 where
   pub few : length l.solids.items ≤ most_entries
-  pub small : All IsSmallNote (rows_of l.solids.items)
+  pub small : All IsSmallNote (note_rows l.solids.items)
   pub reached : HasReached l.solids.items l.reach
   pub within : l.own ≤ length l.solids.items
-  pub own_is : l.own_area ≡ area_of (rows_of l.solids.items) l.own
-  pub needed_is : l.needed ≡ area_of (rows_of l.solids.items) (must_of (rows_of l.solids.items) l.own)
+  pub own_is : l.own_area ≡ area_of (note_rows l.solids.items) l.own
+  pub needed_is : l.needed ≡ area_of (note_rows l.solids.items) (must_of (note_rows l.solids.items) l.own)
 
 -- the solids that are read end at places of their notes' bodies
 abbrev pub EndInNotes : List Note → NoteList → Type 0
@@ -37,28 +37,31 @@ EndInNotes notes l = All (λ s. IsHeld notes (record { note = s.note; at = s.end
 abbrev pub has_begin : List NotedSolid → Bool
 has_begin list = list_any (λ s. s.row.begins) list
 
--- what is read of a list: all of it, or a prefix that takes more room than there is; and whether a called note begins after it
+-- what is read of a list: all of it, or a prefix that takes more room than there is; and whether a called note begins
+-- after it
 pub record IsReadOf (height : ℤ) (list : List NotedSolid) (l : NoteList) : Type 0 where
   pub more : List NotedSolid
   pub is : list ≡ l.solids.items ++ more
   pub all : l.over ≡ false → more ≡ []
-  pub past : l.over ≡ true → height <ℤ area_of (rows_of l.solids.items) (length l.solids.items)
+  pub past : l.over ≡ true → height <ℤ area_of (note_rows l.solids.items) (length l.solids.items)
   pub begun : l.begun ≡ has_begin more
 
--- a note is read on, from a place of its body, where the list had room: all of it, or a prefix that takes more than there is, and no called
--- note begins after it
-pub record HasReadOn (faces : List FontFace) (body : Tree) (width height : ℤ) (p : NotePart) (old new : NoteList) : Type 0 where
+-- a note is read on, from a place of its body, where the list had room: all of it, or a prefix that takes more than
+-- there is, and no called note begins after it
+pub record HasReadOn (faces : List FontFace) (body : Tree) (width height : ℤ) (p : NotePart) (old new : NoteList) : Type
+    0 where
   pub solids : List SolidView
   pub rest : IsRemainder faces body width p.at solids
   pub more : List NotedSolid
   pub is : old.solids.items ++ map (noted body p) solids ≡ new.solids.items ++ more
   pub all : new.over ≡ false → more ≡ []
-  pub past : new.over ≡ true → height <ℤ area_of (rows_of new.solids.items) (length new.solids.items)
+  pub past : new.over ≡ true → height <ℤ area_of (note_rows new.solids.items) (length new.solids.items)
   pub none : has_begin more ≡ false
 
 -- the list of what is carried to a page of a frame, read, and how many of its solids have to stand on the page
-pub record IsCarriedList (faces : List FontFace) (notes : List Note) (frame : Frame) (carried : List Carried) (l : NoteList) : Type 0 where
+pub record IsCarriedList (faces : List FontFace) (notes : List Note) (frame : Frame) (carried : List Carried)
+    (l : NoteList) : Type 0 where
   pub list : List NotedSolid
   pub listed : AreNoted faces notes frame.width (carried_parts carried) list
   pub read : IsReadOf frame.height list l
-  pub counts : IsCarryCount (rows_of list) (length list) frame.height l.own
+  pub counts : IsCarryCount (note_rows list) (length list) frame.height l.own

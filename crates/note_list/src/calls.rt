@@ -57,6 +57,7 @@ fn end_before(tree: &BoxTree, at: Position) -> Position
     if at.offset > 0 {
         return at;
     }
+    // the count tells that the tree is one that can be built
     let _count = tree.count();
     match solid_before(tree, at.event) {
         Some(event) => Position {
@@ -77,8 +78,8 @@ fn is_called(tree: &BoxTree, note: &Note, end: Position) -> bool
     is_before(anchor_of(tree, note.call), end)
 }
 
-/// How many notes are called before a place of the main tree, by the order of their calls: a walk of the run before that
-/// place, and a binary search among the calls.
+/// How many notes are called before a place of the main tree, by the order of their calls: a walk of the run before
+/// that place, and a binary search among the calls.
 pub fn called_before(flow: &Flow, at: Position) -> u32
     requires holds { Holds flow.now.main at }
     requires calls { NeverFall (map (λ n. n.call) flow.now.notes) }
@@ -93,8 +94,8 @@ pub fn called_before(flow: &Flow, at: Position) -> u32
     notes.partition_point(|note| is_called(&flow.main, note, end)) as u32
 }
 
-/// How many notes are called before the end of a solid, where the first `called` are: it takes time in proportion to the
-/// others.
+/// How many notes are called before the end of a solid, where the first `called` are: it takes time in proportion to
+/// the others.
 pub fn called_by(flow: &Flow, called: u32, end: Position) -> u32
     requires called { called ≤ prefix_len (λ n. is_before (anchor_of flow.now.main n.call) end) flow.now.notes }
     requires count { length flow.now.notes ≤ most_entries }

@@ -105,7 +105,8 @@ fn push_last(left: &mut Items<Carried>, flow: &Flow, last: Option<NotedSolid>) -
     }
 }
 
-/// What is left after the last solid that is placed, of the carried notes and of those called from a number up to another.
+/// What is left after the last solid that is placed, of the carried notes and of those called from a number up to
+/// another.
 pub(crate) fn left_after(
     alloc: Global,
     flow: &Flow,

@@ -6,6 +6,5 @@ pub mod carried;
 mod left;
 pub mod list;
 mod place;
-mod reach;
 mod read;
 pub mod solid;

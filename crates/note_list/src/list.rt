@@ -4,13 +4,12 @@ ghost use Rattle.std.specs.Prelude.{◌≡◌, ℤ, List, ◌≤◌, ◌++◌, A
 ghost use Rattle.boxes.specs.Frames.{IsGoodFrame};
 ghost use Rattle.cuts.specs.Areas.{IsArea, Tells};
 ghost use Rattle.note_list.specs.Conditions.{CanBePaged, IsHeld};
-ghost use Rattle.note_list.specs.Lists.{AreNoted, called_parts, rows_of};
+ghost use Rattle.note_list.specs.Lists.{AreNoted, called_parts, note_rows};
 ghost use Rattle.note_list.specs.Reads.{EndInNotes, IsCarriedList, IsReadOf, IsReady};
 ghost use Rattle.note_list.specs.declared.solid.NotedSolid.{NotedSolid};
 ghost use Rattle.notes.specs.Notes.{area_of, must_of};
 
 use crate::carried::{Carried, whole};
-use crate::reach::Reach;
 use crate::solid::NotedSolid;
 use bk_num::items::Items;
 use bk_num::name::NoMem;
@@ -18,14 +17,16 @@ use bk_num::steps::Steps;
 use boxes::flow::Flow;
 use boxes::frames::Frame;
 use boxes::page::PlacedNote;
+use cuts::cut::CutLevel;
 use metrics::Faces;
+use notes::reach::Reach;
 use std::alloc::Global;
 use std::sync::ledger::Ledger;
 
 /// The solids of a page's notes, in order, read up to the first one with which their area is above the frame's height,
-/// and how far these reach. `own` carried solids have to stand on the page and take `own_area`, and `needed` is the area
-/// of the solids read that have to; `begun` tells whether a called note begins after those. Lengths are in units of
-/// 1/64 px.
+/// and how far these reach. `own` carried solids have to stand on the page and take `own_area`, and `needed` is the
+/// area of the solids read that have to; `begun` tells whether a called note begins after those. Lengths are in units
+/// of 1/64 px.
 #[derive(Drop)]
 pub struct NoteList {
     pub(crate) solids: Vec<NotedSolid>,
@@ -44,11 +45,11 @@ pub struct PlacedList {
     pub left: Items<Carried>,
 }
 
-/// How a page is cut, as far as its notes are concerned: its level, the number of the first note that is called after its
-/// cut, its frame's height, and the room for the note area, in units of 1/64 px.
+/// How a page is cut, as far as its notes are concerned: its level, the number of the first note that is called after
+/// its cut, its frame's height, and the room for the note area, in units of 1/64 px.
 #[derive(Clone, Copy, Debug)]
 pub struct NoteRoom {
-    pub level: u8,
+    pub level: CutLevel,
     pub to: u32,
     pub height: i64,
     pub room: i64,
@@ -97,8 +98,10 @@ impl NoteList {
         ensures ready { OnOk result (IsReady self.new) }
         ensures ends { OnOk result (EndInNotes flow.now.notes self.new) }
         ensures own { OnOk result (self.new.own ≡ self.old.own) }
-        ensures list { OnOk result ((list : List NotedSolid) → IsReadOf frame.height list self.old → (more : List NotedSolid) ×
-            AreNoted faces.now flow.now.notes frame.width (called_parts from to) more × IsReadOf frame.height (list ++ more) self.new) }
+        ensures list { OnOk result ((list : List NotedSolid) → IsReadOf frame.height list self.old →
+            (more : List NotedSolid) ×
+            AreNoted faces.now flow.now.notes frame.width (called_parts from to) more ×
+            IsReadOf frame.height (list ++ more) self.new) }
     {
         for note in from..to {
             self.read(flow, faces, whole(note), true, frame, steps)?;
@@ -117,18 +120,18 @@ impl NoteList {
     pub fn own_area(&self) -> i64
         requires ready { IsReady self.now }
         ensures area { (height : ℤ) (list : List NotedSolid) → IsReadOf height list self.now →
-            result ≡ area_of (rows_of list) self.now.own }
+            result ≡ area_of (note_rows list) self.now.own }
         ensures small { IsArea result }
     {
         self.own_area
     }
 
-    /// The area of all solids that have to stand on the page, in units of 1/64 px, or any number above the frame's height
-    /// where that area is.
+    /// The area of all solids that have to stand on the page, in units of 1/64 px, or any number above the frame's
+    /// height where that area is.
     pub fn needed(&self) -> i64
         requires ready { IsReady self.now }
         ensures told { (height : ℤ) (list : List NotedSolid) → IsReadOf height list self.now →
-            Tells height result (area_of (rows_of list) (must_of (rows_of list) self.now.own)) }
+            Tells height result (area_of (note_rows list) (must_of (note_rows list) self.now.own)) }
         ensures small { IsArea result }
     {
         if self.begun { self.area() } else { self.needed }

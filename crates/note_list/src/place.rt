@@ -1,26 +1,29 @@
 //! What a page places of its list of notes.
 
-ghost use Rattle.std.specs.Prelude.{◌≡◌, ℤ, List, Some, pos, neg_ℤ, ◌-◌, ◌<◌, ◌≤◌, ◌^◌};
-ghost use Rattle.std.specs.Prelude.{◌≤ℤ◌, ◌+ℤ◌, ◌++◌, All, length, max, min, slice_get, take, IfOk};
-ghost use Rattle.bk_num.specs.Limits.{most_entries};
+ghost use Rattle.std.specs.Prelude.{◌≡◌, ℤ, List, Some, ◌-◌, ◌<◌, ◌≤◌};
+ghost use Rattle.std.specs.Prelude.{◌≤ℤ◌, ◌++◌, All, length, max, min, slice_get, take, IfOk};
+ghost use Rattle.bk_num.specs.Limits.{most_entries, separator};
+ghost use Rattle.cuts.specs.Areas.{cut_number};
 ghost use Rattle.metrics.specs.Face.{FontFace};
-ghost use Rattle.note_list.specs.Conditions.{Ascend, IsAtSolid, IsHeld};
-ghost use Rattle.note_list.specs.Lists.{AreNoted, called_parts, carried_parts, placed_notes, rows_of};
-ghost use Rattle.note_list.specs.Places.{IsNear, IsPlacing, least_of};
-ghost use Rattle.note_list.specs.Reads.{EndInNotes, IsReadOf, IsReady};
+ghost use Rattle.note_list.specs.Conditions.{IsAtSolid, IsHeld, NotesAscend};
+ghost use Rattle.note_list.specs.Lists.{AreNoted, called_parts, carried_parts, placed_notes, note_rows};
+ghost use Rattle.note_list.specs.Places.{CanPlace, IsNear, IsPlacing, least_of};
+ghost use Rattle.note_list.specs.Reads.{IsReadOf};
 ghost use Rattle.note_list.specs.declared.solid.NotedSolid.{NotedSolid};
-ghost use Rattle.notes.specs.Notes.{IsCarryCount, IsPlaced, IsSmallNote, area_of, must_of, separator};
+ghost use Rattle.notes.specs.Notes.{IsCarryCount, IsPlaced, IsSmallNote, area_of, must_of};
 
 use crate::carried::Carried;
 use crate::left::left_after;
 use crate::list::{NoteList, NoteRoom, PlacedList};
-use crate::reach::SEPARATOR;
-use crate::solid::{NotedSolid, rows_of};
+use crate::solid::{NotedSolid, note_rows};
 use bk_num::items::Items;
+use bk_num::limits::SEPARATOR;
 use bk_num::name::NoMem;
 use boxes::flow::Flow;
 use boxes::page::{Placed, PlacedNote};
+use cuts::cut::CutLevel;
 use notes::area::{must, placed};
+use notes::reach::Reach;
 use std::alloc::Global;
 
 /// How many solids, before the first one of a note from a number on.
@@ -45,17 +48,13 @@ fn own_of(own: usize, count: usize) -> usize
 }
 
 /// How many solids a page places at least, of which `own` carried ones have to stand on it.
-fn least_of(level: u8, must: usize, own: usize) -> usize
-    ensures { result ≡ least_of level must own own }
+fn least_of(level: CutLevel, must: usize, own: usize) -> usize
+    ensures { result ≡ least_of (cut_number level) must own own }
 {
-    if level < 3 {
-        must
-    } else if level == 3 {
-        own
-    } else if own == 0 {
-        0
-    } else {
-        1
+    match level {
+        CutLevel::Drops(_) => must,
+        CutLevel::Loose => own,
+        CutLevel::Over => own.min(1),
     }
 }
 
@@ -68,11 +67,13 @@ fn number_of(
 ) -> Result<usize, NoMem>
     requires own { own ≤ length solids.now }
     requires few { length solids.now ≤ most_entries }
-    requires small { All IsSmallNote (rows_of solids.now) }
-    ensures { IfOk result (λ number. IsPlaced (rows_of solids.now) (least_of room.now.level (must_of (rows_of solids.now) own) own own)
+    requires small { All IsSmallNote (note_rows solids.now) }
+    ensures { IfOk result (λ number.
+        IsPlaced (note_rows solids.now)
+        (least_of (cut_number room.now.level) (must_of (note_rows solids.now) own) own own)
         room.now.room number) }
 {
-    let list = rows_of(alloc, solids)?;
+    let list = note_rows(alloc, solids)?;
     let rows = list.as_slice();
     let least = least_of(room.level, must(rows, own), own);
     Ok(placed(rows, least, room.room))
@@ -82,7 +83,13 @@ fn number_of(
 fn place_at(solid: &NotedSolid, top: i64) -> PlacedNote
     ensures { result ≡ (
       solid.now.note,
-      record { at = solid.now.at; end = solid.now.end; top = top; height = solid.now.row.height; kind = solid.now.kind },
+      record {
+        at = solid.now.at;
+        end = solid.now.end;
+        top = top;
+        height = solid.now.row.height;
+        kind = solid.now.kind;
+      },
     ) }
 {
     (
@@ -99,46 +106,28 @@ fn place_at(solid: &NotedSolid, top: i64) -> PlacedNote
 
 fn solid_at(solids: &[NotedSolid], at: usize) -> NotedSolid
     requires at { at < length solids.now }
-    requires small { All IsSmallNote (rows_of solids.now) }
+    requires small { All IsSmallNote (note_rows solids.now) }
     ensures solid { slice_get solids.now at ≡ Some result }
     ensures small { IsSmallNote result.row }
 {
     solids[at]
 }
 
-/// The top of a solid under a bottom.
-fn top_under(solid: &NotedSolid, bottom: i64) -> i64
-    requires small { IsSmallNote solid.now.row }
-    requires low { neg_ℤ (pos (2 ^ 60)) ≤ℤ bottom }
-    requires high { bottom ≤ℤ pos (2 ^ 60) }
-    ensures { result ≡ bottom +ℤ solid.now.row.gap }
-{
-    bottom + solid.row.gap
-}
-
-/// The bottom of a solid at a top.
-fn bottom_under(solid: &NotedSolid, top: i64) -> i64
-    requires small { IsSmallNote solid.now.row }
-    requires low { neg_ℤ (pos (2 ^ 61)) ≤ℤ top }
-    requires high { top ≤ℤ pos (2 ^ 61) }
-    ensures { result ≡ top +ℤ solid.now.row.height }
-{
-    top + solid.row.height
-}
-
 /// Solids on their page, one below the other.
 fn place_all(alloc: Global, solids: &[NotedSolid]) -> Result<Items<PlacedNote>, NoMem>
     requires few { length solids.now ≤ most_entries }
-    requires small { All IsSmallNote (rows_of solids.now) }
+    requires small { All IsSmallNote (note_rows solids.now) }
     ensures { IfOk result (λ items. items ≡ placed_notes separator solids.now) }
 {
     let mut items = Items::new(alloc);
-    let mut bottom = SEPARATOR;
+    let mut reach = Reach {
+        bottom: SEPARATOR,
+        extent: SEPARATOR,
+    };
     for at in 0..solids.len() {
         let solid = solid_at(solids, at);
-        let top = top_under(&solid, bottom);
+        let top = reach.place_note(&solid.row);
         items.push(place_at(&solid, top))?;
-        bottom = bottom_under(&solid, top);
     }
     Ok(items)
 }
@@ -151,8 +140,8 @@ fn last_of(solids: &[NotedSolid]) -> Option<NotedSolid>
 }
 
 impl NoteList {
-    /// What a page places of the notes that are carried to it and of those that are called on it, `from` the first and up
-    /// to `room.to`; later ones may have been read.
+    /// What a page places of the notes that are carried to it and of those that are called on it, `from` the first and
+    /// up to `room.to`; later ones may have been read.
     pub fn place(
         &self,
         alloc: Global,
@@ -161,26 +150,17 @@ impl NoteList {
         from: u32,
         room: &NoteRoom,
     ) -> Result<PlacedList, NoMem>
-        requires ready { IsReady self.now }
-        requires ends { EndInNotes flow.now.notes self.now }
-        requires carried { All (IsHeld flow.now.notes) carried.now }
-        requires order { Ascend carried.now }
-        requires before { All (λ c. c.note < from) carried.now }
-        requires called { from ≤ room.now.to }
-        requires within { room.now.to ≤ length flow.now.notes }
-        requires few { length flow.now.notes ≤ most_entries }
-        requires low { pos 0 ≤ℤ room.now.height }
-        requires high { room.now.height ≤ℤ pos (2 ^ 40) }
-        requires room { room.now.room ≤ℤ room.now.height }
+        requires { CanPlace flow.now carried.now from self.now room.now }
         ensures placed { IfOk result (λ p. (faces : List FontFace) (width : ℤ) (own list later : List NotedSolid) →
             AreNoted faces flow.now.notes width (carried_parts carried.now) own →
             AreNoted faces flow.now.notes width (carried_parts carried.now ++ called_parts from room.now.to) list →
             All (λ s. room.now.to ≤ s.note) later → IsReadOf room.now.height (list ++ later) self.now →
-            IsCarryCount (rows_of own) (length own) room.now.height self.now.own →
-            (room.now.level ≤ 2 → area_of (rows_of list) (must_of (rows_of list) self.now.own) ≤ℤ room.now.room) →
-            IsPlacing list room.now.level self.now.own (length own) room.now.room p) }
+            IsCarryCount (note_rows own) (length own) room.now.height self.now.own →
+            (cut_number room.now.level ≤ 2 →
+            area_of (note_rows list) (must_of (note_rows list) self.now.own) ≤ℤ room.now.room) →
+            IsPlacing list (cut_number room.now.level) self.now.own (length own) room.now.room p) }
         ensures held { IfOk result (λ p. All (IsHeld flow.now.notes) p.left) }
-        ensures order { IfOk result (λ p. Ascend p.left) }
+        ensures order { IfOk result (λ p. NotesAscend p.left) }
         ensures below { IfOk result (λ p. All (λ c. c.note < max from room.now.to) p.left) }
         ensures stands { IfOk result (λ p. All (IsAtSolid flow.now.notes) p.left) }
         ensures near { IfOk result (λ p. All (λ n. IsNear n.1) p.notes) }

@@ -7,7 +7,7 @@ ghost use Rattle.boxes.specs.declared.flow.Note.{Note};
 ghost use Rattle.cuts.specs.Areas.{IsArea};
 ghost use Rattle.note_list.specs.Calls.{start_place};
 ghost use Rattle.note_list.specs.Conditions.{CanBeCut, CanBePaged, IsHeld};
-ghost use Rattle.note_list.specs.Lists.{AreNoted, rows_of};
+ghost use Rattle.note_list.specs.Lists.{AreNoted, note_rows};
 ghost use Rattle.note_list.specs.Reads.{EndInNotes, HasReadOn, IsReadOf, IsReady};
 ghost use Rattle.note_list.specs.declared.solid.NotedSolid.{NotedSolid};
 ghost use Rattle.notes.specs.Notes.{IsCarryCount, IsSmallNote, area_of};
@@ -15,8 +15,7 @@ ghost use Rattle.seams.specs.Runs.{solid_after};
 
 use crate::carried::{Carried, body_of};
 use crate::list::NoteList;
-use crate::reach::Reach;
-use crate::solid::{NotedSolid, is_first, noted, rows_of};
+use crate::solid::{NotedSolid, is_first, note_rows, noted};
 use bk_num::limits::MOST_ENTRIES;
 use bk_num::name::NoMem;
 use bk_num::steps::Steps;
@@ -26,6 +25,7 @@ use boxes::tree::BoxTree;
 use cursor::next_solid;
 use metrics::Faces;
 use notes::area::{area, carry_count, must};
+use notes::reach::Reach;
 use seams::run::solid_after;
 use seams::seam::widths_at;
 use seams::widths::Widths;
@@ -75,7 +75,7 @@ impl NoteList {
     /// The area of all solids that are read.
     pub(crate) fn area(&self) -> i64
         requires ready { IsReady self.now }
-        ensures area { result ≡ area_of (rows_of self.now.solids.items) (length self.now.solids.items) }
+        ensures area { result ≡ area_of (note_rows self.now.solids.items) (length self.now.solids.items) }
         ensures small { IsArea result }
     {
         if self.solids.is_empty() {
@@ -92,14 +92,14 @@ impl NoteList {
         ensures ready { OnOk result (IsReady self.new) }
         ensures solids { OnOk result (self.new.solids.items ≡ self.old.solids.items ++ solid ∷ []) }
         ensures over { OnOk result (self.new.over ≡ true →
-            height <ℤ area_of (rows_of self.new.solids.items) (length self.new.solids.items)) }
+            height <ℤ area_of (note_rows self.new.solids.items) (length self.new.solids.items)) }
         ensures begun { OnOk result (self.new.begun ≡ self.old.begun) }
         ensures own { OnOk result (self.new.own ≡ self.old.own) }
     {
         if self.solids.len() >= MOST_ENTRIES as usize {
             return Err(NoMem);
         }
-        self.reach.place(&solid.row);
+        self.reach.place_note(&solid.row);
         let area = self.reach.area();
         self.needed = needed_with(self.needed, area, solid.row.begins);
         self.over = is_above(area, height);
@@ -127,7 +127,8 @@ impl NoteList {
             (record { note = part.note; at = part.at; called = called }) self.old self.new) }
         ensures begun { OnOk result (self.new.begun ≡ self.old.begun) }
         ensures own { OnOk result (self.new.own ≡ self.old.own) }
-        ensures ends { OnOk result ((notes : List Note) (note : Note) → slice_get notes part.note ≡ Some note → note.body ≡ body.now →
+        ensures ends { OnOk result ((notes : List Note) (note : Note) → slice_get notes part.note ≡ Some note →
+            note.body ≡ body.now →
             EndInNotes notes self.old → EndInNotes notes self.new) }
     {
         let first = solid_after(body, 0);
@@ -164,8 +165,10 @@ impl NoteList {
         ensures ready { OnOk result (IsReady self.new) }
         ensures ends { OnOk result (EndInNotes flow.now.notes self.new) }
         ensures own { OnOk result (self.new.own ≡ self.old.own) }
-        ensures list { OnOk result ((list : List NotedSolid) → IsReadOf frame.height list self.old → (more : List NotedSolid) ×
-            AreNoted faces.now flow.now.notes frame.width (record { note = part.note; at = part.at; called = called } ∷ []) more ×
+        ensures list { OnOk result ((list : List NotedSolid) → IsReadOf frame.height list self.old →
+            (more : List NotedSolid) ×
+            AreNoted faces.now flow.now.notes frame.width
+            (record { note = part.note; at = part.at; called = called } ∷ []) more ×
             IsReadOf frame.height (list ++ more) self.new) }
     {
         let body = body_of(flow, part.note);
@@ -181,12 +184,13 @@ impl NoteList {
     pub(crate) fn hold(&mut self, alloc: Global, height: i64) -> Result<(), NoMem>
         requires ready { IsReady self.old }
         ensures ready { OnOk result (IsReady self.new) }
-        ensures counts { OnOk result (IsCarryCount (rows_of self.new.solids.items) (length self.new.solids.items) height self.new.own) }
+        ensures counts { OnOk result
+            (IsCarryCount (note_rows self.new.solids.items) (length self.new.solids.items) height self.new.own) }
         ensures solids { OnOk result (self.new.solids.items ≡ self.old.solids.items) }
         ensures over { OnOk result (self.new.over ≡ self.old.over) }
         ensures begun { OnOk result (self.new.begun ≡ self.old.begun) }
     {
-        let list = rows_of(alloc, self.solids.as_slice())?;
+        let list = note_rows(alloc, self.solids.as_slice())?;
         let rows = list.as_slice();
         self.own = carry_count(rows, rows.len(), height);
         self.own_area = area(rows, self.own);

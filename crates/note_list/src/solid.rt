@@ -4,7 +4,7 @@ ghost use Rattle.std.specs.Prelude.{◌≡◌, true, false, Some, slice_get, IfO
 ghost use Rattle.boxes.specs.Tree.{Tree};
 ghost use Rattle.cursor.specs.Fields.{solid_view};
 ghost use Rattle.cursor.specs.Remainder.{IsSmallSolid};
-ghost use Rattle.note_list.specs.Lists.{is_first, noted, rows_of};
+ghost use Rattle.note_list.specs.Lists.{is_first, noted, note_rows};
 ghost use Rattle.notes.specs.Notes.{IsSmallNote};
 ghost use Rattle.seams.specs.Runs.{is_solid_at, solid_after};
 
@@ -66,8 +66,8 @@ pub(crate) fn noted(part: Carried, called: bool, first: bool, solid: &Solid<'_>)
 }
 
 /// The gaps and heights of solids.
-pub(crate) fn rows_of(alloc: Global, solids: &[NotedSolid]) -> Result<Vec<NoteSolid>, NoMem>
-    ensures { IfOk result (λ v. v.items ≡ rows_of solids.now) }
+pub(crate) fn note_rows(alloc: Global, solids: &[NotedSolid]) -> Result<Vec<NoteSolid>, NoMem>
+    ensures { IfOk result (λ v. v.items ≡ note_rows solids.now) }
 {
     Ok(solids.iter().map(|solid| solid.row).collect(alloc)?)
 }

@@ -34,19 +34,19 @@ area_never_falls list (suc m) (suc n) less =
     rw (area_suc list m, area_suc list n) (omega (arith, ints))
 
 -- the areas of a prefix are its own
-get_prefix : (list more : List NoteSolid) (k : ℕ) → k < length list → slice_get (list ++ more) k ≡ slice_get list k
+pub get_prefix : (list more : List NoteSolid) (k : ℕ) → k < length list → slice_get (list ++ more) k ≡ slice_get list k
 get_prefix [] more k less = absurd (omega arith)
 get_prefix (x ∷ xs) more zero less = refl
 get_prefix (x ∷ xs) more (suc k) less = get_prefix xs more k (omega arith)
 
-bottom_prefix : (list more : List NoteSolid) (n : ℕ) → n ≤ length list → note_bottom (list ++ more) n ≡ note_bottom list n
+pub bottom_prefix : (list more : List NoteSolid) (n : ℕ) → n ≤ length list → note_bottom (list ++ more) n ≡ note_bottom list n
 bottom_prefix list more zero low = refl
 bottom_prefix list more (suc n) low =
     let at = get_prefix list more n (omega arith) in
     let rest = bottom_prefix list more n (omega arith) in
     ap (λ (z : ℤ). (z +ℤ note_gap (slice_get (list ++ more) n)) +ℤ note_height (slice_get (list ++ more) n)) rest ∙ ap (λ (o : Option NoteSolid). (note_bottom list n +ℤ note_gap o) +ℤ note_height o) at
 
-extent_prefix : (list more : List NoteSolid) (n : ℕ) → n ≤ length list → note_extent (list ++ more) n ≡ note_extent list n
+pub extent_prefix : (list more : List NoteSolid) (n : ℕ) → n ≤ length list → note_extent (list ++ more) n ≡ note_extent list n
 extent_prefix list more zero low = refl
 extent_prefix list more (suc n) low =
     ap (λ (z : ℤ). int_max z (note_bottom (list ++ more) (suc n))) (extent_prefix list more n (omega arith)) ∙ ap (λ (z : ℤ). int_max (note_extent list n) z) (bottom_prefix list more (suc n) low)
@@ -59,7 +59,7 @@ begin_more : (n : ℕ) (list more : List NoteSolid) → last_begin n list ≤ la
 begin_more n [] more = omega arith
 begin_more n (s ∷ list) more = let rest = begin_more (suc n) list more in omega arith
 
-begin_within : (n : ℕ) (list : List NoteSolid) → last_begin n list ≤ n + length list
+pub begin_within : (n : ℕ) (list : List NoteSolid) → last_begin n list ≤ n + length list
 begin_within n [] = omega arith
 begin_within n (s ∷ list) = by s.begins (begin_within (suc n) list)
   where

@@ -1,6 +1,7 @@
 -- The notes of a page: how many of their solids stand on it (css-gcpm-3, 2: footnotes).
 use Rattle.std.specs.Prelude.{◌≡◌, ℕ, zero, suc, ℤ, pos, ◌^◌, ◌<◌, ◌≤◌, ◌≤ℤ◌, ◌+ℤ◌, List, [], ◌∷◌, ◌++◌, Option, Some, None, ◌==◌, length, slice_get, max, if◌then◌else◌}
 use Rattle.std.specs.Int.{int_max}
+use Rattle.bk_num.specs.Limits.{separator}
 use Rattle.bk_num.specs.Numbers.{IsWithin}
 use Rattle.notes.specs.declared.solid.NoteSolid.{NoteSolid}
 
@@ -10,14 +11,12 @@ pub record IsSmallNote (s : NoteSolid) : Type 0 where
   pub height : IsWithin (2 ^ 32) s.height
   pub some : pos 0 ≤ℤ s.height
 
--- the room of the separator above the notes
-abbrev pub separator : ℤ
-separator = pos 512
-
+-- the gap above a solid, 0 where none is
 abbrev pub note_gap : Option NoteSolid → ℤ
 note_gap None = pos 0
 note_gap (Some s) = s.gap
 
+-- the height of a solid, 0 where none is
 abbrev pub note_height : Option NoteSolid → ℤ
 note_height None = pos 0
 note_height (Some s) = s.height

@@ -1,51 +1,11 @@
 //! The area of notes, and how many solids of a list stand on a page.
 
-ghost use Rattle.std.specs.Prelude.{◌≡◌, pos, ◌+◌, ◌<◌, ◌≤◌, ◌^◌, ◌≤ℤ◌, ◌+ℤ◌, length, All, slice_get, Some, ◌⊎◌};
-ghost use Rattle.std.specs.Int.{int_max};
+ghost use Rattle.std.specs.Prelude.{◌≡◌, pos, ◌+◌, ◌<◌, ◌≤◌, ◌^◌, ◌≤ℤ◌, length, All, slice_get, Some, ◌⊎◌};
 ghost use Rattle.bk_num.specs.Limits.{most_entries};
-ghost use Rattle.bk_num.specs.Numbers.{IsWithin};
-ghost use Rattle.notes.specs.Notes.{IsSmallNote, separator, area_of, must_of, IsCarryCount, IsPlaced};
+ghost use Rattle.notes.specs.Notes.{IsSmallNote, area_of, must_of, IsCarryCount, IsPlaced};
 
+use crate::reach::Reach;
 use crate::solid::NoteSolid;
-
-/// The room of the separator above the notes, in units.
-const SEPARATOR: i64 = 512;
-
-/// The bottom of the solids so far, and the greatest bottom.
-#[derive(Clone, Copy)]
-struct Reach {
-    bottom: i64,
-    extent: i64,
-}
-
-impl Reach {
-    const START: Reach = Reach {
-        bottom: 0,
-        extent: 0,
-    };
-
-    /// Adds a solid below.
-    fn place(&mut self, solid: &NoteSolid)
-        requires bottom { IsWithin (2 ^ 60) self.old.bottom }
-        requires small { IsSmallNote solid.now }
-        ensures bottom { self.new.bottom ≡ (self.old.bottom +ℤ solid.now.gap) +ℤ solid.now.height }
-        ensures extent { self.new.extent ≡ int_max self.old.extent self.new.bottom }
-    {
-        self.bottom = self.bottom + solid.gap + solid.height;
-        self.extent = self.extent.max(self.bottom);
-    }
-}
-
-/// The area of solids that reach so far.
-fn area_under(reach: &Reach) -> i64
-    requires low { pos 0 ≤ℤ reach.now.extent }
-    requires high { reach.now.extent ≤ℤ pos (2 ^ 60) }
-    ensures area { result ≡ separator +ℤ reach.now.extent }
-    ensures low { pos 0 ≤ℤ result }
-    ensures high { result ≤ℤ pos (2 ^ 61) }
-{
-    SEPARATOR + reach.extent
-}
 
 /// The greater of two numbers of solids whose area is within the room, where the area of the greater one is given.
 fn number_after(number: usize, next: usize, area: i64, room: i64) -> usize
@@ -79,9 +39,9 @@ pub fn area(list: &[NoteSolid], n: usize) -> i64
 {
     let mut reach = Reach::START;
     for at in 0..n {
-        reach.place(&solid_at(list, at));
+        reach.place_note(&solid_at(list, at));
     }
-    if n == 0 { 0 } else { SEPARATOR + reach.extent }
+    if n == 0 { 0 } else { reach.area() }
 }
 
 /// How many solids of the first `carried` a page whose frame has this height places at least: the greatest number whose
@@ -98,8 +58,8 @@ pub fn carry_count(list: &[NoteSolid], carried: usize, height: i64) -> usize
     let mut reach = Reach::START;
     let mut count = 0;
     for at in 0..carried {
-        reach.place(&solid_at(list, at));
-        let area = area_under(&reach);
+        reach.place_note(&solid_at(list, at));
+        let area = reach.area();
         count = number_after(count, at + 1, area + area, height);
     }
     count.max(1)
@@ -130,8 +90,8 @@ pub fn placed(list: &[NoteSolid], least: usize, room: i64) -> usize
     let mut reach = Reach::START;
     let mut number = 0;
     for at in 0..list.len() {
-        reach.place(&solid_at(list, at));
-        number = number_after(number, at + 1, area_under(&reach), room);
+        reach.place_note(&solid_at(list, at));
+        number = number_after(number, at + 1, reach.area(), room);
     }
     number.max(least)
 }

@@ -3,4 +3,5 @@
 
 pub mod area;
 pub mod laws;
+pub mod reach;
 pub mod solid;

@@ -13,9 +13,9 @@ use Rattle.css_page.specs.declared.values.PageLong.TheVariants as long
 use Rattle.page_ctx.specs.declared.classes.PageClasses.{PageClasses}
 use Rattle.page_ctx.specs.declared.margin_style.Alignment.{Alignment}
 use Rattle.page_ctx.specs.declared.margin_style.MarginStyle.{MarginStyle}
-use Rattle.page_ctx.specs.declared.property.Property.TheVariants as property
+use Rattle.page_ctx.specs.declared.property.PageProperty.TheVariants as property
 use Rattle.page_ctx.specs.Selectors.{classes_of}
-use Rattle.page_ctx.specs.Settings.{SettingOf, size_by, line_height_by, setting_by, initial_setting, page_setting}
+use Rattle.page_ctx.specs.Settings.{PageSettingOf, size_by, line_height_by, setting_by, initial_setting, page_setting}
 use Rattle.page_ctx.specs.Tables.{text_of}
 use Rattle.page_ctx.specs.Winners.{Declared, applied_to, page_declared, box_declared, value_of}
 use Rattle.page_ctx.specs.Margins.{MarginStyleOf, style_in, IsGoodStyle, AreGoodStyles, AreMarginStyles, alignments, content_by, style_set, style_by, margin_style}
@@ -54,10 +54,10 @@ height_good p size (Some (long.Content g)) h = h
 height_good p size (Some (long.TextAlign g)) h = h
 height_good p size (Some (long.VerticalAlign g)) h = h
 
-abbrev IsGood : SettingOf → Type 0
+abbrev IsGood : PageSettingOf → Type 0
 IsGood s = (pos 0 ≤ℤ s.size) × IsHeight s.line_height
 
-setting_good : (p : SettingOf) (ds : List Declared) → IsGood p → IsGood (setting_by p ds)
+setting_good : (p : PageSettingOf) (ds : List Declared) → IsGood p → IsGood (setting_by p ds)
 setting_good p ds h = (
   size_good p.size (value_of property.FontSize ds) h.0,
   height_good p.line_height (size_by p.size (value_of property.FontSize ds)) (value_of property.LineHeight ds) h.1,
@@ -66,14 +66,14 @@ setting_good p ds h = (
 page_good : (ds : List Declared) → IsGood (page_setting ds)
 page_good ds = setting_good initial_setting ds (omega arith, omega arith)
 
-set_good : (s : SettingOf) (own : Alignment) (ds : List Declared) (content : List Part) → IsGood s → IsGoodStyle (style_set s own ds content)
+set_good : (s : PageSettingOf) (own : Alignment) (ds : List Declared) (content : List Part) → IsGood s → IsGoodStyle (style_set s own ds content)
 set_good s own ds content h = (h.0, used_least s.size s.line_height h.0 h.1)
 
-set_by : (s : SettingOf) (own : Alignment) (ds : List Declared) (o : Option (List Part)) (style : MarginStyleOf) → IsGood s → option_map (style_set s own ds) o ≡ Some style → IsGoodStyle style
+set_by : (s : PageSettingOf) (own : Alignment) (ds : List Declared) (o : Option (List Part)) (style : MarginStyleOf) → IsGood s → option_map (style_set s own ds) o ≡ Some style → IsGoodStyle style
 set_by s own ds None style h e = cc
 set_by s own ds (Some content) style h e = let same : style_set s own ds content ≡ style = cc in subst IsGoodStyle same (set_good s own ds content h)
 
-by_good : (page : SettingOf) (ds : List Declared) (o : Option Alignment) (style : MarginStyleOf) → IsGood page → option_and_then (style_by page ds) o ≡ Some style → IsGoodStyle style
+by_good : (page : PageSettingOf) (ds : List Declared) (o : Option Alignment) (style : MarginStyleOf) → IsGood page → option_and_then (style_by page ds) o ≡ Some style → IsGoodStyle style
 by_good page ds None style h e = cc
 by_good page ds (Some own) style h e = set_by (setting_by page ds) own ds (content_by (value_of property.Content ds)) style (setting_good page ds h) e
 

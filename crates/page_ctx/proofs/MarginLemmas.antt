@@ -9,8 +9,8 @@ use Rattle.boxes.specs.declared.frames.PageKind.{PageKind}
 use Rattle.css_page.specs.declared.rules.PageRule.{PageRule}
 use Rattle.page_ctx.specs.declared.classes.PageClasses.{PageClasses}
 use Rattle.page_ctx.specs.Selectors.{classes_of}
-use Rattle.page_ctx.specs.Settings.{SettingOf}
-use Rattle.page_ctx.specs.Winners.{AppliedOf, applied_to, box_declared}
+use Rattle.page_ctx.specs.Settings.{PageSettingOf}
+use Rattle.page_ctx.specs.Winners.{AppliedPageRuleOf, applied_to, box_declared}
 use Rattle.page_ctx.specs.Tables.{texts_of, text_of, six_pages}
 use Rattle.page_ctx.specs.Margins.{MarginStyleOf, alignments, style_by, style_below, margin_style, placed, box_at, boxes_by, style_at, row_or_first, AreMarginStyles, boxes_of_name}
 use Rattle.page_ctx.proofs.TableLemmas.{six_is}
@@ -48,7 +48,7 @@ among a (suc n) place l h = by (λ g. among (a + 1) n place g (omega (arith, h))
     by rest true e = refl
     by rest false e = rest (further a place l e)
 
-past_none : (s : SettingOf) (rules : List AppliedOf) (place : ℕ) → 16 ≤ place → style_below s rules place ≡ None
+past_none : (s : PageSettingOf) (rules : List AppliedPageRuleOf) (place : ℕ) → 16 ≤ place → style_below s rules place ≡ None
 past_none s rules place h = ap (option_and_then (style_by s (box_declared place rules))) (slice_get_past alignments place h)
 
 beyond : (place : ℕ) → list_any (λ j. j == place) (range_with_len 0 16) ≡ false → (b : Bool) → leb 16 place ≡ b → 16 ≤ place

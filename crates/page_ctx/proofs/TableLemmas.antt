@@ -6,14 +6,14 @@ use Rattle.std.proofs.lemmas.Option.{slice_get-map}
 use Rattle.std.specs.List.{All}
 use Rattle.bk_num.specs.declared.ids.NameId.{NameId}
 use Rattle.boxes.specs.Frames.{side_of, is_left, IsGoodFrame}
-use Rattle.boxes.specs.Table.{cell_of, row_of}
+use Rattle.boxes.specs.Table.{cell_in, cell_of, row_of}
 use Rattle.boxes.specs.declared.frames.PageKind.{PageKind}
 use Rattle.boxes.specs.declared.frames.PageKind.TheVariants.{Flow, Blank, Notes}
 use Rattle.boxes.specs.declared.table.PageCell.{PageCell}
 use Rattle.boxes.specs.declared.table.PageRow.{PageRow}
 use Rattle.css_page.specs.declared.rules.PageRule.{PageRule}
 use Rattle.page_ctx.specs.Selectors.{classes_of, takes}
-use Rattle.page_ctx.specs.Tables.{page_cell, texts_of, text_of, cell_in, IsTable, CellsSuffice, six_pages, row_by}
+use Rattle.page_ctx.specs.Tables.{page_cell, texts_of, text_of, IsTable, CellsSuffice, six_pages, row_by}
 
 -- the pseudo-classes of a page are those of its cell
 pub six_is : (index : ℕ) (kind : PageKind) → slice_get six_pages (cell_of index kind) ≡ Some (classes_of index kind)
@@ -98,12 +98,11 @@ six_good a b c d e f ga gb gc gd ge gf (suc (suc (suc (suc (suc zero))))) x l = 
 six_good a b c d e f ga gb gc gd ge gf (suc (suc (suc (suc (suc (suc k)))))) x l = absurd (omega (arith, l))
 
 -- a list that six are pushed to
-pub six_pushed : {A : Type 0} (none one two three four five six : List A) (a b c d e f : A) → none ≡ [] → one ≡ none ++ a ∷ [] → two ≡ one ++ b ∷ [] → three ≡ two ++ c ∷ [] → four ≡ three ++ d ∷ []
-    → five ≡ four ++ e ∷ [] → six ≡ five ++ f ∷ [] → six ≡ a ∷ b ∷ c ∷ d ∷ e ∷ f ∷ []
-six_pushed none one two three four five six a b c d e f empty first second third fourth fifth last =
-    let at_1 : one ≡ a ∷ [] = first ∙ ap (λ z. z ++ a ∷ []) empty in
-    let at_2 : two ≡ a ∷ b ∷ [] = second ∙ ap (λ z. z ++ b ∷ []) at_1 in
-    let at_3 : three ≡ a ∷ b ∷ c ∷ [] = third ∙ ap (λ z. z ++ c ∷ []) at_2 in
-    let at_4 : four ≡ a ∷ b ∷ c ∷ d ∷ [] = fourth ∙ ap (λ z. z ++ d ∷ []) at_3 in
-    let at_5 : five ≡ a ∷ b ∷ c ∷ d ∷ e ∷ [] = fifth ∙ ap (λ z. z ++ e ∷ []) at_4 in
-    last ∙ ap (λ z. z ++ f ∷ []) at_5
+pub six_pushed : {A : Type 0} (old one two three four five six : List A) (a b c d e f : A) → one ≡ old ++ a ∷ [] → two ≡ one ++ b ∷ [] → three ≡ two ++ c ∷ [] → four ≡ three ++ d ∷ []
+    → five ≡ four ++ e ∷ [] → six ≡ five ++ f ∷ [] → six ≡ old ++ (a ∷ b ∷ c ∷ d ∷ e ∷ f ∷ [])
+six_pushed old one two three four five six a b c d e f first second third fourth fifth last =
+    let at_2 : two ≡ old ++ (a ∷ b ∷ []) = second ∙ ap (λ z. z ++ b ∷ []) first ∙ append_assoc old (a ∷ []) (b ∷ []) in
+    let at_3 : three ≡ old ++ (a ∷ b ∷ c ∷ []) = third ∙ ap (λ z. z ++ c ∷ []) at_2 ∙ append_assoc old (a ∷ b ∷ []) (c ∷ []) in
+    let at_4 : four ≡ old ++ (a ∷ b ∷ c ∷ d ∷ []) = fourth ∙ ap (λ z. z ++ d ∷ []) at_3 ∙ append_assoc old (a ∷ b ∷ c ∷ []) (d ∷ []) in
+    let at_5 : five ≡ old ++ (a ∷ b ∷ c ∷ d ∷ e ∷ []) = fifth ∙ ap (λ z. z ++ e ∷ []) at_4 ∙ append_assoc old (a ∷ b ∷ c ∷ d ∷ []) (e ∷ []) in
+    last ∙ ap (λ z. z ++ f ∷ []) at_5 ∙ append_assoc old (a ∷ b ∷ c ∷ d ∷ e ∷ []) (f ∷ [])

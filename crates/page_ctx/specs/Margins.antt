@@ -20,13 +20,14 @@ use Rattle.page_ctx.specs.declared.classes.PageClasses.{PageClasses}
 use Rattle.page_ctx.specs.declared.margin_style.Alignment.{Alignment}
 use Rattle.page_ctx.specs.declared.margin_style.MarginStyle.{MarginStyle}
 use Rattle.page_ctx.specs.declared.margin_style.MarginBox.{MarginBox}
-use Rattle.page_ctx.specs.declared.property.Property.TheVariants as property
+use Rattle.page_ctx.specs.declared.property.PageProperty.TheVariants as property
 use Rattle.page_ctx.specs.Selectors.{classes_of}
-use Rattle.page_ctx.specs.Settings.{SettingOf, setting_by, page_setting}
+use Rattle.page_ctx.specs.Settings.{PageSettingOf, setting_by, page_setting}
 use Rattle.page_ctx.specs.Tables.{text_of, six_pages}
-use Rattle.page_ctx.specs.Winners.{Declared, AppliedOf, applied_to, page_declared, box_declared, value_of}
+use Rattle.page_ctx.specs.Winners.{Declared, AppliedPageRuleOf, applied_to, page_declared, box_declared, value_of}
 
--- how the text of a margin box is set: its content, where it stands in its box, its font, its used line height and its colour
+-- how the text of a margin box is set: its content, where it stands in its box, its font, its used line height and its
+-- colour
 pub record MarginStyleOf : Type 0 where
   pub content : List Part
   pub align : Align
@@ -38,11 +39,12 @@ pub record MarginStyleOf : Type 0 where
   pub line_height : ℤ
   pub color : Color
 
+-- where a text stands: across its box, and in its height
 abbrev pub aligned : Align → Upright → Alignment
 aligned a u = record { align = a; upright = u }
 
--- where the texts of margin boxes stand if nothing is declared: of the boxes from the corner at the top left round the page to the
--- right, in the order of their numbers
+-- where the texts of margin boxes stand if nothing is declared: of the boxes from the corner at the top left round the
+-- page to the right, in the order of their numbers
 abbrev pub alignments : List Alignment
 alignments =
     aligned align.Right upright.Middle ∷
@@ -68,6 +70,7 @@ abbrev pub align_by : Align → Option PageLong → Align
 align_by own (Some (long.TextAlign g)) = given_by same g own own
 align_by own _ = own
 
+-- where a text stands in its box's height
 abbrev pub upright_by : Upright → Option PageLong → Upright
 upright_by own (Some (long.VerticalAlign g)) = given_by same g own own
 upright_by own _ = own
@@ -77,6 +80,7 @@ abbrev pub content_by : Option PageLong → Option (List Part)
 content_by (Some (long.Content (given.Value parts))) = parts
 content_by _ = None
 
+-- the same as values
 abbrev pub style_in : MarginStyle → MarginStyleOf
 style_in s = record {
   content = s.content.now;
@@ -90,14 +94,16 @@ style_in s = record {
   color = s.color;
 }
 
+-- a box's number and its style as values
 abbrev pub box_in : MarginBox → ℕ × MarginStyleOf
 box_in b = (b.place, style_in b.style)
 
+-- so for each cell of a name
 abbrev pub cells_in : List (List MarginBox) → List (List (ℕ × MarginStyleOf))
 cells_in cells = map (λ boxes. map box_in boxes) cells
 
 -- a text of this content, set so
-abbrev pub style_set : SettingOf → Alignment → List Declared → List Part → MarginStyleOf
+abbrev pub style_set : PageSettingOf → Alignment → List Declared → List Part → MarginStyleOf
 style_set s own ds content = record {
   content = content;
   align = align_by own.align (value_of property.TextAlign ds);
@@ -111,19 +117,19 @@ style_set s own ds content = record {
 }
 
 -- the style of a box by what is declared for it, where its page's texts are set so and its own texts stand there
-abbrev pub style_by : SettingOf → List Declared → Alignment → Option MarginStyleOf
+abbrev pub style_by : PageSettingOf → List Declared → Alignment → Option MarginStyleOf
 style_by page ds own = option_map (style_set (setting_by page ds) own ds) (content_by (value_of property.Content ds))
 
 -- the style of the box of a number
-abbrev pub style_below : SettingOf → List AppliedOf → ℕ → Option MarginStyleOf
+abbrev pub style_below : PageSettingOf → List AppliedPageRuleOf → ℕ → Option MarginStyleOf
 style_below page rules place = option_and_then (style_by page (box_declared place rules)) (slice_get alignments place)
 
 -- by the rules that are for a page
-abbrev pub style_applied : List AppliedOf → ℕ → Option MarginStyleOf
+abbrev pub style_applied : List AppliedPageRuleOf → ℕ → Option MarginStyleOf
 style_applied rules place = style_below (page_setting (page_declared rules)) rules place
 
--- the style of the margin box of a number, from 0 to 15, on the pages of a name that have these pseudo-classes; none where it has no
--- content, and none past 15
+-- the style of the margin box of a number, from 0 to 15, on the pages of a name that have these pseudo-classes; none
+-- where it has no content, and none past 15
 abbrev pub margin_style : List PageRule → List ℕ → PageClasses → ℕ → Option MarginStyleOf
 margin_style rules name c place = style_applied (applied_to name c rules) place
 
@@ -131,6 +137,7 @@ margin_style rules name c place = style_applied (applied_to name c rules) place
 abbrev pub placed : ℕ → MarginStyleOf → ℕ × MarginStyleOf
 placed place s = (place, s)
 
+-- the box of a number with its style, if it has content
 abbrev pub box_at : (ℕ → Option MarginStyleOf) → ℕ → Option (ℕ × MarginStyleOf)
 box_at f place = option_map (placed place) (f place)
 
@@ -149,15 +156,18 @@ row_or_first rows number = option_or (slice_get rows number) (slice_get rows 0)
 -- the style of the margin box of a number on the pages of an index, a name and a kind
 abbrev pub style_of : List (List (List (ℕ × MarginStyleOf))) → ℕ → NameId → PageKind → ℕ → Option MarginStyleOf
 style_of rows index name kind place =
-    option_and_then (style_at place) (option_and_then (λ row. slice_get row (cell_of index kind)) (row_or_first rows name.0))
+    option_and_then (style_at place) (option_and_then (λ row. slice_get row (cell_of index kind))
+    (row_or_first rows name.0))
 
 -- neither its size nor its line height is negative
 abbrev pub IsGoodStyle : MarginStyleOf → Type 0
 IsGoodStyle s = (pos 0 ≤ℤ s.size) × (pos 0 ≤ℤ s.line_height)
 
+-- so of the style of each box on each page
 abbrev pub AreGoodStyles : List (List (List (ℕ × MarginStyleOf))) → Type 0
 AreGoodStyles rows =
-    (index : ℕ) (name : NameId) (kind : PageKind) (place : ℕ) (s : MarginStyleOf) → style_of rows index name kind place ≡ Some s →
+    (index : ℕ) (name : NameId) (kind : PageKind) (place : ℕ) (s : MarginStyleOf) →
+    style_of rows index name kind place ≡ Some s →
     IsGoodStyle s
 
 -- the style that each margin box has on each page is the one of its name and its pseudo-classes

@@ -7,6 +7,7 @@ use Rattle.boxes.specs.declared.frames.PageKind.TheVariants.{Flow, Blank, Notes}
 use Rattle.css_page.specs.declared.selectors.PageSelector.{PageSelector}
 use Rattle.page_ctx.specs.declared.classes.PageClasses.{PageClasses}
 
+-- a page that a forced break leaves empty
 abbrev pub is_blank : PageKind → Bool
 is_blank Flow = false
 is_blank Blank = true
@@ -25,8 +26,11 @@ abbrev pub takes_name : Option (List ℕ) → List ℕ → Bool
 takes_name None name = true
 takes_name (Some asked) name = bytes_eq asked name
 
+-- a page has each pseudo-class of a selector
 abbrev pub takes_classes : PageSelector → PageClasses → Bool
-takes_classes s c = (holds_if s.firsts c.first && holds_if s.blanks c.blank) && (holds_if s.lefts c.left && holds_if s.rights (not c.left))
+takes_classes s c =
+    (holds_if s.firsts c.first && holds_if s.blanks c.blank) &&
+    (holds_if s.lefts c.left && holds_if s.rights (not c.left))
 
 -- a selector takes the pages that have its name and each of its pseudo-classes
 abbrev pub takes : PageSelector → List ℕ → PageClasses → Bool

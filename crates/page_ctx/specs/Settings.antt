@@ -1,4 +1,5 @@
--- How the texts of pages and of margin boxes are set: fonts, heights of lines and colours (css-page-3, 4; CSS 2.1, 10.8.1, 14.1 and 15).
+-- How the texts of pages and of margin boxes are set: fonts, heights of lines and colours (css-page-3, 4; CSS 2.1,
+-- 10.8.1, 14.1 and 15).
 use Rattle.std.specs.Prelude.{ℕ, ℤ, Bool, List, Option, Some}
 use Rattle.bk_num.specs.Limits.{root_size}
 use Rattle.bk_num.specs.declared.values.Color.{Color}
@@ -7,12 +8,12 @@ use Rattle.style.specs.declared.values.LineHeight.{LineHeight}
 use Rattle.computed_values.specs.Values.{given_by, same, size_of, weight_of, height_of}
 use Rattle.css_page.specs.declared.values.PageLong.{PageLong}
 use Rattle.css_page.specs.declared.values.PageLong.TheVariants as long
-use Rattle.page_ctx.specs.declared.margin_style.Setting.{Setting}
-use Rattle.page_ctx.specs.declared.property.Property.TheVariants as property
+use Rattle.page_ctx.specs.declared.margin_style.PageSetting.{PageSetting}
+use Rattle.page_ctx.specs.declared.property.PageProperty.TheVariants as property
 use Rattle.page_ctx.specs.Winners.{Declared, value_of}
 
 -- how a text is set; margin boxes inherit all of it from their page
-pub record SettingOf : Type 0 where
+pub record PageSettingOf : Type 0 where
   pub families : List (List ℕ)
   pub italic : Bool
   pub weight : ℕ
@@ -20,7 +21,8 @@ pub record SettingOf : Type 0 where
   pub line_height : LineHeight
   pub color : Color
 
-abbrev pub setting_in : Setting → SettingOf
+-- the same as values
+abbrev pub setting_in : PageSetting → PageSettingOf
 setting_in s = record {
   families = s.families.now;
   italic = s.italic;
@@ -30,14 +32,17 @@ setting_in s = record {
   color = s.color;
 }
 
+-- the families that a declaration gives, or the parent's
 abbrev pub families_by : List (List ℕ) → Option PageLong → List (List ℕ)
 families_by p (Some (long.FontFamily g)) = given_by same g p initial_style.font_family
 families_by p _ = p
 
+-- whether a font is italic
 abbrev pub italic_by : Bool → Option PageLong → Bool
 italic_by p (Some (long.FontStyle g)) = given_by same g p initial_style.font_style
 italic_by p _ = p
 
+-- a font weight
 abbrev pub weight_by : ℕ → Option PageLong → ℕ
 weight_by p (Some (long.FontWeight g)) = given_by (weight_of p) g p initial_style.font_weight
 weight_by p _ = p
@@ -52,12 +57,13 @@ abbrev pub line_height_by : LineHeight → ℤ → Option PageLong → LineHeigh
 line_height_by p size (Some (long.LineHeight g)) = given_by (height_of size root_size) g p initial_style.line_height
 line_height_by p size _ = p
 
+-- a color
 abbrev pub color_by : Color → Option PageLong → Color
 color_by p (Some (long.Color g)) = given_by same g p initial_style.color
 color_by p _ = p
 
 -- by what is declared, in a font of this size, below a parent
-abbrev pub setting_sized : ℤ → SettingOf → List Declared → SettingOf
+abbrev pub setting_sized : ℤ → PageSettingOf → List Declared → PageSettingOf
 setting_sized size p ds = record {
   families = families_by p.families (value_of property.FontFamily ds);
   italic = italic_by p.italic (value_of property.FontStyle ds);
@@ -68,11 +74,11 @@ setting_sized size p ds = record {
 }
 
 -- by what is declared, below a parent
-abbrev pub setting_by : SettingOf → List Declared → SettingOf
+abbrev pub setting_by : PageSettingOf → List Declared → PageSettingOf
 setting_by p ds = setting_sized (size_by p.size (value_of property.FontSize ds)) p ds
 
 -- the setting of the initial values
-abbrev pub initial_setting : SettingOf
+abbrev pub initial_setting : PageSettingOf
 initial_setting = record {
   families = initial_style.font_family;
   italic = initial_style.font_style;
@@ -83,5 +89,5 @@ initial_setting = record {
 }
 
 -- the setting of a page: its parent has the initial values
-abbrev pub page_setting : List Declared → SettingOf
+abbrev pub page_setting : List Declared → PageSettingOf
 page_setting ds = setting_by initial_setting ds

@@ -1,55 +1,58 @@
 -- What decides between two declarations for a page (css-page-3, 3.3 and 4; CSS 2.1, 6.4).
 use Rattle.std.specs.Prelude.{◌≡◌, ℕ, ◌+◌, Bool, true, false, List, [], ◌∷◌, Option, None, Some, slice_get, if◌then◌else◌}
-use Rattle.std.specs.Cmp.Lexicographic.{slice_cmp}
 use Rattle.std.specs.List.{fold}
-use Rattle.std.specs.Ordering.{nat_cmp, is_gt}
+use Rattle.style.specs.Ranking.{rank, outranks}
 use Rattle.css_page.specs.declared.selectors.PageSelector.{PageSelector}
 use Rattle.page_ctx.specs.Selectors.{takes}
 use Rattle.page_ctx.specs.declared.classes.PageClasses.{PageClasses}
-use Rattle.page_ctx.specs.declared.weight.Weight.{Weight}
-
-abbrev pub rank : Bool → ℕ
-rank b = if b then 1 else 0
+use Rattle.page_ctx.specs.declared.weight.PageWeight.{PageWeight}
 
 -- importance, and then the specificity: a name; how many of `:first` and `:blank`; how many of `:left` and `:right`
-abbrev pub ranks_of : Weight → List ℕ
+abbrev pub ranks_of : PageWeight → List ℕ
 ranks_of w = rank w.important ∷ rank w.named ∷ w.pages ∷ w.sides ∷ []
 
 -- what comes first decides first
-abbrev pub is_above : Weight → Weight → Bool
-is_above a b = is_gt (slice_cmp nat_cmp (ranks_of a) (ranks_of b))
+abbrev pub is_above : PageWeight → PageWeight → Bool
+is_above a b = outranks (ranks_of a) (ranks_of b)
 
+-- a selector with a page name
 abbrev pub is_named : Option (List ℕ) → Bool
 is_named None = false
 is_named (Some name) = true
 
 -- the specificity of a selector
-abbrev pub specificity : PageSelector → Weight
-specificity s = record { important = false; named = is_named s.name; pages = s.firsts + s.blanks; sides = s.lefts + s.rights }
+abbrev pub specificity : PageSelector → PageWeight
+specificity s = record {
+  important = false;
+  named = is_named s.name;
+  pages = s.firsts + s.blanks;
+  sides = s.lefts + s.rights;
+}
 
 -- the greater of two weights
-abbrev pub greater : Option Weight → Weight → Option Weight
+abbrev pub greater : Option PageWeight → PageWeight → Option PageWeight
 greater None w = Some w
 greater (Some v) w = if is_above w v then Some w else Some v
 
 -- with the specificity of one more selector, if it takes the page
-abbrev pub with_selector : List ℕ → PageClasses → Option Weight → PageSelector → Option Weight
+abbrev pub with_selector : List ℕ → PageClasses → Option PageWeight → PageSelector → Option PageWeight
 with_selector name c best s = if takes s name c then greater best (specificity s) else best
 
 -- the greatest specificity of the selectors that take a page; none where none does
-abbrev pub greatest : List ℕ → PageClasses → List PageSelector → Option Weight
+abbrev pub greatest : List ℕ → PageClasses → List PageSelector → Option PageWeight
 greatest name c selectors = fold (with_selector name c) None selectors
 
 -- the weight of a selector that takes a page, above which is that of none of these
-pub record IsGreatest (name : List ℕ) (c : PageClasses) (selectors : List PageSelector) (w : Weight) : Type 0 where
+pub record IsGreatest (name : List ℕ) (c : PageClasses) (selectors : List PageSelector) (w : PageWeight) : Type 0 where
   pub place : ℕ
   pub selector : PageSelector
   pub there : slice_get selectors place ≡ Some selector
   pub taking : takes selector name c ≡ true
   pub weight : specificity selector ≡ w
   pub greatest :
-      (k : ℕ) (s : PageSelector) → slice_get selectors k ≡ Some s → takes s name c ≡ true → is_above (specificity s) w ≡ false
+      (k : ℕ) (s : PageSelector) → slice_get selectors k ≡ Some s → takes s name c ≡ true →
+      is_above (specificity s) w ≡ false
 
 -- the weight of a declaration of a rule
-abbrev pub of_decl : Weight → Bool → Weight
+abbrev pub of_decl : PageWeight → Bool → PageWeight
 of_decl w important = record w { important = important }

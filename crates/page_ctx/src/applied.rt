@@ -5,8 +5,8 @@ ghost use Rattle.std.specs.List.{flat_map};
 ghost use Rattle.page_ctx.specs.Winners as spec;
 
 use crate::classes::PageClasses;
-use crate::weight::{Weight, greatest};
-use crate::winner::Candidate;
+use crate::weight::{PageWeight, greatest};
+use crate::winner::PageCandidate;
 use bk_num::name::NoMem;
 use css_page::rules::{BoxDecls, PageRule};
 use css_page::values::{PageDecl, PageLong};
@@ -14,22 +14,25 @@ use std::alloc::Global;
 
 /// A rule that is for a page, with the greatest specificity of its selectors that take the page.
 #[derive(Clone, Copy)]
-pub struct Applied<'s> {
-    pub weight: Weight,
+pub struct AppliedPageRule<'s> {
+    pub weight: PageWeight,
     pub rule: &'s PageRule,
 }
 
-fn taken<'s>(name: &str, classes: PageClasses, rule: &'s PageRule) -> Option<Applied<'s>>
+fn taken<'s>(name: &str, classes: PageClasses, rule: &'s PageRule) -> Option<AppliedPageRule<'s>>
     ensures { option_map spec.applied_in result ≡ spec.applied name.now classes rule.entry.now }
 {
     match greatest(name, classes, rule.selectors.as_slice()) {
-        Some(weight) => Some(Applied { weight, rule }),
+        Some(weight) => Some(AppliedPageRule { weight, rule }),
         None => None,
     }
 }
 
 /// Appends a rule, if there is one.
-fn push_applied<'s>(rules: &mut Vec<Applied<'s>>, rule: Option<Applied<'s>>) -> Result<(), NoMem>
+fn push_applied<'s>(
+    rules: &mut Vec<AppliedPageRule<'s>>,
+    rule: Option<AppliedPageRule<'s>>,
+) -> Result<(), NoMem>
     ensures { OnOk result (map spec.applied_in rules.new.items ≡ map spec.applied_in rules.old.items ++
         option_to_list (option_map spec.applied_in rule.entry)) }
 {
@@ -45,7 +48,7 @@ pub fn applied_to<'s>(
     name: &str,
     classes: PageClasses,
     rules: &'s [PageRule],
-) -> Result<Vec<Applied<'s>>, NoMem>
+) -> Result<Vec<AppliedPageRule<'s>>, NoMem>
     ensures { IfOk result (λ v. map spec.applied_in v.items ≡ spec.applied_to name.now classes rules.entry.now) }
 {
     let mut found = Vec::new(alloc);
@@ -57,23 +60,23 @@ pub fn applied_to<'s>(
 
 /// Appends the values of a declaration.
 fn push_longs<'s>(
-    declared: &mut Vec<Candidate<'s>>,
-    weight: Weight,
+    declared: &mut Vec<PageCandidate<'s>>,
+    weight: PageWeight,
     longs: &'s [PageLong],
 ) -> Result<(), NoMem>
     ensures { OnOk result (map spec.candidate_in declared.new.items ≡ map spec.candidate_in declared.old.items ++
         map (spec.declared_by weight) longs.entry.now) }
 {
     for long in longs {
-        declared.push(Candidate { weight, long })?;
+        declared.push(PageCandidate { weight, long })?;
     }
     Ok(())
 }
 
 /// Appends what declarations give.
 pub(crate) fn push_decls<'s>(
-    declared: &mut Vec<Candidate<'s>>,
-    weight: Weight,
+    declared: &mut Vec<PageCandidate<'s>>,
+    weight: PageWeight,
     decls: &'s [PageDecl],
 ) -> Result<(), NoMem>
     ensures { OnOk result (map spec.candidate_in declared.new.items ≡ map spec.candidate_in declared.old.items ++
@@ -90,7 +93,10 @@ pub(crate) fn push_decls<'s>(
 }
 
 /// What the rules that are for a page declare for it, in the order of the sheets.
-pub fn page_declared<'s>(alloc: Global, rules: &[Applied<'s>]) -> Result<Vec<Candidate<'s>>, NoMem>
+pub fn page_declared<'s>(
+    alloc: Global,
+    rules: &[AppliedPageRule<'s>],
+) -> Result<Vec<PageCandidate<'s>>, NoMem>
     ensures { IfOk result (λ v. map spec.candidate_in v.items ≡ spec.page_declared (map spec.applied_in rules.now)) }
 {
     let mut declared = Vec::new(alloc);
@@ -102,8 +108,8 @@ pub fn page_declared<'s>(alloc: Global, rules: &[Applied<'s>]) -> Result<Vec<Can
 
 /// Appends what one block of a rule declares for the margin box of a number.
 fn push_block<'s>(
-    declared: &mut Vec<Candidate<'s>>,
-    weight: Weight,
+    declared: &mut Vec<PageCandidate<'s>>,
+    weight: PageWeight,
     place: u32,
     block: &'s BoxDecls,
 ) -> Result<(), NoMem>
@@ -118,8 +124,8 @@ fn push_block<'s>(
 
 /// Appends what a rule declares for the margin box of a number.
 fn push_blocks<'s>(
-    declared: &mut Vec<Candidate<'s>>,
-    weight: Weight,
+    declared: &mut Vec<PageCandidate<'s>>,
+    weight: PageWeight,
     place: u32,
     blocks: &'s [BoxDecls],
 ) -> Result<(), NoMem>
@@ -136,9 +142,10 @@ fn push_blocks<'s>(
 pub fn box_declared<'s>(
     alloc: Global,
     place: u32,
-    rules: &[Applied<'s>],
-) -> Result<Vec<Candidate<'s>>, NoMem>
-    ensures { IfOk result (λ v. map spec.candidate_in v.items ≡ spec.box_declared place (map spec.applied_in rules.now)) }
+    rules: &[AppliedPageRule<'s>],
+) -> Result<Vec<PageCandidate<'s>>, NoMem>
+    ensures { IfOk result (λ v. map spec.candidate_in v.items ≡
+        spec.box_declared place (map spec.applied_in rules.now)) }
 {
     let mut declared = Vec::new(alloc);
     for applied in rules {

@@ -3,16 +3,20 @@
 ghost use Rattle.std.specs.Prelude.{◌≡◌, ◌≤ℤ◌, ◌+ℤ◌, ◌-ℤ◌, pos, neg_ℤ, map, option_map};
 ghost use Rattle.boxes.specs.Frames.{IsGoodFrame};
 ghost use Rattle.computed_values.specs.Values.{held};
-ghost use Rattle.page_ctx.specs.Winners.{candidate_in};
+ghost use Rattle.page_ctx.specs.Winners.{candidate_in, value_of};
+ghost use Rattle.page_ctx.specs.declared.property.PageProperty.TheVariants as property;
 ghost use Rattle.page_ctx.specs.Cells as spec;
 
-use crate::property::Property;
-use crate::winner::{Candidate, value_of};
+use crate::property::PageProperty;
+use crate::winner::{PageCandidate, value_of};
+use bk_num::limits::{PAGE_HEIGHT, PAGE_MARGIN, PAGE_WIDTH};
 use bk_num::px::Px;
+use bk_num::sides::{BoxSide, Sides};
 use boxes::frames::Frame;
 use boxes::table::PageCell;
 use computed_values::lengths::{held, px, units_of};
 use css_page::values::PageLong;
+use style::initial::medium_size;
 use style::long::Given;
 use style::values::Measure;
 
@@ -20,24 +24,39 @@ use style::values::Measure;
 fn length_by(font: Px, measure: &Measure) -> Px
     ensures { result ≡ spec.length_by font measure.now }
 {
-    held(units_of(font, px(1024), px(0), measure))
+    held(units_of(font, medium_size(), px(0), measure))
 }
 
+/// The width of the page box.
 fn width_by(font: Px, found: Option<&PageLong>) -> Px
     ensures { result ≡ spec.width_by font (option_map (λ l. l.now) found.entry) }
 {
     match found {
         Some(PageLong::Size(Given::Value(size))) => length_by(font, &size.width),
-        _ => px(35800),
+        _ => px(PAGE_WIDTH),
     }
 }
 
+/// Its height.
 fn height_by(font: Px, found: Option<&PageLong>) -> Px
     ensures { result ≡ spec.height_by font (option_map (λ l. l.now) found.entry) }
 {
     match found {
         Some(PageLong::Size(Given::Value(size))) => length_by(font, &size.height),
-        _ => px(50797),
+        _ => px(PAGE_HEIGHT),
+    }
+}
+
+/// The declared value of a margin.
+fn margin_of(long: &PageLong) -> Option<&Given<Measure>>
+    ensures { option_map (λ g. g.now) result ≡ spec.margin_of long.now }
+{
+    match long {
+        PageLong::MarginTop(given)
+        | PageLong::MarginRight(given)
+        | PageLong::MarginBottom(given)
+        | PageLong::MarginLeft(given) => Some(given),
+        _ => None,
     }
 }
 
@@ -47,32 +66,62 @@ fn used_margin(font: Px, base: Px, measure: &Measure) -> Px
 {
     match measure {
         Measure::Auto => px(0),
-        _ => units_of(font, px(1024), base, measure),
+        _ => units_of(font, medium_size(), base, measure),
     }
 }
 
-fn given_margin(font: Px, base: Px, given: &Given<Measure>) -> Px
-    ensures { result ≡ spec.given_margin font base given.now }
+/// The margin that a declaration gives.
+fn given_margin(font: Px, base: Px, given: Option<&Given<Measure>>) -> Px
+    ensures { result ≡ spec.given_margin font base (option_map (λ g. g.now) given.entry) }
 {
     match given {
-        Given::Value(measure) => used_margin(font, base, measure),
-        Given::Inherit | Given::Initial => px(4608),
+        Some(Given::Value(measure)) => used_margin(font, base, measure),
+        _ => px(PAGE_MARGIN),
     }
 }
 
+/// The margin that wins, or the initial one.
 fn margin_by(font: Px, base: Px, found: Option<&PageLong>) -> Px
     ensures { result ≡ spec.margin_by font base (option_map (λ l. l.now) found.entry) }
 {
     match found {
-        Some(PageLong::MarginTop(given)) => given_margin(font, base, given),
-        Some(PageLong::MarginRight(given)) => given_margin(font, base, given),
-        Some(PageLong::MarginBottom(given)) => given_margin(font, base, given),
-        Some(PageLong::MarginLeft(given)) => given_margin(font, base, given),
-        _ => px(4608),
+        Some(long) => given_margin(font, base, margin_of(long)),
+        None => px(PAGE_MARGIN),
     }
 }
 
-/// The units of a length, within 2^27 either way.
+/// What a percentage of a margin is of.
+fn base_of(width: Px, height: Px, side: BoxSide) -> Px
+    ensures { result ≡ spec.base_of width height side }
+{
+    match side {
+        BoxSide::Top | BoxSide::Bottom => height,
+        BoxSide::Right | BoxSide::Left => width,
+    }
+}
+
+/// The margin on a side.
+fn margin_at(font: Px, width: Px, height: Px, side: BoxSide, declared: &[PageCandidate<'_>]) -> Px
+    ensures { result ≡ spec.margin_by font (spec.base_of width height side)
+        (value_of (property.Margin side) (map candidate_in declared.now)) }
+{
+    let base = base_of(width, height, side);
+    margin_by(font, base, value_of(PageProperty::Margin(side), declared))
+}
+
+/// The margins.
+fn margins_by(font: Px, width: Px, height: Px, declared: &[PageCandidate<'_>]) -> Sides<Px>
+    ensures { result ≡ spec.margins_by font width height (map candidate_in declared.now) }
+{
+    Sides {
+        top: margin_at(font, width, height, BoxSide::Top, declared),
+        right: margin_at(font, width, height, BoxSide::Right, declared),
+        bottom: margin_at(font, width, height, BoxSide::Bottom, declared),
+        left: margin_at(font, width, height, BoxSide::Left, declared),
+    }
+}
+
+/// The units of a length as a wide number, within 2^27 either way.
 fn units(length: Px) -> i64
     ensures value { result ≡ length }
     ensures low { neg_ℤ (pos 134217728) ≤ℤ result }
@@ -112,49 +161,40 @@ fn between(whole: Px, before: Px, after: Px) -> i64
 }
 
 /// The page box less its margins.
-fn frame_with(width: Px, height: Px, top: Px, right: Px, bottom: Px, left: Px) -> Frame
-    ensures frame { result ≡ spec.frame_with width height top right bottom left }
+fn frame_with(width: Px, height: Px, margins: &Sides<Px>) -> Frame
+    ensures frame { result ≡ spec.frame_with width height margins.now }
     ensures good { IsGoodFrame result }
 {
     Frame {
-        left: units(left),
-        top: units(top),
-        width: between(width, left, right),
-        height: between(height, top, bottom),
+        left: units(margins.left),
+        top: units(margins.top),
+        width: between(width, margins.left, margins.right),
+        height: between(height, margins.top, margins.bottom),
     }
 }
 
 /// A page box with its margins and its frame.
-fn cell_with(width: Px, height: Px, top: Px, right: Px, bottom: Px, left: Px) -> PageCell
-    ensures cell { result ≡ spec.cell_with width height top right bottom left }
+fn cell_with(width: Px, height: Px, margins: &Sides<Px>) -> PageCell
+    ensures cell { result ≡ spec.cell_with width height margins.now }
     ensures good { IsGoodFrame result.frame }
 {
     PageCell {
         width: units(width),
         height: units(height),
-        right: units(right),
-        bottom: units(bottom),
-        frame: frame_with(width, height, top, right, bottom, left),
+        right: units(margins.right),
+        bottom: units(margins.bottom),
+        frame: frame_with(width, height, margins),
     }
 }
 
-fn cell_sized(font: Px, width: Px, height: Px, declared: &[Candidate<'_>]) -> PageCell
-    ensures cell { result ≡ spec.cell_sized font width height (map candidate_in declared.now) }
-    ensures good { IsGoodFrame result.frame }
-{
-    let top = margin_by(font, height, value_of(Property::MarginTop, declared));
-    let right = margin_by(font, width, value_of(Property::MarginRight, declared));
-    let bottom = margin_by(font, height, value_of(Property::MarginBottom, declared));
-    let left = margin_by(font, width, value_of(Property::MarginLeft, declared));
-    cell_with(width, height, top, right, bottom, left)
-}
-
 /// The page box by what is declared for a page with this font size.
-pub(crate) fn cell_by(font: Px, declared: &[Candidate<'_>]) -> PageCell
+pub(crate) fn cell_by(font: Px, declared: &[PageCandidate<'_>]) -> PageCell
     requires { font ≡ spec.font_size_of (map candidate_in declared.now) }
     ensures cell { result ≡ spec.cell_by (map candidate_in declared.now) }
     ensures good { IsGoodFrame result.frame }
 {
-    let size = value_of(Property::Size, declared);
-    cell_sized(font, width_by(font, size), height_by(font, size), declared)
+    let size = value_of(PageProperty::Size, declared);
+    let width = width_by(font, size);
+    let height = height_by(font, size);
+    cell_with(width, height, &margins_by(font, width, height, declared))
 }

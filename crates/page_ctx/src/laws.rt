@@ -3,8 +3,8 @@
 ghost use Rattle.page_ctx.specs.Laws.{GreatestIsGreatest, WinnersAreGreatest};
 ghost use Rattle.page_ctx.specs.Tables.{CellsSuffice};
 
-/// A winning declaration is a greatest one of its property, and the last of equal ones; it is missing only where nothing
-/// declares the property, and there is one.
+/// A winning declaration is a greatest one of its property, and the last of equal ones; it is missing only where
+/// nothing declares the property, and there is one.
 pub fn winners_are_greatest()
     ensures { WinnersAreGreatest }
 {}

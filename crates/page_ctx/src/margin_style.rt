@@ -7,10 +7,10 @@ use css_page::values::Upright;
 use style::content::Part;
 use style::values::LineHeight;
 
-/// How the texts of a page are set: what its margin boxes inherit. The families are borrowed from the page rules; the size is in
-/// units of 1/64 px.
+/// How the texts of a page are set: what its margin boxes inherit. The families are borrowed from the page rules; the
+/// size is in units of 1/64 px.
 #[derive(Drop)]
-pub struct Setting<'s> {
+pub struct PageSetting<'s> {
     pub families: &'s [Name],
     pub italic: bool,
     pub weight: u16,
@@ -26,9 +26,9 @@ pub struct Alignment {
     pub upright: Upright,
 }
 
-/// How the text of a margin box is set: its content, where it stands in its box, its font, its used line height and its colour
-/// (css-page-3, page-margin boxes). Content and families are borrowed from the page rules; the size and the line height are in
-/// units of 1/64 px.
+/// How the text of a margin box is set: its content, where it stands in its box, its font, its used line height and its
+/// colour (css-page-3, page-margin boxes). Content and families are borrowed from the page rules; the size and the line
+/// height are in units of 1/64 px.
 #[derive(Clone, Copy)]
 pub struct MarginStyle<'s> {
     pub content: &'s [Part],

@@ -6,21 +6,21 @@ ghost use Rattle.page_ctx.specs.Winners.{applied_in, candidate_in};
 ghost use Rattle.page_ctx.specs.Settings.{setting_in};
 ghost use Rattle.page_ctx.specs.Margins as spec;
 
-use crate::applied::{Applied, box_declared};
+use crate::applied::{AppliedPageRule, box_declared};
 pub use crate::margin_style::MarginStyle;
-use crate::margin_style::{Alignment, MarginBox, Setting};
-use crate::property::Property;
+use crate::margin_style::{Alignment, MarginBox, PageSetting};
+use crate::property::PageProperty;
 use crate::settings::setting_by;
-use crate::winner::{Candidate, value_of};
+use crate::winner::{PageCandidate, value_of};
 use bk_num::ids::NameId;
 use bk_num::items::Items;
 use bk_num::name::{Name, NoMem};
 use bk_num::values::Align;
 use boxes::frames::PageKind;
+use boxes::table::cell_number;
 use computed_values::fonts::used_line_height;
 use computed_values::given::chosen;
 use css_page::values::{PageLong, Upright};
-use page_seq::pages::cell_number;
 use std::alloc::Global;
 use std::marker::Model;
 use style::content::Part;
@@ -85,9 +85,9 @@ fn content_by<'s>(found: Option<&'s PageLong>) -> Option<&'s [Part]>
 }
 
 fn style_set<'s>(
-    setting: &Setting<'s>,
+    setting: &PageSetting<'s>,
     own: Alignment,
-    declared: &[Candidate<'s>],
+    declared: &[PageCandidate<'s>],
     content: &'s [Part],
 ) -> MarginStyle<'s>
     ensures { spec.style_in result ≡
@@ -95,8 +95,8 @@ fn style_set<'s>(
 {
     MarginStyle {
         content,
-        align: align_by(own.align, value_of(Property::TextAlign, declared)),
-        upright: upright_by(own.upright, value_of(Property::VerticalAlign, declared)),
+        align: align_by(own.align, value_of(PageProperty::TextAlign, declared)),
+        upright: upright_by(own.upright, value_of(PageProperty::VerticalAlign, declared)),
         families: setting.families,
         italic: setting.italic,
         weight: setting.weight,
@@ -106,12 +106,13 @@ fn style_set<'s>(
     }
 }
 
-/// Appends the margin box of a number, if it has content, by what is declared for it. `initial` are the initial families.
+/// Appends the margin box of a number, if it has content, by what is declared for it. `initial` are the initial
+/// families.
 fn push_box<'s>(
     boxes: &mut Items<MarginBox<'s>>,
-    page: &Setting<'s>,
+    page: &PageSetting<'s>,
     initial: &'s [Name],
-    declared: &[Candidate<'s>],
+    declared: &[PageCandidate<'s>],
     place: u32,
     own: Alignment,
 ) -> Result<(), NoMem>
@@ -119,7 +120,7 @@ fn push_box<'s>(
     ensures { OnOk result (map spec.box_in boxes.new ≡ map spec.box_in boxes.old ++ option_to_list
         (option_map (spec.placed place) (spec.style_by (setting_in page.now) (map candidate_in declared.now) own))) }
 {
-    match content_by(value_of(Property::Content, declared)) {
+    match content_by(value_of(PageProperty::Content, declared)) {
         Some(content) => {
             let setting = setting_by(page, initial, declared);
             let style = style_set(&setting, own, declared, content);
@@ -133,9 +134,9 @@ fn push_box<'s>(
 fn push_place<'s>(
     alloc: Global,
     boxes: &mut Items<MarginBox<'s>>,
-    page: &Setting<'s>,
+    page: &PageSetting<'s>,
     initial: &'s [Name],
-    rules: &[Applied<'s>],
+    rules: &[AppliedPageRule<'s>],
     place: u32,
 ) -> Result<(), NoMem>
     requires { initial.now ≡ initial_style.font_family }
@@ -151,14 +152,14 @@ fn push_place<'s>(
     }
 }
 
-/// The margin boxes that have content, in the order of their numbers, by the rules that are for a page. `initial` are the initial
-/// families.
+/// The margin boxes that have content, in the order of their numbers, by the rules that are for a page. `initial` are
+/// the initial families.
 #[tactic(auto, unfolding(crate::specs::Margins::boxes_by))]
 pub(crate) fn boxes_by<'s>(
     alloc: Global,
-    page: &Setting<'s>,
+    page: &PageSetting<'s>,
     initial: &'s [Name],
-    rules: &[Applied<'s>],
+    rules: &[AppliedPageRule<'s>],
 ) -> Result<Items<MarginBox<'s>>, NoMem>
     requires { initial.now ≡ initial_style.font_family }
     ensures { IfOk result (λ boxes. map spec.box_in boxes ≡
@@ -174,8 +175,8 @@ pub(crate) fn boxes_by<'s>(
 /// The margin boxes that have content on the pages of a name, for each of six cells.
 pub(crate) type BoxCells<'s> = Items<Items<MarginBox<'s>>>;
 
-/// The styles of the margin boxes of all pages. Contracts see, by the numbers of the names, for each of six cells the boxes that have
-/// content.
+/// The styles of the margin boxes of all pages. Contracts see, by the numbers of the names, for each of six cells the
+/// boxes that have content.
 #[derive(Drop)]
 pub struct MarginStyles<'s> {
     rows: Items<BoxCells<'s>>,
@@ -219,7 +220,8 @@ fn style_in<'a, 's>(
     kind: PageKind,
     place: u32,
 ) -> Option<&'a MarginStyle<'s>>
-    ensures { option_map (λ s. spec.style_in s.now) result ≡ spec.style_of (map spec.cells_in rows.entry.now) index name kind place }
+    ensures { option_map (λ s. spec.style_in s.now) result ≡
+        spec.style_of (map spec.cells_in rows.entry.now) index name kind place }
 {
     let cells = cells_of(rows, name)?;
     let boxes = cells.as_slice().get(cell_number(index, kind))?;
@@ -235,8 +237,9 @@ impl<'s> MarginStyles<'s> {
         MarginStyles { rows }
     }
 
-    /// The style of the margin box at a place, from 0 to 15 in the order in which css-page-3 lists the boxes, on the pages of an
-    /// index, a name and a kind. None where the box has no content, and past 15. A name past those of the rows counts as no name.
+    /// The style of the margin box at a place, from 0 to 15 in the order in which css-page-3 lists the boxes, on the
+    /// pages of an index, a name and a kind. None where the box has no content, and past 15. A name past those of the
+    /// rows counts as no name.
     /// It takes no memory.
     pub fn of(
         &self,

@@ -3,16 +3,14 @@
 ghost use Rattle.std.specs.Prelude.{◌≡◌};
 ghost use Rattle.page_ctx.specs.Winners as spec;
 
+use bk_num::sides::BoxSide;
 use css_page::values::PageLong;
 
 /// A property of a page or of a margin box.
 #[derive(Clone, Copy, Debug, PartialEq, Eq)]
-pub enum Property {
+pub enum PageProperty {
     Size,
-    MarginTop,
-    MarginRight,
-    MarginBottom,
-    MarginLeft,
+    Margin(BoxSide),
     Color,
     FontFamily,
     FontSize,
@@ -24,53 +22,51 @@ pub enum Property {
     VerticalAlign,
 }
 
-impl Property {
+impl PageProperty {
+    /// Its place among all 14, from 0.
     fn number(self) -> u8
         ensures { result ≡ spec.number_of self }
     {
         match self {
-            Property::Size => 0,
-            Property::MarginTop => 1,
-            Property::MarginRight => 2,
-            Property::MarginBottom => 3,
-            Property::MarginLeft => 4,
-            Property::Color => 5,
-            Property::FontFamily => 6,
-            Property::FontSize => 7,
-            Property::FontStyle => 8,
-            Property::FontWeight => 9,
-            Property::LineHeight => 10,
-            Property::Content => 11,
-            Property::TextAlign => 12,
-            Property::VerticalAlign => 13,
+            PageProperty::Size => 0,
+            PageProperty::Margin(side) => 1 + side.place() as u8,
+            PageProperty::Color => 5,
+            PageProperty::FontFamily => 6,
+            PageProperty::FontSize => 7,
+            PageProperty::FontStyle => 8,
+            PageProperty::FontWeight => 9,
+            PageProperty::LineHeight => 10,
+            PageProperty::Content => 11,
+            PageProperty::TextAlign => 12,
+            PageProperty::VerticalAlign => 13,
         }
     }
 }
 
 /// The property that a value is declared of.
-fn property_of(long: &PageLong) -> Property
+fn property_of(long: &PageLong) -> PageProperty
     ensures { result ≡ spec.property_of long.now }
 {
     match long {
-        PageLong::Size(_) => Property::Size,
-        PageLong::MarginTop(_) => Property::MarginTop,
-        PageLong::MarginRight(_) => Property::MarginRight,
-        PageLong::MarginBottom(_) => Property::MarginBottom,
-        PageLong::MarginLeft(_) => Property::MarginLeft,
-        PageLong::Color(_) => Property::Color,
-        PageLong::FontFamily(_) => Property::FontFamily,
-        PageLong::FontSize(_) => Property::FontSize,
-        PageLong::FontStyle(_) => Property::FontStyle,
-        PageLong::FontWeight(_) => Property::FontWeight,
-        PageLong::LineHeight(_) => Property::LineHeight,
-        PageLong::Content(_) => Property::Content,
-        PageLong::TextAlign(_) => Property::TextAlign,
-        PageLong::VerticalAlign(_) => Property::VerticalAlign,
+        PageLong::Size(_) => PageProperty::Size,
+        PageLong::MarginTop(_) => PageProperty::Margin(BoxSide::Top),
+        PageLong::MarginRight(_) => PageProperty::Margin(BoxSide::Right),
+        PageLong::MarginBottom(_) => PageProperty::Margin(BoxSide::Bottom),
+        PageLong::MarginLeft(_) => PageProperty::Margin(BoxSide::Left),
+        PageLong::Color(_) => PageProperty::Color,
+        PageLong::FontFamily(_) => PageProperty::FontFamily,
+        PageLong::FontSize(_) => PageProperty::FontSize,
+        PageLong::FontStyle(_) => PageProperty::FontStyle,
+        PageLong::FontWeight(_) => PageProperty::FontWeight,
+        PageLong::LineHeight(_) => PageProperty::LineHeight,
+        PageLong::Content(_) => PageProperty::Content,
+        PageLong::TextAlign(_) => PageProperty::TextAlign,
+        PageLong::VerticalAlign(_) => PageProperty::VerticalAlign,
     }
 }
 
 /// Whether a value is declared of a property.
-pub fn is_of(property: Property, long: &PageLong) -> bool
+pub fn is_of(property: PageProperty, long: &PageLong) -> bool
     ensures { result ≡ spec.is_of property long.now }
 {
     property_of(long).number() == property.number()

@@ -4,7 +4,7 @@ ghost use Rattle.std.specs.Prelude.{◌≡◌, ◌<◌, ◌++◌, ◌∷◌, [],
 ghost use Rattle.std.specs.List.{All};
 ghost use Rattle.style.specs.Styles.{initial_style};
 ghost use Rattle.boxes.specs.Frames.{IsGoodFrame};
-ghost use Rattle.boxes.specs.Table.{cell_of, row_of};
+ghost use Rattle.boxes.specs.Table.{cell_in, cell_of, row_of};
 ghost use Rattle.page_seq.specs.Frames.{HasGoodCells, IsGoodTable};
 ghost use Rattle.page_ctx.specs.Margins.{AreMarginStyles, boxes_by, boxes_of_name, cells_in, margin_style};
 ghost use Rattle.page_ctx.specs.Tables as spec;
@@ -20,12 +20,12 @@ use bk_num::name::{Name, NoMem};
 use boxes::frames::PageKind;
 use boxes::table::{PageCell, PageRow, PageTable};
 use css_page::rules::PageRule;
-use page_seq::pages::{cell_at, cell_number, row_at};
 use std::alloc::Global;
 use style::lists::Families;
 use style::names::Names;
 
-/// Appends the margin boxes that have content on the pages of a name that have these pseudo-classes, and answers their page box.
+/// Appends the margin boxes that have content on the pages of a name that have these pseudo-classes, and answers their
+/// page box.
 fn add_page<'s>(
     alloc: Global,
     boxes: &mut BoxCells<'s>,
@@ -36,7 +36,8 @@ fn add_page<'s>(
 ) -> Result<PageCell, NoMem>
     requires { initial.now ≡ initial_style.font_family }
     ensures cell { IfOk result (λ cell. cell ≡ spec.page_cell rules.entry.now name.now classes) }
-    ensures boxes { IfOk result (λ cell. cells_in boxes.new ≡ cells_in boxes.old ++ boxes_by (margin_style rules.entry.now name.now classes) ∷ []) }
+    ensures boxes { IfOk result (λ cell. cells_in boxes.new ≡
+        cells_in boxes.old ++ boxes_by (margin_style rules.entry.now name.now classes) ∷ []) }
     ensures good { IfOk result (λ cell. IsGoodFrame cell.frame) }
 {
     let applied = applied_to(alloc, name, classes, rules)?;
@@ -83,8 +84,8 @@ const A_BLANK_RIGHT_PAGE: PageClasses = PageClasses {
     blank: true,
 };
 
-/// Appends the margin boxes of the pages of a name, and answers their page boxes: page 1, another left page, another right page, and the
-/// same three blank.
+/// Appends the margin boxes of the pages of a name, and answers their page boxes: page 1, another left page, another
+/// right page, and the same three blank.
 fn add_name<'s>(
     alloc: Global,
     boxes: &mut BoxCells<'s>,
@@ -92,10 +93,10 @@ fn add_name<'s>(
     initial: &'s [Name],
     name: &str,
 ) -> Result<PageRow, NoMem>
-    requires none { boxes.old ≡ [] }
-    requires initial { initial.now ≡ initial_style.font_family }
+    requires { initial.now ≡ initial_style.font_family }
     ensures row { IfOk result (λ row. row ≡ spec.row_by rules.entry.now name.now) }
-    ensures boxes { IfOk result (λ row. cells_in boxes.new ≡ boxes_of_name rules.entry.now name.now) }
+    ensures boxes { IfOk result (λ row. cells_in boxes.new ≡
+        cells_in boxes.old ++ boxes_of_name rules.entry.now name.now) }
     ensures good { IfOk result (λ row. HasGoodCells row) }
 {
     let first = add_page(alloc, boxes, rules, initial, name, PAGE_1)?;
@@ -137,7 +138,8 @@ fn push_name<'s>(
 ) -> Result<(), NoMem>
     requires { initial.now ≡ initial_style.font_family }
     ensures table { OnOk result (rows.new.table ≡ rows.old.table ++ spec.row_by rules.entry.now name.now ∷ []) }
-    ensures boxes { OnOk result (map cells_in rows.new.boxes ≡ map cells_in rows.old.boxes ++ boxes_of_name rules.entry.now name.now ∷ []) }
+    ensures boxes { OnOk result (map cells_in rows.new.boxes ≡
+        map cells_in rows.old.boxes ++ boxes_of_name rules.entry.now name.now ∷ []) }
     ensures good { All HasGoodCells rows.old.table → OnOk result (All HasGoodCells rows.new.table) }
 {
     let mut boxes = Items::new(alloc);
@@ -156,7 +158,8 @@ fn rows_by<'s>(
 ) -> Result<Rows<'s>, NoMem>
     requires { initial.now ≡ initial_style.font_family }
     ensures table { IfOk result (λ rows. rows.table ≡ map (spec.row_by rules.entry.now) (spec.texts_of names.now)) }
-    ensures boxes { IfOk result (λ rows. map cells_in rows.boxes ≡ map (boxes_of_name rules.entry.now) (spec.texts_of names.now)) }
+    ensures boxes { IfOk result (λ rows. map cells_in rows.boxes ≡
+        map (boxes_of_name rules.entry.now) (spec.texts_of names.now)) }
     ensures good { IfOk result (λ rows. All HasGoodCells rows.table) }
 {
     let table = Items::new(alloc);
@@ -180,16 +183,15 @@ impl PageStyles<'_> {
     /// The page box of an index, a name and a kind, its margins and its frame. It takes no memory.
     pub fn cell(&self, index: u32, name: NameId, kind: PageKind) -> PageCell
         requires { IsGoodTable self.now.table.rows }
-        ensures { spec.cell_in (row_of self.now.table.rows name) (cell_of index kind) ≡ Some result }
+        ensures { cell_in (row_of self.now.table.rows name) (cell_of index kind) ≡ Some result }
     {
-        let row = row_at(self.table.rows.as_slice(), name);
-        *cell_at(row, cell_number(index, kind))
+        *self.table.cell(index, name, kind)
     }
 }
 
-/// The table of pages and the styles of margin boxes by rules in the order of the sheets: what the winning declarations give for each
-/// index, name and kind. `initial` are the initial families. It takes time in proportion to the names times the page selectors, and
-/// to the declarations that apply.
+/// The table of pages and the styles of margin boxes by rules in the order of the sheets: what the winning declarations
+/// give for each index, name and kind. `initial` are the initial families. It takes time in proportion to the names
+/// times the page selectors, and to the declarations that apply.
 pub fn resolve<'s>(
     alloc: Global,
     rules: &'s [PageRule],

@@ -5,17 +5,16 @@ ghost use Rattle.style.specs.Styles.{initial_style};
 ghost use Rattle.page_ctx.specs.Winners.{candidate_in};
 ghost use Rattle.page_ctx.specs.Settings as spec;
 
-use crate::margin_style::Setting;
-use crate::property::Property;
-use crate::winner::{Candidate, value_of};
-use bk_num::decimal::Decimal;
+use crate::margin_style::PageSetting;
+use crate::property::PageProperty;
+use crate::winner::{PageCandidate, value_of};
 use bk_num::name::Name;
 use bk_num::px::Px;
 use bk_num::values::Color;
-use computed_values::fonts::{chosen_height, chosen_size, chosen_weight, copy_height};
+use computed_values::fonts::{chosen_height, chosen_size, chosen_weight};
 use computed_values::given::chosen;
-use computed_values::lengths::px;
 use css_page::values::PageLong;
+use style::initial::{medium_size, normal_height, normal_weight};
 use style::long::Given;
 use style::values::LineHeight;
 
@@ -57,7 +56,7 @@ fn size_by(parent: Px, found: Option<&PageLong>) -> Px
     ensures { result ≡ spec.size_by parent (option_map (λ l. l.now) found.entry) }
 {
     match found {
-        Some(PageLong::FontSize(given)) => chosen_size(given, parent, px(1024)),
+        Some(PageLong::FontSize(given)) => chosen_size(given, parent, medium_size()),
         _ => parent,
     }
 }
@@ -67,8 +66,8 @@ fn line_height_by(parent: &LineHeight, size: Px, found: Option<&PageLong>) -> Li
     ensures { result ≡ spec.line_height_by parent.now size (option_map (λ l. l.now) found.entry) }
 {
     match found {
-        Some(PageLong::LineHeight(given)) => chosen_height(given, parent, size, px(1024)),
-        _ => copy_height(parent),
+        Some(PageLong::LineHeight(given)) => chosen_height(given, parent, size, medium_size()),
+        _ => *parent,
     }
 }
 
@@ -90,42 +89,45 @@ const BLACK: Color = Color {
 
 /// How texts are set by what is declared for them, below a parent. `initial` are the initial families.
 pub(crate) fn setting_by<'s>(
-    parent: &Setting<'s>,
+    parent: &PageSetting<'s>,
     initial: &'s [Name],
-    declared: &[Candidate<'s>],
-) -> Setting<'s>
+    declared: &[PageCandidate<'s>],
+) -> PageSetting<'s>
     requires { initial.now ≡ initial_style.font_family }
     ensures { spec.setting_in result ≡ spec.setting_by (spec.setting_in parent.now) (map candidate_in declared.now) }
 {
-    let size = size_by(parent.size, value_of(Property::FontSize, declared));
-    let height = value_of(Property::LineHeight, declared);
-    let families = value_of(Property::FontFamily, declared);
-    Setting {
+    let size = size_by(parent.size, value_of(PageProperty::FontSize, declared));
+    let height = value_of(PageProperty::LineHeight, declared);
+    let families = value_of(PageProperty::FontFamily, declared);
+    PageSetting {
         families: families_by(parent.families, initial, families),
-        italic: italic_by(parent.italic, value_of(Property::FontStyle, declared)),
-        weight: weight_by(parent.weight, value_of(Property::FontWeight, declared)),
+        italic: italic_by(parent.italic, value_of(PageProperty::FontStyle, declared)),
+        weight: weight_by(parent.weight, value_of(PageProperty::FontWeight, declared)),
         size,
         line_height: line_height_by(&parent.line_height, size, height),
-        color: color_by(parent.color, value_of(Property::Color, declared)),
+        color: color_by(parent.color, value_of(PageProperty::Color, declared)),
     }
 }
 
-fn initial_setting<'s>(initial: &'s [Name]) -> Setting<'s>
+fn initial_setting<'s>(initial: &'s [Name]) -> PageSetting<'s>
     requires { initial.now ≡ initial_style.font_family }
     ensures { spec.setting_in result ≡ spec.initial_setting }
 {
-    Setting {
+    PageSetting {
         families: initial,
         italic: false,
-        weight: 400,
-        size: px(1024),
-        line_height: LineHeight::Number(Decimal::new(125, 2)),
+        weight: normal_weight(),
+        size: medium_size(),
+        line_height: LineHeight::Number(normal_height()),
         color: BLACK,
     }
 }
 
 /// How the texts of a page are set by what is declared for it: its parent has the initial values.
-pub(crate) fn page_setting<'s>(initial: &'s [Name], declared: &[Candidate<'s>]) -> Setting<'s>
+pub(crate) fn page_setting<'s>(
+    initial: &'s [Name],
+    declared: &[PageCandidate<'s>],
+) -> PageSetting<'s>
     requires { initial.now ≡ initial_style.font_family }
     ensures { spec.setting_in result ≡ spec.page_setting (map candidate_in declared.now) }
 {

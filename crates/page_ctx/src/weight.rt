@@ -5,10 +5,12 @@ ghost use Rattle.page_ctx.specs.Weights as spec;
 
 use crate::classes::{PageClasses, takes};
 use css_page::selectors::PageSelector;
+use style::ranking::outranks;
 
-/// What decides between two declarations for a page (css-page-3, 3 and 4; CSS 2.1, 6.4), the part that decides first at the top.
+/// What decides between two declarations for a page (css-page-3, 3 and 4; CSS 2.1, 6.4), the part that decides first at
+/// the top.
 #[derive(Clone, Copy, Debug)]
-pub struct Weight {
+pub struct PageWeight {
     pub important: bool,
     /// The selector has a name.
     pub named: bool,
@@ -18,7 +20,7 @@ pub struct Weight {
     pub sides: u64,
 }
 
-impl Weight {
+impl PageWeight {
     /// Its parts as numbers.
     fn ranks(&self) -> [u64; 4]
         ensures { result ≡ spec.ranks_of self.now }
@@ -32,26 +34,25 @@ impl Weight {
     }
 
     /// Whether it wins over another.
-    pub fn is_above(&self, other: &Weight) -> bool
+    pub fn is_above(&self, other: &PageWeight) -> bool
         ensures { result ≡ spec.is_above self.now other.now }
     {
-        let (mine, others) = (self.ranks(), other.ranks());
-        mine[..] > others[..]
+        outranks(&self.ranks(), &other.ranks())
     }
 
     /// The weight of a declaration of the rule.
-    pub fn of_decl(&self, important: bool) -> Weight
+    pub fn of_decl(&self, important: bool) -> PageWeight
         ensures { result ≡ spec.of_decl self.now important }
     {
-        Weight { important, ..*self }
+        PageWeight { important, ..*self }
     }
 }
 
 /// The specificity of a selector.
-fn specificity(selector: &PageSelector) -> Weight
+fn specificity(selector: &PageSelector) -> PageWeight
     ensures { result ≡ spec.specificity selector.now }
 {
-    Weight {
+    PageWeight {
         important: false,
         named: selector.name.is_some(),
         pages: selector.firsts as u64 + selector.blanks as u64,
@@ -60,7 +61,7 @@ fn specificity(selector: &PageSelector) -> Weight
 }
 
 /// The greater of two weights.
-fn greater(best: Option<Weight>, weight: Weight) -> Option<Weight>
+fn greater(best: Option<PageWeight>, weight: PageWeight) -> Option<PageWeight>
     ensures { result ≡ spec.greater best weight }
 {
     match best {
@@ -79,9 +80,9 @@ fn greater(best: Option<Weight>, weight: Weight) -> Option<Weight>
 fn with_selector(
     name: &str,
     classes: PageClasses,
-    best: Option<Weight>,
+    best: Option<PageWeight>,
     selector: &PageSelector,
-) -> Option<Weight>
+) -> Option<PageWeight>
     ensures { result ≡ spec.with_selector name.now classes best selector.now }
 {
     if takes(selector, name, classes) {
@@ -93,7 +94,7 @@ fn with_selector(
 
 /// The greatest specificity of the selectors that take the pages of a name with these pseudo-classes; None exactly
 /// where none does.
-pub fn greatest(name: &str, classes: PageClasses, selectors: &[PageSelector]) -> Option<Weight>
+pub fn greatest(name: &str, classes: PageClasses, selectors: &[PageSelector]) -> Option<PageWeight>
     ensures { result ≡ spec.greatest name.now classes selectors.now }
 {
     let mut best = None;

@@ -3,20 +3,24 @@
 ghost use Rattle.std.specs.Prelude.{◌≡◌, map, option_map};
 ghost use Rattle.page_ctx.specs.Winners as spec;
 
-use crate::property::{Property, is_of};
-use crate::weight::Weight;
+use crate::property::{PageProperty, is_of};
+use crate::weight::PageWeight;
 use css_page::values::PageLong;
 
 /// A declared value, with what decides.
 #[derive(Clone, Copy)]
-pub struct Candidate<'s> {
-    pub weight: Weight,
+pub struct PageCandidate<'s> {
+    pub weight: PageWeight,
     pub long: &'s PageLong,
 }
 
 /// The greater of two declarations; of equal ones the later.
-fn winning<'s>(best: Option<Candidate<'s>>, candidate: &Candidate<'s>) -> Option<Candidate<'s>>
-    ensures { option_map spec.candidate_in result ≡ spec.winning (option_map spec.candidate_in best.entry) (spec.candidate_in candidate.now) }
+fn winning<'s>(
+    best: Option<PageCandidate<'s>>,
+    candidate: &PageCandidate<'s>,
+) -> Option<PageCandidate<'s>>
+    ensures { option_map spec.candidate_in result ≡
+        spec.winning (option_map spec.candidate_in best.entry) (spec.candidate_in candidate.now) }
 {
     match best {
         None => Some(*candidate),
@@ -32,10 +36,10 @@ fn winning<'s>(best: Option<Candidate<'s>>, candidate: &Candidate<'s>) -> Option
 
 /// The best so far with one more declaration, if it is of the property.
 fn with_declared<'s>(
-    property: Property,
-    best: Option<Candidate<'s>>,
-    candidate: &Candidate<'s>,
-) -> Option<Candidate<'s>>
+    property: PageProperty,
+    best: Option<PageCandidate<'s>>,
+    candidate: &PageCandidate<'s>,
+) -> Option<PageCandidate<'s>>
     ensures { option_map spec.candidate_in result ≡
         spec.with_declared property (option_map spec.candidate_in best.entry) (spec.candidate_in candidate.now) }
 {
@@ -47,7 +51,7 @@ fn with_declared<'s>(
 }
 
 /// The winning declaration of a property.
-fn winner<'s>(property: Property, declared: &[Candidate<'s>]) -> Option<Candidate<'s>>
+fn winner<'s>(property: PageProperty, declared: &[PageCandidate<'s>]) -> Option<PageCandidate<'s>>
     ensures { option_map spec.candidate_in result ≡ spec.winner property (map spec.candidate_in declared.now) }
 {
     let mut best = None;
@@ -58,7 +62,7 @@ fn winner<'s>(property: Property, declared: &[Candidate<'s>]) -> Option<Candidat
 }
 
 /// What wins of a property among declarations: the greatest by importance and specificity, and of equal ones the last.
-pub fn value_of<'s>(property: Property, declared: &[Candidate<'s>]) -> Option<&'s PageLong>
+pub fn value_of<'s>(property: PageProperty, declared: &[PageCandidate<'s>]) -> Option<&'s PageLong>
     ensures { option_map (λ l. l.now) result ≡ spec.value_of property (map spec.candidate_in declared.now) }
 {
     match winner(property, declared) {

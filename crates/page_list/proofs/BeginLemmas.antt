@@ -25,18 +25,20 @@ use Rattle.seams.specs.Seams.{seam_between, solid_behind}
 use Rattle.cursor.specs.Remainder.{SolidView, IsRemainder}
 use Rattle.cuts.specs.Cuts.{IsCut}
 use Rattle.cuts.specs.Cuts.IsCut.{at_level, at_loose, at_first}
-use Rattle.cuts.specs.declared.row.Row.{Row}
-use Rattle.notes.specs.Notes.{last_begin, must_of, separator}
+use Rattle.cuts.specs.declared.row.SolidRow.{SolidRow}
+use Rattle.bk_num.specs.Limits.{separator}
+use Rattle.notes.specs.Notes.{last_begin, must_of}
 use Rattle.page_seq.specs.Places.{anchor_of, ends_after, first_place, has_end_after, has_solid, is_before, last_or_here, last_page, last_place, page_of}
 use Rattle.note_list.specs.Calls.{called_before, end_before, start_place}
 use Rattle.note_list.specs.Conditions.{CanBePaged}
-use Rattle.note_list.specs.Lists.{AreNoted, carried_parts, called_parts, placed_notes, rows_of as note_rows}
+use Rattle.note_list.specs.Lists.{AreNoted, carried_parts, called_parts, placed_notes, note_rows}
 use Rattle.note_list.specs.Places.{least_of}
 use Rattle.note_list.specs.declared.solid.NotedSolid.{NotedSolid}
 use Rattle.page_list.specs.Cuts.{IsFlowCut, IsPagePoint, first_gap, parts_after, place_after, placed_below, placed_from, row_of, rows_of}
 use Rattle.page_list.specs.Noted.{BeginInTime}
 use Rattle.page_seq.specs.Noted.{begins_on, has_note}
-use Rattle.page_list.specs.Pages.{IsEnded, IsPaged, IsStep, PageFrames, State, meets_at, name_at, start_of}
+use Rattle.boxes.specs.Frames.{PageFrames}
+use Rattle.page_list.specs.Pages.{IsEnded, IsPaged, IsStep, State, meets_at, name_at, start_of}
 use Rattle.page_list.specs.Pages.IsStep.{blank, flows, noted}
 use Rattle.page_list.specs.declared.cut.Cut.{Cut}
 use Rattle.page_list.proofs.CallLemmas.{before_not, called_end, called_no, called_start, called_yes, cut_ends, inside_rest}
@@ -102,7 +104,7 @@ from_some : (first : ℤ) (solids : List SolidView) → 0 < length solids → no
 from_some first [] h = absurd (omega arith)
 from_some first (s ∷ solids) h = grind (arith, nat_tests)
 
-cut_some : (r : Row) (rows : List Row) {fits loose : ℕ → Type 0} (level j : ℕ) → IsCut (IsPagePoint (r ∷ rows)) fits loose level j → 0 < j
+cut_some : (r : SolidRow) (rows : List SolidRow) {fits loose : ℕ → Type 0} (level j : ℕ) → IsCut (IsPagePoint (r ∷ rows)) fits loose level j → 0 < j
 cut_some r rows level j (at_level low n p f g) = p.some
 cut_some r rows level j (at_loose e n own o p q g) = p.some
 cut_some r rows level j (at_first e n n2 own o p g) = p.some

@@ -18,7 +18,7 @@ use Rattle.line_fill.proofs.EndLemmas.{lines_go_on}
 use Rattle.cursor.specs.Remainder.{SolidView, IsSolid, IsContent, IsLineSolid, IsRemainder, leaf_measure, end_of}
 use Rattle.cursor.specs.Remainder.IsContent.{of_line, of_open, of_close}
 use Rattle.cursor.proofs.RemLemmas.{Stands, solid_stands, begins_of, found_of}
-use Rattle.cuts.specs.declared.row.Row.{Row}
+use Rattle.cuts.specs.declared.row.SolidRow.{SolidRow}
 use Rattle.cuts.specs.Rows.{AreForcedBetween}
 use Rattle.page_list.specs.Cuts.{row_of, rows_of}
 use Rattle.page_list.proofs.NextLemmas.{solid_at}
@@ -133,4 +133,4 @@ module _ (faces : List FontFace) (t : Tree) (w : ℤ) (from : Position) (tree : 
       by (Some s) e f =
           let g : Some (row_of t s) ≡ Some row = sym (ap (option_map (row_of t)) e) ∙ f in
           let same : row_of t s ≡ row = cc in
-          ap (λ (q : Row). q.seam.class) (sym same) ∙ neighbours faces t w tree from views st r k s e (ap (λ (q : Row). is_some q.seam.forced) same ∙ forced)
+          ap (λ (q : SolidRow). q.seam.class) (sym same) ∙ neighbours faces t w tree from views st r k s e (ap (λ (q : SolidRow). is_some q.seam.forced) same ∙ forced)

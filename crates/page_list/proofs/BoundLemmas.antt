@@ -27,13 +27,14 @@ use Rattle.cursor.specs.Remainder.{SolidView, IsRemainder}
 use Rattle.cursor.proofs.RemLemmas.{Stands}
 use Rattle.note_list.specs.Calls.{called_before}
 use Rattle.note_list.specs.Conditions.{CanBePaged}
-use Rattle.note_list.specs.Lists.{carried_parts, called_parts, rows_of as note_rows}
+use Rattle.note_list.specs.Lists.{carried_parts, called_parts, note_rows}
 use Rattle.note_list.specs.declared.carried.Carried.{Carried}
 use Rattle.note_list.specs.declared.solid.NotedSolid.{NotedSolid}
 use Rattle.page_list.specs.Bounds.{HasTexts, HaveTexts, is_sided, most_pages_of, sided_among, sided_in}
 use Rattle.page_list.specs.Cuts.{IsFlowCut, IsNotesCut, parts_after, place_after, row_of, rows_of}
 use Rattle.page_list.specs.Laws.{MeetWithin}
-use Rattle.page_list.specs.Pages.{IsEnded, IsPaged, IsStep, PageFrames, State, after_blank, after_flow, meets_at, name_at, start_of}
+use Rattle.boxes.specs.Frames.{PageFrames}
+use Rattle.page_list.specs.Pages.{IsEnded, IsPaged, IsStep, State, after_blank, after_flow, meets_at, name_at, start_of}
 use Rattle.page_list.specs.Pages.IsStep.{blank, flows, noted}
 use Rattle.page_list.specs.declared.cut.Cut.{Cut}
 use Rattle.page_list.specs.declared.cut.CutFrom.{CutFrom}

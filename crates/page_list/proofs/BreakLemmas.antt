@@ -26,12 +26,13 @@ use Rattle.cuts.proofs.PointLemmas.{free_below, limit_within}
 use Rattle.cuts.specs.Cuts.{NoteLists}
 use Rattle.cuts.specs.Cuts.IsCut.{at_level, at_loose, at_first}
 use Rattle.note_list.specs.Conditions.{CanBePaged}
-use Rattle.note_list.specs.Lists.{rows_of as note_rows}
+use Rattle.note_list.specs.Lists.{note_rows}
 use Rattle.note_list.specs.declared.carried.Carried.{Carried}
 use Rattle.page_list.specs.declared.cut.Cut.{Cut}
 use Rattle.page_list.specs.declared.cut.CutFrom.{CutFrom}
 use Rattle.page_list.specs.Cuts.{IsBestCut, IsFlowCut, first_gap, forced_after, place_after, placed_at, placed_below, placed_from, row_of, rows_of}
-use Rattle.page_list.specs.Pages.{IsEnded, IsPaged, IsStep, PageFrames, State, meets_at, name_at, start_of}
+use Rattle.boxes.specs.Frames.{PageFrames}
+use Rattle.page_list.specs.Pages.{IsEnded, IsPaged, IsStep, State, meets_at, name_at, start_of}
 use Rattle.page_list.specs.Pages.IsStep.{blank, flows, noted}
 use Rattle.page_list.specs.Parted.{IsUnbroken, IsMet, HoldsBreaks}
 use Rattle.page_list.proofs.NextLemmas.{solid_at}

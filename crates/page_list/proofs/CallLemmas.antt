@@ -11,10 +11,9 @@ use Rattle.metrics.specs.Face.{FontFace}
 use Rattle.boxes.specs.Tree.{Tree, IsTree}
 use Rattle.boxes.specs.declared.flow.Note.{Note}
 use Rattle.boxes.specs.declared.place.Position.{Position}
-use Rattle.boxes.proofs.ListLemmas.{slice_get_at}
 use Rattle.line_fill.proofs.EndLemmas.{lines_go_on}
-use Rattle.seams.specs.Runs.{solid_after, solid_before, is_solid_at}
-use Rattle.seams.proofs.RunLemmas.{after_solid, before_solid, solid_step}
+use Rattle.seams.specs.Runs.{solid_before, is_solid_at}
+use Rattle.seams.proofs.RunLemmas.{after_solid, before_solid}
 use Rattle.cursor.specs.Remainder.{SolidView, IsSolid, IsContent, IsRemainder, leaf_measure}
 use Rattle.cursor.specs.Remainder.IsContent.{of_line, of_open, of_close}
 use Rattle.cursor.proofs.RemLemmas.{Stands, begins_of, found_of, place, solid_stands, solid_within}
@@ -23,6 +22,8 @@ use Rattle.page_seq.proofs.PlaceLemmas.{anchor_lower}
 use Rattle.note_list.specs.Calls.{called_before, end_after, end_before, start_place}
 use Rattle.page_list.specs.Cuts.{place_after}
 use Rattle.page_list.proofs.NextLemmas.{solid_at}
+use Rattle.note_list.proofs.CallLemmas.{before_trans, before_self, before_lower, never_fall}
+use Rattle.note_list.proofs.BeginLemmas.{before_next}
 
 -- ---- prefixes
 prefix_step : (b c : Bool) (m n : ℕ) → (b ≡ true → c ≡ true) → m ≤ n → cond b (1 + m) 0 ≤ cond c (1 + n) 0
@@ -56,34 +57,15 @@ prefix_lacks p xs n x e h lower = by (p x) refl
         absurd (let f : true ≡ false = sym passes ∙ stops in cc)
 
 -- ---- the order of places
-pub before_trans : (a b c : Position) → is_before b a ≡ false → is_before c b ≡ false → is_before c a ≡ false
-before_trans a b c f g = grind (arith, nat_tests)
-
-pub before_self : (a : Position) → is_before a a ≡ false
-before_self a = grind (arith, nat_tests)
 
 pub before_later : (a b c : Position) → is_before c b ≡ false → is_before a b ≡ true → is_before a c ≡ true
 before_later a b c f g = grind (arith, nat_tests)
-
-pub before_lower : (a b c : Position) → is_before b a ≡ false → is_before b c ≡ true → is_before a c ≡ true
-before_lower a b c f g = grind (arith, nat_tests)
 
 pub before_not : (a b c : Position) → is_before c b ≡ false → is_before a c ≡ false → is_before a b ≡ false
 before_not a b c f g = grind (arith, nat_tests)
 
 before_weak : (a b : Position) → is_before a b ≡ true → is_before b a ≡ false
 before_weak a b f = grind (arith, nat_tests)
-
-never_fall : (places : List Position) → NeverFall places → (d i j : ℕ) (a b : Position) → i + d ≡ j → slice_get places i ≡ Some a → slice_get places j ≡ Some b → is_before b a ≡ false
-never_fall places order zero i j a b n e f =
-    let at : i ≡ j = omega arith in
-    let same : a ≡ b = (let g : Some a ≡ Some b = sym e ∙ ap (slice_get places) at ∙ f in cc) in
-    subst (λ (p : Position). is_before p a ≡ false) same (before_self a)
-never_fall places order (suc d) i j a b n e f =
-    let at : j ≡ suc (i + d) = omega arith in
-    let w = slice_get_within places j b f in
-    let c = slice_get_at places (i + d) (omega arith) in
-    before_trans a c.0 b (never_fall places order d i (i + d) a c.0 refl e c.1) (order (i + d) c.0 b c.1 (ap (slice_get places) (sym at) ∙ f))
 
 -- a note's anchor is no earlier than that of a note before it
 anchors_order : (t : Tree) (notes : List Note) → NeverFall (map (λ n. n.call) notes) → (i n : ℕ) (x y : Note) → i ≤ n → slice_get notes i ≡ Some y → slice_get notes n ≡ Some x → is_before (anchor_of t x.call) (anchor_of t y.call) ≡ false
@@ -93,19 +75,6 @@ anchors_order t notes order i n x y h e f =
     anchor_lower t y.call x.call (never_fall (map (λ m. m.call) notes) order (n - i) i n y.call x.call (omega arith) first later)
 
 -- ---- where the solid before a place ends
--- no solid stands between an event and the first solid from it on
-pub before_next : (t : Tree) (d j e : ℕ) → j + d ≡ e → solid_after t j ≡ Some e → solid_before t e ≡ solid_before t j
-before_next t zero j e n found = ap (solid_before t) (omega arith)
-before_next t (suc d) j e n found = by (is_solid_at t.boxes (slice_get t.events j)) refl (λ next. before_next t d (suc j) e (omega arith) next)
-  where
-    inside : j < length t.events
-    inside = let w = solid_within t j e found in omega arith
-
-    by : (b : Bool) → is_solid_at t.boxes (slice_get t.events j) ≡ b → (solid_after t (suc j) ≡ Some e → solid_before t e ≡ solid_before t (suc j)) → solid_before t e ≡ solid_before t j
-    by true is more = absurd (let f : Some e ≡ Some j = sym found ∙ solid_at t j is in let g : e ≡ j = cc in omega arith)
-    by false is more =
-        let next : solid_after t (suc j) ≡ Some e = sym (solid_step t j false inside is) ∙ found in
-        more next ∙ ap (λ (b : Bool). cond b (Some j) (solid_before t j)) is
 
 is_inside : (offset : ℕ) → 0 < offset → nat_lt 0 offset ≡ true
 is_inside offset h = grind (arith, nat_tests)

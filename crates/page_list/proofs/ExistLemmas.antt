@@ -22,24 +22,26 @@ use Rattle.seams.specs.Runs.{solid_after}
 use Rattle.seams.specs.Seams.{seam_of}
 use Rattle.cursor.specs.Remainder.{SolidView, IsRemainder}
 use Rattle.cursor.proofs.RemLemmas.{Stands, left_from, remainder_from, solid_stands, place_stands}
-use Rattle.cuts.specs.declared.row.Row.{Row}
+use Rattle.cuts.specs.declared.row.SolidRow.{SolidRow}
 use Rattle.cuts.specs.Cuts.{NoteLists, Fits, FitsLoosely}
 use Rattle.cuts.specs.Cuts.IsCut.{at_level, at_loose, at_first}
-use Rattle.cuts.specs.Rows.{AreForcedBetween, extent_of}
+use Rattle.cuts.specs.Rows.{AreForcedBetween, rows_extent}
 use Rattle.cuts.proofs.CutLemmas.{cut_exists, cut_within}
 use Rattle.notes.specs.declared.solid.NoteSolid.{NoteSolid}
-use Rattle.notes.specs.Notes.{IsCarryCount, IsPlaced, area_of, must_of, separator}
+use Rattle.bk_num.specs.Limits.{separator}
+use Rattle.notes.specs.Notes.{IsCarryCount, IsPlaced, area_of, must_of}
 use Rattle.notes.proofs.NoteLemmas.{IsGreatest, greatest_none, greatest_step, carried_by, placed_by, must_within}
 use Rattle.page_seq.specs.Places.{anchor_of, is_before}
 use Rattle.note_list.specs.Calls.{called_before, end_before, start_place}
-use Rattle.note_list.specs.Lists.{NotePart, AreNoted, noted, carried_parts, called_parts, placed_notes, left_of, rows_of as note_rows}
+use Rattle.note_list.specs.Lists.{NotePart, AreNoted, noted, carried_parts, called_parts, placed_notes, left_of, note_rows}
 use Rattle.note_list.specs.Places.{least_of}
 use Rattle.note_list.specs.declared.carried.Carried.{Carried}
 use Rattle.note_list.specs.declared.solid.NotedSolid.{NotedSolid}
 use Rattle.page_list.specs.declared.cut.Cut.{Cut}
 use Rattle.page_list.specs.declared.cut.CutFrom.{CutFrom}
 use Rattle.page_list.specs.Cuts.{IsBestCut, IsFlowCut, IsNotesCut, IsPagePoint, rows_of, first_gap, placed_from, place_after, forced_after, parts_after}
-use Rattle.page_list.specs.Pages.{State, PageFrames, IsStep, IsEnded, HasSomePageList, MeetAll, meets_at, blank_page, name_at, flow_page, notes_page, after_flow, is_forced}
+use Rattle.boxes.specs.Frames.{PageFrames}
+use Rattle.page_list.specs.Pages.{State, IsStep, IsEnded, HasSomePageList, MeetAll, meets_at, blank_page, name_at, flow_page, notes_page, after_flow, is_forced}
 use Rattle.page_list.specs.Pages.IsStep.{blank, flows, noted as notes_step}
 use Rattle.page_list.proofs.BetweenLemmas.{rest_between}
 use Rattle.page_list.proofs.CarriedLemmas.{AreTrees, are_trees}
@@ -81,15 +83,15 @@ least_within level must c carried n m l h = by (ltb level 3) (eqb level 3) (eqb_
     by false false (inr e) = rw e.0 (let d = e.1 in omega arith)
 
 -- ---- cuts
-pub record HasBest (kept : Bool) (rows : List Row) (height : ℤ) (list : NoteLists) (c level j : ℕ) : Type 0 where
+pub record HasBest (kept : Bool) (rows : List SolidRow) (height : ℤ) (list : NoteLists) (c level j : ℕ) : Type 0 where
   pub best : IsBestCut kept rows height list c level j
   pub within : j ≤ length rows
   pub some : 0 < length rows → 0 < j
 
 none_best : (kept : Bool) (height : ℤ) (list : NoteLists) (c : ℕ) → (level : ℕ) × HasBest kept [] height list c level 0
 none_best kept height list c = by
-    (told_by (Fits kept [] height list c 0) (extent_of kept [] 0 +ℤ area_of (list 0) (must_of (list 0) c)) height (λ f. f) (λ f. f))
-    (told_by (FitsLoosely kept [] height list c 0) (extent_of kept [] 0 +ℤ area_of (list 0) c) height (λ f. f) (λ f. f))
+    (told_by (Fits kept [] height list c 0) (rows_extent kept [] 0 +ℤ area_of (list 0) (must_of (list 0) c)) height (λ f. f) (λ f. f))
+    (told_by (FitsLoosely kept [] height list c 0) (rows_extent kept [] 0 +ℤ area_of (list 0) c) height (λ f. f) (λ f. f))
   where
     at_zero : (P : ℕ → Type 0) → (P 0 → ⊥) → (l k : ℕ) → IsPagePoint [] l k → P k → ⊥
     at_zero P none l k p f = none (subst P p.1 f)
@@ -102,7 +104,7 @@ none_best kept height list c = by
     by (inr n) (inl f) = (3, made 3 (at_loose refl (λ l k h p. at_zero (Fits kept [] height list c) n l k p) 0 (omega arith) (refl, refl) f (λ l k h p q. let e = p.1 in omega arith)))
     by (inr n) (inr m) = (4, made 4 (at_first refl (λ l k h p. at_zero (Fits kept [] height list c) n l k p) (λ l k h p. at_zero (FitsLoosely kept [] height list c) m l k p) 0 (omega arith) (refl, refl) (λ l k h p. omega arith)))
 
-pub best_exists : (kept : Bool) (rows : List Row) (height : ℤ) (list : NoteLists) (c : ℕ) → AreForcedBetween rows → (level : ℕ) × (j : ℕ) × HasBest kept rows height list c level j
+pub best_exists : (kept : Bool) (rows : List SolidRow) (height : ℤ) (list : NoteLists) (c : ℕ) → AreForcedBetween rows → (level : ℕ) × (j : ℕ) × HasBest kept rows height list c level j
 best_exists kept [] height list c between = let b = none_best kept height list c in (b.0, 0, b.1)
 best_exists kept (r ∷ rows) height list c between =
     let b = cut_exists kept (r ∷ rows) height list c (omega arith) between in
@@ -205,7 +207,7 @@ module _ (faces : List FontFace) (flow : Flow) (tree : IsTree flow.main) (trees 
       c : ℕ
       c = carries.0
 
-      rows : List Row
+      rows : List SolidRow
       rows = rows_of flow.main solids
 
       cuts : (level : ℕ) × (j : ℕ) × HasBest from.kept rows frame.height (λ j. note_rows (list j)) c level j
@@ -245,8 +247,8 @@ module _ (faces : List FontFace) (flow : Flow) (tree : IsTree flow.main) (trees 
           let few : c ≤ length notes = omega arith in
           least_within level (must_of notes c) c (length own.0) (length notes) (must_within notes c few) few g
 
-      numbers : (n : ℕ) × IsPlaced notes least (frame.height -ℤ extent_of from.kept rows count) n
-      numbers = places_exist notes least (frame.height -ℤ extent_of from.kept rows count) low
+      numbers : (n : ℕ) × IsPlaced notes least (frame.height -ℤ rows_extent from.kept rows count) n
+      numbers = places_exist notes least (frame.height -ℤ rows_extent from.kept rows count) low
 
       number : ℕ
       number = numbers.0

@@ -17,9 +17,9 @@ use Rattle.cursor.specs.Remainder.{SolidView, IsRemainder, IsSolid}
 use Rattle.cursor.proofs.RemLemmas.{begins_of}
 use Rattle.notes.specs.Notes.{last_begin}
 use Rattle.note_list.specs.Calls.{start_place}
-use Rattle.note_list.specs.Lists.{NotePart, AreNoted, called_parts, is_first, noted, placed_notes, rows_of}
+use Rattle.note_list.specs.Lists.{NotePart, AreNoted, called_parts, is_first, noted, placed_notes, note_rows}
 use Rattle.note_list.specs.declared.solid.NotedSolid.{NotedSolid}
-use Rattle.page_list.proofs.CallLemmas.{before_next}
+use Rattle.note_list.proofs.BeginLemmas.{before_next}
 use Rattle.page_list.proofs.CarriedLemmas.{called_part}
 use Rattle.page_list.proofs.NextLemmas.{start_stands}
 
@@ -48,7 +48,7 @@ placed_any n bottom (s ∷ list) = ap (λ (b : Bool). (s.note == n) || b) (place
 -- ---- a note's first solid, which begins it
 -- so many solids of a list that all notes begin that begin there, with a note among them
 abbrev pub PlacesNote : ℕ → ℕ → List NotedSolid → Type 0
-PlacesNote n m list = (number : ℕ) → last_begin m (rows_of list) ≤ m + number → list_any (λ (s : NotedSolid). s.note == n) (take number list) ≡ true
+PlacesNote n m list = (number : ℕ) → last_begin m (note_rows list) ≤ m + number → list_any (λ (s : NotedSolid). s.note == n) (take number list) ≡ true
 
 either : (b : Bool) → (b || true) ≡ true
 either true = refl

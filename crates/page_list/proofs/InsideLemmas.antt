@@ -14,15 +14,16 @@ use Rattle.boxes.specs.declared.frames.Frame.{Frame}
 use Rattle.boxes.specs.declared.page.Page.{Page}
 use Rattle.boxes.specs.declared.page.Placed.{Placed}
 use Rattle.cursor.specs.Remainder.{SolidView}
-use Rattle.cuts.specs.declared.row.Row.{Row}
-use Rattle.cuts.specs.Rows.{gap_of, height_of, top_gap, bottom_of, extent_of}
+use Rattle.cuts.specs.declared.row.SolidRow.{SolidRow}
+use Rattle.cuts.specs.Rows.{row_gap, row_height, top_gap, rows_bottom, rows_extent}
 use Rattle.cuts.specs.Cuts.{NoteLists, Fits}
 use Rattle.cuts.specs.Cuts.IsCut.{at_level, at_loose, at_first}
 use Rattle.cuts.proofs.ReachLemmas.{extent-mono}
 use Rattle.notes.specs.declared.solid.NoteSolid.{NoteSolid}
-use Rattle.notes.specs.Notes.{IsPlaced, area_of, must_of, note_bottom, note_extent, note_gap, note_height, separator}
+use Rattle.bk_num.specs.Limits.{separator}
+use Rattle.notes.specs.Notes.{IsPlaced, area_of, must_of, note_bottom, note_extent, note_gap, note_height}
 use Rattle.notes.proofs.NoteLemmas.{area_never_falls, area_suc}
-use Rattle.note_list.specs.Lists.{placed_notes, rows_of as note_rows}
+use Rattle.note_list.specs.Lists.{placed_notes, note_rows}
 use Rattle.note_list.specs.Places.{least_of}
 use Rattle.note_list.specs.declared.carried.Carried.{Carried}
 use Rattle.note_list.specs.declared.solid.NotedSolid.{NotedSolid}
@@ -31,7 +32,8 @@ use Rattle.page_list.specs.declared.cut.CutFrom.{CutFrom}
 use Rattle.page_list.specs.Cuts.{IsBestCut, IsFlowCut, row_of, rows_of, placed_below, placed_from, first_gap}
 use Rattle.page_list.specs.Inside.{AreInside, EndsBy, EndInside}
 use Rattle.page_list.specs.Laws.{PagesEndInside}
-use Rattle.page_list.specs.Pages.{IsEnded, IsStep, PageFrames, State, start_of}
+use Rattle.boxes.specs.Frames.{PageFrames}
+use Rattle.page_list.specs.Pages.{IsEnded, IsStep, State, start_of}
 use Rattle.page_list.specs.Pages.IsStep.{blank, flows, noted as notes_step}
 
 take_get : {X : Type 0} (n : ℕ) (xs : List X) (k : ℕ) (x : X) → slice_get (take n xs) k ≡ Some x → slice_get xs k ≡ Some x
@@ -48,18 +50,18 @@ one_more k = omega arith
 
 -- ---- solids
 -- the rows of a list from a place on are those of some solids
-abbrev Are : Tree → List Row → ℕ → List SolidView → Type 0
+abbrev Are : Tree → List SolidRow → ℕ → List SolidView → Type 0
 Are t whole n xs = (k : ℕ) (s : SolidView) → slice_get xs k ≡ Some s → slice_get whole (n + k) ≡ Some (row_of t s)
 
-inside_below : (t : Tree) (kept : Bool) (height : ℤ) (whole : List Row) (n : ℕ) (xs : List SolidView) → Are t whole (suc n) xs → extent_of kept whole (suc n + length xs) ≤ℤ height → All (EndsBy height) (placed_below (bottom_of kept whole (suc n)) xs)
+inside_below : (t : Tree) (kept : Bool) (height : ℤ) (whole : List SolidRow) (n : ℕ) (xs : List SolidView) → Are t whole (suc n) xs → rows_extent kept whole (suc n + length xs) ≤ℤ height → All (EndsBy height) (placed_below (rows_bottom kept whole (suc n)) xs)
 inside_below t kept height whole n [] same fits = All-nil (EndsBy height)
 inside_below t kept height whole n (s ∷ xs) same fits =
     let got : slice_get whole (suc n) ≡ Some (row_of t s) = subst (λ (i : ℕ). slice_get whole i ≡ Some (row_of t s)) (add-zero (suc n)) (same 0 s refl) in
-    let here : bottom_of kept whole (suc (suc n)) ≡ (bottom_of kept whole (suc n) +ℤ s.seam.whole_gap) +ℤ s.height = ap (λ (o : Option Row). (bottom_of kept whole (suc n) +ℤ gap_of o) +ℤ height_of o) got in
-    let far : extent_of kept whole (suc (suc n) + length xs) ≤ℤ height = subst (λ (i : ℕ). extent_of kept whole i ≤ℤ height) (shift (suc n) (length xs)) fits in
-    let more : extent_of kept whole (suc (suc n)) ≤ℤ extent_of kept whole (suc (suc n) + length xs) = extent-mono kept whole (suc (suc n)) (length xs) in
+    let here : rows_bottom kept whole (suc (suc n)) ≡ (rows_bottom kept whole (suc n) +ℤ s.seam.whole_gap) +ℤ s.height = ap (λ (o : Option SolidRow). (rows_bottom kept whole (suc n) +ℤ row_gap o) +ℤ row_height o) got in
+    let far : rows_extent kept whole (suc (suc n) + length xs) ≤ℤ height = subst (λ (i : ℕ). rows_extent kept whole i ≤ℤ height) (shift (suc n) (length xs)) fits in
+    let more : rows_extent kept whole (suc (suc n)) ≤ℤ rows_extent kept whole (suc (suc n) + length xs) = extent-mono kept whole (suc (suc n)) (length xs) in
     let later : Are t whole (suc (suc n)) xs = λ k r e. subst (λ (i : ℕ). slice_get whole i ≡ Some (row_of t r)) (shift (suc n) k) (same (suc k) r e) in
-    let last : bottom_of kept whole (suc (suc n)) ≤ℤ extent_of kept whole (suc (suc n)) = omega (arith, ints, clamps) in
+    let last : rows_bottom kept whole (suc (suc n)) ≤ℤ rows_extent kept whole (suc (suc n)) = omega (arith, ints, clamps) in
     All-cons (EndsBy height) _ _ (rw (← here) (omega (arith, ints)))
     (subst (λ (b : ℤ). All (EndsBy height) (placed_below b xs)) here (inside_below t kept height whole (suc n) xs later far))
 
@@ -69,18 +71,18 @@ top_is t true s xs = refl
 top_is t false s xs = refl
 
 -- where the first solids of a page fit, each of them ends no lower than the frame
-pub solids_inside : (t : Tree) (kept : Bool) (height : ℤ) (solids : List SolidView) (count : ℕ) → count ≤ length solids → extent_of kept (rows_of t solids) count ≤ℤ height → All (EndsBy height) (placed_from (first_gap kept solids) (take count solids))
+pub solids_inside : (t : Tree) (kept : Bool) (height : ℤ) (solids : List SolidView) (count : ℕ) → count ≤ length solids → rows_extent kept (rows_of t solids) count ≤ℤ height → All (EndsBy height) (placed_from (first_gap kept solids) (take count solids))
 solids_inside t kept height solids zero low fits = All-nil (EndsBy height)
 solids_inside t kept height [] (suc n) low fits = absurd (omega arith)
 solids_inside t kept height (s ∷ xs) (suc n) low fits =
     let first : ℤ = first_gap kept (s ∷ xs) in
-    let whole : List Row = rows_of t (s ∷ xs) in
+    let whole : List SolidRow = rows_of t (s ∷ xs) in
     let top = top_is t kept s xs in
     let size : length (take n xs) ≡ n = length-take-le n xs (omega arith) in
-    let here : bottom_of kept (rows_of t (s ∷ xs)) 1 ≡ first +ℤ s.height = omega (arith, ints) in
-    let far : extent_of kept (rows_of t (s ∷ xs)) (1 + length (take n xs)) ≤ℤ height = subst (λ (i : ℕ). extent_of kept (rows_of t (s ∷ xs)) i ≤ℤ height) (one_more n ∙ ap (λ (i : ℕ). 1 + i) (sym size)) fits in
-    let more : extent_of kept (rows_of t (s ∷ xs)) 1 ≤ℤ extent_of kept (rows_of t (s ∷ xs)) (1 + length (take n xs)) = extent-mono kept (rows_of t (s ∷ xs)) 1 (length (take n xs)) in
-    let last : bottom_of kept (rows_of t (s ∷ xs)) 1 ≤ℤ extent_of kept (rows_of t (s ∷ xs)) 1 = omega (arith, ints, clamps) in
+    let here : rows_bottom kept (rows_of t (s ∷ xs)) 1 ≡ first +ℤ s.height = omega (arith, ints) in
+    let far : rows_extent kept (rows_of t (s ∷ xs)) (1 + length (take n xs)) ≤ℤ height = subst (λ (i : ℕ). rows_extent kept (rows_of t (s ∷ xs)) i ≤ℤ height) (one_more n ∙ ap (λ (i : ℕ). 1 + i) (sym size)) fits in
+    let more : rows_extent kept (rows_of t (s ∷ xs)) 1 ≤ℤ rows_extent kept (rows_of t (s ∷ xs)) (1 + length (take n xs)) = extent-mono kept (rows_of t (s ∷ xs)) 1 (length (take n xs)) in
+    let last : rows_bottom kept (rows_of t (s ∷ xs)) 1 ≤ℤ rows_extent kept (rows_of t (s ∷ xs)) 1 = omega (arith, ints, clamps) in
     let later : Are t (rows_of t (s ∷ xs)) 1 (take n xs) = λ k r e. subst (λ (i : ℕ). slice_get (rows_of t (s ∷ xs)) i ≡ Some (row_of t r)) (one_more k) (slice_get-map (row_of t) xs k ∙ ap (option_map (row_of t)) (take_get n xs k r e)) in
     All-cons (EndsBy height) _ _ (rw (← here) (omega (arith, ints)))
     (subst (λ (b : ℤ). All (EndsBy height) (placed_below b (take n xs))) here (inside_below t kept height (rows_of t (s ∷ xs)) 0 (take n xs) later far))
@@ -122,7 +124,7 @@ both_inside height extent area notes solids some fits above below k d h =
     let s = above k d h in
     (omega (arith, ints), λ j e g. let n = below j e g in omega (arith, ints))
 
-fits_of : (kept : Bool) (rows : List Row) (height : ℤ) (list : NoteLists) (c level j : ℕ) → level ≤ 2 → IsBestCut kept rows height list c level j → Fits kept rows height list c j
+fits_of : (kept : Bool) (rows : List SolidRow) (height : ℤ) (list : NoteLists) (c level j : ℕ) → level ≤ 2 → IsBestCut kept rows height list c level j → Fits kept rows height list c j
 fits_of kept rows height list c level j low (at_level a none point fits best) = fits
 fits_of kept rows height list c level j low (at_loose is none own a point fits best) = absurd (omega arith)
 fits_of kept rows height list c level j low (at_first is none loose own a point best) = absurd (omega arith)
@@ -142,18 +144,18 @@ room_of list must number extent height fits places = ⊎_elim
 
 pub flow_inside : (faces : List FontFace) (flow : Flow) (frame : Frame) (from : CutFrom) (carried : List Carried) (cut : Cut) → IsFlowCut faces flow frame from carried cut → cut.level ≤ 2 → AreInside frame.height cut.notes cut.solids
 flow_inside faces flow frame from carried cut is low =
-    let rows : List Row = rows_of flow.main is.solids in
+    let rows : List SolidRow = rows_of flow.main is.solids in
     let fits = fits_of from.kept (rows_of flow.main is.solids) frame.height (λ j. note_rows (is.list j)) is.c cut.level is.count low is.best in
-    let places = subst (λ (n : ℕ). IsPlaced (note_rows (is.list is.count)) n (frame.height -ℤ extent_of from.kept (rows_of flow.main is.solids) is.count) is.number) (least_is cut.level (must_of (note_rows (is.list is.count)) is.c) is.c (length is.own) low) is.places in
-    let room = room_of (note_rows (is.list is.count)) (must_of (note_rows (is.list is.count)) is.c) is.number (extent_of from.kept (rows_of flow.main is.solids) is.count) frame.height fits places in
+    let places = subst (λ (n : ℕ). IsPlaced (note_rows (is.list is.count)) n (frame.height -ℤ rows_extent from.kept (rows_of flow.main is.solids) is.count) is.number) (least_is cut.level (must_of (note_rows (is.list is.count)) is.c) is.c (length is.own) low) is.places in
+    let room = room_of (note_rows (is.list is.count)) (must_of (note_rows (is.list is.count)) is.c) is.number (rows_extent from.kept (rows_of flow.main is.solids) is.count) frame.height fits places in
     let size = length-map (is.list is.count) (λ s. s.row) in
     let within = places.within in
     let some : pos 0 ≤ℤ area_of (note_rows (is.list is.count)) is.number = area_never_falls (note_rows (is.list is.count)) 0 is.number (omega arith) in
     let below = notes_inside (is.list is.count) is.number (omega arith) in
-    let above = solids_inside flow.main from.kept (extent_of from.kept (rows_of flow.main is.solids) is.count) is.solids is.count is.within (omega (arith, ints)) in
+    let above = solids_inside flow.main from.kept (rows_extent from.kept (rows_of flow.main is.solids) is.count) is.solids is.count is.within (omega (arith, ints)) in
     subst (λ (ns : List (ℕ × Placed)). AreInside frame.height ns cut.solids) (sym is.notes_is)
     (subst (λ (ps : List Placed). AreInside frame.height (placed_notes separator (take is.number (is.list is.count))) ps) (sym is.solids_is)
-    (both_inside frame.height (extent_of from.kept (rows_of flow.main is.solids) is.count) (area_of (note_rows (is.list is.count)) is.number) (placed_notes separator (take is.number (is.list is.count))) (placed_from (first_gap from.kept is.solids) (take is.count is.solids)) some room above below))
+    (both_inside frame.height (rows_extent from.kept (rows_of flow.main is.solids) is.count) (area_of (note_rows (is.list is.count)) is.number) (placed_notes separator (take is.number (is.list is.count))) (placed_from (first_gap from.kept is.solids) (take is.count is.solids)) some room above below))
 
 abbrev Inside : Page → Type 0
 Inside p = p.level ≤ 2 → AreInside p.frame.height p.notes p.solids

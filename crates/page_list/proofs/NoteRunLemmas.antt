@@ -14,7 +14,7 @@ use Rattle.boxes.specs.declared.page.Placed.{Placed}
 use Rattle.boxes.specs.declared.place.Position.{Position}
 use Rattle.cursor.specs.Remainder.{SolidView, IsRemainder}
 use Rattle.cursor.proofs.RemLemmas.{Stands, solid_stands}
-use Rattle.notes.specs.Notes.{separator}
+use Rattle.bk_num.specs.Limits.{separator}
 use Rattle.note_list.specs.Calls.{called_before}
 use Rattle.note_list.specs.Conditions.{CanBePaged}
 use Rattle.note_list.specs.Lists.{NotePart, AreNoted, carried_parts, called_parts, left_after, left_of, noted as noted_solid, placed_notes}
@@ -22,7 +22,8 @@ use Rattle.note_list.specs.declared.carried.Carried.{Carried}
 use Rattle.note_list.specs.declared.solid.NotedSolid.{NotedSolid}
 use Rattle.page_list.specs.Cuts.{parts_after}
 use Rattle.page_list.specs.Noted.{AreBodies, HoldsNotes, notes_of}
-use Rattle.page_list.specs.Pages.{IsEnded, IsPaged, IsStep, PageFrames, State, has_some, name_at, start_of}
+use Rattle.boxes.specs.Frames.{PageFrames}
+use Rattle.page_list.specs.Pages.{IsEnded, IsPaged, IsStep, State, has_some, name_at, start_of}
 use Rattle.page_list.specs.Pages.IsStep.{blank, flows, noted}
 use Rattle.page_list.specs.Parted.{AreNextSolids}
 use Rattle.page_list.proofs.CallLemmas.{called_end, called_start}

@@ -1,11 +1,10 @@
 -- There is one page list.
-use Rattle.std.proofs.Common.{◌≡◌, ◌<◌, ◌≤◌, ◌==◌, ◌-ℤ◌, ℕ, ℤ, Bool, true, false, List, [], ◌∷◌, ◌++◌, Option, Some, length, map, take, drop, slice_get, refl, sym, ap, ◌∙◌, subst, arith, ⊎_elim}
+use Rattle.std.proofs.Common.{◌≡◌, ◌<◌, ◌≤◌, ◌==◌, ◌-ℤ◌, ℕ, ℤ, Bool, true, false, List, [], ◌∷◌, Option, length, take, drop, slice_get, refl, sym, ap, ◌∙◌, subst, arith, ⊎_elim}
 use Rattle.std.proofs.lemmas.Bool.{cases_lt}
 use Rattle.metrics.specs.Face.{FontFace}
 use Rattle.boxes.specs.Steps.{IsRun}
 use Rattle.boxes.specs.Tree.{Tree}
 use Rattle.boxes.specs.declared.flow.Flow.{Flow}
-use Rattle.boxes.specs.declared.flow.Note.{Note}
 use Rattle.boxes.specs.declared.frames.Demand.{Demand}
 use Rattle.boxes.specs.declared.frames.Frame.{Frame}
 use Rattle.boxes.specs.declared.frames.PageKind.TheVariants as kind
@@ -13,36 +12,26 @@ use Rattle.boxes.specs.declared.page.Page.{Page}
 use Rattle.boxes.specs.declared.page.Placed.{Placed}
 use Rattle.boxes.specs.declared.place.Position.{Position}
 use Rattle.boxes.proofs.RunLemmas.{run_unique}
-use Rattle.cursor.specs.Remainder.{SolidView, IsRemainder, HaveOneRemainder}
-use Rattle.cuts.specs.declared.row.Row.{Row}
+use Rattle.cursor.specs.Remainder.{SolidView, HaveOneRemainder}
+use Rattle.cuts.specs.declared.row.SolidRow.{SolidRow}
 use Rattle.cuts.specs.Cuts.{FitsWith, Fits, FitsLoosely}
-use Rattle.cuts.specs.Rows.{extent_of}
+use Rattle.cuts.specs.Rows.{rows_extent}
 use Rattle.cuts.proofs.CutLemmas.{cut_moves, cut_unique}
 use Rattle.cuts.proofs.PointLemmas.{limit_within}
 use Rattle.notes.specs.declared.solid.NoteSolid.{NoteSolid}
-use Rattle.notes.specs.Notes.{IsCarryCount, IsPlaced, must_of, separator}
-use Rattle.note_list.specs.Lists.{NotePart, AreNoted, noted, carried_parts, placed_notes, left_of, rows_of as note_rows}
+use Rattle.bk_num.specs.Limits.{separator}
+use Rattle.notes.specs.Notes.{IsCarryCount, IsPlaced, must_of}
+use Rattle.note_list.specs.Lists.{AreNoted, carried_parts, placed_notes, left_of, note_rows}
+use Rattle.note_list.proofs.NotedLemmas.{noted_unique}
 use Rattle.note_list.specs.Places.{least_of}
 use Rattle.note_list.specs.declared.carried.Carried.{Carried}
 use Rattle.note_list.specs.declared.solid.NotedSolid.{NotedSolid}
 use Rattle.page_list.specs.declared.cut.Cut.{Cut}
 use Rattle.page_list.specs.declared.cut.CutFrom.{CutFrom}
 use Rattle.page_list.specs.Cuts.{IsBestCut, IsFlowCut, IsNotesCut, IsPagePoint, rows_of, first_gap, placed_from, place_after, forced_after, parts_after}
-use Rattle.page_list.specs.Pages.{State, PageFrames, IsStep, IsEnded, HasOnePageList, LeavesNothing, name_at, flow_page, notes_page, after_flow, after_notes, start_of}
+use Rattle.boxes.specs.Frames.{PageFrames}
+use Rattle.page_list.specs.Pages.{State, IsStep, IsEnded, HasOnePageList, LeavesNothing, name_at, flow_page, notes_page, after_flow, after_notes, start_of}
 use Rattle.page_list.specs.Pages.IsStep.{blank, flows, noted as notes_step}
-
-some-same : {A : Type 0} {x y : A} → Some x ≡ Some y → x ≡ y
-some-same h = cc
-
--- a page has one list of notes
-pub noted_unique : HaveOneRemainder → (faces : List FontFace) (notes : List Note) (width : ℤ) (ps : List NotePart) (xs ys : List NotedSolid) → AreNoted faces notes width ps xs → AreNoted faces notes width ps ys → xs ≡ ys
-noted_unique one faces notes width [] xs ys a b = a ∙ sym b
-noted_unique one faces notes width (p ∷ ps) xs ys (note, here, solids, rem, rest, more, is) (note', here', solids', rem', rest', more', is') =
-    let same : note ≡ note' = some-same (sym here ∙ here') in
-    let rem2 : IsRemainder faces note'.body width p.at solids = subst (λ (n : Note). IsRemainder faces n.body width p.at solids) same rem in
-    let list : solids ≡ solids' = one faces note'.body width p.at solids solids' rem2 rem' in
-    let tail : rest ≡ rest' = noted_unique one faces notes width ps rest rest' more more' in
-    is ∙ ap (λ (n : Note). map (noted n.body p) solids ++ rest) same ∙ ap (λ (l : List SolidView). map (noted note'.body p) l ++ rest) list ∙ ap (λ (l : List NotedSolid). map (noted note'.body p) solids' ++ l) tail ∙ sym is'
 
 pub carry_unique : (list : List NoteSolid) (carried : ℕ) (height : ℤ) (c d : ℕ) → IsCarryCount list carried height c → IsCarryCount list carried height d → c ≡ d
 carry_unique list carried height c d p q = ⊎_elim (λ (h : 0 < carried). some h) (λ (none : carried ≤ 0). let z : carried ≡ 0 = omega arith in p.none z ∙ sym (q.none z)) (cases_lt 0 carried)
@@ -66,7 +55,7 @@ placed_unique list least room m n p q =
     (cases_lt m n)
 
 -- points stand within a page's solids
-pub point_within : (rows : List Row) (l k : ℕ) → IsPagePoint rows l k → k ≤ length rows
+pub point_within : (rows : List SolidRow) (l k : ℕ) → IsPagePoint rows l k → k ≤ length rows
 point_within [] l k p = let e = p.1 in omega arith
 point_within (r ∷ rows) l k p = let w = p.within in let low = limit_within (r ∷ rows) in omega arith
 
@@ -75,7 +64,7 @@ rows_length t [] = refl
 rows_length t (s ∷ solids) = let r = rows_length t solids in omega arith
 
 -- a cut stays where the lists agree at each point
-pub best_moves : (kept : Bool) (rows : List Row) (height : ℤ) (xs ys : ℕ → List NotedSolid) (c level j : ℕ) → ((k : ℕ) → k ≤ length rows → xs k ≡ ys k) → IsBestCut kept rows height (λ k. note_rows (xs k)) c level j → IsBestCut kept rows height (λ k. note_rows (ys k)) c level j
+pub best_moves : (kept : Bool) (rows : List SolidRow) (height : ℤ) (xs ys : ℕ → List NotedSolid) (c level j : ℕ) → ((k : ℕ) → k ≤ length rows → xs k ≡ ys k) → IsBestCut kept rows height (λ k. note_rows (xs k)) c level j → IsBestCut kept rows height (λ k. note_rows (ys k)) c level j
 best_moves kept rows height xs ys c level j same best =
     cut_moves (IsPagePoint rows) (Fits kept rows height (λ k. note_rows (xs k)) c) (FitsLoosely kept rows height (λ k. note_rows (xs k)) c) (Fits kept rows height (λ k. note_rows (ys k)) c) (FitsLoosely kept rows height (λ k. note_rows (ys k)) c) level j
     (λ l k p f. subst (must_fit k) (same k (point_within rows l k p)) f)
@@ -104,7 +93,7 @@ module _ (one : HaveOneRemainder) (faces : List FontFace) (flow : Flow) (frame :
       ∙ ap (λ z. make y.to y.ended y.forced y.level y.solids z x.carried) (p.notes_is ∙ ap (λ (k : ℕ). placed_notes separator (take k (p.list p.count))) number ∙ ap (λ (l : List NotedSolid). placed_notes separator (take q.number l)) here ∙ sym q.notes_is)
       ∙ ap (make y.to y.ended y.forced y.level y.solids y.notes) (p.carried_is ∙ ap (λ (k : ℕ). left_of (drop k (p.list p.count))) number ∙ ap (λ (l : List NotedSolid). left_of (drop q.number l)) here ∙ sym q.carried_is)
     where
-      rows : List SolidView → List Row
+      rows : List SolidView → List SolidRow
       rows l = rows_of flow.main l
 
       solids : p.solids ≡ q.solids
@@ -114,10 +103,10 @@ module _ (one : HaveOneRemainder) (faces : List FontFace) (flow : Flow) (frame :
       lists j low =
           let moved : AreNoted faces flow.notes frame.width (parts_after flow from.at carried p.solids j) (q.list j) =
           subst (λ (l : List SolidView). AreNoted faces flow.notes frame.width (parts_after flow from.at carried l j) (q.list j)) (sym solids) (q.listed j (subst (λ (l : List SolidView). j ≤ length l) solids low)) in
-          noted_unique one faces flow.notes frame.width (parts_after flow from.at carried p.solids j) (p.list j) (q.list j) (p.listed j low) moved
+          noted_unique faces flow.notes frame.width (parts_after flow from.at carried p.solids j) (p.list j) (q.list j) (p.listed j low) moved
 
       own : p.own ≡ q.own
-      own = noted_unique one faces flow.notes frame.width (carried_parts carried) p.own q.own p.owned q.owned
+      own = noted_unique faces flow.notes frame.width (carried_parts carried) p.own q.own p.owned q.owned
 
       c : p.c ≡ q.c
       c = carry_unique (note_rows q.own) (length q.own) frame.height p.c q.c (subst (λ (l : List NotedSolid). IsCarryCount (note_rows l) (length l) frame.height p.c) own p.carries) q.carries
@@ -140,7 +129,7 @@ module _ (one : HaveOneRemainder) (faces : List FontFace) (flow : Flow) (frame :
       here = lists p.count p.within ∙ ap q.list at
 
       Places : ℕ → ℕ → List NotedSolid → List NotedSolid → List SolidView → ℕ → Type 0
-      Places level c list own solids count = IsPlaced (note_rows list) (least_of level (must_of (note_rows list) c) c (length own)) (frame.height -ℤ extent_of from.kept (rows_of flow.main solids) count) p.number
+      Places level c list own solids count = IsPlaced (note_rows list) (least_of level (must_of (note_rows list) c) c (length own)) (frame.height -ℤ rows_extent from.kept (rows_of flow.main solids) count) p.number
 
       moved : Places y.level q.c (q.list q.count) q.own q.solids q.count
       moved =
@@ -152,11 +141,11 @@ module _ (one : HaveOneRemainder) (faces : List FontFace) (flow : Flow) (frame :
           (subst (λ (k : ℕ). Places k p.c (p.list p.count) p.own p.solids p.count) cuts.0 p.places)))))
 
       number : p.number ≡ q.number
-      number = placed_unique (note_rows (q.list q.count)) (least_of y.level (must_of (note_rows (q.list q.count)) q.c) q.c (length q.own)) (frame.height -ℤ extent_of from.kept (rows_of flow.main q.solids) q.count) p.number q.number moved q.places
+      number = placed_unique (note_rows (q.list q.count)) (least_of y.level (must_of (note_rows (q.list q.count)) q.c) q.c (length q.own)) (frame.height -ℤ rows_extent from.kept (rows_of flow.main q.solids) q.count) p.number q.number moved q.places
 
   pub notes_cut_unique : (x y : List (ℕ × Placed)) (l r : List Carried) → IsNotesCut faces flow frame carried x l → IsNotesCut faces flow frame carried y r → (x ≡ y) × (l ≡ r)
   notes_cut_unique x y l r p q =
-      let list : p.list ≡ q.list = noted_unique one faces flow.notes frame.width (carried_parts carried) p.list q.list p.listed q.listed in
+      let list : p.list ≡ q.list = noted_unique faces flow.notes frame.width (carried_parts carried) p.list q.list p.listed q.listed in
       let number : p.number ≡ q.number = placed_unique (note_rows q.list) 1 frame.height p.number q.number (subst (λ (z : List NotedSolid). IsPlaced (note_rows z) 1 frame.height p.number) list p.places) q.places in (
         p.notes_is ∙ ap (λ (z : List NotedSolid). placed_notes separator (take p.number z)) list ∙ ap (λ (k : ℕ). placed_notes separator (take k q.list)) number ∙ sym q.notes_is,
         p.left_is ∙ ap (λ (z : List NotedSolid). left_of (drop p.number z)) list ∙ ap (λ (k : ℕ). left_of (drop k q.list)) number ∙ sym q.left_is,

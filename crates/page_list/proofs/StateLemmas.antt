@@ -15,7 +15,8 @@ use Rattle.note_list.specs.Calls.{called_before}
 use Rattle.note_list.specs.Conditions.{CanBePaged, IsAtSolid}
 use Rattle.note_list.specs.Lists.{carried_parts, called_parts}
 use Rattle.page_list.specs.Cuts.{IsFlowCut, parts_after, place_after}
-use Rattle.page_list.specs.Pages.{IsStep, PageFrames, State, name_at, start_of}
+use Rattle.boxes.specs.Frames.{PageFrames}
+use Rattle.page_list.specs.Pages.{IsStep, State, name_at, start_of}
 use Rattle.page_list.specs.Pages.IsStep.{blank, flows, noted}
 use Rattle.page_list.specs.declared.cut.Cut.{Cut}
 use Rattle.page_list.proofs.CallLemmas.{called_more, called_within}

@@ -22,7 +22,8 @@ is_sided free (Some d) = not (free d)
 abbrev pub sided_among : (Demand → Bool) → Tree → ℕ → List Event → ℕ
 sided_among free t k [] = 0
 sided_among free t k (e ∷ es) =
-    (if is_solid t.boxes e && is_sided free (seam_of t (record { event = k; offset = 0 }) (pos 0)).forced then 1 else 0) +
+    (if is_solid t.boxes e && is_sided free (seam_of t (record { event = k; offset = 0 }) (pos 0)).forced
+    then 1 else 0) +
     sided_among free t (suc k) es
 
 -- the forced seams of a tree whose demand isn't free, the start among them where it asks a side
@@ -45,15 +46,16 @@ chars_among leaves (Leaf l ∷ es) = chars_by (slice_get leaves l) + chars_among
 abbrev pub parts_in : Tree → ℕ
 parts_in t = chars_among t.leaves t.events + length (edges_among t.boxes t.events)
 
--- as many pages as parts of the main tree, at least one, and as parts of the bodies of the notes; and before each side that is asked as many
--- blank ones as frames need at most
+-- as many pages as parts of the main tree, at least one, and as parts of the bodies of the notes; and before each side
+-- that is asked as many blank ones as frames need at most
 abbrev pub most_pages_of : (Demand → Bool) → ℕ → Flow → ℕ
 most_pages_of free bound flow =
     (max 1 (parts_in flow.main) + sum_by (λ n. parts_in n.body) flow.notes) + sided_in free flow.main * bound
 
 -- what stands in the leaf of an event is a text
 abbrev pub HasText : Tree → ℕ → Type 0
-HasText t event = (l : ℕ) (leaf : LeafData) → slice_get t.events event ≡ Some (Leaf l) → slice_get t.leaves l ≡ Some leaf → IsUtf8 leaf.text
+HasText t event = (l : ℕ) (leaf : LeafData) → slice_get t.events event ≡ Some (Leaf l) →
+    slice_get t.leaves l ≡ Some leaf → IsUtf8 leaf.text
 
 -- what stands in each leaf is a text
 abbrev pub HaveTexts : Tree → Type 0

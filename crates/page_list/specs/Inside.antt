@@ -8,7 +8,8 @@ use Rattle.boxes.specs.declared.page.Placed.{Placed}
 abbrev pub EndsBy : ℤ → Placed → Type 0
 EndsBy height p = (p.top +ℤ p.height) ≤ℤ height
 
--- a solid ends above the note area, which stands at the foot of the frame and reaches to the greatest bottom of its solids
+-- a solid ends above the note area, which stands at the foot of the frame and reaches to the greatest bottom of its
+-- solids
 abbrev pub EndsAbove : ℤ → List (ℕ × Placed) → Placed → Type 0
 EndsAbove height notes p = All (λ n. ((p.top +ℤ p.height) +ℤ (n.1.top +ℤ n.1.height)) ≤ℤ height) notes
 
@@ -16,7 +17,7 @@ EndsAbove height notes p = All (λ n. ((p.top +ℤ p.height) +ℤ (n.1.top +ℤ 
 abbrev pub AreInside : ℤ → List (ℕ × Placed) → List Placed → Type 0
 AreInside height notes solids = All (λ p. EndsBy height p × EndsAbove height notes p) solids
 
--- at levels 0 to 2 the solids of each page end inside its frame and above its notes. At level 4 nothing fits, and a page overflows; at level 3
--- its notes may
+-- at levels 0 to 2 the solids of each page end inside its frame and above its notes. At level 4 nothing fits, and a
+-- page overflows; at level 3 its notes may
 abbrev pub EndInside : List Page → Type 0
 EndInside pages = All (λ p. p.level ≤ 2 → AreInside p.frame.height p.notes p.solids) pages

@@ -8,27 +8,33 @@ use Rattle.note_list.specs.Conditions.{CanBePaged}
 use Rattle.page_list.specs.Bounds.{HasTexts, most_pages_of}
 use Rattle.page_list.specs.Inside.{EndInside}
 use Rattle.page_list.specs.Noted.{BeginInTime, HoldsNotes}
-use Rattle.page_list.specs.Pages.{PageFrames, IsPaged}
+use Rattle.boxes.specs.Frames.{PageFrames}
+use Rattle.page_list.specs.Pages.{IsPaged}
 use Rattle.page_list.specs.Parted.{HoldsAll, HoldsBreaks, HoldsEdges, HoldsText, solids_of}
 
--- the main tree's solids stand on the pages each once and in order: all edges, and lines that part the text of each leaf
+-- the main tree's solids stand on the pages each once and in order: all edges, and lines that part the text of each
+-- leaf
 pub record HoldsMain (flow : Flow) (pages : List Page) : Type 0 where
   pub all : HoldsAll flow.main (solids_of pages)
   pub text : HoldsText flow.main (solids_of pages)
   pub edges : HoldsEdges flow.main (solids_of pages)
 
+-- each edge and each line of the main tree stands on the pages once
 abbrev pub MainStandsOnce : Type 0
-MainStandsOnce = (faces : List FontFace) (flow : Flow) (frames : PageFrames) (pages : List Page) → CanBePaged faces flow →
+MainStandsOnce = (faces : List FontFace) (flow : Flow) (frames : PageFrames) (pages : List Page) →
+    CanBePaged faces flow →
     IsPaged faces flow frames pages → HoldsMain flow pages
 
 -- so do the notes' solids, note after note in the order of calls
 abbrev pub NotesStandOnce : Type 0
-NotesStandOnce = (faces : List FontFace) (flow : Flow) (frames : PageFrames) (pages : List Page) → CanBePaged faces flow →
+NotesStandOnce = (faces : List FontFace) (flow : Flow) (frames : PageFrames) (pages : List Page) →
+    CanBePaged faces flow →
     IsPaged faces flow frames pages → HoldsNotes flow pages
 
 -- no note begins on a page before its call's, and at levels 0 to 2 it begins on that page
 abbrev pub NotesBeginInTime : Type 0
-NotesBeginInTime = (faces : List FontFace) (flow : Flow) (frames : PageFrames) (pages : List Page) → CanBePaged faces flow →
+NotesBeginInTime = (faces : List FontFace) (flow : Flow) (frames : PageFrames) (pages : List Page) →
+    CanBePaged faces flow →
     IsPaged faces flow frames pages → BeginInTime flow pages
 
 -- each forced seam stands between two pages, and the page after it meets the demand
@@ -38,7 +44,8 @@ BreaksHold = (faces : List FontFace) (flow : Flow) (frames : PageFrames) (pages 
 
 -- at levels 0 to 2 the solids of a page end inside its frame and above its notes
 abbrev pub PagesEndInside : Type 0
-PagesEndInside = (faces : List FontFace) (flow : Flow) (frames : PageFrames) (pages : List Page) → CanBePaged faces flow →
+PagesEndInside = (faces : List FontFace) (flow : Flow) (frames : PageFrames) (pages : List Page) →
+    CanBePaged faces flow →
     IsPaged faces flow frames pages → EndInside pages
 
 -- frames that meet each demand within a bound, a free one at once
@@ -48,6 +55,7 @@ pub record MeetWithin (free : Demand → Bool) (bound : ℕ) (frames : PageFrame
 
 -- a page list is no longer than the parts of its flow and the sides that are asked allow
 abbrev pub PagesAreFew : Type 0
-PagesAreFew = (faces : List FontFace) (flow : Flow) (frames : PageFrames) (free : Demand → Bool) (bound : ℕ) (pages : List Page) →
+PagesAreFew = (faces : List FontFace) (flow : Flow) (frames : PageFrames)
+    (free : Demand → Bool) (bound : ℕ) (pages : List Page) →
     CanBePaged faces flow → HasTexts flow → MeetWithin free bound frames → IsPaged faces flow frames pages →
     length pages ≤ most_pages_of free bound flow

@@ -1,4 +1,5 @@
--- That the solids on the pages are all that the tree has (css-break-3, 2: content is divided, and none is lost or shown twice).
+-- That the solids on the pages are all that the tree has (css-break-3, 2: content is divided, and none is lost or shown
+-- twice).
 use Rattle.std.specs.Prelude.{◌≡◌, ℕ, suc, true, ◌+◌, ◌<◌, ◌≤◌, ◌==◌, List, [], ◌∷◌, Option, None, Some, length, slice_get, slice_range, if◌then◌else◌}
 use Rattle.std.specs.List.{flat_map, All}
 use Rattle.seams.specs.Seams.{seam_of}
@@ -16,7 +17,8 @@ use Rattle.boxes.specs.declared.props.BoxProps.{BoxProps}
 use Rattle.cursor.specs.Remainder.{end_of}
 use Rattle.seams.specs.Runs.{solid_after, is_solid}
 use Rattle.note_list.specs.Calls.{start_place}
-use Rattle.page_list.specs.Pages.{PageFrames, meets_at}
+use Rattle.boxes.specs.Frames.{PageFrames}
+use Rattle.page_list.specs.Pages.{meets_at}
 
 -- a line ends after it begins and within its leaf
 pub record IsPartOfLeaf (t : Tree) (p : Placed) : Type 0 where
@@ -35,6 +37,7 @@ pub record IsWholeEdge (kind : SolidKind) (p : Placed) : Type 0 where
   pub ends : p.end ≡ record { event = p.at.event + 1; offset = 0 }
   pub kind_is : p.kind ≡ kind
 
+-- a solid of a tree: a part of a leaf, or all of an edge
 pub data IsPart (t : Tree) (p : Placed) : Type 0 where
   line : IsPartOfLeaf t p → IsPart t p
   upper : (b : ℕ) → slice_get t.events p.at.event ≡ Some (Opens b) → IsWholeEdge (OpenEdge b) p → IsPart t p
@@ -57,10 +60,13 @@ HoldsAll t solids = AreNextSolids t start_place solids
 -- the edges that are there among some events, in order
 abbrev pub edges_among : List BoxProps → List Event → List SolidKind
 edges_among boxes [] = []
-edges_among boxes (Opens b ∷ es) = if is_solid boxes (Opens b) then OpenEdge b ∷ edges_among boxes es else edges_among boxes es
-edges_among boxes (Closes b ∷ es) = if is_solid boxes (Closes b) then CloseEdge b ∷ edges_among boxes es else edges_among boxes es
+edges_among boxes (Opens b ∷ es) =
+    if is_solid boxes (Opens b) then OpenEdge b ∷ edges_among boxes es else edges_among boxes es
+edges_among boxes (Closes b ∷ es) =
+    if is_solid boxes (Closes b) then CloseEdge b ∷ edges_among boxes es else edges_among boxes es
 edges_among boxes (Leaf l ∷ es) = edges_among boxes es
 
+-- the edge that a solid is, if it is one
 abbrev pub edge_by : SolidKind → List SolidKind
 edge_by (OpenEdge b) = OpenEdge b ∷ []
 edge_by (CloseEdge b) = CloseEdge b ∷ []
@@ -74,6 +80,7 @@ HoldsEdges t solids = flat_map (λ p. edge_by p.kind) solids ≡ edges_among t.b
 abbrev pub solids_of : List Page → List Placed
 solids_of pages = flat_map (λ p. p.solids) pages
 
+-- the text of a leaf, the empty one where none is
 abbrev pub text_of : Option LeafData → List ℕ
 text_of None = []
 text_of (Some leaf) = leaf.text
@@ -85,6 +92,7 @@ text_by leaves (Some (Opens b)) = []
 text_by leaves (Some (Closes b)) = []
 text_by leaves (Some (Leaf l)) = text_of (slice_get leaves l)
 
+-- the text of the leaf at an event
 abbrev pub text_at : Tree → ℕ → List ℕ
 text_at t event = text_by t.leaves (slice_get t.events event)
 
@@ -99,11 +107,13 @@ HoldsText t lines = flat_map (text_on t) lines ≡ flat_map (λ l. l.text) t.lea
 
 -- no seam inside a page is forced
 abbrev pub IsUnbroken : Tree → Page → Type 0
-IsUnbroken t p = (k : ℕ) (s : Placed) → slice_get p.solids (suc k) ≡ Some s → (seam_of t s.at p.frame.width).forced ≡ None
+IsUnbroken t p = (k : ℕ) (s : Placed) → slice_get p.solids (suc k) ≡ Some s →
+    (seam_of t s.at p.frame.width).forced ≡ None
 
 -- a page whose first solid stands behind a forced seam, or at a start that asks a side, meets the demand
 abbrev pub IsMet : Tree → PageFrames → Page → Type 0
-IsMet t frames p = (s : Placed) → slice_get p.solids 0 ≡ Some s → meets_at frames p.index (seam_of t s.at p.frame.width).forced ≡ true
+IsMet t frames p = (s : Placed) → slice_get p.solids 0 ≡ Some s →
+    meets_at frames p.index (seam_of t s.at p.frame.width).forced ≡ true
 
 -- each forced seam stands between two pages, and the page after it meets the demand
 abbrev pub HoldsBreaks : Tree → PageFrames → List Page → Type 0

@@ -20,8 +20,10 @@ AreEndsOf pages e = (at : Position) → page_by e at ≡ page_at pages at
 
 -- ---- what a finder keeps
 
+-- the ends that the fields of a finder stand for
 abbrev pub ends_in : Inside → Ends
 ends_in a = record { ends = a.ends.items; last = a.last }
 
+-- these ends never fall
 abbrev pub NeverFallIn : Inside → Type 0
 NeverFallIn a = NeverFall a.ends.items

@@ -19,13 +19,15 @@ last_value resets = option_map (λ (r : Reset). r.value) (last_or None resets)
 abbrev pub value_on : Tree → List Page → List Reset → ℕ → Option ℤ
 value_on t pages resets k = last_value (filter (λ r. page_of t pages r.at == k) resets)
 
+-- that value of each page, in order
 abbrev pub values_of : Tree → List Page → List Reset → List (Option ℤ)
 values_of t pages resets = map (value_on t pages resets) (range_with_len 0 (length pages))
 
 -- numbers after one before them: the value of a page's last reset, and without one the next number
 abbrev pub numbers_after : ℤ → List (Option ℤ) → List ℤ
 numbers_after before [] = []
-numbers_after before (value ∷ values) = unwrap_or value (before +ℤ pos 1) ∷ numbers_after (unwrap_or value (before +ℤ pos 1)) values
+numbers_after before (value ∷ values) =
+    unwrap_or value (before +ℤ pos 1) ∷ numbers_after (unwrap_or value (before +ℤ pos 1)) values
 
 -- the numbers of the pages of a list, in order; the first page is numbered 1 where nothing resets it
 abbrev pub numbers_of : Tree → List Page → List Reset → List ℤ

@@ -27,11 +27,16 @@ is_after at s = is_before at s.at
 -- the solid to which what stands at a place belongs, between those before it and those after it
 pub data IsOwner (at : Position) (front : List Placed) (s : Placed) (back : List Placed) : Type 0 where
   of_place : holds at s ≡ true → IsOwner at front s back
-  of_next : All (λ u. holds at u ≡ false) (front ++ s ∷ back) → is_after at s ≡ true → All (λ u. is_after at u ≡ false) front → IsOwner at front s back
-  of_last : All (λ u. holds at u ≡ false) (front ++ s ∷ back) → All (λ u. is_after at u ≡ false) (front ++ s ∷ back) → back ≡ [] → IsOwner at front s back
+  of_next : All (λ u. holds at u ≡ false) (front ++ s ∷ back) → is_after at s ≡ true →
+      All (λ u. is_after at u ≡ false) front → IsOwner at front s back
+  of_last : All (λ u. holds at u ≡ false) (front ++ s ∷ back) → All (λ u. is_after at u ≡ false) (front ++ s ∷ back) →
+      back ≡ [] → IsOwner at front s back
 
 -- on a page list whose solids ascend, the page of a place has the solid to which what stands there belongs
 abbrev pub HaveOwners : Type 0
-HaveOwners = (t : Tree) (pages : List Page) (start at : Position) → Ascend start (solids_of pages) → 0 < length (solids_of pages) →
-    (page : Page) × (s : Placed) × (front : List Placed) × (back : List Placed) × (slice_get pages (page_of t pages at) ≡ Some page) × (slice_get page.solids (solid_at page (anchor_of t at)) ≡ Some s)
+HaveOwners = (t : Tree) (pages : List Page) (start at : Position) → Ascend start (solids_of pages) →
+    0 < length (solids_of pages) →
+    (page : Page) × (s : Placed) × (front : List Placed) × (back : List Placed) ×
+    (slice_get pages (page_of t pages at) ≡ Some page) ×
+    (slice_get page.solids (solid_at page (anchor_of t at)) ≡ Some s)
     × (solids_of pages ≡ front ++ s ∷ back) × IsOwner (anchor_of t at) front s back

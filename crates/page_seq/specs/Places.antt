@@ -16,7 +16,8 @@ is_before a b = nat_lt a.event b.event || (a.event == b.event && nat_lt a.offset
 
 -- places that never fall along a list
 abbrev pub NeverFall : List Position → Type 0
-NeverFall places = (k : ℕ) (a b : Position) → slice_get places k ≡ Some a → slice_get places (suc k) ≡ Some b → is_before b a ≡ false
+NeverFall places = (k : ℕ) (a b : Position) → slice_get places k ≡ Some a → slice_get places (suc k) ≡ Some b →
+    is_before b a ≡ false
 
 -- how long the text of the leaf at an event is
 abbrev pub text_length : List LeafData → Option Event → Option ℕ
@@ -25,6 +26,7 @@ text_length leaves (Some (Opens b)) = None
 text_length leaves (Some (Closes b)) = None
 text_length leaves (Some (Leaf l)) = option_map (λ leaf. length leaf.text) (slice_get leaves l)
 
+-- a place, or the next event where it is the end of a text of some length
 abbrev pub past_text : Position → Option ℕ → Position
 past_text at None = at
 past_text at (Some size) = if nat_le size at.offset then record { event = suc at.event; offset = 0 } else at
@@ -41,6 +43,7 @@ ends_after at solid = is_before at solid.end
 abbrev pub has_end_after : Position → Page → Bool
 has_end_after at page = list_any (ends_after at) page.solids
 
+-- whether a page holds a solid
 abbrev pub has_solid : Page → Bool
 has_solid page = not (length page.solids == 0)
 
@@ -49,6 +52,7 @@ abbrev pub first_place : {X : Type 0} → (X → Bool) → List X → Option ℕ
 first_place p [] = None
 first_place p (x ∷ xs) = if p x then Some 0 else option_map suc (first_place p xs)
 
+-- the last of some places, where a later one may be found and this one is one or not
 abbrev pub last_or_here : Bool → Option ℕ → Option ℕ
 last_or_here here (Some k) = Some (suc k)
 last_or_here here None = if here then Some 0 else None
@@ -62,12 +66,13 @@ last_place p (x ∷ xs) = last_or_here (p x) (last_place p xs)
 abbrev pub last_page : List Page → ℕ
 last_page pages = unwrap_or (last_place has_solid pages) 0
 
--- the first page with a solid that holds the place or stands after it; where no page has one, the last page that holds a
--- solid; where none holds any, the first page
+-- the first page with a solid that holds the place or stands after it; where no page has one, the last page that holds
+-- a solid; where none holds any, the first page
 abbrev pub page_at : List Page → Position → ℕ
 page_at pages at = unwrap_or (first_place (has_end_after at) pages) (last_page pages)
 
--- the page that what stands at a place of a tree belongs to, by its place in the list, from 0 (css-gcpm-3, 1.1; css-page-3)
+-- the page that what stands at a place of a tree belongs to, by its place in the list, from 0 (css-gcpm-3, 1.1;
+-- css-page-3)
 abbrev pub page_of : Tree → List Page → Position → ℕ
 page_of t pages at = page_at pages (anchor_of t at)
 

@@ -51,7 +51,8 @@ fn furthest(page: &Page, from: Position) -> Position
 
 /// For each page the furthest end of its solids and of those on pages before it.
 fn ends_of(alloc: Global, pages: &[Page]) -> Result<Vec<Position>, NoMem>
-    ensures first { IfOk result (λ v. (at : Position) → first_place (is_before at) v.items ≡ first_place (has_end_after at) pages.now) }
+    ensures first { IfOk result (λ v. (at : Position) →
+        first_place (is_before at) v.items ≡ first_place (has_end_after at) pages.now) }
     ensures order { IfOk result (λ v. NeverFall v.items) }
 {
     let mut ends = Vec::new(alloc);

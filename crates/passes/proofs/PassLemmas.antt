@@ -10,7 +10,7 @@ use Rattle.box_gen.specs.declared.inline.BuildErr.{BuildErr}
 use Rattle.box_gen.specs.declared.inline.BuildErr.TheVariants as by_build
 use Rattle.gen_text.specs.References.{AreTargets}
 use Rattle.gen_text.specs.declared.table.Entry.{Entry}
-use Rattle.page_list.specs.Pages.{PageFrames}
+use Rattle.boxes.specs.Frames.{PageFrames}
 use Rattle.refs.proofs.LawLemmas.{differences, have_nodes}
 use Rattle.refs.specs.Differences.{IsFirstDifference}
 use Rattle.passes.proofs.TargetLemmas.{targets_within}

@@ -19,10 +19,12 @@ pub record IsPass (w : Work) (table : List Entry) (flow : Flow) (pages : List Pa
   pub few : length pages ≤ most_pages
   pub shown : next ≡ table_of flow pages w.targets
 
+-- a pass under a table shows a table
 abbrev pub Shows : Work → List Entry → List Entry → Type 0
 Shows w table next = (flow : Flow) × (pages : List Page) × IsPass w table flow pages next
 
--- the table after k passes none of which settled: zeros at first, then what a pass shows under the table before, from which it differs
+-- the table after k passes none of which settled: zeros at first, then what a pass shows under the table before, from
+-- which it differs
 abbrev pub IsOpenAfter : Work → ℕ → List Entry → Type 0
 IsOpenAfter w zero table = table ≡ opening_of w.targets
 IsOpenAfter w (suc k) table = (before : List Entry) × IsOpenAfter w k before × Shows w before table × (before ≢ table)
@@ -31,8 +33,9 @@ IsOpenAfter w (suc k) table = (before : List Entry) × IsOpenAfter w k before ×
 abbrev pub id_of : List Node → ℕ → List ℕ
 id_of nodes n = unwrap_or (attribute_at nodes n (codes "id")) (codes "")
 
--- how passes end: they settle, after so many, with a flow, its pages and its table; they don't settle, for a target of an id whose numbers
--- in the last two tables differ; a flow has more text than is laid out; the most pages leave something of it unplaced
+-- how passes end: they settle, after so many, with a flow, its pages and its table; they don't settle, for a target of
+-- an id whose numbers in the last two tables differ; a flow has more text than is laid out; the most pages leave
+-- something of it unplaced
 pub data End : Type 0 where
   settled : ℕ → Flow → List Page → List Entry → End
   unsettled : List ℕ → ℤ → ℤ → End
@@ -41,12 +44,15 @@ pub data End : Type 0 where
 
 -- how the pass after k others ends all, which goes by a table
 pub data IsLast (w : Work) (limit k : ℕ) (table : List Entry) : End → Type 0 where
-  settles : (flow : Flow) (pages : List Page) → IsPass w table flow pages table → IsLast w limit k table (settled (suc k) flow pages table)
-  differs : (a b : Entry) (next : List Entry) → suc k ≡ limit → Shows w table next → (place : ℕ) → IsFirstDifference table next place →
+  settles : (flow : Flow) (pages : List Page) → IsPass w table flow pages table →
+      IsLast w limit k table (settled (suc k) flow pages table)
+  differs : (a b : Entry) (next : List Entry) → suc k ≡ limit → Shows w table next → (place : ℕ) →
+      IsFirstDifference table next place →
       slice_get table place ≡ Some a → slice_get next place ≡ Some b →
       IsLast w limit k table (unsettled (id_of w.nodes a.node.0) a.number b.number)
   too_long : (flow : Flow) → IsFlowUnder w table flow → most_text_bytes < bytes_in flow → IsLast w limit k table long
-  too_many : (flow : Flow) → IsFlowUnder w table flow → bytes_in flow ≤ most_text_bytes → LeavesSome w.faces flow w.frames most_pages →
+  too_many : (flow : Flow) → IsFlowUnder w table flow → bytes_in flow ≤ most_text_bytes →
+      LeavesSome w.faces flow w.frames most_pages →
       IsLast w limit k table many
 
 -- how passes end, of which there are at most so many

@@ -3,7 +3,7 @@ use Rattle.std.specs.Prelude.{ℕ, List, Result, Ok, Err}
 use Rattle.bk_num.specs.declared.ids.NodeId.{NodeId}
 use Rattle.counters.specs.At.{counter_values}
 use Rattle.gen_text.specs.References.{AreTargets}
-use Rattle.page_list.specs.Pages.{PageFrames}
+use Rattle.boxes.specs.Frames.{PageFrames}
 use Rattle.passes.specs.declared.settle.Input.{Input}
 use Rattle.passes.specs.declared.settle.Settled.{Settled}
 use Rattle.passes.specs.declared.settle.PassErr.{PassErr}
@@ -31,7 +31,8 @@ pub record HasEnd (input : Input) (frames : PageFrames) (limit : ℕ) (end : End
 -- they are answered as they end, or memory runs out
 abbrev pub Settles : Input → PageFrames → ℕ → Result Settled PassErr → Type 0
 Settles input frames limit (Ok s) = HasEnd input frames limit (settled s.passes s.flow s.pages.pages s.table)
-Settles input frames limit (Err (err.NotSettled target before after)) = HasEnd input frames limit (unsettled target before after)
+Settles input frames limit (Err (err.NotSettled target before after)) =
+    HasEnd input frames limit (unsettled target before after)
 Settles input frames limit (Err err.Text) = HasEnd input frames limit long
 Settles input frames limit (Err err.Pages) = HasEnd input frames limit many
 Settles input frames limit (Err err.NoMemory) = Unit {0}

@@ -15,10 +15,12 @@ use Rattle.passes.specs.declared.settle.PassErr.TheVariants as err
 use Rattle.passes.specs.Passes.{id_of}
 use Rattle.passes.specs.Work.{Work, IsFlowUnder}
 
+-- the answer where a flow is not built
 abbrev pub of_build : BuildErr → PassErr
 of_build by_build.Text = err.Text
 of_build by_build.NoMemory = err.NoMemory
 
+-- the answer where a flow has no pages
 abbrev pub of_pages : PageErr → PassErr
 of_pages by_pages.Pages = err.Pages
 of_pages by_pages.NoMemory = err.NoMemory
@@ -45,7 +47,8 @@ Stops w table (err.NotSettled target before after) = ⊥
 
 -- the answer where the last two tables have these entries for a target: its id with its two numbers, or memory runs out
 abbrev pub IsNotSettled : List Node → Entry → Entry → PassErr → Type 0
-IsNotSettled nodes a b (err.NotSettled target before after) = (target ≡ id_of nodes a.node.0) × (before ≡ a.number) × (after ≡ b.number)
+IsNotSettled nodes a b (err.NotSettled target before after) = (target ≡ id_of nodes a.node.0) × (before ≡ a.number) ×
+    (after ≡ b.number)
 IsNotSettled nodes a b err.NoMemory = Unit {0}
 IsNotSettled nodes a b err.Text = ⊥
 IsNotSettled nodes a b err.Pages = ⊥

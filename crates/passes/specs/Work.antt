@@ -12,11 +12,11 @@ use Rattle.gen_text.specs.Generated.{AreGenerated, generated_text, assigned_stri
 use Rattle.gen_text.specs.declared.generated.NodeTexts.{NodeTexts}
 use Rattle.gen_text.specs.declared.table.Entry.{Entry}
 use Rattle.metrics.specs.Face.{FontFace}
-use Rattle.page_list.specs.Pages.{PageFrames}
+use Rattle.boxes.specs.Frames.{PageFrames}
 use Rattle.style.specs.Nodes.{NodeStyles, is_note_in}
 
--- what is the same in all passes: nodes with their styles, the values of counters, faces, the frames of pages, and the elements that page
--- references lead to
+-- what is the same in all passes: nodes with their styles, the values of counters, faces, the frames of pages, and the
+-- elements that page references lead to
 pub record Work : Type 0 where
   pub nodes : List Node
   pub rows : List NodeStyles

@@ -5,7 +5,8 @@ ghost use Rattle.bk_num.specs.Limits.{most_text_bytes};
 ghost use Rattle.bk_num.specs.declared.ids.NodeId.{NodeId};
 ghost use Rattle.box_gen.specs.Notes.{bytes_in};
 ghost use Rattle.box_gen.specs.Sources.{AreInRange, IsRootShown};
-ghost use Rattle.page_list.specs.Pages.{HaveNearTops, PageFrames};
+ghost use Rattle.boxes.specs.Frames.{PageFrames};
+ghost use Rattle.page_list.specs.Pages.{HaveNearTops};
 ghost use Rattle.passes.specs.Conditions.{IsGoodFlow};
 ghost use Rattle.passes.specs.Passes.{IsPass};
 ghost use Rattle.passes.specs.Settles.{work_of};
@@ -73,11 +74,11 @@ pub(crate) fn pass_under<Fr: Frames, L: Ledger>(
     requires shown { IsRootShown input.now.styles.now }
     requires targets { NodesAscend targets.now }
     ensures pass { IfOk result (λ p. IsPass (work_of input.now
-        (record { meets = Fr.meets frames.now; frame_of = Fr.frame_of frames.now }) targets.now) table.now p.flow p.pages.pages p.shown) }
+        (Fr.view frames.now) targets.now) table.now p.flow p.pages.pages p.shown) }
     ensures good { IfOk result (λ p. IsGoodFlow input.now.faces.now p.flow) }
     ensures tops { IfOk result (λ p. HaveNearTops p.pages.pages) }
     ensures stops { IfErr result (λ err. Stops (work_of input.now
-        (record { meets = Fr.meets frames.now; frame_of = Fr.frame_of frames.now }) targets.now) table.now err) }
+        (Fr.view frames.now) targets.now) table.now err) }
 {
     let flow = flow_under(alloc, input, table)?;
     let pages = paginate(alloc, &flow, input.faces, frames, steps)?;

@@ -48,8 +48,8 @@ pub struct Settled {
     pub passes: u32,
 }
 
-/// Why passes don't settle: the last two give a target other numbers, the flow of a pass has more than 33,554,432 bytes of
-/// text, 100,000 pages leave something of it unplaced, or want of memory.
+/// Why passes don't settle: the last two give a target other numbers, the flow of a pass has more than 33,554,432 bytes
+/// of text, 100,000 pages leave something of it unplaced, or want of memory.
 #[derive(Drop)]
 pub enum PassErr {
     NotSettled {
@@ -144,7 +144,7 @@ fn settle_for<Fr: Frames, L: Ledger>(
     requires ranges { AreInRange input.now.styles.now }
     requires shown { IsRootShown input.now.styles.now }
     requires targets { AreTargets input.now.dom.now input.now.styles.now targets.now }
-    ensures settles { Settles input.now (record { meets = Fr.meets frames.now; frame_of = Fr.frame_of frames.now }) limit result }
+    ensures settles { Settles input.now (Fr.view frames.now) limit result }
     ensures good { IfOk result (λ s. IsGoodFlow input.now.faces.now s.flow) }
     ensures tops { IfOk result (λ s. HaveNearTops s.pages.pages) }
     ensures few { IfOk result (λ s. length s.pages.pages ≤ most_pages) }
@@ -179,8 +179,8 @@ fn settle_for<Fr: Frames, L: Ledger>(
 /// # Errors
 ///
 /// `NotSettled` exactly where each of `limit` passes changes the table: the id of the first target whose numbers in the
-/// last two tables differ, with these numbers. `Text` exactly where the flow of a pass has more than 33,554,432 bytes of
-/// text, and `Pages` exactly where 100,000 pages of it leave something unplaced.
+/// last two tables differ, with these numbers. `Text` exactly where the flow of a pass has more than 33,554,432 bytes
+/// of text, and `Pages` exactly where 100,000 pages of it leave something unplaced.
 pub fn settle<Fr: Frames, L: Ledger>(
     alloc: Global,
     input: &Input<'_>,
@@ -191,7 +191,7 @@ pub fn settle<Fr: Frames, L: Ledger>(
     requires limit { 0 < limit }
     requires ranges { AreInRange input.now.styles.now }
     requires shown { IsRootShown input.now.styles.now }
-    ensures settles { Settles input.now (record { meets = Fr.meets frames.now; frame_of = Fr.frame_of frames.now }) limit result }
+    ensures settles { Settles input.now (Fr.view frames.now) limit result }
     ensures good { IfOk result (λ s. IsGoodFlow input.now.faces.now s.flow) }
     ensures tops { IfOk result (λ s. HaveNearTops s.pages.pages) }
     ensures few { IfOk result (λ s. length s.pages.pages ≤ most_pages) }

@@ -20,7 +20,8 @@ begins_of pages count = map (begins_on pages) (range_with_len 0 count)
 -- a page is written for each note that stands on it and for which none was written
 abbrev pub AreNotedOn : (ℕ → Bool) → ℕ → List (Option ℕ) → List (Option ℕ) → Type 0
 AreNotedOn here page old new =
-    (n : ℕ) (d : Option ℕ) → n < length old → slice_index_or new n d ≡ option_or (slice_index_or old n d) (if here n then Some page else None)
+    (n : ℕ) (d : Option ℕ) → n < length old →
+    slice_index_or new n d ≡ option_or (slice_index_or old n d) (if here n then Some page else None)
 
 -- the first place of a node in a list of nodes
 abbrev pub place_of : List NodeId → NodeId → Option ℕ
@@ -31,11 +32,13 @@ abbrev pub AreStartsOf : List NodeId → List Start → List (Option Start) → 
 AreStartsOf nodes starts found =
     (node : NodeId) (k : ℕ) → place_of nodes node ≡ Some k → slice_get found k ≡ Some (start_of starts node)
 
+-- what is kept of the start of an element, by its number
 abbrev pub start_at : List (Option Start) → Option ℕ → Option Start
 start_at found None = None
 start_at found (Some k) = unwrap_or (slice_get found k) None
 
--- what is known of the pages of a flow: the page of each place, the page on which each note begins, the number of each page
+-- what is known of the pages of a flow: the page of each place, the page on which each note begins, the number of each
+-- page
 pub record AreNumbersOf (flow : Flow) (pages : List Page) (known : PageNumbers) : Type 0 where
   pub finder : AreEndsOf pages known.finder
   pub notes : known.notes.items ≡ begins_of pages (length flow.notes)

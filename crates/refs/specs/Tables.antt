@@ -10,6 +10,7 @@ use Rattle.gen_text.specs.declared.table.Entry.{Entry}
 use Rattle.page_seq.specs.Numbers.{numbers_of}
 use Rattle.refs.specs.Begins.{page_of_start}
 
+-- the numbers of elements ascend
 abbrev pub NodesAscend : List NodeId → Type 0
 NodesAscend nodes = IsNonDecreasingBy (λ (n : NodeId). n.0) nodes
 
@@ -26,6 +27,7 @@ abbrev pub number_from : Flow → List Page → Option Start → ℤ
 number_from flow pages None = pos 0
 number_from flow pages (Some s) = number_at (numbers_of flow.main pages flow.resets) (page_of_start flow pages s)
 
+-- the entry of an element: the number of the page on which it begins
 abbrev pub entry_of : Flow → List Page → NodeId → Entry
 entry_of flow pages node = record { node = node; number = number_from flow pages (start_of flow.starts node) }
 
@@ -42,18 +44,21 @@ opening_of nodes = map (λ (node : NodeId). record { node = node; number = pos 0
 
 -- tables have the nodes that they are made for, in order
 pub record TablesHaveNodes : Type 0 where
-  pub shown : (flow : Flow) (pages : List Page) (nodes : List NodeId) → map (λ e. e.node) (table_of flow pages nodes) ≡ nodes
+  pub shown : (flow : Flow) (pages : List Page) (nodes : List NodeId) →
+      map (λ e. e.node) (table_of flow pages nodes) ≡ nodes
   pub opening : (nodes : List NodeId) → map (λ e. e.node) (opening_of nodes) ≡ nodes
 
 -- a reference to one of the nodes finds the number of the page on which its element begins
 abbrev pub ReferencesFindNumbers : Type 0
-ReferencesFindNumbers = (flow : Flow) (pages : List Page) (nodes : List NodeId) (k : ℕ) (node : NodeId) → slice_get nodes k ≡ Some node →
+ReferencesFindNumbers = (flow : Flow) (pages : List Page) (nodes : List NodeId) (k : ℕ) (node : NodeId) →
+    slice_get nodes k ≡ Some node →
     number_in (table_of flow pages nodes) node.0 ≡ Some (number_from flow pages (start_of flow.starts node))
 
 -- where there is a page, an element that the flow has begins on one of the list, and has its number
 abbrev pub ElementsHavePages : Type 0
 ElementsHavePages = (flow : Flow) (pages : List Page) (s : Start) → 0 < length pages →
-    slice_get (numbers_of flow.main pages flow.resets) (page_of_start flow pages s) ≡ Some (number_from flow pages (Some s))
+    slice_get (numbers_of flow.main pages flow.resets) (page_of_start flow pages s) ≡
+    Some (number_from flow pages (Some s))
 
 -- nodes that rise strictly, as targets do, ascend
 abbrev pub TargetsAscend : Type 0

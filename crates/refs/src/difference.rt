@@ -20,8 +20,8 @@ fn difference_in(a: &[Entry], b: &[Entry]) -> Option<usize>
     if a.len() == b.len() { None } else { Some(at) }
 }
 
-/// The first place at which two tables differ, in an entry or because one of them ends there; None exactly where they are
-/// equal. It takes no memory.
+/// The first place at which two tables differ, in an entry or because one of them ends there; None exactly where they
+/// are equal. It takes no memory.
 pub fn first_difference(a: &Table, b: &Table) -> Option<usize>
     ensures place { MatchOption result (a.now ≡ b.now) (λ k. IsFirstDifference a.now b.now k) }
     ensures within { length a.now ≡ length b.now → IfSome result (λ k. k < length a.now) }

@@ -60,7 +60,8 @@ impl PageNumbers {
     /// The page on which a note begins, and that of its call where no page has a solid of it.
     fn page_of_note(&self, flow: &Flow, number: usize, note: &Note) -> usize
         requires { slice_get flow.now.notes number ≡ Some note.now }
-        ensures { (pages : List Page) → AreNumbersOf flow.now pages self.now → result ≡ page_of_note flow.now pages number note.now }
+        ensures { (pages : List Page) → AreNumbersOf flow.now pages self.now →
+            result ≡ page_of_note flow.now pages number note.now }
     {
         match begins_on(self.notes.as_slice(), number) {
             Some(page) => page,
@@ -70,7 +71,8 @@ impl PageNumbers {
 
     /// The page on which an element begins.
     fn page_of(&self, flow: &Flow, start: Start) -> usize
-        ensures { (pages : List Page) → AreNumbersOf flow.now pages self.now → result ≡ page_of_start flow.now pages start }
+        ensures { (pages : List Page) → AreNumbersOf flow.now pages self.now →
+            result ≡ page_of_start flow.now pages start }
     {
         if let Some(number) = start.note {
             if let Some(note) = flow.notes.as_slice().get(number as usize) {
@@ -82,7 +84,8 @@ impl PageNumbers {
 
     /// The number of the page on which an element begins, and 0 for one that doesn't begin.
     pub(crate) fn number_of(&self, flow: &Flow, start: Option<Start>) -> i64
-        ensures { (pages : List Page) → AreNumbersOf flow.now pages self.now → result ≡ number_from flow.now pages start }
+        ensures { (pages : List Page) → AreNumbersOf flow.now pages self.now →
+            result ≡ number_from flow.now pages start }
     {
         match start {
             Some(start) => number_at(self.numbers.as_slice(), self.page_of(flow, start)),

@@ -18,9 +18,9 @@ use gen_text::table::{Entry, Table};
 use std::alloc::Global;
 
 /// The table that a page list shows: for each node the number of the page on which its element begins, by the resets of
-/// page numbers. An element in a note begins on the page of the note's first solid, and where no page has one, on that of
-/// the note's call. A node that doesn't begin in the flow has the number 0. It goes once along the pages, and costs a
-/// binary search for each start of the flow and two for each node.
+/// page numbers. An element in a note begins on the page of the note's first solid, and where no page has one, on that
+/// of the note's call. A node that doesn't begin in the flow has the number 0. It goes once along the pages, and costs
+/// a binary search for each start of the flow and two for each node.
 pub fn shown(alloc: Global, flow: &Flow, list: &PageList, nodes: &[NodeId]) -> Result<Table, NoMem>
     requires nodes { NodesAscend nodes.now }
     requires order { NeverFall (map (λ r. r.at) flow.now.resets) }

@@ -28,7 +28,8 @@ fn place_of(nodes: &[NodeId], node: NodeId) -> Option<usize>
 fn start_on(found: &mut [Option<Start>], nodes: &[NodeId], start: Start)
     requires nodes { NodesAscend nodes.now }
     requires count { length found.old ≡ length nodes.now }
-    ensures { (starts : List Start) → AreStartsOf nodes.now starts found.old → AreStartsOf nodes.now (starts ++ start ∷ []) found.new }
+    ensures { (starts : List Start) → AreStartsOf nodes.now starts found.old →
+        AreStartsOf nodes.now (starts ++ start ∷ []) found.new }
 {
     if let Some(place) = place_of(nodes, start.node) {
         if found[place].is_none() {

@@ -9,7 +9,8 @@ use Rattle.boxes.proofs.ListLemmas.{get-push, get-end, get-before, get-take, tak
 use Rattle.seams.specs.Runs.{width_in}
 use Rattle.seams.specs.Widths.{widths_of, AreBounded}
 
-some-same : {A : Type 0} {x y : A} → Some x ≡ Some y → x ≡ y
+-- what stands in two equal options is equal
+pub some-same : {A : Type 0} {x y : A} → Some x ≡ Some y → x ≡ y
 some-same h = cc
 
 pub widths_size : (t : Tree) (m : ℤ) (boxes : List ℕ) → length (widths_of t m boxes) ≡ length boxes

@@ -59,6 +59,7 @@ impl Widths {
         ensures low { pos 0 ≤ℤ result }
         ensures high { result ≤ℤ pos (2 ^ 30 + 2 ^ 28 * (index + 1)) }
     {
+        // the count tells that the widths are few
         let _count = self.count();
         self.widths[index]
     }
@@ -77,7 +78,8 @@ impl Widths {
     pub fn innermost(&self, measure: i64) -> i64
         requires measure_low { pos 0 ≤ℤ measure }
         requires measure_high { measure ≤ℤ pos (2 ^ 30) }
-        ensures width { (t : Tree) (boxes : List ℕ) → self.now ≡ widths_of t measure boxes → result ≡ width_in t measure boxes }
+        ensures width { (t : Tree) (boxes : List ℕ) → self.now ≡ widths_of t measure boxes →
+            result ≡ width_in t measure boxes }
         ensures low { pos 0 ≤ℤ result }
         ensures near { result ≤ℤ pos (2 ^ 30 + 2 ^ 28 * length self.now) }
         ensures high { result ≤ℤ pos (2 ^ 40) }
@@ -93,7 +95,8 @@ impl Widths {
     pub fn outer(&self, measure: i64) -> i64
         requires measure_low { pos 0 ≤ℤ measure }
         requires measure_high { measure ≤ℤ pos (2 ^ 30) }
-        ensures width { (t : Tree) (boxes : List ℕ) → self.now ≡ widths_of t measure boxes → result ≡ width_in t measure (rest_of boxes) }
+        ensures width { (t : Tree) (boxes : List ℕ) → self.now ≡ widths_of t measure boxes →
+            result ≡ width_in t measure (rest_of boxes) }
         ensures low { pos 0 ≤ℤ result }
         ensures high { result ≤ℤ pos (2 ^ 40) }
     {
@@ -110,8 +113,10 @@ impl Widths {
         requires room { length self.old < most_open }
         requires measure_low { pos 0 ≤ℤ measure }
         requires measure_high { measure ≤ℤ pos (2 ^ 30) }
-        ensures { (boxes : List ℕ) → self.old ≡ widths_of tree.now measure boxes → self.new ≡ widths_of tree.now measure (index ∷ boxes) }
+        ensures { (boxes : List ℕ) → self.old ≡ widths_of tree.now measure boxes →
+            self.new ≡ widths_of tree.now measure (index ∷ boxes) }
     {
+        // the count tells that the tree is one that can be built
         let _count = tree.count();
         let width = content_width_in(tree.props(index), self.innermost(measure));
         self.push(width);
@@ -159,6 +164,7 @@ impl Widths {
         requires measure_high { measure ≤ℤ pos (2 ^ 30) }
         ensures { self.new ≡ widths_of tree.now measure (open_before tree.now.events event) }
     {
+        // the count tells that the tree is one that can be built
         let _count = tree.count();
         self.close_all();
         if let Some(index) = tree.around(event) {

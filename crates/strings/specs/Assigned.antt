@@ -29,6 +29,7 @@ PagesNeverFall marks = IsNonDecreasingBy (λ (m : Mark). m.page) marks
 abbrev pub on_page : ℕ → List Mark → List Mark
 on_page page marks = filter (λ m. m.page == page) marks
 
+-- the assignments before a page
 abbrev pub before_page : ℕ → List Mark → List Mark
 before_page page marks = filter (λ m. nat_lt m.page page) marks
 
@@ -43,6 +44,7 @@ shown_of here before =
       starts = option_map_or (λ m. m.starts) (slice_get here 0) false;
     }
 
+-- what a page knows of a string by the marks of its assignments
 abbrev pub shown_from : Named → ℕ → List ℕ → Shown
 shown_from s page name = shown_of (on_page page (marks_named s name)) (before_page page (marks_named s name))
 
@@ -54,4 +56,5 @@ AreStrings t pages assigns s =
 -- a text is that of a string on a page of each list whose strings these are
 abbrev pub IsTextFrom : Tree → List Assign → Named → ℕ → List ℕ → Keyword → List ℕ → Type 0
 IsTextFrom t assigns s page name k text =
-    (pages : List Page) → AreStrings t pages assigns s → page < length pages → text ≡ string_of t pages assigns page name k
+    (pages : List Page) → AreStrings t pages assigns s → page < length pages →
+    text ≡ string_of t pages assigns page name k

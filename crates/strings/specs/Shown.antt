@@ -1,5 +1,5 @@
--- What a page shows of a running string (css-gcpm-3, 1.1.2). A page is its place in the page list, an assignment its place
--- in the list of assignments.
+-- What a page shows of a running string (css-gcpm-3, 1.1.2). A page is its place in the page list, an assignment its
+-- place in the list of assignments.
 use Rattle.std.specs.Prelude.{ℕ, ◌==◌, ◌&&◌, nat_lt, nat_eq, not, Bool, false, List, [], Option, None, Some, length, map, slice_get, if◌then◌else◌}
 use Rattle.std.specs.Cmp.Lexicographic.{pointwise}
 use Rattle.boxes.specs.Tree.{Tree}
@@ -14,6 +14,7 @@ use Rattle.page_seq.specs.Places.{anchor_of, first_place, last_place, page_of, s
 abbrev pub mark_of : Tree → List Page → List ℕ → Assign → Option ℕ
 mark_of t pages name assign = if pointwise nat_eq assign.name name then Some (page_of t pages assign.at) else None
 
+-- on which page each assignment of a name stands, none for those of other names
 abbrev pub marks_of : Tree → List Page → List Assign → List ℕ → List (Option ℕ)
 marks_of t pages assigns name = map (mark_of t pages name) assigns
 
@@ -22,6 +23,7 @@ abbrev pub is_on : ℕ → Option ℕ → Bool
 is_on page None = false
 is_on page (Some number) = number == page
 
+-- whether an assignment stands on an earlier page
 abbrev pub is_earlier : ℕ → Option ℕ → Bool
 is_earlier page None = false
 is_earlier page (Some number) = nat_lt number page
@@ -30,9 +32,11 @@ is_earlier page (Some number) = nat_lt number page
 abbrev pub first_on : ℕ → List (Option ℕ) → Option ℕ
 first_on page marks = first_place (is_on page) marks
 
+-- the last assignment on a page
 abbrev pub last_on : ℕ → List (Option ℕ) → Option ℕ
 last_on page marks = last_place (is_on page) marks
 
+-- the last assignment before a page
 abbrev pub entry_of : ℕ → List (Option ℕ) → Option ℕ
 entry_of page marks = last_place (is_earlier page) marks
 
@@ -42,14 +46,17 @@ starts_page t None assign = false
 starts_page t (Some page) None = false
 starts_page t (Some page) (Some assign) = not (length page.solids == 0) && (solid_at page (anchor_of t assign.at) == 0)
 
+-- an assignment by its place in the list
 abbrev pub assign_at : List Assign → Option ℕ → Option Assign
 assign_at assigns None = None
 assign_at assigns (Some number) = slice_get assigns number
 
+-- the first of two assignments that is there
 abbrev pub or_else : Option ℕ → Option ℕ → Option ℕ
 or_else None other = other
 or_else (Some number) other = Some number
 
+-- the other assignment, where the first is not there
 abbrev pub unless : Option ℕ → Option ℕ → Option ℕ
 unless None other = other
 unless (Some number) other = None
@@ -72,9 +79,11 @@ shown_in t pages assigns marks page =
           starts_page t (slice_get pages page) (assign_at assigns (first_on page marks));
     }
 
+-- what a page of a list knows of a string
 abbrev pub shown_on : Tree → List Page → List Assign → List ℕ → ℕ → Shown
 shown_on t pages assigns name page = shown_in t pages assigns (marks_of t pages assigns name) page
 
+-- the text of an assignment, the empty text without one
 abbrev pub value_of : Option Assign → List ℕ
 value_of None = []
 value_of (Some assign) = assign.value

@@ -21,7 +21,8 @@ mark_on t pages assign place page =
 -- each assignment from a place of the flow's list on, with its name and the page that it belongs to
 abbrev pub marked : Tree → List Page → ℕ → List Assign → List (List ℕ × Mark)
 marked t pages place [] = []
-marked t pages place (a ∷ assigns) = (a.name, mark_on t pages a place (page_of t pages a.at)) ∷ marked t pages (suc place) assigns
+marked t pages place (a ∷ assigns) =
+    (a.name, mark_on t pages a place (page_of t pages a.at)) ∷ marked t pages (suc place) assigns
 
 -- the assignments of a name, in their order
 abbrev pub marks_with : Tree → List Page → List Assign → List ℕ → List Mark

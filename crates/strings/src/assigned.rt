@@ -21,8 +21,8 @@ use std::alloc::Global;
 use std::marker::Model;
 use style::content::Keyword;
 
-/// An assignment: its place in the flow's list, the page that it belongs to, by its place in the page list, and whether it
-/// stands on that page's first solid.
+/// An assignment: its place in the flow's list, the page that it belongs to, by its place in the page list, and whether
+/// it stands on that page's first solid.
 #[derive(Clone, Copy, Debug)]
 pub struct Mark {
     pub assign: usize,
@@ -30,8 +30,8 @@ pub struct Mark {
     pub starts: bool,
 }
 
-/// The assignments of running strings with the pages that they belong to. Contracts see each name with its assignments, in
-/// their order.
+/// The assignments of running strings with the pages that they belong to. Contracts see each name with its assignments,
+/// in their order.
 #[derive(Drop)]
 pub struct Strings {
     named: Named,
@@ -59,7 +59,8 @@ fn places_of(alloc: Global, assigns: &[Assign]) -> Result<Vec<Position>, NoMem>
 /// The page of each assignment.
 fn numbers_of(alloc: Global, flow: &Flow, list: &PageList) -> Result<Vec<usize>, NoMem>
     requires { NeverFall (map (λ a. a.at) flow.now.strings) }
-    ensures { IfOk result (λ v. v.items ≡ map (page_of flow.now.main list.now.pages) (map (λ a. a.at) flow.now.strings)) }
+    ensures { IfOk result (λ v. v.items ≡
+        map (page_of flow.now.main list.now.pages) (map (λ a. a.at) flow.now.strings)) }
 {
     let places = places_of(alloc, flow.strings.as_slice())?;
     pages_of(alloc, &flow.main, list, places.as_slice())
@@ -102,7 +103,8 @@ fn count_before(marks: &[Mark], page: usize) -> usize
     requires { PagesNeverFall marks.now }
     ensures within { result ≤ length marks.now }
     ensures before { (k : ℕ) (d : Mark) → k < result → (slice_index_or marks.now k d).page < page }
-    ensures after { (k : ℕ) (d : Mark) → result ≤ k → k < length marks.now → page ≤ (slice_index_or marks.now k d).page }
+    ensures after { (k : ℕ) (d : Mark) → result ≤ k → k < length marks.now →
+        page ≤ (slice_index_or marks.now k d).page }
 {
     marks.partition_point(|mark| mark.page < page)
 }
@@ -112,7 +114,8 @@ fn count_up_to(marks: &[Mark], page: usize) -> usize
     requires { PagesNeverFall marks.now }
     ensures within { result ≤ length marks.now }
     ensures before { (k : ℕ) (d : Mark) → k < result → (slice_index_or marks.now k d).page ≤ page }
-    ensures after { (k : ℕ) (d : Mark) → result ≤ k → k < length marks.now → page < (slice_index_or marks.now k d).page }
+    ensures after { (k : ℕ) (d : Mark) → result ≤ k → k < length marks.now →
+        page < (slice_index_or marks.now k d).page }
 {
     marks.partition_point(|mark| mark.page <= page)
 }
@@ -162,7 +165,8 @@ fn shown_among(marks: &[Mark], page: usize) -> Shown
 /// The assignments of each name, with their pages.
 fn by_name(alloc: Global, flow: &Flow, list: &PageList) -> Result<Named, NoMem>
     requires { NeverFall (map (λ a. a.at) flow.now.strings) }
-    ensures { IfOk result (λ named. (name : List ℕ) → marks_in named name ≡ marks_with flow.now.main list.now.pages flow.now.strings name) }
+    ensures { IfOk result (λ named. (name : List ℕ) →
+        marks_in named name ≡ marks_with flow.now.main list.now.pages flow.now.strings name) }
 {
     let assigns = flow.strings.as_slice();
     let pages = list.pages.as_slice();
@@ -177,8 +181,8 @@ fn by_name(alloc: Global, flow: &Flow, list: &PageList) -> Result<Named, NoMem>
 }
 
 impl Strings {
-    /// The assignments of a flow's strings on a page list: one walk along the pages and the assignments. It keeps each name
-    /// once, and a few words for each assignment.
+    /// The assignments of a flow's strings on a page list: one walk along the pages and the assignments. It keeps each
+    /// name once, and a few words for each assignment.
     pub fn new(alloc: Global, flow: &Flow, list: &PageList) -> Result<Strings, NoMem>
         requires { NeverFall (map (λ a. a.at) flow.now.strings) }
         ensures { IfOk result (λ s. AreStrings flow.now.main list.now.pages flow.now.strings s) }
@@ -188,16 +192,16 @@ impl Strings {
         })
     }
 
-    /// What a page knows of a string: one look-up of the name, and two binary searches among its assignments. The page is
-    /// named by its place in the list, from 0.
+    /// What a page knows of a string: one look-up of the name, and two binary searches among its assignments. The page
+    /// is named by its place in the list, from 0.
     pub fn shown(&self, page: usize, name: &str) -> Shown
         ensures { result ≡ shown_from self.now page name.now }
     {
         shown_among(marks_named(&self.named, name), page)
     }
 
-    /// What `string()` gives on a page (css-gcpm-3, 1.1.2), from the flow whose strings these are. It takes no memory, and the
-    /// time of `shown`.
+    /// What `string()` gives on a page (css-gcpm-3, 1.1.2), from the flow whose strings these are. It takes no memory,
+    /// and the time of `shown`.
     pub fn text<'f>(&self, flow: &'f Flow, page: usize, name: &str, keyword: Keyword) -> &'f str
         ensures { IsTextFrom flow.now.main flow.now.strings self.now page name.now keyword result.now }
     {

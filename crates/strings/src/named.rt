@@ -44,7 +44,8 @@ fn make_room(named: &mut Named, alloc: Global, name: &str) -> Result<(), NoMem>
 /// Adds an assignment to those of a name for which there is room.
 fn push(named: &mut Named, name: &str, mark: Mark) -> Result<(), NoMem>
     requires { is_some (get_by_text named.old name.now) ≡ true }
-    ensures { OnOk result ((q : List ℕ) → marks_in named.new q ≡ with_mark (marks_in named.old q) mark (bytes_eq name.now q)) }
+    ensures { OnOk result ((q : List ℕ) →
+        marks_in named.new q ≡ with_mark (marks_in named.old q) mark (bytes_eq name.now q)) }
 {
     let Some(marks) = named.get_mut(name) else {
         return Err(NoMem);
@@ -55,7 +56,8 @@ fn push(named: &mut Named, name: &str, mark: Mark) -> Result<(), NoMem>
 
 /// Adds an assignment to those of its name.
 pub(crate) fn add(named: &mut Named, alloc: Global, name: &str, mark: Mark) -> Result<(), NoMem>
-    ensures { OnOk result ((q : List ℕ) → marks_in named.new q ≡ with_mark (marks_in named.old q) mark (bytes_eq name.now q)) }
+    ensures { OnOk result ((q : List ℕ) →
+        marks_in named.new q ≡ with_mark (marks_in named.old q) mark (bytes_eq name.now q)) }
 {
     make_room(named, alloc, name)?;
     push(named, name, mark)

@@ -74,9 +74,9 @@ pub(crate) fn text_of(assigns: &[Assign], shown: Option<usize>) -> &str
     }
 }
 
-/// What `string()` gives on a page, which is named by its place in the list, from 0 (css-gcpm-3, 1.1.2): for `first` the
-/// page's first assignment, else the one before the page; for `start` the page's first assignment where it stands on the
-/// page's first solid, else the one before; for `last` the page's last assignment, else the one before; for
+/// What `string()` gives on a page, which is named by its place in the list, from 0 (css-gcpm-3, 1.1.2): for `first`
+/// the page's first assignment, else the one before the page; for `start` the page's first assignment where it stands
+/// on the page's first solid, else the one before; for `last` the page's last assignment, else the one before; for
 /// `first-except` nothing on a page that assigns, else the one before. The text is empty before any assignment. It goes
 /// through all assignments and pages: for more than one text make `Strings`.
 pub fn string_on(
@@ -89,7 +89,8 @@ pub fn string_on(
 ) -> Result<Name, NoMem>
     requires order { NeverFall (map (λ a. a.at) flow.now.strings) }
     requires page { page < length list.now.pages }
-    ensures { IfOk result (λ text. text ≡ string_of flow.now.main list.now.pages flow.now.strings page name.now keyword) }
+    ensures { IfOk result (λ text. text ≡
+        string_of flow.now.main list.now.pages flow.now.strings page name.now keyword) }
 {
     let strings = Strings::new(alloc, flow, list)?;
     Name::new(alloc, strings.text(flow, page, name, keyword))

@@ -1,6 +1,6 @@
-use Rattle.std.proofs.Common.{◌≡◌, ◌<◌, ◌≤◌, ◌++◌, ◌∷◌, [], ℕ, ℤ, true, false, None, List, All, length, map, slice_get, rules, refl, sym, ap, ◌∙◌, subst, arith, to_z, of_z}
+use Rattle.std.proofs.Common.{◌≡◌, ◌<◌, ◌++◌, ◌∷◌, [], ℕ, ℤ, true, false, None, List, All, length, map, rules, refl, sym, ap, ◌∙◌, subst, arith, to_z, of_z}
 use Rattle.std.proofs.lemmas.Bool.Decides.{nat_tests}
-use Rattle.std.proofs.lemmas.Int.{to_z-of_z}
+use Rattle.std.proofs.lemmas.Int.{ints, to_z-of_z}
 use Rattle.std.proofs.lemmas.List.{length-map}
 use mir.Val.{SFits}
 use mir.Syntax.{w64}
@@ -15,12 +15,10 @@ use Rattle.cursor.specs.declared.solid.Solid.{Solid}
 use Rattle.cursor.specs.Fields.{solid_view}
 use Rattle.cursor.specs.Remainder.{SolidView, IsSmallSolid}
 use Rattle.cuts.specs.Areas.{AreAreas, AreTold, area_after}
-use Rattle.cuts.specs.Rows.{AreForcedBetween}
 use Rattle.seams.specs.Runs.{solid_after}
 use Rattle.notes.specs.Notes.{area_of}
 use Rattle.note_list.specs.Calls.{called_before}
-use Rattle.note_list.specs.Lists.{rows_of as note_rows}
-use Rattle.page_list.specs.Cuts.{place_after, rows_of}
+use Rattle.note_list.specs.Lists.{note_rows}
 use Rattle.fragment.specs.CutsAt.{CutsAt}
 use Rattle.fragment.specs.Reads.{AreRead, IsPagePrefix, called_by, called_in}
 use Rattle.page_list.proofs.InsideLemmas.{flow_inside}
@@ -36,19 +34,19 @@ abbrev ends_of : List Solid → List Position
 ends_of solids = map (λ (s : SolidView). s.end) (map solid_view solids)
 
 -- the notes that are read with the solids
-read : (g : given.Over) (c : After-is_empty g) → AreRead c.args.faces.now c.args.flow.now c.args.frame c.args.from.at c.args.carried.now (ends_of c.in_ok-solids.solids.items) c.prefix.new.notes
-read g c = c.in_ok-solids.ensures.read c.args.carried.now c.in_ok-notes.ensures
+read : (g : given.Over) (c : After-is_empty g) → AreRead c.args.faces.now c.args.flow.now c.args.frame c.args.from.at c.args.carried.now (ends_of c.in_ok-read.read.solids.items) c.prefix.new.notes
+read g c = c.in_ok-read.ensures.read c.args.carried.now c.in_ok-notes.ensures
 
 abbrev room : (g : given.Over) (c : After-is_empty g) → ℤ
 room g c = to_z w64 (of_z w64 c.own_area.result)
 
-tells : (g : given.Over) (c : After-is_empty g) → IsPagePrefix c.args.faces.now c.args.flow.now.main c.args.frame c.args.from.at c.args.from.kept c.prefix.new.notes.list.own c.prefix.new.notes.areas.items (room g c) (map solid_view c.in_ok-solids.solids.items)
-tells g c = subst (λ (n : ℕ). IsPagePrefix c.args.faces.now c.args.flow.now.main c.args.frame c.args.from.at c.args.from.kept n c.prefix.new.notes.areas.items (room g c) (map solid_view c.in_ok-solids.solids.items)) (sym c.in_ok-solids.ensures.own) c.in_ok-solids.ensures.prefix
+tells : (g : given.Over) (c : After-is_empty g) → IsPagePrefix c.args.faces.now c.args.flow.now.main c.args.frame c.args.from.at c.args.from.kept c.prefix.new.notes.list.own c.prefix.new.notes.areas.items (room g c) (map solid_view c.in_ok-read.read.solids.items)
+tells g c = subst (λ (n : ℕ). IsPagePrefix c.args.faces.now c.args.flow.now.main c.args.frame c.args.from.at c.args.from.kept n c.prefix.new.notes.areas.items (room g c) (map solid_view c.in_ok-read.read.solids.items)) (sym c.in_ok-read.ensures.own) c.in_ok-read.ensures.prefix
 
 room_was : (g : given.Over) (c : After-is_empty g) → room g c ≡ area_of (note_rows (read g c).own) c.prefix.new.notes.list.own
 room_was g c =
     let fits : SFits w64 c.own_area.result = search rules in
-    room_is c.args.faces.now c.args.flow.now c.args.frame c.args.from.at c.args.carried.now [] (ends_of c.in_ok-solids.solids.items) c.in_ok-notes.notes c.prefix.new.notes (room g c) c.in_ok-notes.ensures (read g c) c.in_ok-solids.ensures.own
+    room_is c.args.faces.now c.args.flow.now c.args.frame c.args.from.at c.args.carried.now [] (ends_of c.in_ok-read.read.solids.items) c.in_ok-notes.notes c.prefix.new.notes (room g c) c.in_ok-notes.ensures (read g c) c.in_ok-read.ensures.own
     (λ height list is. to_z-of_z w64 c.own_area.result fits ∙ c.own_area.ensures.area height list is)
 
 -- ---- where no solid is left
@@ -63,8 +61,8 @@ pub take-requires-clause-ends : goal.take-requires-clause-ends
 take-requires-clause-ends g c = (read g (goal.at.take-requires-clause-ends g c).After-is_empty).held
 
 -- nothing is read where nothing is left
-empty : (g : given.Over) (c : After-is_empty g) → c.is_empty.result ≡ true → map solid_view c.in_ok-solids.solids.items ≡ []
-empty g c e = none_of c.in_ok-solids.solids.items (let v = c.is_empty.ensures in grind (arith, nat_tests))
+empty : (g : given.Over) (c : After-is_empty g) → c.is_empty.result ≡ true → map solid_view c.in_ok-read.read.solids.items ≡ []
+empty g c e = none_of c.in_ok-read.read.solids.items (let v = c.is_empty.ensures in grind (arith, nat_tests))
 
 ended : (g : given.Over) (c : After-is_empty g) → c.is_empty.result ≡ true → solid_after c.args.flow.now.main c.args.from.at.event ≡ None
 ended g c e =
@@ -92,14 +90,23 @@ take-requires-clause-called g c =
 pub cut_end-requires-clause-all : goal.cut_end-requires-clause-all
 cut_end-requires-clause-all g c = c.in_ok-take.ensures.called ∙ all_called g (goal.at.cut_end-requires-clause-all g c).After-is_empty c.if-is_empty.true
 
-pub cut_end-requires-clause-areas : goal.cut_end-requires-clause-areas
-cut_end-requires-clause-areas g c = (let d = (goal.at.cut_end-requires-clause-areas g c).After-is_empty in all_read c.args.faces.now c.args.flow.now c.args.frame c.args.from.at c.args.carried.now c.in_ok-solids.solids.items c.prefix.new.notes c.take.new.self (empty g d c.if-is_empty.true) c.in_ok-take.ensures.read (read g d)).small
-
-pub cut_end-requires-clause-ready : goal.cut_end-requires-clause-ready
-cut_end-requires-clause-ready g c = (let d = (goal.at.cut_end-requires-clause-ready g c).After-is_empty in all_read c.args.faces.now c.args.flow.now c.args.frame c.args.from.at c.args.carried.now c.in_ok-solids.solids.items c.prefix.new.notes c.take.new.self (empty g d c.if-is_empty.true) c.in_ok-take.ensures.read (read g d)).ready
-
-pub cut_end-requires-clause-ends : goal.cut_end-requires-clause-ends
-cut_end-requires-clause-ends g c = (let d = (goal.at.cut_end-requires-clause-ends g c).After-is_empty in all_read c.args.faces.now c.args.flow.now c.args.frame c.args.from.at c.args.carried.now c.in_ok-solids.solids.items c.prefix.new.notes c.take.new.self (empty g d c.if-is_empty.true) c.in_ok-take.ensures.read (read g d)).held
+pub cut_end-requires-clause-cut : goal.cut_end-requires-clause-cut
+cut_end-requires-clause-cut g c =
+    let d = (goal.at.cut_end-requires-clause-cut g c).After-is_empty in
+    let all = all_read c.args.faces.now c.args.flow.now c.args.frame c.args.from.at c.args.carried.now c.in_ok-read.read.solids.items c.prefix.new.notes c.take.new.self (empty g d c.if-is_empty.true) c.in_ok-take.ensures.read (read g d) in
+    let low = c.requires.frame.height_low in
+    let high = c.requires.frame.height_high in
+    record {
+      areas = all.small;
+      ready = all.ready;
+      ends = all.held;
+      carried = c.requires.carried.held;
+      order = c.requires.carried.order;
+      before = subst (λ (n : ℕ). All (λ p. p.note < n) c.args.carried.now) (sym c.in_ok-notes.ensures.called) c.requires.carried.called;
+      count = c.requires.flow.count;
+      low = omega (arith, ints);
+      high = omega (arith, ints);
+    }
 
 pub cut_end-requires-clause-called : goal.cut_end-requires-clause-called
 cut_end-requires-clause-called g c =
@@ -112,9 +119,9 @@ returns-then-is_empty-clause-cut g c =
     let d = (goal.at.returns-then-is_empty-clause-cut g c).After-is_empty in
     let fits : SFits w64 c.own_area.result = search rules in
     let tall : SFits w64 c.args.frame.height = search rules in
-    let all = all_read c.args.faces.now c.args.flow.now c.args.frame c.args.from.at c.args.carried.now c.in_ok-solids.solids.items c.prefix.new.notes c.take.new.self (empty g d c.if-is_empty.true) c.in_ok-take.ensures.read (read g d) in
+    let all = all_read c.args.faces.now c.args.flow.now c.args.frame c.args.from.at c.args.carried.now c.in_ok-read.read.solids.items c.prefix.new.notes c.take.new.self (empty g d c.if-is_empty.true) c.in_ok-take.ensures.read (read g d) in
     let was : room g d ≡ area_of (note_rows all.own) c.take.new.self.list.own =
-    room_is c.args.faces.now c.args.flow.now c.args.frame c.args.from.at c.args.carried.now [] (c.args.from.at ∷ []) c.in_ok-notes.notes c.take.new.self (room g d) c.in_ok-notes.ensures all (c.in_ok-take.ensures.own ∙ c.in_ok-solids.ensures.own)
+    room_is c.args.faces.now c.args.flow.now c.args.frame c.args.from.at c.args.carried.now [] (c.args.from.at ∷ []) c.in_ok-notes.notes c.take.new.self (room g d) c.in_ok-notes.ensures all (c.in_ok-take.ensures.own ∙ c.in_ok-read.ensures.own)
     (λ height list is. to_z-of_z w64 c.own_area.result fits ∙ c.own_area.ensures.area height list is) in
     let first : c.in_ok-notes.notes.called ≡ called_before c.args.flow.now.main c.args.flow.now.notes c.args.from.at = c.in_ok-notes.ensures.called in
     if_ok _ _ c.cut_end.result
@@ -126,62 +133,79 @@ pub returns-then-is_empty-clause-inside : goal.returns-then-is_empty-clause-insi
 returns-then-is_empty-clause-inside g c = if_ok _ _ c.cut_end.result (λ cut is. flow_inside c.args.faces.now c.args.flow.now c.args.frame c.args.from c.args.carried.now cut is) (returns-then-is_empty-clause-cut g c)
 
 -- ---- where some are read
-pub cut_solids-requires-clause-few : goal.cut_solids-requires-clause-few
-cut_solids-requires-clause-few g c =
-    let d = (goal.at.cut_solids-requires-clause-few g c).After-is_empty in
-    let size : length (map solid_view c.in_ok-solids.solids.items) ≡ length c.in_ok-solids.solids.items = rw length-map refl in
-    let few = prefix_few c.args.faces.now c.args.flow.now.main c.args.frame c.args.from.at c.args.from.kept c.prefix.new.notes.list.own c.prefix.new.notes.areas.items (room g d) c.requires.flow.main.is c.requires.holds (map solid_view c.in_ok-solids.solids.items) (tells g d) c.requires.flow.main.bytes in
-    subst (λ (xs : List Solid). length xs ≤ 67108864) (sym c.as_slice.ensures.value) (omega arith)
-
-pub cut_solids-requires-clause-placed : goal.cut_solids-requires-clause-placed
-cut_solids-requires-clause-placed g c =
-    subst (All (λ (s : Solid). Holds c.args.flow.now.main s.placed_at)) (sym c.as_slice.ensures.value)
-    (all_views (λ v. Holds c.args.flow.now.main v.placed_at) c.in_ok-solids.solids.items c.in_ok-solids.ensures.placed)
-
-pub cut_solids-requires-clause-small : goal.cut_solids-requires-clause-small
-cut_solids-requires-clause-small g c =
-    subst (All (λ (s : Solid). IsSmallSolid (solid_view s))) (sym c.as_slice.ensures.value) (all_views IsSmallSolid c.in_ok-solids.solids.items c.in_ok-solids.ensures.small)
-
-pub cut_solids-requires-clause-between : goal.cut_solids-requires-clause-between
-cut_solids-requires-clause-between g c =
-    let d = (goal.at.cut_solids-requires-clause-between g c).After-is_empty in
-    subst (λ (xs : List Solid). AreForcedBetween (rows_of c.args.flow.now.main (map solid_view xs))) (sym c.as_slice.ensures.value)
-    (prefix_between c.args.faces.now c.args.flow.now.main c.args.frame c.args.from.at c.args.from.kept c.prefix.new.notes.list.own c.prefix.new.notes.areas.items (room g d) c.requires.flow.main.is c.requires.holds (map solid_view c.in_ok-solids.solids.items) (tells g d))
-
-pub cut_solids-requires-clause-areas : goal.cut_solids-requires-clause-areas
-cut_solids-requires-clause-areas g c = (read g (goal.at.cut_solids-requires-clause-areas g c).After-is_empty).small
-
-pub cut_solids-requires-clause-ready : goal.cut_solids-requires-clause-ready
-cut_solids-requires-clause-ready g c = (read g (goal.at.cut_solids-requires-clause-ready g c).After-is_empty).ready
-
-pub cut_solids-requires-clause-ends : goal.cut_solids-requires-clause-ends
-cut_solids-requires-clause-ends g c = (read g (goal.at.cut_solids-requires-clause-ends g c).After-is_empty).held
-
-some_read : (g : given.Over) (c : After-is_empty g) → c.is_empty.result ≡ false → 0 < length (map solid_view c.in_ok-solids.solids.items)
+some_read : (g : given.Over) (c : After-is_empty g) → c.is_empty.result ≡ false → 0 < length (map solid_view c.in_ok-read.read.solids.items)
 some_read g c e = rw length-map (let v = c.is_empty.ensures in grind (arith, nat_tests))
+
+pub cut_solids-requires-clause-solids : goal.cut_solids-requires-clause-solids
+cut_solids-requires-clause-solids g c =
+    let d = (goal.at.cut_solids-requires-clause-solids g c).After-is_empty in
+    let items : List Solid = c.in_ok-read.read.solids.items in
+    let size : length (map solid_view items) ≡ length items = rw length-map refl in
+    let some = some_read g d c.if-is_empty.false in
+    let few = prefix_few c.args.faces.now c.args.flow.now.main c.args.frame c.args.from.at c.args.from.kept c.prefix.new.notes.list.own c.prefix.new.notes.areas.items (room g d) c.requires.flow.main.is c.requires.holds (map solid_view items) (tells g d) c.requires.flow.main.bytes in
+    record {
+      some = omega arith;
+      few = omega arith;
+      placed = all_views (λ v. Holds c.args.flow.now.main v.placed_at) items c.in_ok-read.ensures.placed;
+      small = all_views IsSmallSolid items c.in_ok-read.ensures.small;
+      between = prefix_between c.args.faces.now c.args.flow.now.main c.args.frame c.args.from.at c.args.from.kept c.prefix.new.notes.list.own c.prefix.new.notes.areas.items (room g d) c.requires.flow.main.is c.requires.holds (map solid_view items) (tells g d);
+      rows_are = c.in_ok-read.ensures.rows;
+    }
+
+pub cut_solids-requires-clause-cut : goal.cut_solids-requires-clause-cut
+cut_solids-requires-clause-cut g c =
+    let all = read g (goal.at.cut_solids-requires-clause-cut g c).After-is_empty in
+    let low = c.requires.frame.height_low in
+    let high = c.requires.frame.height_high in
+    record {
+      areas = all.small;
+      ready = all.ready;
+      ends = all.held;
+      carried = c.requires.carried.held;
+      order = c.requires.carried.order;
+      before = subst (λ (n : ℕ). All (λ p. p.note < n) c.args.carried.now) (sym c.in_ok-notes.ensures.called) c.requires.carried.called;
+      count = c.requires.flow.count;
+      low = omega (arith, ints);
+      high = omega (arith, ints);
+    }
 
 pub cut_solids-requires-clause-called : goal.cut_solids-requires-clause-called
 cut_solids-requires-clause-called g c j some =
     let d = (goal.at.cut_solids-requires-clause-called g c).After-is_empty in
     let first : c.in_ok-notes.notes.called ≡ called_before c.args.flow.now.main c.args.flow.now.notes c.args.from.at = c.in_ok-notes.ensures.called in
-    subst (λ (xs : List Solid). c.in_ok-notes.notes.called ≤ called_before c.args.flow.now.main c.args.flow.now.notes (place_after c.args.flow.now.main (slice_get (map solid_view xs) j))) (sym c.as_slice.ensures.value)
-    (let low = called_low c.args.faces.now c.args.flow.now c.args.frame c.args.from c.args.carried.now c.requires.flow c.requires.holds c.requires.carried (map solid_view c.in_ok-solids.solids.items) c.prefix.new.notes (room g d) (tells g d) (read g d) (room_was g d) j some in omega arith)
+    let low = called_low c.args.faces.now c.args.flow.now c.args.frame c.args.from c.args.carried.now c.requires.flow c.requires.holds c.requires.carried (map solid_view c.in_ok-read.read.solids.items) c.prefix.new.notes (room g d) (tells g d) (read g d) (room_was g d) j some in omega arith
+
+pub prefix-requires : goal.prefix-requires
+prefix-requires g c =
+    let low = c.requires.frame.height_low in
+    let high = c.requires.frame.height_high in
+    let tall : SFits w64 c.args.frame.height = omega (arith, ints) in
+    let least = c.own_area.ensures.small.low in
+    let most = c.own_area.ensures.small.high in
+    record {
+      flow = c.requires.flow;
+      holds = c.requires.holds;
+      frame = c.requires.frame;
+      kept = refl;
+      height = to_z-of_z w64 c.args.frame.height tall;
+      carried = record { low = omega (arith, ints); high = omega (arith, ints) };
+      read = (c.args.carried.now, c.in_ok-notes.ensures);
+    }
 
 pub returns-clause-cut : goal.returns-clause-cut
 returns-clause-cut g c =
     let d = (goal.at.returns-clause-cut g c).After-is_empty in
     let tall : SFits w64 c.args.frame.height = search rules in
-    let views : List SolidView = map solid_view c.in_ok-solids.solids.items in
+    let views : List SolidView = map solid_view c.in_ok-read.read.solids.items in
     let first : c.in_ok-notes.notes.called ≡ called_before c.args.flow.now.main c.args.flow.now.notes c.args.from.at = c.in_ok-notes.ensures.called in
-    let size : length (map solid_view c.in_ok-solids.solids.items) ≡ length c.in_ok-solids.solids.items = length-map c.in_ok-solids.solids.items solid_view in
+    let size : length (map solid_view c.in_ok-read.read.solids.items) ≡ length c.in_ok-read.read.solids.items = length-map c.in_ok-read.read.solids.items solid_view in
     let own = c.prefix.new.notes.list.own in
     let areas = c.prefix.new.notes.areas.items in
     if_ok _ _ c.cut_solids.result
     (λ cut is. flow_cut c.args.faces.now c.args.flow.now c.args.frame c.args.from c.args.carried.now c.requires.flow c.requires.holds c.requires.carried views c.prefix.new.notes (room g d) (tells g d) (read g d) (room_was g d) cut (some_read g d c.if-is_empty.false)
     (subst (λ (n : ℕ). CutsAt c.args.flow.now c.args.from.kept c.args.frame.height c.args.carried.now n (λ list. AreAreas c.args.frame.height list own (length views) areas (room g d)) c.prefix.new.notes.list views cut) first
     (subst (λ (n : ℕ). CutsAt c.args.flow.now c.args.from.kept c.args.frame.height c.args.carried.now c.in_ok-notes.notes.called (λ list. AreAreas c.args.frame.height list own n areas (room g d)) c.prefix.new.notes.list views cut) (sym size)
-    (subst (λ (xs : List Solid). CutsAt c.args.flow.now c.args.from.kept c.args.frame.height c.args.carried.now c.in_ok-notes.notes.called (λ list. AreAreas c.args.frame.height list own (length xs) areas (room g d)) c.prefix.new.notes.list (map solid_view xs) cut) c.as_slice.ensures.value
-    (subst (λ (z : ℤ). CutsAt c.args.flow.now c.args.from.kept z c.args.carried.now c.in_ok-notes.notes.called (λ list. AreAreas z list own (length c.as_slice.result.now) areas (room g d)) c.prefix.new.notes.list (map solid_view c.as_slice.result.now) cut) (to_z-of_z w64 c.args.frame.height tall) is))))) c.cut_solids.ensures.cut
+    (subst (λ (z : ℤ). CutsAt c.args.flow.now c.args.from.kept z c.args.carried.now c.in_ok-notes.notes.called (λ list. AreAreas z list own (length c.in_ok-read.read.solids.items) areas (room g d)) c.prefix.new.notes.list views cut) (to_z-of_z w64 c.args.frame.height tall) is)))) c.cut_solids.ensures.cut
 
 pub returns-clause-inside : goal.returns-clause-inside
 returns-clause-inside g c = if_ok _ _ c.cut_solids.result (λ cut is. flow_inside c.args.faces.now c.args.flow.now c.args.frame c.args.from c.args.carried.now cut is) (returns-clause-cut g c)

@@ -1,5 +1,5 @@
-use Rattle.std.proofs.Common.{List, length, ap, rules, to_z, of_z, Result, Ok, Err, IfOk}
-use Rattle.std.proofs.lemmas.Int.{to_z-of_z}
+use Rattle.std.proofs.Common.{List, length, ap, arith, rules, to_z, of_z, Result, Ok, Err, IfOk}
+use Rattle.std.proofs.lemmas.Int.{ints, to_z-of_z}
 use mir.Val.{SFits}
 use mir.Syntax.{w64}
 use Rattle.boxes.specs.declared.flow.Note.{Note}
@@ -7,8 +7,24 @@ use Rattle.fragment.proofs.NotesLemmas.{carried_low, carried_on, notes_cut}
 use Rattle.fragment.proofs.SolidLemmas.{if_ok}
 use Rattle.fragment.proofs.next_notes.next_notes.Goals as goal
 
-pub place-requires-clause-before : goal.place-requires-clause-before
-place-requires-clause-before g c = carried_low c.args.flow.now c.args.carried.now (length c.as_slice.result.now) (ap (λ (notes : List Note). length notes) c.as_slice.ensures) c.requires.carried
+pub place-requires : goal.place-requires
+place-requires g c =
+    let all = ap (λ (notes : List Note). length notes) c.as_slice.ensures in
+    let low = c.requires.frame.height_low in
+    let high = c.requires.frame.height_high in
+    record {
+      ready = c.in_ok-list.ensures.ready;
+      ends = c.in_ok-list.ensures.ends;
+      carried = c.requires.carried.held;
+      order = c.requires.carried.order;
+      before = carried_low c.args.flow.now c.args.carried.now (length c.as_slice.result.now) all c.requires.carried;
+      called = omega arith;
+      within = omega (arith, all);
+      few = c.requires.flow.count;
+      low = omega (arith, ints);
+      high = omega (arith, ints);
+      room = omega (arith, ints);
+    }
 
 pub returns-clause-cut : goal.returns-clause-cut
 returns-clause-cut g c =

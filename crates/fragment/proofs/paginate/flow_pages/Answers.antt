@@ -9,7 +9,8 @@ use Rattle.note_list.specs.Conditions.{AreCarried}
 use Rattle.note_list.specs.declared.carried.Carried.{Carried}
 use Rattle.boxes.specs.declared.place.Position.{Position}
 use Rattle.page_list.specs.Cuts.{IsFlowCut, place_after}
-use Rattle.page_list.specs.Pages.{PageFrames, State, AreNear, HaveNearTops, IsStep, name_at, flow_page, after_flow, is_forced, start_of}
+use Rattle.boxes.specs.Frames.{PageFrames}
+use Rattle.page_list.specs.Pages.{State, AreNear, HaveNearTops, IsStep, name_at, flow_page, after_flow, is_forced, start_of}
 use Rattle.page_list.specs.Pages.IsStep.{flows}
 use Rattle.note_list.specs.Calls.{start_place}
 use Rattle.fragment.specs.Runs.{Leads}
@@ -27,49 +28,49 @@ loop-turn-init g c = rw c.new-pages.ensures.items (rw c.new-carried.ensures (rec
   turns = omega arith;
   few = omega arith;
   carries = none_carried c.args.flow.now start_place;
-  run = (name_at c.args.flow.now.main start_place, ap (λ (d : Option Demand). record (start_of c.args.flow.now.main) { demand = d }) (sym (c.asked_at-demand.ensures.forced (pos 0))));
+  run = (name_at c.args.flow.now.main start_place, ap (λ (d : Option Demand). record (start_of c.args.flow.now.main) { demand = d }) (sym (c.seam-demand.ensures.forced (pos 0))));
   near = All-nil (λ (q : Page). AreNear q.solids q.notes);
 }))
 
 pub returns-in-Err-clause-many : goal.returns-in-Err-clause-many
 returns-in-Err-clause-many g c e =
     let f : Flow = c.args.flow.now in
-    let frames : PageFrames = (record { meets = g.Fr.Frames.meets c.args.frames.now; frame_of = g.Fr.Frames.frame_of c.args.frames.now }) in
+    let frames : PageFrames = (g.Fr.Frames.view c.args.frames.now) in
     let added = c.in-Err.ensures.many e in
     let run = c.loop-turn.invariant.run in
-    let size = adds_size frames c.asked_at.result.name c.loop-turn.demand c.loop-turn.index 100001 c.loop-turn.pages.items c.add_blanks.new.pages.items added c.loop-turn.invariant.count in
+    let size = adds_size frames c.seam.result.name c.loop-turn.demand c.loop-turn.index 100001 c.loop-turn.pages.items c.add_blanks.new.pages.items added c.loop-turn.invariant.count in
     leaves_some c.args.faces.now f frames (state_at c.loop-turn.from.at c.loop-turn.from.kept 100001 c.loop-turn.demand c.loop-turn.carried run.0) c.add_blanks.new.pages.items 100000 (not_done (state_at c.loop-turn.from.at c.loop-turn.from.kept 100001 c.loop-turn.demand c.loop-turn.carried run.0) refl) (omega arith)
-    (run_added c.args.faces.now f frames c.loop-turn.from.at c.loop-turn.from.kept c.loop-turn.demand c.loop-turn.carried run.0 c.loop-turn.index 100001 c.asked_at.result.name c.loop-turn.pages.items c.add_blanks.new.pages.items (c.asked_at.ensures.name (pos 0)) added run.1)
+    (run_added c.args.faces.now f frames c.loop-turn.from.at c.loop-turn.from.kept c.loop-turn.demand c.loop-turn.carried run.0 c.loop-turn.index 100001 c.seam.result.name c.loop-turn.pages.items c.add_blanks.new.pages.items (c.seam.ensures.name (pos 0)) added run.1)
 
 -- the state of the page that a turn makes
 abbrev here : (g : given.Over) (c : After-page_of-page g) → State
 here g c = state_at c.loop-turn.from.at c.loop-turn.from.kept c.in-Ok.to c.loop-turn.demand c.loop-turn.carried c.loop-turn.invariant.run.0
 
-leads : (g : given.Over) (c : After-page_of-page g) → Leads c.args.faces.now c.args.flow.now (record { meets = g.Fr.Frames.meets c.args.frames.now; frame_of = g.Fr.Frames.frame_of c.args.frames.now }) (here g c) c.add_blanks.new.pages.items
-leads g c = run_added c.args.faces.now c.args.flow.now (record { meets = g.Fr.Frames.meets c.args.frames.now; frame_of = g.Fr.Frames.frame_of c.args.frames.now }) c.loop-turn.from.at c.loop-turn.from.kept c.loop-turn.demand c.loop-turn.carried c.loop-turn.invariant.run.0 c.loop-turn.index c.in-Ok.to c.asked_at.result.name c.loop-turn.pages.items c.add_blanks.new.pages.items
-    (c.asked_at.ensures.name (pos 0)) c.in-Ok.ensures.blanks c.loop-turn.invariant.run.1
+leads : (g : given.Over) (c : After-page_of-page g) → Leads c.args.faces.now c.args.flow.now (g.Fr.Frames.view c.args.frames.now) (here g c) c.add_blanks.new.pages.items
+leads g c = run_added c.args.faces.now c.args.flow.now (g.Fr.Frames.view c.args.frames.now) c.loop-turn.from.at c.loop-turn.from.kept c.loop-turn.demand c.loop-turn.carried c.loop-turn.invariant.run.0 c.loop-turn.index c.in-Ok.to c.seam.result.name c.loop-turn.pages.items c.add_blanks.new.pages.items
+    (c.seam.ensures.name (pos 0)) c.in-Ok.ensures.blanks c.loop-turn.invariant.run.1
 
 nears : (g : given.Over) (c : After-page_of-page g) → HaveNearTops c.add_blanks.new.pages.items
-nears g c = near_added (record { meets = g.Fr.Frames.meets c.args.frames.now; frame_of = g.Fr.Frames.frame_of c.args.frames.now }) c.asked_at.result.name c.loop-turn.demand c.loop-turn.index c.in-Ok.to c.loop-turn.pages.items c.add_blanks.new.pages.items c.in-Ok.ensures.blanks c.loop-turn.invariant.near
+nears g c = near_added (g.Fr.Frames.view c.args.frames.now) c.seam.result.name c.loop-turn.demand c.loop-turn.index c.in-Ok.to c.loop-turn.pages.items c.add_blanks.new.pages.items c.in-Ok.ensures.blanks c.loop-turn.invariant.near
 
-same_page : (g : given.Over) (c : After-page_of-page g) → (c.frame-frame.result ≡ g.Fr.Frames.frame_of c.args.frames.now c.in-Ok.to (name_at c.args.flow.now.main c.loop-turn.from.at) kind.Flow) × (c.page_of-page.result.0 ≡ flow_page (record { meets = g.Fr.Frames.meets c.args.frames.now; frame_of = g.Fr.Frames.frame_of c.args.frames.now }) c.args.flow.now.main (here g c) c.in-Ok-next_cut.cut)
+same_page : (g : given.Over) (c : After-page_of-page g) → (c.frame-frame.result ≡ (g.Fr.Frames.view c.args.frames.now).frame_of c.in-Ok.to (name_at c.args.flow.now.main c.loop-turn.from.at) kind.Flow) × (c.page_of-page.result.0 ≡ flow_page (g.Fr.Frames.view c.args.frames.now) c.args.flow.now.main (here g c) c.in-Ok-next_cut.cut)
 same_page g c =
-    let same = page_is c.args.faces.now c.args.flow.now (record { meets = g.Fr.Frames.meets c.args.frames.now; frame_of = g.Fr.Frames.frame_of c.args.frames.now }) c.loop-turn.from.at c.loop-turn.from.kept c.loop-turn.demand c.loop-turn.carried c.loop-turn.invariant.run.0 c.in-Ok.to c.in-Ok-next_cut.cut c.asked_at.result.name c.frame-frame.result (c.asked_at.ensures.name (pos 0)) c.frame-frame.ensures.frame in
+    let same = page_is c.args.faces.now c.args.flow.now (g.Fr.Frames.view c.args.frames.now) c.loop-turn.from.at c.loop-turn.from.kept c.loop-turn.demand c.loop-turn.carried c.loop-turn.invariant.run.0 c.in-Ok.to c.in-Ok-next_cut.cut c.seam.result.name c.frame-frame.result (c.seam.ensures.name (pos 0)) c.frame-frame.ensures.frame in
     (same.0, c.page_of-page.ensures.page ∙ same.1)
 
 carried_cut : (g : given.Over) (c : After-page_of-page g) → IsFlowCut c.args.faces.now c.args.flow.now c.frame-frame.result c.loop-turn.from c.loop-turn.carried c.in-Ok-next_cut.cut
 carried_cut g c = subst (λ (cs : List Carried). IsFlowCut c.args.faces.now c.args.flow.now c.frame-frame.result c.loop-turn.from cs c.in-Ok-next_cut.cut) c.as_slice.ensures c.in-Ok-next_cut.ensures.cut
 
-step : (g : given.Over) (c : After-page_of-page g) → IsStep c.args.faces.now c.args.flow.now (record { meets = g.Fr.Frames.meets c.args.frames.now; frame_of = g.Fr.Frames.frame_of c.args.frames.now }) (here g c) (flow_page (record { meets = g.Fr.Frames.meets c.args.frames.now; frame_of = g.Fr.Frames.frame_of c.args.frames.now }) c.args.flow.now.main (here g c) c.in-Ok-next_cut.cut) (after_flow c.args.flow.now.main (here g c) c.in-Ok-next_cut.cut)
+step : (g : given.Over) (c : After-page_of-page g) → IsStep c.args.faces.now c.args.flow.now (g.Fr.Frames.view c.args.frames.now) (here g c) (flow_page (g.Fr.Frames.view c.args.frames.now) c.args.flow.now.main (here g c) c.in-Ok-next_cut.cut) (after_flow c.args.flow.now.main (here g c) c.in-Ok-next_cut.cut)
 step g c = flows refl c.in-Ok.ensures.meets c.in-Ok-next_cut.cut
-    (frame_cut c.args.faces.now c.args.flow.now c.loop-turn.from c.loop-turn.carried c.in-Ok-next_cut.cut c.frame-frame.result (g.Fr.Frames.frame_of c.args.frames.now c.in-Ok.to (name_at c.args.flow.now.main c.loop-turn.from.at) kind.Flow) (same_page g c).0 (carried_cut g c)) refl refl
+    (frame_cut c.args.faces.now c.args.flow.now c.loop-turn.from c.loop-turn.carried c.in-Ok-next_cut.cut c.frame-frame.result ((g.Fr.Frames.view c.args.frames.now).frame_of c.in-Ok.to (name_at c.args.flow.now.main c.loop-turn.from.at) kind.Flow) (same_page g c).0 (carried_cut g c)) refl refl
 
 -- the pages with the last one
-more : (g : given.Over) (c : After-page_of-page g) (now : List Page) → now ≡ c.add_blanks.new.pages.items ++ c.page_of-page.result.0 ∷ [] → Leads c.args.faces.now c.args.flow.now (record { meets = g.Fr.Frames.meets c.args.frames.now; frame_of = g.Fr.Frames.frame_of c.args.frames.now }) (after_flow c.args.flow.now.main (here g c) c.in-Ok-next_cut.cut) now
+more : (g : given.Over) (c : After-page_of-page g) (now : List Page) → now ≡ c.add_blanks.new.pages.items ++ c.page_of-page.result.0 ∷ [] → Leads c.args.faces.now c.args.flow.now (g.Fr.Frames.view c.args.frames.now) (after_flow c.args.flow.now.main (here g c) c.in-Ok-next_cut.cut) now
 more g c now is =
-    let all : now ≡ c.add_blanks.new.pages.items ++ flow_page (record { meets = g.Fr.Frames.meets c.args.frames.now; frame_of = g.Fr.Frames.frame_of c.args.frames.now }) c.args.flow.now.main (here g c) c.in-Ok-next_cut.cut ∷ [] = is ∙ ap (λ (q : Page). c.add_blanks.new.pages.items ++ q ∷ []) (same_page g c).1 in
-    subst (Leads c.args.faces.now c.args.flow.now (record { meets = g.Fr.Frames.meets c.args.frames.now; frame_of = g.Fr.Frames.frame_of c.args.frames.now }) (after_flow c.args.flow.now.main (here g c) c.in-Ok-next_cut.cut)) (sym all)
-    (run_step c.args.faces.now c.args.flow.now (record { meets = g.Fr.Frames.meets c.args.frames.now; frame_of = g.Fr.Frames.frame_of c.args.frames.now }) (here g c) (after_flow c.args.flow.now.main (here g c) c.in-Ok-next_cut.cut) (flow_page (record { meets = g.Fr.Frames.meets c.args.frames.now; frame_of = g.Fr.Frames.frame_of c.args.frames.now }) c.args.flow.now.main (here g c) c.in-Ok-next_cut.cut) c.add_blanks.new.pages.items (step g c) (leads g c))
+    let all : now ≡ c.add_blanks.new.pages.items ++ flow_page (g.Fr.Frames.view c.args.frames.now) c.args.flow.now.main (here g c) c.in-Ok-next_cut.cut ∷ [] = is ∙ ap (λ (q : Page). c.add_blanks.new.pages.items ++ q ∷ []) (same_page g c).1 in
+    subst (Leads c.args.faces.now c.args.flow.now (g.Fr.Frames.view c.args.frames.now) (after_flow c.args.flow.now.main (here g c) c.in-Ok-next_cut.cut)) (sym all)
+    (run_step c.args.faces.now c.args.flow.now (g.Fr.Frames.view c.args.frames.now) (here g c) (after_flow c.args.flow.now.main (here g c) c.in-Ok-next_cut.cut) (flow_page (g.Fr.Frames.view c.args.frames.now) c.args.flow.now.main (here g c) c.in-Ok-next_cut.cut) c.add_blanks.new.pages.items (step g c) (leads g c))
 
 near : (g : given.Over) (c : After-page_of-page g) (now : List Page) → now ≡ c.add_blanks.new.pages.items ++ c.page_of-page.result.0 ∷ [] → HaveNearTops now
 near g c now is = subst HaveNearTops (sym is) (near_more c.add_blanks.new.pages.items c.page_of-page.result.0 (nears g c) (subst (λ (q : Page). AreNear q.solids q.notes) (sym c.page_of-page.ensures.page) c.in-Ok-next_cut.ensures.near))
@@ -90,7 +91,7 @@ returns-then-ended-clause-pages g c =
       done = c.if-ended.true;
       index = omega arith;
       few = omega arith;
-      name = sym (c.asked_at.ensures.name (pos 0));
+      name = sym (c.seam.ensures.name (pos 0));
       carried_is = sym left;
       carried = rw left (subst (λ (q : Position). AreCarried c.args.flow.now q cut.carried) at c.in-Ok-next_cut.ensures.carried);
       stands = rw left c.in-Ok-next_cut.ensures.stands;
@@ -110,7 +111,7 @@ loop-turn-preserved g c =
     let count = c.in-Ok.ensures.count in
     let most = c.in-Ok.ensures.few in
     let old = c.loop-turn.invariant.turns in
-    let grows = adds_grow (record { meets = g.Fr.Frames.meets c.args.frames.now; frame_of = g.Fr.Frames.frame_of c.args.frames.now }) c.asked_at.result.name c.loop-turn.demand c.loop-turn.index c.in-Ok.to c.loop-turn.pages.items c.add_blanks.new.pages.items c.in-Ok.ensures.blanks in
+    let grows = adds_grow (g.Fr.Frames.view c.args.frames.now) c.seam.result.name c.loop-turn.demand c.loop-turn.index c.in-Ok.to c.loop-turn.pages.items c.add_blanks.new.pages.items c.in-Ok.ensures.blanks in
     let left : c.page_of-page.result.1 ≡ cut.carried = c.page_of-page.ensures.carried in
     let kept : is_forced cut.forced ≡ c.is_some.result = forced_some cut.forced ∙ sym c.is_some.ensures in
     record {
@@ -121,7 +122,7 @@ loop-turn-preserved g c =
       carries = rw left c.in-Ok-next_cut.ensures.carried;
       run = (
         name_at c.args.flow.now.main c.loop-turn.from.at,
-        subst (λ (s : State). Leads c.args.faces.now c.args.flow.now (record { meets = g.Fr.Frames.meets c.args.frames.now; frame_of = g.Fr.Frames.frame_of c.args.frames.now }) s c.push.new.self.items)
+        subst (λ (s : State). Leads c.args.faces.now c.args.flow.now (g.Fr.Frames.view c.args.frames.now) s c.push.new.self.items)
             (next_state c.args.flow.now.main (here g p) cut c.is_some.result c.page_of-page.result.1 (c.in-Ok.to + 1) c.if-ended.false kept left (omega arith))
             (more g p c.push.new.self.items now),
       );
@@ -130,7 +131,7 @@ loop-turn-preserved g c =
 
 pub returns-clause-many : goal.returns-clause-many
 returns-clause-many g c = λ e.
-    let frames : PageFrames = (record { meets = g.Fr.Frames.meets c.args.frames.now; frame_of = g.Fr.Frames.frame_of c.args.frames.now }) in
+    let frames : PageFrames = (g.Fr.Frames.view c.args.frames.now) in
     let last = c.loop-turn-test.false in
     let turns = c.loop-turn.invariant.turns in
     let few = c.loop-turn.invariant.few in

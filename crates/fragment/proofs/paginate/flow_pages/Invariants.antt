@@ -14,6 +14,6 @@ invariant-loop-turn g l = record {
   turns : l.turn ≤ length l.pages.items;
   few : length l.pages.items ≤ 100000;
   carries : AreCarried l.flow l.from.at l.carried;
-  run : (name : NameId) × Leads l.faces l.flow (record { meets = g.Fr.Frames.meets l.frames; frame_of = g.Fr.Frames.frame_of l.frames }) (state_at l.from.at l.from.kept l.index l.demand l.carried name) l.pages.items;
+  run : (name : NameId) × Leads l.faces l.flow (g.Fr.Frames.view l.frames) (state_at l.from.at l.from.kept l.index l.demand l.carried name) l.pages.items;
   near : HaveNearTops l.pages.items;
 }

@@ -30,8 +30,8 @@ pub returns-then-is_empty-clause-pages : goal.returns-then-is_empty-clause-pages
 returns-then-is_empty-clause-pages g c =
     let run = c.loop-turn.invariant.run in
     let none : has_some c.loop-turn.carried ≡ false = has_none c.loop-turn.carried (ap length (sym c.as_slice.ensures) ∙ eqb-true (length c.as_slice.result.now) 0 (sym c.is_empty.ensures ∙ c.if-is_empty.true)) in
-    subst (IsPaged c.args.faces.now c.args.flow.now (record { meets = g.Fr.Frames.meets c.args.frames.now; frame_of = g.Fr.Frames.frame_of c.args.frames.now })) (sym c.of.ensures)
-    (run_ends c.args.faces.now c.args.flow.now (record { meets = g.Fr.Frames.meets c.args.frames.now; frame_of = g.Fr.Frames.frame_of c.args.frames.now }) run.0 c.loop-turn.pages.items (record { done = run.2; none = ap has_some run.5 ∙ none }) run.1)
+    subst (IsPaged c.args.faces.now c.args.flow.now (g.Fr.Frames.view c.args.frames.now)) (sym c.of.ensures)
+    (run_ends c.args.faces.now c.args.flow.now (g.Fr.Frames.view c.args.frames.now) run.0 c.loop-turn.pages.items (record { done = run.2; none = ap has_some run.5 ∙ none }) run.1)
 
 pub returns-then-is_empty-clause-tops : goal.returns-then-is_empty-clause-tops
 returns-then-is_empty-clause-tops g c = subst HaveNearTops (sym c.of.ensures) c.loop-turn.invariant.near
@@ -42,7 +42,7 @@ returns-then-len-clause-many g c = λ e.
     let few = c.loop-turn.invariant.few in
     let full = c.if-len.true in
     let some : has_some c.loop-turn.carried ≡ true = has_one c.loop-turn.carried (subst (λ (xs : List Carried). (length xs == 0) ≡ false) c.as_slice.ensures (sym c.is_empty.ensures ∙ c.if-is_empty.false)) in
-    leaves_some c.args.faces.now c.args.flow.now (record { meets = g.Fr.Frames.meets c.args.frames.now; frame_of = g.Fr.Frames.frame_of c.args.frames.now }) run.0 c.loop-turn.pages.items 100000 (some_left run.0 (ap has_some run.5 ∙ some)) (let size = c.len.ensures in omega arith) run.1
+    leaves_some c.args.faces.now c.args.flow.now (g.Fr.Frames.view c.args.frames.now) run.0 c.loop-turn.pages.items 100000 (some_left run.0 (ap has_some run.5 ∙ some)) (let size = c.len.ensures in omega arith) run.1
 
 pub loop-turn-preserved : goal.loop-turn-preserved
 loop-turn-preserved g c =
@@ -57,13 +57,13 @@ loop-turn-preserved g c =
     let count = c.len-in-loop-turn.ensures in
     let before = run.3 in
     let index : run.0.index ≡ c.len-in-loop-turn.result + 1 = omega arith in
-    let same = notes_frame (record { meets = g.Fr.Frames.meets c.args.frames.now; frame_of = g.Fr.Frames.frame_of c.args.frames.now }) run.0 c.args.made.name (c.len-in-loop-turn.result + 1) c.frame-frame.result c.in-Ok.placed.notes run.4 index c.frame-frame.ensures.frame in
+    let same = notes_frame (g.Fr.Frames.view c.args.frames.now) run.0 c.args.made.name (c.len-in-loop-turn.result + 1) c.frame-frame.result c.in-Ok.placed.notes run.4 index c.frame-frame.ensures.frame in
     let some : has_some c.loop-turn.carried ≡ true = has_one c.loop-turn.carried (subst (λ (xs : List Carried). (length xs == 0) ≡ false) c.as_slice.ensures (sym c.is_empty.ensures ∙ c.if-is_empty.false)) in
-    let cut : IsNotesCut c.args.faces.now f (g.Fr.Frames.frame_of c.args.frames.now run.0.index run.0.name kind.Notes) run.0.carried c.in-Ok.placed.notes c.in-Ok.placed.left =
+    let cut : IsNotesCut c.args.faces.now f ((g.Fr.Frames.view c.args.frames.now).frame_of run.0.index run.0.name kind.Notes) run.0.carried c.in-Ok.placed.notes c.in-Ok.placed.left =
     subst (λ (fr : Frame). IsNotesCut c.args.faces.now f fr run.0.carried c.in-Ok.placed.notes c.in-Ok.placed.left) same.0
     (subst (λ (cs : List Carried). IsNotesCut c.args.faces.now f c.frame-frame.result cs c.in-Ok.placed.notes c.in-Ok.placed.left) (c.as_slice-in-loop-turn.ensures ∙ sym run.5) c.in-Ok.ensures.cut) in
-    let page : c.notes_page_of.result ≡ notes_page (record { meets = g.Fr.Frames.meets c.args.frames.now; frame_of = g.Fr.Frames.frame_of c.args.frames.now }) run.0 c.in-Ok.placed.notes = c.notes_page_of.ensures ∙ same.1 in
-    let step : IsStep c.args.faces.now f (record { meets = g.Fr.Frames.meets c.args.frames.now; frame_of = g.Fr.Frames.frame_of c.args.frames.now }) run.0 c.notes_page_of.result (after_notes run.0 c.in-Ok.placed.left) = noted run.2 (ap has_some run.5 ∙ some) c.in-Ok.placed.notes c.in-Ok.placed.left cut page refl in
+    let page : c.notes_page_of.result ≡ notes_page (g.Fr.Frames.view c.args.frames.now) run.0 c.in-Ok.placed.notes = c.notes_page_of.ensures ∙ same.1 in
+    let step : IsStep c.args.faces.now f (g.Fr.Frames.view c.args.frames.now) run.0 c.notes_page_of.result (after_notes run.0 c.in-Ok.placed.left) = noted run.2 (ap has_some run.5 ∙ some) c.in-Ok.placed.notes c.in-Ok.placed.left cut page refl in
     record {
       turns = omega arith;
       few = omega arith;
@@ -71,7 +71,7 @@ loop-turn-preserved g c =
       stands = c.in-Ok.ensures.stands;
       run = (
         after_notes run.0 c.in-Ok.placed.left,
-        subst (Leads c.args.faces.now f (record { meets = g.Fr.Frames.meets c.args.frames.now; frame_of = g.Fr.Frames.frame_of c.args.frames.now }) (after_notes run.0 c.in-Ok.placed.left)) (sym now) (run_step c.args.faces.now f (record { meets = g.Fr.Frames.meets c.args.frames.now; frame_of = g.Fr.Frames.frame_of c.args.frames.now }) run.0 (after_notes run.0 c.in-Ok.placed.left) c.notes_page_of.result c.loop-turn.pages.items step run.1),
+        subst (Leads c.args.faces.now f (g.Fr.Frames.view c.args.frames.now) (after_notes run.0 c.in-Ok.placed.left)) (sym now) (run_step c.args.faces.now f (g.Fr.Frames.view c.args.frames.now) run.0 (after_notes run.0 c.in-Ok.placed.left) c.notes_page_of.result c.loop-turn.pages.items step run.1),
         run.2,
         omega arith,
         run.4,

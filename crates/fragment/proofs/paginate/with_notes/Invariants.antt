@@ -11,6 +11,6 @@ invariant-loop-turn g l = record {
   few : length l.pages.items ≤ 100000;
   carries : AreCarried l.flow (place_after l.flow.main None) l.carried;
   stands : All (IsAtSolid l.flow.notes) l.carried;
-  run : (s : State) × Leads l.faces l.flow (record { meets = g.Fr.Frames.meets l.frames; frame_of = g.Fr.Frames.frame_of l.frames }) s l.pages.items × (s.done ≡ true) × (length l.pages.items + 1 ≡ s.index) × (s.name ≡ l.name) × (s.carried ≡ l.carried);
+  run : (s : State) × Leads l.faces l.flow (g.Fr.Frames.view l.frames) s l.pages.items × (s.done ≡ true) × (length l.pages.items + 1 ≡ s.index) × (s.name ≡ l.name) × (s.carried ≡ l.carried);
   near : HaveNearTops l.pages.items;
 }

@@ -23,6 +23,7 @@ invariant-loop-solid g l = record {
   are : (carried : List Carried) → AreRead l.faces l.flow l.fn.frame l.fn.from.at carried [] l.initial.notes → AreRead l.faces l.flow l.fn.frame l.fn.from.at carried (map (λ s. s.end) (map solid_view l.solids.items)) l.notes;
   calls : (s : SolidView) → IsSolid l.faces l.flow.main l.fn.frame.width l.at s → l.notes.called ≤ called_by l.flow.main l.flow.notes s.end;
   look : LooksOn l.fn.from.kept l.fn.frame.height l.initial.notes.list.own l.notes.areas.items l.room.carried l.flow.main (map solid_view l.solids.items) l.look;
+  rows : l.rows.items ≡ rows_of l.flow.main (map solid_view l.solids.items);
   free : AreFree (rows_of l.flow.main (map solid_view l.solids.items));
   read : HasRead (length l.solids.items) l.look;
 }

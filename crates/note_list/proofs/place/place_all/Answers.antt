@@ -5,7 +5,7 @@ use Rattle.boxes.specs.declared.page.Placed.{Placed}
 use Rattle.note_list.specs.Lists.{placed_notes}
 use Rattle.note_list.specs.declared.solid.NotedSolid.{NotedSolid}
 use Rattle.note_list.proofs.PartLemmas.{drop_get}
-use Rattle.notes.specs.Notes.{separator}
+use Rattle.bk_num.specs.Limits.{separator}
 use Rattle.note_list.proofs.place.place_all.Goals as goal
 
 pub loop-at-preserved : goal.loop-at-preserved
@@ -22,9 +22,10 @@ loop-at-preserved c =
     let low = c.loop-at.invariant.low in
     let high = c.loop-at.invariant.high in
     let rest : drop at solids ≡ s ∷ drop (suc at) solids = drop_get solids at s there in
-    let bottom : ℤ = to_z w64 c.loop-at.bottom-bits in
-    let top : to_z w64 (of_z w64 c.top_under-top.result) ≡ bottom +ℤ s.row.gap = omega (arith, ints) in
-    let under : to_z w64 (of_z w64 c.bottom_under-bottom.result) ≡ (bottom +ℤ s.row.gap) +ℤ s.row.height = omega (arith, ints) in
+    let bottom : ℤ = c.loop-at.reach.bottom in
+    let top_is = c.place_note-top.ensures.top in
+    let top : to_z w64 (of_z w64 c.place_note-top.result) ≡ bottom +ℤ s.row.gap = omega (arith, ints) in
+    let under : c.place_note-top.new.self.bottom ≡ (bottom +ℤ s.row.gap) +ℤ s.row.height = c.place_note-top.ensures.bottom in
     let p : ℕ × Placed = (s.note, record { at = s.at; end = s.end; top = bottom +ℤ s.row.gap; height = s.row.height; kind = s.kind }) in
     let placed : c.place_at.result ≡ p = c.place_at.ensures ∙ ap (λ (z : ℤ). (s.note, record { at = s.at; end = s.end; top = z; height = s.row.height; kind = s.kind })) top in
     let tail : List (ℕ × Placed) = placed_notes ((bottom +ℤ s.row.gap) +ℤ s.row.height) (drop (suc at) solids) in
@@ -37,3 +38,11 @@ loop-at-preserved c =
       low = omega (arith, ints);
       high = omega (arith, ints);
     }
+
+pub place_note-top-requires-clause-bottom : goal.place_note-top-requires-clause-bottom
+place_note-top-requires-clause-bottom c =
+    let less = c.loop-at-test.true in
+    let few = c.requires.few in
+    let low = c.loop-at.invariant.low in
+    let high = c.loop-at.invariant.high in
+    omega (arith, ints)

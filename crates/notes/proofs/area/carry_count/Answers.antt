@@ -9,10 +9,10 @@ use Rattle.notes.proofs.area.carry_count.Goals as goal
 pub loop-at-preserved : goal.loop-at-preserved
 loop-at-preserved c =
     let list : List NoteSolid = c.args.list.now in
-    let r : IsReach list (c.loop-at.at + 1) c.place.new.self.bottom c.place.new.self.extent = reach_step list c.loop-at.at c.solid_at.result c.loop-at.reach.bottom c.loop-at.reach.extent c.place.new.self.bottom c.place.new.self.extent c.loop-at.invariant.reach c.solid_at.ensures.solid c.solid_at.ensures.small c.place.ensures.bottom c.place.ensures.extent in
-    let own : area_of list (c.loop-at.at + 1) ≡ c.area_under-area.result = area_some list (c.loop-at.at + 1) (omega arith) ∙ ap (λ (z : ℤ). pos 512 +ℤ z) (sym r.extent_is) ∙ sym c.area_under-area.ensures.area in
-    let low = c.area_under-area.ensures.low in
-    let high = c.area_under-area.ensures.high in
+    let r : IsReach list (c.loop-at.at + 1) c.place_note.new.self.bottom c.place_note.new.self.extent = reach_step list c.loop-at.at c.solid_at.result c.loop-at.reach.bottom c.loop-at.reach.extent c.place_note.new.self.bottom c.place_note.new.self.extent c.loop-at.invariant.reach c.solid_at.ensures.solid c.solid_at.ensures.small c.place_note.ensures.bottom c.place_note.ensures.extent in
+    let own : area_of list (c.loop-at.at + 1) ≡ c.area-area.result = area_some list (c.loop-at.at + 1) (omega arith) ∙ ap (λ (z : ℤ). pos 512 +ℤ z) (sym r.extent_is) ∙ sym c.area-area.ensures.area in
+    let low = c.area-area.ensures.low in
+    let high = c.area-area.ensures.high in
     record {
       reach = r;
       greatest = greatest_step (λ (k : ℕ). (area_of list k +ℤ area_of list k) ≤ℤ to_z w64 (of_z w64 c.args.height)) c.loop-at.at c.loop-at.count c.number_after-count.result c.loop-at.invariant.greatest c.number_after-count.ensures.one (λ h. let f = c.number_after-count.ensures.fits h in rw own (omega (arith, ints))) (λ f. c.number_after-count.ensures.most (let g = f in omega (arith, ints)));

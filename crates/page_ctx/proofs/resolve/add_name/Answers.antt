@@ -1,11 +1,9 @@
-use Rattle.std.proofs.Common.{ap}
-use Rattle.page_ctx.specs.Margins.{cells_in}
 use Rattle.page_ctx.proofs.TableLemmas.{six_good, six_pushed}
 use Rattle.page_ctx.proofs.resolve.add_name.Goals as goal
 
 pub returns-clause-boxes : goal.returns-clause-boxes
 returns-clause-boxes c =
-    six_pushed _ _ _ _ _ _ _ _ _ _ _ _ _ (ap cells_in c.requires.none) c.in_ok-first.ensures.boxes c.in_ok-left.ensures.boxes c.in_ok-right.ensures.boxes c.in_ok-blank_first.ensures.boxes
+    six_pushed _ _ _ _ _ _ _ _ _ _ _ _ _ c.in_ok-first.ensures.boxes c.in_ok-left.ensures.boxes c.in_ok-right.ensures.boxes c.in_ok-blank_first.ensures.boxes
     c.in_ok-blank_left.ensures.boxes c.in_ok-blank_right.ensures.boxes
 
 pub returns-clause-good : goal.returns-clause-good

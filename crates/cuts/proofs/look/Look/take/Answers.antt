@@ -1,4 +1,4 @@
-use Rattle.std.proofs.Common.{◌≡◌, ◌+ℤ◌, ◌≤ℤ◌, ◌∷◌, ◌++◌, [], ℤ, Bool, true, false, rules, refl, sym, subst, ◌||◌}
+use Rattle.std.proofs.Common.{◌≡◌, ◌+ℤ◌, ◌≤ℤ◌, ◌∷◌, ◌++◌, [], ℤ, Bool, true, false, not, ap, rules, refl, sym, subst, ◌||◌}
 use Rattle.std.proofs.lemmas.Int.{to_z-of_z}
 use mir.Val.{SFits}
 use mir.Syntax.{w64}
@@ -40,11 +40,11 @@ returns-clause-look c = λ rows list n told look.
     let bottom : c.place.new.self.bottom ≡ (old.reach.bottom +ℤ c.gap_above-gap.result) +ℤ c.args.row.now.height = simp to_z-of_z at c.place.ensures.bottom in
     let fitted = seam_fits kept height list n rows c.args.row.now old c.args.area c.args.room.now.carried going told c.requires.read.least c.fits.result c.fits.ensures.point fit in
     subst (look_by kept height list n (rows ++ c.args.row.now ∷ []) new) (sym c.in_default.is)
-    (took_going kept height list n rows c.args.row.now old new c.gap_above-gap.result going c.least_with-self.ensures.own c.least_with-self.ensures.kept c.gap_above-gap.ensures.top c.gap_above-gap.ensures.below refl bottom c.place.ensures.extent fitted)
+    (took_going kept height list n rows c.args.row.now old new c.gap_above-gap.result going c.least_with-self.ensures.own c.least_with-self.ensures.kept (λ e. c.gap_above-gap.ensures.top (ap not e)) (λ e. c.gap_above-gap.ensures.below (ap not e)) refl bottom c.place.ensures.extent fitted)
 
 pub returns-clause-read : goal.returns-clause-read
 returns-clause-read c = λ n read.
     let gap : SFits w64 c.gap_above-gap.result = search rules in
     let tall : SFits w64 c.args.row.now.height = search rules in
     let bottom : c.place.new.self.bottom ≡ (c.args.self.now.reach.bottom +ℤ c.gap_above-gap.result) +ℤ c.args.row.now.height = simp to_z-of_z at c.place.ensures.bottom in
-    reached_more n c.args.self.now.reach c.place.new.self c.gap_above-gap.result c.args.row.now.height read c.gap_above-gap.ensures.low c.gap_above-gap.ensures.high c.requires.small.height_low c.requires.small.height_high bottom c.place.ensures.extent
+    reached_more n c.args.self.now.reach c.place.new.self c.gap_above-gap.result c.args.row.now.height read c.gap_above-gap.ensures.small c.requires.small.height c.requires.small.some bottom c.place.ensures.extent

@@ -4,7 +4,7 @@ use Rattle.std.proofs.lemmas.List.Elements.{All-nil}
 use mir.Val.{SFits}
 use mir.Syntax.{w64}
 use Rattle.notes.specs.Notes.{IsCarryCount}
-use Rattle.note_list.specs.Lists.{rows_of}
+use Rattle.note_list.specs.Lists.{note_rows}
 use Rattle.note_list.specs.declared.carried.Carried.{Carried}
 use Rattle.note_list.proofs.BodyLemmas.{EndsIn, ReadsCarried, carry_next, carry_start, read_same, take_end, take_next}
 use Rattle.note_list.proofs.ReadLemmas.{counts_told}
@@ -40,5 +40,5 @@ returns-clause-list g c =
       list = all.0;
       listed = all.1;
       read = read;
-      counts = counts_told c.hold.new.self c.args.frame.height all.0 c.requires.frame.height_low read (let fits : SFits w64 c.args.frame.height = (let low = c.requires.frame.height_low in let high = c.requires.frame.height_high in omega (arith, ints)) in subst (λ (h : ℤ). IsCarryCount (rows_of c.hold.new.self.solids.items) (length c.hold.new.self.solids.items) h c.hold.new.self.own) (to_z-of_z w64 _ fits) c.in_ok-hold.ensures.counts);
+      counts = counts_told c.hold.new.self c.args.frame.height all.0 c.requires.frame.height_low read (let fits : SFits w64 c.args.frame.height = (let low = c.requires.frame.height_low in let high = c.requires.frame.height_high in omega (arith, ints)) in subst (λ (h : ℤ). IsCarryCount (note_rows c.hold.new.self.solids.items) (length c.hold.new.self.solids.items) h c.hold.new.self.own) (to_z-of_z w64 _ fits) c.in_ok-hold.ensures.counts);
     }

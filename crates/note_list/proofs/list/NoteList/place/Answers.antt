@@ -1,9 +1,11 @@
 use Rattle.std.proofs.Common.{◌≡◌, ◌<◌, ◌≤◌, ◌-◌, ℕ, List, Option, Some, All, IfSome, length, min, take, slice_get, sym, ap, ◌∙◌, subst, arith}
 use Rattle.std.proofs.lemmas.Int.{ints}
 use Rattle.std.proofs.lemmas.List.Elements.{All-take}
-use Rattle.notes.specs.Notes.{IsPlaced, IsSmallNote, must_of, separator}
+use Rattle.bk_num.specs.Limits.{separator}
+use Rattle.notes.specs.Notes.{IsPlaced, IsSmallNote, must_of}
+use Rattle.cuts.specs.Areas.{cut_number}
 use Rattle.note_list.specs.Left.{left_after_last}
-use Rattle.note_list.specs.Lists.{placed_notes, rows_of}
+use Rattle.note_list.specs.Lists.{placed_notes, note_rows}
 use Rattle.note_list.specs.Places.{IsNear, least_of}
 use Rattle.note_list.specs.declared.solid.NotedSolid.{NotedSolid}
 use Rattle.note_list.proofs.BodyLemmas.{EndsIn}
@@ -16,7 +18,7 @@ number_of-requires-clause-small c =
     let read : ℕ = c.count_below.result in
     let items : c.as_slice-solids.result.now ≡ solids = c.as_slice-solids.ensures.value in
     let read_is : c.split_at.result.0.now ≡ take read solids = c.split_at.ensures.front ∙ ap (take read) items in
-    subst (λ (xs : List NotedSolid). All IsSmallNote (rows_of xs)) (sym read_is) (small_taken solids read c.requires.ready.small)
+    subst (λ (xs : List NotedSolid). All IsSmallNote (note_rows xs)) (sym read_is) (small_taken solids read c.requires.ready.small)
 
 pub place_all-requires-clause-small : goal.place_all-requires-clause-small
 place_all-requires-clause-small c =
@@ -25,7 +27,7 @@ place_all-requires-clause-small c =
     let items : c.as_slice-solids.result.now ≡ solids = c.as_slice-solids.ensures.value in
     let read_is : c.split_at.result.0.now ≡ take read solids = c.split_at.ensures.front ∙ ap (take read) items in
     let placed_is : c.split_at-2.result.0.now ≡ take c.in_ok-number.number (take read solids) = c.split_at-2.ensures.front ∙ ap (take c.in_ok-number.number) read_is in
-    subst (λ (xs : List NotedSolid). All IsSmallNote (rows_of xs)) (sym placed_is) (small_taken (take read solids) c.in_ok-number.number (small_taken solids read c.requires.ready.small))
+    subst (λ (xs : List NotedSolid). All IsSmallNote (note_rows xs)) (sym placed_is) (small_taken (take read solids) c.in_ok-number.number (small_taken solids read c.requires.ready.small))
 
 pub left_after-requires-clause-last : goal.left_after-requires-clause-last
 left_after-requires-clause-last c =
@@ -50,10 +52,10 @@ returns-clause-placed c = λ faces width own list later owned listed after of co
     let within : read ≤ length solids = subst (λ (xs : List NotedSolid). read ≤ length xs) items c.count_below.ensures.within in
     let stops : (s : NotedSolid) → slice_get solids read ≡ Some s → c.args.room.now.to ≤ s.note = subst (λ (xs : List NotedSolid). (s : NotedSolid) → slice_get xs read ≡ Some s → c.args.room.now.to ≤ s.note) items c.count_below.ensures.stops in
     let own_is : c.own_of-own.result ≡ min c.args.self.now.own (length (take read solids)) = c.own_of-own.ensures ∙ ap (λ (xs : List NotedSolid). min c.args.self.now.own (length xs)) read_is in
-    let number : IsPlaced (rows_of (take read solids)) (least_of c.args.room.now.level (must_of (rows_of (take read solids)) c.own_of-own.result) c.own_of-own.result c.own_of-own.result) c.args.room.now.room c.in_ok-number.number =
-    subst (λ (xs : List NotedSolid). IsPlaced (rows_of xs) (least_of c.args.room.now.level (must_of (rows_of xs) c.own_of-own.result) c.own_of-own.result c.own_of-own.result) c.args.room.now.room c.in_ok-number.number) read_is c.in_ok-number.ensures in
-    let number_is = subst (λ (n : ℕ). IsPlaced (rows_of (take read solids)) (least_of c.args.room.now.level (must_of (rows_of (take read solids)) n) n n) c.args.room.now.room c.in_ok-number.number) own_is number in
-    placing faces c.args.flow.now.notes width c.args.room.now.height c.args.self.now c.args.carried.now c.args.from c.args.room.now.to c.args.room.now.level c.args.room.now.room own list later read c.in_ok-number.number _
+    let number : IsPlaced (note_rows (take read solids)) (least_of (cut_number c.args.room.now.level) (must_of (note_rows (take read solids)) c.own_of-own.result) c.own_of-own.result c.own_of-own.result) c.args.room.now.room c.in_ok-number.number =
+    subst (λ (xs : List NotedSolid). IsPlaced (note_rows xs) (least_of (cut_number c.args.room.now.level) (must_of (note_rows xs) c.own_of-own.result) c.own_of-own.result c.own_of-own.result) c.args.room.now.room c.in_ok-number.number) read_is c.in_ok-number.ensures in
+    let number_is = subst (λ (n : ℕ). IsPlaced (note_rows (take read solids)) (least_of (cut_number c.args.room.now.level) (must_of (note_rows (take read solids)) n) n n) c.args.room.now.room c.in_ok-number.number) own_is number in
+    placing faces c.args.flow.now.notes width c.args.room.now.height c.args.self.now c.args.carried.now c.args.from c.args.room.now.to (cut_number c.args.room.now.level) c.args.room.now.room own list later read c.in_ok-number.number _
     c.requires.ready ends c.requires.carried c.requires.order c.requires.before c.requires.called c.requires.within c.requires.room within under stops number_is
     (c.in_ok-place_all.ensures ∙ ap (placed_notes separator) placed_is)
     (c.in_ok-left_after.ensures ∙ ap (left_after_last c.args.flow.now.notes c.args.carried.now c.args.from c.args.room.now.to) (c.last_of.ensures ∙ ap (λ (xs : List NotedSolid). slice_get xs (length xs - 1)) placed_is))
@@ -118,6 +120,6 @@ returns-clause-near c =
     let few = c.requires.ready.few in
     let count = c.split_at-2.ensures.front_len in
     let within = c.in_ok-number.ensures.within in
-    let small = subst (λ (xs : List NotedSolid). All IsSmallNote (rows_of xs)) (sym placed_is) (small_taken (take read solids) c.in_ok-number.number (small_taken solids read c.requires.ready.small)) in
+    let small = subst (λ (xs : List NotedSolid). All IsSmallNote (note_rows xs)) (sym placed_is) (small_taken (take read solids) c.in_ok-number.number (small_taken solids read c.requires.ready.small)) in
     let size : length c.split_at-2.result.0.now ≤ length solids = subst (λ (xs : List NotedSolid). length xs ≤ length solids) (sym placed_is) (taken_low solids read c.in_ok-number.number) in
     subst (All (λ n. IsNear n.1)) (sym c.in_ok-place_all.ensures) (near_notes 0 separator c.split_at-2.result.0.now (omega arith) (omega (arith, ints)) (omega (arith, ints)) small)

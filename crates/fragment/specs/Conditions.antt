@@ -1,0 +1,55 @@
+-- What is asked where the solids of a page are read, and where the page is cut.
+use Rattle.std.specs.Prelude.{◌≡◌, ℕ, pos, ◌^◌, ◌<◌, ◌≤◌, ◌≤ℤ◌, List, [], length, map}
+use Rattle.std.specs.List.{All}
+use Rattle.bk_num.specs.Limits.{most_entries}
+use Rattle.boxes.specs.Frames.{IsGoodFrame}
+use Rattle.boxes.specs.Tree.{Tree, Holds}
+use Rattle.boxes.specs.declared.flow.Flow.{Flow}
+use Rattle.boxes.specs.declared.frames.Frame.{Frame}
+use Rattle.cursor.specs.Fields.{solid_view}
+use Rattle.cursor.specs.Remainder.{IsSmallSolid}
+use Rattle.cuts.specs.Areas.{IsArea}
+use Rattle.cuts.specs.Rows.{AreForcedBetween}
+use Rattle.cuts.specs.declared.row.PageRoom.{PageRoom}
+use Rattle.metrics.specs.Face.{FontFace}
+use Rattle.note_list.specs.Conditions.{CanBePaged, IsHeld, NotesAscend}
+use Rattle.note_list.specs.Reads.{EndInNotes, IsReady}
+use Rattle.note_list.specs.declared.carried.Carried.{Carried}
+use Rattle.page_list.specs.Cuts.{rows_of}
+use Rattle.page_list.specs.declared.cut.CutFrom.{CutFrom}
+use Rattle.fragment.specs.Reads.{AreRead}
+use Rattle.fragment.specs.declared.page_notes.PageNotes.{PageNotes}
+use Rattle.fragment.specs.declared.rows.PageSolids.{PageSolids}
+
+-- one or more solids that are read of a page of a tree, each with its row, whose forced seams stand between blocks
+pub record ArePageSolids (t : Tree) (read : PageSolids) : Type 0 where
+  pub some : 0 < length read.solids.items
+  pub few : length read.solids.items ≤ most_entries
+  pub placed : All (λ s. Holds t s.placed_at) read.solids.items
+  pub small : All (λ s. IsSmallSolid (solid_view s)) read.solids.items
+  pub between : AreForcedBetween (rows_of t (map solid_view read.solids.items))
+  pub rows_are : read.rows.items ≡ rows_of t (map solid_view read.solids.items)
+
+-- the notes of a page are read, and what is carried to it is of notes below the first that is called on it, in order
+pub record CanCut (flow : Flow) (parts : List Carried) (from : ℕ) (notes : PageNotes) (room : PageRoom) : Type 0 where
+  pub areas : All IsArea notes.areas.items
+  pub ready : IsReady notes.list
+  pub ends : EndInNotes flow.notes notes.list
+  pub carried : All (IsHeld flow.notes) parts
+  pub order : NotesAscend parts
+  pub before : All (λ c. c.note < from) parts
+  pub count : length flow.notes ≤ most_entries
+  pub low : pos 0 ≤ℤ room.height
+  pub high : room.height ≤ℤ pos (2 ^ 40)
+
+-- a page of a frame begins at a place of a flow, with this room, and the notes that are carried to it are read
+pub record CanRead (faces : List FontFace) (f : Flow) (from : CutFrom) (page : Frame) (room : PageRoom)
+    (notes : PageNotes) : Type 0
+  where
+    pub flow : CanBePaged faces f
+    pub holds : Holds f.main from.at
+    pub frame : IsGoodFrame page
+    pub kept : room.kept ≡ from.kept
+    pub height : room.height ≡ page.height
+    pub carried : IsArea room.carried
+    pub read : (parts : List Carried) × AreRead faces f page from.at parts [] notes
