@@ -2,7 +2,7 @@
 use Rattle.std.proofs.Common.{◌≡◌, List, Err, subst}
 use Rattle.bk_num.specs.declared.ids.NodeId.{NodeId}
 use Rattle.gen_text.specs.References.{AreTargets}
-use Rattle.page_list.specs.Pages.{PageFrames}
+use Rattle.boxes.specs.Frames.{PageFrames}
 use Rattle.passes.specs.Passes.{End, EndsIn, unsettled, long, many}
 use Rattle.passes.specs.Settles.{HasEnd, Settles}
 use Rattle.passes.specs.Work.{Work}

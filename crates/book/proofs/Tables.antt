@@ -1,26 +1,21 @@
 -- What a table of pages gives is what the page rules give.
-use Rattle.std.proofs.Common.{◌≡◌, ◌∙◌, ℕ, List, Option, None, Some, refl, ap}
+use Rattle.std.proofs.Common.{◌≡◌, ℕ, List, ap}
 use Rattle.bk_num.specs.declared.ids.NameId.{NameId}
-use Rattle.boxes.specs.Frames.{meets_by_parity}
-use Rattle.boxes.specs.Table.{cell_of, row_of}
+use Rattle.boxes.specs.Frames.{meets_by_parity, PageFrames}
+use Rattle.boxes.specs.Table.{cell_in, cell_of, row_of}
 use Rattle.boxes.specs.declared.flow.Flow.{Flow}
 use Rattle.boxes.specs.declared.frames.PageKind.{PageKind}
 use Rattle.boxes.specs.declared.table.PageRow.{PageRow}
 use Rattle.css_page.specs.declared.rules.PageRule.{PageRule}
-use Rattle.page_list.specs.Pages.{PageFrames}
 use Rattle.metrics.specs.Face.{FontFace}
 use Rattle.page_ctx.specs.Margins.{AreMarginStyles, style_of}
 use Rattle.page_ctx.specs.Selectors.{classes_of}
-use Rattle.page_ctx.specs.Tables.{IsTable, cell_in, page_cell, text_of}
+use Rattle.page_ctx.specs.Tables.{IsTable, page_cell, text_of}
 use Rattle.page_ctx.specs.declared.resolve.PageStyles.{PageStyles}
-use Rattle.page_seq.specs.Frames.{frame_at, frame_in, frame_of}
+use Rattle.page_seq.specs.Frames.{frame_in, frame_of}
 use Rattle.book.specs.Answer.{print_of}
 use Rattle.book.specs.Flow.{page_frames}
 use Rattle.listing.specs.Printed.{Print}
-
-frame_in_cell : (row : Option PageRow) (place : ℕ) → frame_at row place ≡ frame_in (cell_in row place)
-frame_in_cell None place = refl
-frame_in_cell (Some row) place = refl
 
 -- page 1 is a right page, sides alternate, and frames stand in a table
 abbrev pub table_frames : List PageRow → PageFrames
@@ -39,7 +34,7 @@ table_print faces styles names passes flow = record {
 
 module _ (rules : List PageRule) (names : List (List ℕ)) where
   frame_is : (rows : List PageRow) → IsTable rules names rows → (index : ℕ) (name : NameId) (kind : PageKind) → frame_of rows index name kind ≡ (page_cell rules (text_of names name) (classes_of index kind)).frame
-  frame_is rows table index name kind = frame_in_cell (row_of rows name) (cell_of index kind) ∙ ap frame_in (table index name kind)
+  frame_is rows table index name kind = ap frame_in (table index name kind)
 
   pub frames_are : (rows : List PageRow) → IsTable rules names rows → table_frames rows ≡ page_frames rules names
   frames_are rows table = λ i. record { meets = meets_by_parity; frame_of = λ index name kind. frame_is rows table index name kind i }

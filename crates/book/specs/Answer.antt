@@ -17,8 +17,8 @@ use Rattle.book.specs.declared.document.Output.{Output}
 use Rattle.book.specs.declared.document.Output.TheVariants as output
 use Rattle.listing.specs.Printed.{Print, listing_of}
 
--- what is printed of a flow that settled in so many passes: each page has the page box and the margin boxes that its winning page
--- declarations give (css-page-3, 4 to 7)
+-- what is printed of a flow that settled in so many passes: each page has the page box and the margin boxes that its
+-- winning page declarations give (css-page-3, 4 to 7)
 abbrev pub print_of : List FontFace → List PageRule → List (List ℕ) → ℕ → Flow → Print
 print_of faces rules names passes flow = record {
   passes = passes;
@@ -41,8 +41,8 @@ pub record Book : Type 0 where
   pub passes : ℕ
   pub bytes : List ℕ
 
--- the book of a document: the passes over it settle, in so many, with a flow whose page references print the numbers of the very pages
--- on which they lead, its one page list, and their table; and its bytes are what is put of these pages
+-- the book of a document: the passes over it settle, in so many, with a flow whose page references print the numbers of
+-- the very pages on which they lead, its one page list, and their table; and its bytes are what is put of these pages
 pub record IsBookOf (d : Document) (b : Book) : Type 0 where
   pub rules : List PageRule
   pub names : List (List ℕ)

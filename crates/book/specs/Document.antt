@@ -17,7 +17,8 @@ use Rattle.book.specs.declared.document.Output.{Output}
 use Rattle.book.specs.declared.outcome.Outcome.TheVariants as out
 use Rattle.book.specs.declared.outcome.LimitOf.TheVariants as limit
 
--- in how many passes at most a book is to settle, what is to be put of it, and the texts of its files, less a leading U+FEFF
+-- in how many passes at most a book is to settle, what is to be put of it, and the texts of its files, less a leading
+-- U+FEFF
 pub record Texts : Type 0 where
   pub passes : ℕ
   pub output : Output
@@ -25,8 +26,8 @@ pub record Texts : Type 0 where
   pub html : List ℕ
   pub sheets : List (List ℕ)
 
--- a document: in how many passes at most it is to settle, what is to be put of it, the faces of its metrics text, its nodes, and the
--- texts of the files' sheets
+-- a document: in how many passes at most it is to settle, what is to be put of it, the faces of its metrics text, its
+-- nodes, and the texts of the files' sheets
 pub record Document : Type 0 where
   pub passes : ℕ
   pub output : Output

@@ -8,11 +8,20 @@ use Rattle.book.specs.Flow.{AreRulesOf}
 use Rattle.book.specs.declared.document.Document.{Document as InMemory}
 use Rattle.book.specs.declared.document.Texts.{Texts as TextsInMemory}
 
+-- texts in memory as contracts see them
 abbrev pub texts_in : TextsInMemory → Texts
-texts_in t = record { passes = t.passes; output = t.output; metrics = t.metrics.now; html = t.html.now; sheets = file_texts t.sheets.now }
+texts_in t = record {
+  passes = t.passes;
+  output = t.output;
+  metrics = t.metrics.now;
+  html = t.html.now;
+  sheets = file_texts t.sheets.now;
+}
 
+-- a document in memory as contracts see it
 abbrev pub document_in : InMemory → Document
-document_in d = record { passes = d.passes; output = d.output; faces = d.faces; nodes = d.dom; sheets = file_texts d.sheets.now }
+document_in d =
+    record { passes = d.passes; output = d.output; faces = d.faces; nodes = d.dom; sheets = file_texts d.sheets.now }
 
 -- its sheets and its page rules are what their texts are read as, in the order of the cascade
 pub record HasSheets (d : InMemory) : Type 0 where

@@ -3,6 +3,7 @@ use Rattle.std.specs.Prelude.{◌≡◌}
 use Rattle.book.specs.declared.outcome.Outcome.{Outcome}
 use Rattle.book.specs.declared.outcome.Outcome.TheVariants.{NoMemory}
 
+-- what is expected: anything, a refusal, or a value
 pub data Expect (A : Type 0) : Type 0 where
   free : Expect A
   refused : Outcome → Expect A

@@ -2,7 +2,7 @@
 use Rattle.std.specs.Prelude.{◌≡◌, ℕ, List}
 use Rattle.std.specs.List.{AllZip}
 use Rattle.bk_num.specs.declared.ids.NodeId.{NodeId}
-use Rattle.boxes.specs.Frames.{meets_by_parity}
+use Rattle.boxes.specs.Frames.{meets_by_parity, PageFrames}
 use Rattle.cascade.specs.declared.sheet.ReadSheet.{ReadSheet}
 use Rattle.computed.specs.Document.{AreDocumentStyles}
 use Rattle.counters.specs.Document.{values_of}
@@ -10,7 +10,6 @@ use Rattle.css_page.specs.declared.rules.PageRule.{PageRule}
 use Rattle.gen_text.specs.References.{AreTargets}
 use Rattle.page_ctx.specs.Selectors.{classes_of}
 use Rattle.page_ctx.specs.Tables.{page_cell, text_of}
-use Rattle.page_list.specs.Pages.{PageFrames}
 use Rattle.passes.specs.Passes.{End, EndsIn}
 use Rattle.passes.specs.Work.{Work}
 use Rattle.sheets.specs.Sheets.{author_texts, element_sheets}
@@ -26,21 +25,23 @@ texts_of d = author_texts (element_sheets d.nodes) d.sheets
 abbrev pub AreRulesOf : Document → List PageRule → Type 0
 AreRulesOf d rules = ArePageRules (authors_of (texts_of d)) rules
 
--- each page has the frame that its winning page declarations give; page 1 is a right page, and sides alternate (css-page-3, 3 to 7)
+-- each page has the frame that its winning page declarations give; page 1 is a right page, and sides alternate
+-- (css-page-3, 3 to 7)
 abbrev pub page_frames : List PageRule → List (List ℕ) → PageFrames
 page_frames rules names = record {
   meets = meets_by_parity;
   frame_of = λ index name kind. (page_cell rules (text_of names name) (classes_of index kind)).frame;
 }
 
--- nodes have the computed styles (CSS 2.1, 6) that the default sheet and those of the document give, with these names of pages
+-- nodes have the computed styles (CSS 2.1, 6) that the default sheet and those of the document give, with these names
+-- of pages
 pub record AreStylesBy (d : Document) (names : List (List ℕ)) (rows : List NodeStyles) : Type 0 where
   pub sheets : List ReadSheet
   pub read : AllZip IsReadFrom (sources_of (texts_of d)) sheets
   pub styles : AreDocumentStyles names d.nodes sheets rows
 
--- what the passes over a document read: its nodes in their styles, the values of its counters by them (CSS 2.1, 12.4), its faces, the
--- frames that its page rules give, and the elements that its page references lead to
+-- what the passes over a document read: its nodes in their styles, the values of its counters by them (CSS 2.1, 12.4),
+-- its faces, the frames that its page rules give, and the elements that its page references lead to
 abbrev pub work_by : Document → List PageRule → List (List ℕ) → List NodeStyles → List NodeId → Work
 work_by d rules names rows targets = record {
   nodes = d.nodes;
@@ -51,6 +52,7 @@ work_by d rules names rows targets = record {
   targets = targets;
 }
 
+-- the work that a document gives: its rules, its styles and what is laid out with them
 pub record IsWorkOf (d : Document) (rules : List PageRule) (names : List (List ℕ)) (w : Work) : Type 0 where
   pub by : AreRulesOf d rules
   pub rows : List NodeStyles

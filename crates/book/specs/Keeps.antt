@@ -13,6 +13,7 @@ use Rattle.refs.specs.Tables.{table_of}
 use Rattle.book.specs.Answer.{Book, IsBookOf}
 use Rattle.book.specs.Document.{Document}
 
+-- what a book's pages keep of the document: its text, its notes and its references
 pub record Keeps (w : Work) (flow : Flow) (pages : List Page) (table : List Entry) : Type 0 where
   -- each edge and each character of the main text stands on the pages once and in order
   pub main : HoldsMain flow pages

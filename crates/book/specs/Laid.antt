@@ -1,6 +1,7 @@
 -- What is laid out of a document, as the arguments have it.
-use Rattle.std.specs.Prelude.{◌≡◌, ℕ, List, Option, Result, Ok, Err, length, take}
+use Rattle.std.specs.Prelude.{◌≡◌, ℕ, ◌≤◌, List, Option, Result, Ok, Err, length, take}
 use Rattle.std.specs.Io.KnownBytes.{Appends, Keeps}
+use Rattle.bk_num.specs.Limits.{most_pages}
 use Rattle.bk_num.specs.declared.ids.NodeId.{NodeId}
 use Rattle.bk_num.specs.declared.values.Pseudo.{Pseudo}
 use Rattle.boxes.specs.declared.flow.Flow.{Flow}
@@ -15,8 +16,10 @@ use Rattle.page_ctx.specs.Margins.{AreMarginStyles}
 use Rattle.page_ctx.specs.Tables.{IsTable}
 use Rattle.page_ctx.specs.declared.resolve.PageStyles.{PageStyles}
 use Rattle.page_seq.specs.Frames.{IsGoodTable}
+use Rattle.passes.specs.Conditions.{IsGoodFlow}
 use Rattle.passes.specs.Passes.{End, EndsIn, settled, unsettled, long, many}
 use Rattle.passes.specs.Work.{Work}
+use Rattle.passes.specs.declared.settle.Settled.{Settled}
 use Rattle.passes.specs.declared.settle.PassErr.{PassErr}
 use Rattle.passes.specs.declared.settle.PassErr.TheVariants as err
 use Rattle.book.specs.Answer.{Book, output_of, print_of}
@@ -27,6 +30,7 @@ use Rattle.book.specs.declared.outcome.LimitOf.TheVariants as limit
 use Rattle.book.specs.declared.outcome.Outcome.{Outcome}
 use Rattle.book.specs.declared.outcome.Outcome.TheVariants as out
 use Rattle.book.specs.declared.styled.Styled.{Styled}
+use Rattle.listing.specs.Printed.{Print, listing_of}
 use Rattle.listing.specs.declared.print.PrintErr.{PrintErr}
 use Rattle.listing.specs.declared.print.PrintErr.TheVariants as print
 
@@ -50,6 +54,24 @@ pub record AreBoxesOf (s : Styled) (styles : PageStyles) : Type 0 where
   pub table : IsTable s.rules s.names styles.table.rows
   pub good : IsGoodTable styles.table.rows
   pub boxes : AreMarginStyles s.rules s.names styles.boxes
+
+-- pages that settled can be put: their flow can be paged, in page boxes that are the document's, and they are few
+pub record CanPut (s : Styled) (given : PageStyles) (laid : Settled) : Type 0 where
+  pub good : IsGoodFlow s.faces laid.flow
+  pub boxes : AreBoxesOf s given
+  pub few : length laid.pages.pages ≤ most_pages
+
+-- what a listing of pages that settled is made of
+abbrev pub print_by : Styled → Settled → Print
+print_by s laid = print_of s.faces s.rules s.names laid.passes laid.flow
+
+-- their listing
+abbrev pub listing_by : Styled → Settled → List ℕ
+listing_by s laid = listing_of (print_by s laid) laid.pages.pages
+
+-- what is put of them
+abbrev pub output_by : Styled → Settled → List ℕ
+output_by s laid = output_of s.output (print_by s laid) laid.pages.pages laid.table
 
 -- what the passes over a document in its styles read
 abbrev pub work_in : Styled → List NodeId → Work
@@ -103,9 +125,10 @@ abbrev pub outcome_of : Result Done Outcome → Outcome
 outcome_of (Ok done) = out.Done done.pages done.passes
 outcome_of (Err o) = o
 
--- what a run over a document in its styles answers, by the bytes taken: Done put its book, a write fault a prefix of it, and no other
--- answer anything
+-- what a run over a document in its styles answers, by the bytes taken: Done put its book, a write fault a prefix of
+-- it, and no other answer anything
 abbrev pub WritesBy : Styled → Option (List ℕ) → Option (List ℕ) → Outcome → Type 0
-WritesBy s old new (out.Done pages passes) = (b : Book) × IsBookBy s b × (pages ≡ b.pages) × (passes ≡ b.passes) × Appends old new b.bytes
+WritesBy s old new (out.Done pages passes) =
+    (b : Book) × IsBookBy s b × (pages ≡ b.pages) × (passes ≡ b.passes) × Appends old new b.bytes
 WritesBy s old new out.WriteFault = (b : Book) × IsBookBy s b × ((n : ℕ) × Appends old new (take n b.bytes))
 WritesBy s old new o = StopsBy s o × Keeps old new

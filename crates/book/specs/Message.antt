@@ -1,8 +1,8 @@
 -- The line that a run puts on its second sink, and the status that the program ends with.
-use Rattle.std.specs.Prelude.{ℕ, ◌/◌, ◌%◌, List, [], ◌∷◌, nat_lt, ◌==◌, ◌||◌, if◌then◌else◌, codes, pos}
-use Rattle.std.specs.Char.{digit_char}
+use Rattle.std.specs.Prelude.{ℕ, List, [], ◌∷◌, codes, pos}
 use Rattle.std.specs.Fmt.{signed_decimal}
 use Rattle.std.specs.List.{flat_map}
+use Rattle.listing.specs.Escapes.{shown_byte}
 use Rattle.metrics.specs.declared.fault.MetricsWhy.{MetricsWhy}
 use Rattle.metrics.specs.declared.fault.MetricsWhy.TheVariants as why
 use Rattle.book.specs.declared.outcome.Outcome.{Outcome}
@@ -13,6 +13,7 @@ use Rattle.book.specs.declared.outcome.LimitOf.{LimitOf}
 use Rattle.book.specs.declared.outcome.LimitOf.TheVariants as limit
 use Rattle.words.specs.declared.fault.WordsFault.TheVariants as words
 
+-- a number in decimal digits
 unfoldable pub decimal : ℕ → List ℕ
 decimal n = signed_decimal (pos n)
 
@@ -22,6 +23,7 @@ file_words file.Metrics = (codes "metrics", [])
 file_words file.Html = (codes "html", [])
 file_words (file.Sheet n) = (codes "sheet ", decimal n)
 
+-- the word for what is wrong in a metrics text
 unfoldable pub why_text : MetricsWhy → List ℕ
 why_text why.Header = codes "header"
 why_text why.Word = codes "word"
@@ -32,6 +34,7 @@ why_text why.Twice = codes "twice"
 why_text why.Many = codes "many"
 why_text why.NoFace = codes "noface"
 
+-- the word for a limit
 unfoldable pub limit_text : LimitOf → List ℕ
 limit_text limit.Nodes = codes "nodes"
 limit_text limit.Depth = codes "depth"
@@ -40,26 +43,27 @@ limit_text limit.Rules = codes "rules"
 limit_text limit.Text = codes "text"
 limit_text limit.Pages = codes "pages"
 
--- a byte of a target as the line shows it: LF is `\n`, other control characters are `\x` and two digits, as in a string of a listing, so that
--- a target can neither begin another line nor command a terminal; other characters stand as they are
-unfoldable pub shown_byte : ℕ → List ℕ
-shown_byte b = if b == 10 then codes "\\n" else
-    if nat_lt b 32 || b == 127 then 92 ∷ 120 ∷ digit_char (b / 16) ∷ digit_char (b % 16) ∷ [] else b ∷ []
-
+-- a target as the line shows it, its controls as in a string of a listing, so that it can neither begin another line
+-- nor command a terminal
 abbrev pub shown_target : List ℕ → List ℕ
 shown_target bytes = flat_map shown_byte bytes
 
 -- the texts of an answer's line, one after the other
 unfoldable pub texts_of : Outcome → List (List ℕ)
-texts_of (out.Done pages passes) = codes "bookfmt: " ∷ decimal pages ∷ codes " pages, " ∷ decimal passes ∷ codes " passes\n" ∷ []
-texts_of (out.NotRead kind) = codes "bookfmt: usage: bookfmt format [--passes N] METRICS HTML [CSS ...] or bookfmt sample N\n" ∷ []
+texts_of (out.Done pages passes) =
+    codes "bookfmt: " ∷ decimal pages ∷ codes " pages, " ∷ decimal passes ∷ codes " passes\n" ∷ []
+texts_of (out.NotRead kind) =
+    codes "bookfmt: usage: bookfmt format [--passes N] METRICS HTML [CSS ...] or bookfmt sample N\n" ∷ []
 texts_of (out.ReadFault f) = codes "bookfmt: cannot read " ∷ (file_words f).0 ∷ (file_words f).1 ∷ codes "\n" ∷ []
-texts_of (out.TooLarge f) = codes "bookfmt: " ∷ (file_words f).0 ∷ (file_words f).1 ∷ codes " has more than 16777216 bytes\n" ∷ []
+texts_of (out.TooLarge f) =
+    codes "bookfmt: " ∷ (file_words f).0 ∷ (file_words f).1 ∷ codes " has more than 16777216 bytes\n" ∷ []
 texts_of (out.NotUtf8 f at) =
     codes "bookfmt: " ∷ (file_words f).0 ∷ (file_words f).1 ∷ codes " is not UTF-8 at " ∷ decimal at ∷ codes "\n" ∷ []
-texts_of (out.BadMetrics line reason) = codes "bookfmt: metrics line " ∷ decimal line ∷ codes ": " ∷ why_text reason ∷ codes "\n" ∷ []
+texts_of (out.BadMetrics line reason) =
+    codes "bookfmt: metrics line " ∷ decimal line ∷ codes ": " ∷ why_text reason ∷ codes "\n" ∷ []
 texts_of (out.NotSettled target before after) =
-    codes "bookfmt: page reference to " ∷ shown_target target ∷ codes " not settled: " ∷ signed_decimal before ∷ codes " then " ∷ signed_decimal after ∷ codes "\n" ∷ []
+    codes "bookfmt: page reference to " ∷ shown_target target ∷ codes " not settled: "
+    ∷ signed_decimal before ∷ codes " then " ∷ signed_decimal after ∷ codes "\n" ∷ []
 texts_of (out.Limit what) = codes "bookfmt: limit: " ∷ limit_text what ∷ codes "\n" ∷ []
 texts_of out.WriteFault = codes "bookfmt: cannot write\n" ∷ []
 texts_of out.NoMemory = codes "bookfmt: no memory\n" ∷ []

@@ -8,7 +8,8 @@ use Rattle.book.specs.declared.outcome.Outcome.TheVariants as out
 use Rattle.book.specs.declared.outcome.FileOf.{FileOf}
 use Rattle.book.specs.declared.outcome.FileOf.TheVariants as file
 
--- what the program does: it lists the book of files that are named, or tells the counts of a sample book of so many chapters
+-- what the program does: it lists the book of files that are named, or tells the counts of a sample book of so many
+-- chapters
 pub data Task : Type 0 where
   files : FormatWords → Task
   chapters : ℕ → Task
@@ -20,11 +21,13 @@ name_of names file.Html = Some names.html
 name_of names (file.Sheet zero) = None
 name_of names (file.Sheet (suc place)) = slice_get names.sheets place
 
+-- the task that is asked for, or the fault of the words
 abbrev pub task_asked : Asked → Expect Task
 task_asked (format names) = given (files names)
 task_asked (sample count) = given (chapters count)
 task_asked (not_read fault) = refused (out.NotRead fault)
 
+-- the task that the program's words ask for
 abbrev pub asked : List (List ℕ) → Expect Task
 asked ws = task_asked (asked_of ws)
 

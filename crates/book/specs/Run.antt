@@ -51,22 +51,32 @@ texts_named names told = text_of file.Metrics (told names.metrics) >>= λ metric
 abbrev pub document_named : (List ℕ → SheetOf) → FormatWords → (List ℕ → Told) → Expect Document
 document_named reading names told = texts_named names told >>= document_of reading
 
--- the texts of a sample book of so many chapters, which is to settle in 8 passes at most, and of which the counts are told
+-- the texts of a sample book of so many chapters, which is to settle in 8 passes at most, and of which the counts are
+-- told
 abbrev pub sample_texts : ℕ → Texts
-sample_texts count = record { passes = 8; output = output.Counts count; metrics = metrics_text; html = html_of count; sheets = css_text ∷ [] }
+sample_texts count = record {
+  passes = 8;
+  output = output.Counts count;
+  metrics = metrics_text;
+  html = html_of count;
+  sheets = css_text ∷ [];
+}
 
+-- the texts of a task: those of its files, or those of the sample
 abbrev pub texts_for : Task → (List ℕ → Told) → Expect Texts
 texts_for (files names) told = texts_named names told
 texts_for (chapters count) told = given (sample_texts count)
 
+-- the document of a task's texts
 abbrev pub document_for : (List ℕ → SheetOf) → Task → (List ℕ → Told) → Expect Document
 document_for reading task told = texts_for task told >>= document_of reading
 
+-- the texts that the program's words lead to
 abbrev pub texts_expected : List (List ℕ) → (List ℕ → Told) → Expect Texts
 texts_expected ws told = asked ws >>= λ task. texts_for task told
 
--- what is expected of these words over this shelf: the document, or the first refusal in the order of the steps; `reading` gives what
--- each text is read as, as a sheet
+-- what is expected of these words over this shelf: the document, or the first refusal in the order of the steps;
+-- `reading` gives what each text is read as, as a sheet
 abbrev pub expected : (List ℕ → SheetOf) → List (List ℕ) → (List ℕ → Told) → Expect Document
 expected reading ws told = texts_expected ws told >>= document_of reading
 
@@ -78,7 +88,8 @@ pub record IsExpected (ws : List (List ℕ)) (told : List ℕ → Told) (e : Exp
 
 -- one thing is expected of words over a shelf
 abbrev pub OneIsExpected : Type 0
-OneIsExpected = (ws : List (List ℕ)) (told : List ℕ → Told) (d e : Expect Document) → IsExpected ws told d → IsExpected ws told e → d ≡ e
+OneIsExpected = (ws : List (List ℕ)) (told : List ℕ → Told) (d e : Expect Document) → IsExpected ws told d →
+    IsExpected ws told e → d ≡ e
 
 -- the order of the files
 abbrev pub file_stage : FileOf → ℕ
@@ -121,17 +132,18 @@ Passes d limit.Depth = ⊥
 Passes d limit.Sheets = ⊥
 Passes d limit.Rules = ⊥
 
--- a run over a document that puts nothing: its text is too much, its pages are too many, each pass changes the number of a page
--- reference, of which the first with its last two numbers is told, or no input explains it
+-- a run over a document that puts nothing: its text is too much, its pages are too many, each pass changes the number
+-- of a page reference, of which the first with its last two numbers is told, or no input explains it
 abbrev pub Ends : Document → Outcome → Type 0
 Ends d (out.Limit what) = Passes d what
 Ends d (out.NotSettled target before after) = HasEnd d (unsettled target before after)
 Ends d o = IsUnforeseen o
 
--- what a run over a document answers, by the bytes taken: Done wrote the document's book, which keeps all that is promised, and a write
--- fault a prefix of it
+-- what a run over a document answers, by the bytes taken: Done wrote the document's book, which keeps all that is
+-- promised, and a write fault a prefix of it
 abbrev pub Writes : Document → Option (List ℕ) → Option (List ℕ) → Outcome → Type 0
-Writes d old new (out.Done pages passes) = (b : Book) × IsWholeBook d b × (pages ≡ b.pages) × (passes ≡ b.passes) × Appends old new b.bytes
+Writes d old new (out.Done pages passes) =
+    (b : Book) × IsWholeBook d b × (pages ≡ b.pages) × (passes ≡ b.passes) × Appends old new b.bytes
 Writes d old new out.WriteFault = (b : Book) × IsWholeBook d b × ((n : ℕ) × Appends old new (take n b.bytes))
 Writes d old new o = Ends d o
 
@@ -150,7 +162,8 @@ PutsOnlyABook old new (out.Done pages passes) = Unit {0}
 PutsOnlyABook old new out.WriteFault = Unit {0}
 PutsOnlyABook old new o = Keeps old new
 
--- a file that the words name was not read for a cause: it is absent, or the count of faults rose, last for its name where that is reported
+-- a file that the words name was not read for a cause: it is absent, or the count of faults rose, last for its name
+-- where that is reported
 abbrev pub IsFaultOf : Option (List ℕ) → (List ℕ → Told) → ℕ → ℕ → Option (List ℕ) → Type 0
 IsFaultOf None told before now last = ⊥
 IsFaultOf (Some name) told before now last = Faulted (told name) name before now last
@@ -179,7 +192,8 @@ HasCauseAt f told name before now last out.WriteFault = ⊥
 HasCauseAt f told name before now last o = Unit {0}
 
 -- what stops the reads of sheets is of one that is named
-pub record HasSheetCause (names : List (List ℕ)) (told : List ℕ → Told) (before now : ℕ) (last : Option (List ℕ)) (o : Outcome) : Type 0 where
+pub record HasSheetCause (names : List (List ℕ)) (told : List ℕ → Told) (before now : ℕ) (last : Option (List ℕ))
+    (o : Outcome) : Type 0 where
   pub place : ℕ
   pub name : List ℕ
   pub is : slice_get names place ≡ Some name
@@ -200,7 +214,8 @@ HasWordsCause e o = Unit {0}
 
 -- a line was put: all of it, or, where the count of faults rose, a prefix of it
 abbrev pub PutsLine : Option (List ℕ) → Option (List ℕ) → ℕ → ℕ → List ℕ → Type 0
-PutsLine old new before now line = (before ≤ now) × (Appends old new line ⊎ (Rose before now × ((n : ℕ) × Appends old new (take n line))))
+PutsLine old new before now line =
+    (before ≤ now) × (Appends old new line ⊎ (Rose before now × ((n : ℕ) × Appends old new (take n line))))
 
 -- the answer is neither a refusal of words nor a read fault
 abbrev pub IsOfBook : Outcome → Type 0
@@ -250,11 +265,13 @@ IsDoneOrUnsettled (out.NotSettled target before after) = Unit {0}
 IsDoneOrUnsettled out.NoMemory = Unit {0}
 IsDoneOrUnsettled o = ⊥
 
--- where a document is expected and neither count of faults rose, the answer is Done, but where the passes over it don't settle, and for
--- want of memory
+-- where a document is expected and neither count of faults rose, the answer is Done, but where the passes over it don't
+-- settle, and for want of memory
 abbrev pub IsComplete : Expect Document → Type 0 → Type 0 → Outcome → Type 0
 IsComplete (given d) shelf_rose out_rose o = ¬ shelf_rose → ¬ out_rose → IsDoneOrUnsettled o
 IsComplete e shelf_rose out_rose o = Unit {0}
 
+-- what comes is what the words and the files lead to, unless memory or a stream stops it
 abbrev pub Completes : List (List ℕ) → (List ℕ → Told) → Type 0 → Type 0 → Outcome → Type 0
-Completes ws told shelf_rose out_rose o = (e : Expect Document) × IsExpected ws told e × IsComplete e shelf_rose out_rose o
+Completes ws told shelf_rose out_rose o =
+    (e : Expect Document) × IsExpected ws told e × IsComplete e shelf_rose out_rose o

@@ -53,7 +53,8 @@ fn lines_of(pages: &[Page]) -> u128
 pub(crate) fn put_counts<O: Sink>(out: &mut O, chapters: u32, laid: &Settled) -> Result<(), Failed>
     requires { length laid.now.pages.pages ≤ most_pages }
     ensures bytes { AppendsAllOrPrefix (O.taken out.old) (O.taken out.new)
-        (counts_line chapters (length laid.now.pages.pages) (lines_of laid.now.pages.pages) (length laid.now.flow.notes) (length laid.now.table) laid.now.passes) result }
+        (counts_line chapters (length laid.now.pages.pages) (lines_of laid.now.pages.pages) (length laid.now.flow.notes)
+        (length laid.now.table) laid.now.passes) result }
     ensures cause { HasCause (O.faults out.old) (O.faults out.new) result }
 {
     let pages = laid.pages.pages.as_slice();

@@ -35,9 +35,9 @@ pub enum Output {
     Counts(u32),
 }
 
-/// In how many passes at most a document is to settle, what is to be put of it, the faces of the metrics text, the tree,
-/// the texts of the files' sheets, and what the document's sheets and their page rules are read as, in the order of the
-/// cascade.
+/// In how many passes at most a document is to settle, what is to be put of it, the faces of the metrics text, the
+/// tree, the texts of the files' sheets, and what the document's sheets and their page rules are read as, in the order
+/// of the cascade.
 #[derive(Drop)]
 pub struct Document<'a> {
     pub passes: u32,
@@ -116,9 +116,12 @@ fn read_tree(alloc: Global, html: &str) -> Result<Dom, Outcome>
 
 /// The sheets of the HTML and of the files, within their limits.
 fn read_run_sheets(alloc: Global, dom: &Dom, files: &[String]) -> Result<Sheets, Outcome>
-    ensures read { IfOk result (λ s. AllZip IsReadFrom (sources_of (author_texts (element_sheets dom.now) (file_texts files.now))) s.read) }
-    ensures pages { IfOk result (λ s. ArePageRules (authors_of (author_texts (element_sheets dom.now) (file_texts files.now))) s.pages) }
-    ensures sheets { (reading : List ℕ → SheetOf) → AreReadings reading → let sheets = sheets_expected reading (author_texts (element_sheets dom.now) (file_texts files.now)) in
+    ensures read { IfOk result (λ s. AllZip IsReadFrom (sources_of
+        (author_texts (element_sheets dom.now) (file_texts files.now))) s.read) }
+    ensures pages { IfOk result (λ s. ArePageRules (authors_of
+        (author_texts (element_sheets dom.now) (file_texts files.now))) s.pages) }
+    ensures sheets { (reading : List ℕ → SheetOf) → AreReadings reading → let sheets =
+        sheets_expected reading (author_texts (element_sheets dom.now) (file_texts files.now)) in
         MatchResult result (λ s. IsGiven sheets tt) (λ o. IsRefusedUnlessMemory sheets o) }
     ensures of_texts { IfErr result IsOfTexts }
 {
@@ -147,7 +150,7 @@ pub fn read_document<'a>(alloc: Global, texts: Texts<'a>) -> Result<Box<Document
     let faces = read_faces(alloc, texts.metrics)?;
     let dom = read_tree(alloc, texts.html)?;
     let sheets = read_run_sheets(alloc, &dom, texts.sheets)?;
-    let document = boxed(
+    Ok(boxed(
         alloc,
         Document {
             passes: texts.passes,
@@ -158,6 +161,5 @@ pub fn read_document<'a>(alloc: Global, texts: Texts<'a>) -> Result<Box<Document
             read: sheets.read,
             pages: sheets.pages,
         },
-    )?;
-    Ok(document)
+    )?)
 }

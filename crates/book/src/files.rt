@@ -33,11 +33,13 @@ fn read_text<F: Shelf>(
     file: FileOf,
 ) -> Result<String, Outcome>
     ensures told { F.told shelf.new ≡ F.told shelf.old }
-    ensures text { MatchResult result (λ t. IsGiven (text_of file (F.told shelf.old name.now)) (unmarked (string_bytes t)))
+    ensures text { MatchResult result (λ t. IsGiven (text_of file (F.told shelf.old name.now))
+        (unmarked (string_bytes t)))
         (λ o. StopsAt file (text_of file (F.told shelf.old name.now)) o) }
     ensures small { IfOk result (λ t. string_len t ≤ most_file_bytes) }
     ensures later { F.faults shelf.old ≤ F.faults shelf.new }
-    ensures cause { IfErr result (λ o. HasCauseAt file (F.told shelf.old name.now) name.now (F.faults shelf.old) (F.faults shelf.new) (F.last_fault shelf.new) o) }
+    ensures cause { IfErr result (λ o. HasCauseAt file (F.told shelf.old name.now) name.now (F.faults shelf.old)
+        (F.faults shelf.new) (F.last_fault shelf.new) o) }
 {
     let bytes = match read_all(alloc, shelf, name, MOST_FILE_BYTES) {
         Ok(bytes) => bytes,
@@ -64,7 +66,8 @@ fn read_sheets<F: Shelf>(
     ensures texts { let texts = sheets_from 1 (F.told shelf.old) (map (λ n. n.now) names.now) in
         MatchResult result (λ v. IsGiven texts (file_texts v.items)) (λ o. Stops texts o) }
     ensures later { F.faults shelf.old ≤ F.faults shelf.new }
-    ensures cause { IfErr result (λ o. HasSheetCause (map (λ n. n.now) names.now) (F.told shelf.old) (F.faults shelf.old) (F.faults shelf.new) (F.last_fault shelf.new) o) }
+    ensures cause { IfErr result (λ o. HasSheetCause (map (λ n. n.now) names.now) (F.told shelf.old)
+        (F.faults shelf.old) (F.faults shelf.new) (F.last_fault shelf.new) o) }
 {
     let mut texts = Vec::new(alloc);
     let mut number = 1;
@@ -87,7 +90,8 @@ pub(crate) fn read_files<F: Shelf>(
     ensures texts { let texts = texts_named (format_view names.now) (F.told shelf.old) in
         MatchResult result (λ t. IsGiven texts (listed_texts names.now.passes t)) (λ o. Stops texts o) }
     ensures small { IfOk result (λ t. string_len t.metrics ≤ most_file_bytes) }
-    ensures cause { IfErr result (λ o. IsOfFiles (format_view names.now) (F.told shelf.old) (F.faults shelf.old) (F.faults shelf.new) (F.last_fault shelf.new) o) }
+    ensures cause { IfErr result (λ o. IsOfFiles (format_view names.now) (F.told shelf.old) (F.faults shelf.old)
+        (F.faults shelf.new) (F.last_fault shelf.new) o) }
 {
     let metrics = read_text(alloc, shelf, names.metrics, FileOf::Metrics)?;
     let html = read_text(alloc, shelf, names.html, FileOf::Html)?;

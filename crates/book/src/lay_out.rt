@@ -3,15 +3,12 @@
 ghost use Rattle.std.specs.Prelude.{◌≡◌, ◌<◌, ◌≤◌, IfOk, IfErr, length};
 ghost use Rattle.bk_io.specs.Causes.{Rose};
 ghost use Rattle.bk_num.specs.Limits.{most_pages};
-ghost use Rattle.page_seq.specs.Numbers.{numbers_of};
 ghost use Rattle.passes.specs.Conditions.{IsGoodFlow};
 ghost use Rattle.passes.specs.Passes.{settled};
 ghost use Rattle.style.specs.Styles.{initial_style};
-ghost use Rattle.listing.specs.Printed.{listing_of};
 ghost use Rattle.listing.specs.Puts.{HasPutCause, Puts};
-ghost use Rattle.book.specs.Answer.{output_of, print_of};
 ghost use Rattle.book.specs.DocumentView.{document_in, HasSheets};
-ghost use Rattle.book.specs.Laid.{AreBoxesOf, AreGoodStyles, EndSo, StopsBy, WritesBy, outcome_of};
+ghost use Rattle.book.specs.Laid.{AreBoxesOf, AreGoodStyles, CanPut, EndSo, StopsBy, WritesBy, listing_by, outcome_of, output_by};
 ghost use Rattle.book.specs.Laws.{PageLaws};
 ghost use Rattle.book.specs.Run.{IsOfBook, PutsOnlyABook, Writes};
 
@@ -120,40 +117,7 @@ fn settle_passes<L: Ledger>(
         counters: &styled.counters,
         faces: &styled.faces,
     };
-    let settled = settle(alloc, &input, &frames, styled.passes, steps)?;
-    Ok(settled)
-}
-
-/// Puts the listing of the pages that settled, which have these numbers.
-fn print_numbered<O: Sink, L: Ledger>(
-    alloc: Global,
-    styled: &Styled,
-    boxes: &PageStyles<'_>,
-    laid: &Settled,
-    numbers: &[i64],
-    out: &mut O,
-    steps: &mut Steps<L>,
-) -> Result<(), PrintErr>
-    requires good { IsGoodFlow styled.now.faces laid.now.flow }
-    requires boxes { AreBoxesOf styled.now boxes.now }
-    requires few { length laid.now.pages.pages ≤ most_pages }
-    requires numbers { numbers.now ≡ numbers_of laid.now.flow.main laid.now.pages.pages laid.now.flow.resets }
-    ensures bytes { Puts (O.taken out.old) (O.taken out.new)
-        (listing_of (print_of styled.now.faces styled.now.rules styled.now.names laid.now.passes laid.now.flow) laid.now.pages.pages) result }
-    ensures cause { HasPutCause (O.faults out.old) (O.faults out.new) result }
-{
-    let strings = Strings::new(alloc, &laid.flow, &laid.pages)?;
-    let printer = Printer {
-        passes: laid.passes,
-        faces: &styled.faces,
-        flow: &laid.flow,
-        names: &styled.names,
-        list: &laid.pages,
-        numbers,
-        strings: &strings,
-        styles: boxes,
-    };
-    print(alloc, &printer, out, steps)
+    Ok(settle(alloc, &input, &frames, styled.passes, steps)?)
 }
 
 /// Puts the listing of the pages that settled. Their numbers and the running strings along them are found once, for all
@@ -166,15 +130,23 @@ fn print_settled<O: Sink, L: Ledger>(
     out: &mut O,
     steps: &mut Steps<L>,
 ) -> Result<(), PrintErr>
-    requires good { IsGoodFlow styled.now.faces laid.now.flow }
-    requires boxes { AreBoxesOf styled.now boxes.now }
-    requires few { length laid.now.pages.pages ≤ most_pages }
-    ensures bytes { Puts (O.taken out.old) (O.taken out.new)
-        (listing_of (print_of styled.now.faces styled.now.rules styled.now.names laid.now.passes laid.now.flow) laid.now.pages.pages) result }
+    requires { CanPut styled.now boxes.now laid.now }
+    ensures bytes { Puts (O.taken out.old) (O.taken out.new) (listing_by styled.now laid.now) result }
     ensures cause { HasPutCause (O.faults out.old) (O.faults out.new) result }
 {
     let numbers = numbers(alloc, &laid.flow, &laid.pages)?;
-    print_numbered(alloc, styled, boxes, laid, numbers.as_slice(), out, steps)
+    let strings = Strings::new(alloc, &laid.flow, &laid.pages)?;
+    let printer = Printer {
+        passes: laid.passes,
+        faces: &styled.faces,
+        flow: &laid.flow,
+        names: &styled.names,
+        list: &laid.pages,
+        numbers: numbers.as_slice(),
+        strings: &strings,
+        styles: boxes,
+    };
+    print(alloc, &printer, out, steps)
 }
 
 /// Puts what is asked for of the pages that settled.
@@ -186,11 +158,8 @@ fn put_settled<O: Sink, L: Ledger>(
     out: &mut O,
     steps: &mut Steps<L>,
 ) -> Result<(), PrintErr>
-    requires good { IsGoodFlow styled.now.faces laid.now.flow }
-    requires boxes { AreBoxesOf styled.now boxes.now }
-    requires few { length laid.now.pages.pages ≤ most_pages }
-    ensures bytes { Puts (O.taken out.old) (O.taken out.new)
-        (output_of styled.now.output (print_of styled.now.faces styled.now.rules styled.now.names laid.now.passes laid.now.flow) laid.now.pages.pages laid.now.table) result }
+    requires { CanPut styled.now boxes.now laid.now }
+    ensures bytes { Puts (O.taken out.old) (O.taken out.new) (output_by styled.now laid.now) result }
     ensures cause { HasPutCause (O.faults out.old) (O.faults out.new) result }
 {
     match styled.output {
@@ -207,30 +176,8 @@ fn count_of(list: &PageList) -> u32
     list.pages.as_slice().len() as u32
 }
 
-/// Puts what is asked for of the pages that settled, and answers how many there are.
-fn put_laid<O: Sink, L: Ledger>(
-    alloc: Global,
-    styled: &Styled,
-    boxes: &PageStyles<'_>,
-    laid: &Settled,
-    out: &mut O,
-    steps: &mut Steps<L>,
-) -> Result<Done, Outcome>
-    requires settled { EndSo styled.now (settled laid.now.passes laid.now.flow laid.now.pages.pages laid.now.table) }
-    requires good { IsGoodFlow styled.now.faces laid.now.flow }
-    requires boxes { AreBoxesOf styled.now boxes.now }
-    requires few { length laid.now.pages.pages ≤ most_pages }
-    ensures writes { WritesBy styled.now (O.taken out.old) (O.taken out.new) (outcome_of result) }
-    ensures fault { outcome_of result ≡ Outcome.WriteFault → Rose (O.faults out.old) (O.faults out.new) }
-{
-    put_settled(alloc, styled, boxes, laid, out, steps)?;
-    Ok(Done {
-        pages: count_of(&laid.pages),
-        passes: laid.passes,
-    })
-}
-
-/// Lays out a document in its styles, in the page boxes and the margin boxes of its page rules, and puts what is asked for.
+/// Lays out a document in its styles, in the page boxes and the margin boxes of its page rules, and puts what is asked
+/// for.
 fn put_styled<O: Sink, L: Ledger>(
     alloc: Global,
     styled: &Styled,
@@ -244,8 +191,12 @@ fn put_styled<O: Sink, L: Ledger>(
     ensures writes { WritesBy styled.now (O.taken out.old) (O.taken out.new) (outcome_of result) }
     ensures fault { outcome_of result ≡ Outcome.WriteFault → Rose (O.faults out.old) (O.faults out.new) }
 {
-    let settled = settle_passes(alloc, styled, boxes, steps)?;
-    put_laid(alloc, styled, boxes, &settled, out, steps)
+    let laid = settle_passes(alloc, styled, boxes, steps)?;
+    put_settled(alloc, styled, boxes, &laid, out, steps)?;
+    Ok(Done {
+        pages: count_of(&laid.pages),
+        passes: laid.passes,
+    })
 }
 
 /// What holds of all page lists.

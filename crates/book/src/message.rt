@@ -106,7 +106,8 @@ fn put_place_line<E: Sink>(
     at: u64,
 ) -> Result<(), Failed>
     ensures bytes { AppendsAllOrPrefix (E.taken err.old) (E.taken err.new)
-        (flat_map (λ t. t) (before.now ∷ (file_words file).0 ∷ (file_words file).1 ∷ between.now ∷ decimal at ∷ codes "\n" ∷ [])) result }
+        (flat_map (λ t. t) (before.now ∷ (file_words file).0 ∷ (file_words file).1 ∷ between.now ∷ decimal at
+        ∷ codes "\n" ∷ [])) result }
     ensures cause { HasCause (E.faults err.old) (E.faults err.new) result }
 {
     let (mut first, mut second) = (Buffer::new(), Buffer::new());
@@ -121,7 +122,8 @@ fn put_place_line<E: Sink>(
 #[tactic(auto, unfolding(crate::specs::Message::decimal))]
 fn put_metrics_line<E: Sink>(err: &mut E, line: u32, why: MetricsWhy) -> Result<(), Failed>
     ensures bytes { AppendsAllOrPrefix (E.taken err.old) (E.taken err.new)
-        (flat_map (λ t. t) (codes "bookfmt: metrics line " ∷ decimal line ∷ codes ": " ∷ why_text why ∷ codes "\n" ∷ [])) result }
+        (flat_map (λ t. t) (codes "bookfmt: metrics line " ∷ decimal line ∷ codes ": " ∷ why_text why ∷ codes "\n"
+        ∷ [])) result }
     ensures cause { HasCause (E.faults err.old) (E.faults err.new) result }
 {
     let mut buffer = Buffer::new();
@@ -141,7 +143,8 @@ fn put_metrics_line<E: Sink>(err: &mut E, line: u32, why: MetricsWhy) -> Result<
 #[tactic(auto, unfolding(crate::specs::Message::decimal))]
 fn put_pages_line<E: Sink>(err: &mut E, pages: u32, passes: u32) -> Result<(), Failed>
     ensures bytes { AppendsAllOrPrefix (E.taken err.old) (E.taken err.new)
-        (flat_map (λ t. t) (codes "bookfmt: " ∷ decimal pages ∷ codes " pages, " ∷ decimal passes ∷ codes " passes\n" ∷ [])) result }
+        (flat_map (λ t. t) (codes "bookfmt: " ∷ decimal pages ∷ codes " pages, " ∷ decimal passes ∷ codes " passes\n"
+        ∷ [])) result }
     ensures cause { HasCause (E.faults err.old) (E.faults err.new) result }
 {
     let (mut first, mut second) = (Buffer::new(), Buffer::new());
@@ -160,7 +163,8 @@ fn put_pages_line<E: Sink>(err: &mut E, pages: u32, passes: u32) -> Result<(), F
 /// Puts what the line tells of a page reference after its target: the numbers of the last two passes.
 fn put_numbers<E: Sink>(err: &mut E, before: i64, after: i64) -> Result<(), Failed>
     ensures bytes { AppendsAllOrPrefix (E.taken err.old) (E.taken err.new)
-        (flat_map (λ t. t) (codes " not settled: " ∷ signed_decimal before ∷ codes " then " ∷ signed_decimal after ∷ codes "\n" ∷ [])) result }
+        (flat_map (λ t. t) (codes " not settled: " ∷ signed_decimal before
+        ∷ codes " then " ∷ signed_decimal after ∷ codes "\n" ∷ [])) result }
     ensures cause { HasCause (E.faults err.old) (E.faults err.new) result }
 {
     let (mut first, mut second) = (Buffer::new(), Buffer::new());
@@ -184,7 +188,8 @@ fn put_reference_line<E: Sink>(
     after: i64,
 ) -> Result<(), Failed>
     ensures bytes { AppendsAllOrPrefix (E.taken err.old) (E.taken err.new)
-        (flat_map (λ t. t) (codes "bookfmt: page reference to " ∷ shown_target target.now ∷ codes " not settled: " ∷ signed_decimal before ∷ codes " then " ∷ signed_decimal after ∷ codes "\n" ∷ [])) result }
+        (flat_map (λ t. t) (codes "bookfmt: page reference to " ∷ shown_target target.now ∷ codes " not settled: "
+        ∷ signed_decimal before ∷ codes " then " ∷ signed_decimal after ∷ codes "\n" ∷ [])) result }
     ensures cause { HasCause (E.faults err.old) (E.faults err.new) result }
 {
     put_all(err, b"bookfmt: page reference to ")?;

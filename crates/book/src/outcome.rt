@@ -41,8 +41,8 @@ pub enum Outcome {
     Limit {
         what: LimitOf,
     },
-    /// Page references don't settle within the limit of passes: the id of the first element that one leads to whose numbers
-    /// in the last two passes differ, and these numbers.
+    /// Page references don't settle within the limit of passes: the id of the first element that one leads to whose
+    /// numbers in the last two passes differ, and these numbers.
     NotSettled {
         target: Name,
         before: i64,

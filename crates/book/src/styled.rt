@@ -65,7 +65,8 @@ fn computed_of(alloc: Global, dom: &Dom, sheets: &[ReadSheet]) -> Result<Box<Com
     ensures styles { IfOk result (λ c. AreDocumentStyles c.value.names dom.now sheets.now c.value.styles) }
     ensures ranges { IfOk result (λ c. AreInRange c.value.styles) }
     ensures shown { IfOk result (λ c. IsRootShown c.value.styles) }
-    ensures counters { IfOk result (λ c. (n : ℕ) (p : Pseudo) (x : List ℕ) → counter_values c.value.counters n p x ≡ values_of dom.now c.value.styles n p x) }
+    ensures counters { IfOk result (λ c. (n : ℕ) (p : Pseudo) (x : List ℕ) →
+        counter_values c.value.counters n p x ≡ values_of dom.now c.value.styles n p x) }
 {
     let (styles, names) = styles_of(alloc, dom, sheets)?;
     let counters = number_all(alloc, dom, &styles)?;
@@ -82,10 +83,12 @@ fn computed_of(alloc: Global, dom: &Dom, sheets: &[ReadSheet]) -> Result<Box<Com
 /// A document with what is computed of it.
 fn with_computed(document: Box<Document<'_>>, computed: Box<Computed>) -> Styled
     requires sheets { HasSheets document.value }
-    requires styles { AreDocumentStyles computed.value.names document.value.dom document.value.read computed.value.styles }
+    requires styles { AreDocumentStyles computed.value.names document.value.dom document.value.read
+        computed.value.styles }
     requires ranges { AreInRange computed.value.styles }
     requires shown { IsRootShown computed.value.styles }
-    requires counters { (n : ℕ) (p : Pseudo) (x : List ℕ) → counter_values computed.value.counters n p x ≡ values_of document.value.dom computed.value.styles n p x }
+    requires counters { (n : ℕ) (p : Pseudo) (x : List ℕ) → counter_values computed.value.counters n p x
+        ≡ values_of document.value.dom computed.value.styles n p x }
     ensures of { IsStyledOf (document_in document.entry.value) result }
     ensures good { AreGoodStyles result }
 {

@@ -67,8 +67,8 @@ fn answer<F: Shelf, O: Sink, E: Sink, L: Ledger>(
     }
 }
 
-/// Answers the words with a counter of its own, and gives the status that the program ends with: that of what `run` answers
-/// to these words, whose line was put on `err`.
+/// Answers the words with a counter of its own, and gives the status that the program ends with: that of what `run`
+/// answers to these words, whose line was put on `err`.
 fn end<F: Shelf, O: Sink, E: Sink, L: Ledger>(
     alloc: Global,
     words: Result<Vec<String>, Outcome>,

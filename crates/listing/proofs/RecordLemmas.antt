@@ -12,7 +12,7 @@ use Rattle.paint.specs.Faces.{face_text}
 use Rattle.paint.specs.Views.{area_item, edge_item, hyphen_item, item_of, items_in, rect_item, text_item}
 use Rattle.paint.specs.declared.item.Area.{Area}
 use Rattle.paint.specs.declared.item.ItemRef.{ItemRef}
-use Rattle.paint.specs.declared.item.Style.{Style}
+use Rattle.paint.specs.declared.item.TextPlace.{TextPlace}
 use Rattle.listing.specs.Fields.{field_bytes, record_bytes}
 use Rattle.listing.specs.Pages.{page_records}
 use Rattle.listing.specs.declared.fields.Field.{Field}
@@ -112,7 +112,7 @@ line-is a x y w h p q r s =
     four-fields (codes "line") (field x) (field y) (field w) (field h) (codes "\n") ∙
     ap (λ (z : List ℕ). codes "line" ++ z ++ codes "\n") (area-is a x y w h p q r s)
 
-pub text-is : (faces : List FontFace) (s : Style) (label : FaceLabel) (x y size : ℤ) (text : Bor (List ℕ)) →
+pub text-is : (faces : List FontFace) (s : TextPlace) (label : FaceLabel) (x y size : ℤ) (text : Bor (List ℕ)) →
     face_field label.name.now label.italic label.weight ≡ word (face_text faces s.face) → x ≡ s.x → y ≡ s.y → size ≡ s.size →
     record_bytes (codes "text") (kind.Number x ∷ kind.Number y ∷ kind.Face label ∷ kind.Number size ∷ kind.Color s.color ∷ kind.Quoted text ∷ [])
     ≡ item_record (text_item faces s text.now)
@@ -126,7 +126,7 @@ text-is faces s label x y size text face p q r =
     ap (λ (z : ℤ). parts s.x z (word (face_text faces s.face)) size) q ∙
     ap (λ (z : ℤ). parts s.x s.y (word (face_text faces s.face)) z) r
 
-pub hyphen-is : (faces : List FontFace) (s : Style) (label : FaceLabel) (x y size : ℤ) (hyphen : Bor (List ℕ)) →
+pub hyphen-is : (faces : List FontFace) (s : TextPlace) (label : FaceLabel) (x y size : ℤ) (hyphen : Bor (List ℕ)) →
     face_field label.name.now label.italic label.weight ≡ word (face_text faces s.face) → x ≡ s.x → y ≡ s.y → size ≡ s.size → hyphen.now ≡ codes "-" →
     record_bytes (codes "hyphen") (kind.Number x ∷ kind.Number y ∷ kind.Face label ∷ kind.Number size ∷ kind.Color s.color ∷ kind.Quoted hyphen ∷ [])
     ≡ item_record (hyphen_item faces s)

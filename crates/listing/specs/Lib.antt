@@ -1,4 +1,5 @@
 pub mod Buffers
+pub mod Escapes
 pub mod Fields
 pub mod Pages
 pub mod Printed

@@ -9,9 +9,11 @@ use Rattle.metrics.specs.Face.{FontFace}
 use Rattle.paint.specs.Views.{items_in}
 use Rattle.paint.specs.declared.item.ItemRef.{ItemRef}
 
+-- the record that a page begins with
 abbrev pub head_record : PageHead → List ℕ
 head_record head = page_record head.index head.number head.side head.kind head.name.now head.width head.height
 
+-- the records of a page: its own, its items, and the texts of its margin boxes
 unfoldable pub page_records : List FontFace → PageHead → List ItemRef → List MarginText → List ℕ
 page_records faces head items texts =
     head_record head ++ flat_map item_record (items_in faces items) ++ flat_map item_record (items_of faces texts)

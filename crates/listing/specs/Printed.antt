@@ -16,8 +16,8 @@ use Rattle.page_ctx.specs.Margins.{MarginStyleOf}
 use Rattle.page_seq.specs.Numbers.{numbers_of}
 use Rattle.paint.specs.Pages.{items_of}
 
--- what is printed: in how many passes page references settled, faces, a flow, the names of pages by their numbers, and for each
--- index, name and kind the page box, and the style of each margin box
+-- what is printed: in how many passes page references settled, faces, a flow, the names of pages by their numbers, and
+-- for each index, name and kind the page box, and the style of each margin box
 pub record Print : Type 0 where
   pub passes : ℕ
   pub faces : List FontFace
@@ -50,6 +50,7 @@ abbrev pub width_of : Option PageCell → ℤ
 width_of None = pos 0
 width_of (Some cell) = cell.width
 
+-- the height of a page box; 0 where there is none
 abbrev pub height_of : Option PageCell → ℤ
 height_of None = pos 0
 height_of (Some cell) = cell.height
@@ -57,25 +58,31 @@ height_of (Some cell) = cell.height
 -- a page's record, whose page box and number are these
 abbrev pub head_bytes : Print → Page → Option PageCell → ℤ → List ℕ
 head_bytes p page cell number =
-    page_record page.index number (side_of page.index) page.kind (page_name p.names page.name) (width_of cell) (height_of cell)
+    page_record page.index number (side_of page.index) page.kind (page_name p.names page.name) (width_of cell)
+    (height_of cell)
 
 -- the record of the page at a place of a list
 abbrev pub head_at : Print → List Page → ℕ → Page → List ℕ
 head_at p pages place page =
-    head_bytes p page (p.cell page.index page.name page.kind) (unwrap_or (slice_get (page_numbers p pages) place) (pos 0))
+    head_bytes p page (p.cell page.index page.name page.kind)
+    (unwrap_or (slice_get (page_numbers p pages) place) (pos 0))
 
 -- the page at a place of a list: its record, what stands on it, and the texts of its margin boxes
 abbrev pub bytes_on : Print → List Page → ℕ → Page → List ℕ
 bytes_on p pages place page =
-    head_at p pages place page ++ flat_map item_record (items_of p.faces p.flow page) ++ flat_map item_record (margin_items (margins_of p pages) place)
+    head_at p pages place page ++ flat_map item_record (items_of p.faces p.flow page)
+    ++ flat_map item_record (margin_items (margins_of p pages) place)
 
+-- the bytes of a page, if there is one
 abbrev pub bytes_of : Print → List Page → ℕ → Option Page → List ℕ
 bytes_of p pages place None = []
 bytes_of p pages place (Some page) = bytes_on p pages place page
 
+-- the bytes of the page at a place of a list
 unfoldable pub page_bytes : Print → List Page → ℕ → List ℕ
 page_bytes p pages place = bytes_of p pages place (slice_get pages place)
 
 -- the listing of a page list
 unfoldable pub listing_of : Print → List Page → List ℕ
-listing_of p pages = book_record (length pages) p.passes ++ flat_map (page_bytes p pages) (range_with_len 0 (length pages)) ++ end_record
+listing_of p pages =
+    book_record (length pages) p.passes ++ flat_map (page_bytes p pages) (range_with_len 0 (length pages)) ++ end_record

@@ -1,12 +1,11 @@
 -- What a printer stands for, what is asked of it, and what its pages print.
 use Rattle.std.specs.Prelude.{◌≡◌, ◌<◌, ◌^◌, ℕ, All, List, length}
 use Rattle.std.specs.List.{flat_map, range_with_len}
-use Rattle.boxes.specs.Table.{cell_of, row_of}
+use Rattle.boxes.specs.Table.{cell_in, cell_of, row_of}
 use Rattle.listing.specs.Pages.{page_records}
 use Rattle.margin_box.specs.Margins.{HasFace}
 use Rattle.metrics.specs.Face.{FontFace}
 use Rattle.page_ctx.specs.Margins.{style_of}
-use Rattle.page_ctx.specs.Tables.{cell_in}
 use Rattle.page_seq.specs.Frames.{IsGoodTable}
 use Rattle.page_seq.specs.Numbers.{numbers_of}
 use Rattle.paint.specs.Conditions.{CanFlowBePainted}
@@ -27,7 +26,8 @@ view_of p = record {
   style = λ index name kind place. style_of p.styles.now.boxes index name kind place;
 }
 
--- the flow can be painted, the table has good frames, the numbers and the running strings are those of the pages, and a listing counts them
+-- the flow can be painted, the table has good frames, the numbers and the running strings are those of the pages, and a
+-- listing counts them
 pub record CanPrint (p : Printer) : Type 0 where
   pub painted : CanFlowBePainted p.faces.now p.flow.now
   pub table : IsGoodTable p.styles.now.table.rows
@@ -52,5 +52,6 @@ pub record IsPrinted (p : Printer) (place : ℕ) (q : PrintedPage) : Type 0 wher
 -- pages print what those of the list do, one after the other
 pub record ArePrinted (p : Printer) (qs : List PrintedPage) : Type 0 where
   pub count : length qs ≡ length p.list.now.pages
-  pub bytes : flat_map (page_in p.faces.now) qs ≡ flat_map (page_bytes (view_of p) p.list.now.pages) (range_with_len 0 (length p.list.now.pages))
+  pub bytes : flat_map (page_in p.faces.now) qs ≡ flat_map (page_bytes (view_of p) p.list.now.pages)
+      (range_with_len 0 (length p.list.now.pages))
   pub good : All (IsGoodPage p.faces.now) qs

@@ -1,8 +1,7 @@
 -- The bytes of a listing's records: each is one line, its fields parted by one space, its numbers in decimal.
-use Rattle.std.specs.Prelude.{ℕ, Bool, ◌/◌, ◌%◌, List, [], ◌∷◌, ◌++◌, nat_lt, ◌==◌, ◌||◌, if◌then◌else◌, codes, ℤ, pos}
+use Rattle.std.specs.Prelude.{ℕ, Bool, List, [], ◌∷◌, ◌++◌, ◌==◌, ◌||◌, if◌then◌else◌, codes, ℤ, pos}
 use Rattle.std.specs.Fmt.{signed_decimal}
 use Rattle.std.specs.List.{flat_map}
-use Rattle.std.specs.Char.{digit_char}
 use Rattle.bk_num.specs.declared.values.Color.{Color}
 use Rattle.bk_num.specs.declared.values.Side.{Side}
 use Rattle.bk_num.specs.declared.values.Side.TheVariants as side
@@ -10,39 +9,38 @@ use Rattle.boxes.specs.declared.item.Item.{Item}
 use Rattle.boxes.specs.declared.item.Item.TheVariants as item
 use Rattle.boxes.specs.declared.frames.PageKind.{PageKind}
 use Rattle.boxes.specs.declared.frames.PageKind.TheVariants as kind
+use Rattle.listing.specs.Escapes.{hex_pair, shown_byte}
 
--- a byte of a string: `"` and `\` have a `\` before them, LF is `\n`, other controls are `\x` and two digits; other characters stand as
--- they are
+-- a byte of a string: `"` and `\` have a `\` before them, controls are shown, and others stand as they are
 unfoldable pub escape : ℕ → List ℕ
-escape b = if b == 34 || b == 92 then 92 ∷ b ∷ [] else
-    if b == 10 then codes "\\n" else
-    if nat_lt b 32 || b == 127 then 92 ∷ 120 ∷ digit_char (b / 16) ∷ digit_char (b % 16) ∷ [] else b ∷ []
+escape b = if b == 34 || b == 92 then 92 ∷ b ∷ [] else shown_byte b
 
+-- a string in its quotes
 unfoldable pub quoted : List ℕ → List ℕ
 quoted bs = 34 ∷ [] ++ flat_map escape bs ++ 34 ∷ []
 
--- a space and a number; a space and a word; a space and a string
+-- a space and a number
 unfoldable pub field : ℤ → List ℕ
 field n = codes " " ++ signed_decimal n
 
+-- a space and a word
 unfoldable pub word : List ℕ → List ℕ
 word bs = codes " " ++ bs
 
+-- a space and a string
 unfoldable pub string_field : List ℕ → List ℕ
 string_field bs = codes " " ++ quoted bs
-
--- two lower-case hexadecimal digits
-unfoldable pub hex_pair : ℕ → List ℕ
-hex_pair b = digit_char (b / 16) ∷ digit_char (b % 16) ∷ []
 
 -- a space and a colour, `#rrggbb`
 unfoldable pub color_field : Color → List ℕ
 color_field c = codes " #" ++ hex_pair c.red ++ hex_pair c.green ++ hex_pair c.blue
 
+-- the word for a side
 abbrev pub side_name : Side → List ℕ
 side_name side.Left = codes "left"
 side_name side.Right = codes "right"
 
+-- the word for a kind of page
 abbrev pub kind_name : PageKind → List ℕ
 kind_name kind.Flow = codes "flow"
 kind_name kind.Blank = codes "blank"
@@ -55,7 +53,8 @@ book_record pages passes = codes "book" ++ field (pos pages) ++ field (pos passe
 -- `page INDEX NUMBER SIDE KIND NAME WIDTH HEIGHT`
 unfoldable pub page_record : ℕ → ℤ → Side → PageKind → List ℕ → ℤ → ℤ → List ℕ
 page_record index number side kind name width height =
-    codes "page" ++ field (pos index) ++ field number ++ word (side_name side) ++ word (kind_name kind) ++ string_field name ++
+    codes "page" ++ field (pos index) ++ field number ++ word (side_name side) ++ word (kind_name kind)
+    ++ string_field name ++
     field width ++ field height ++ codes "\n"
 
 -- the left, top, width and height of an area
@@ -66,10 +65,11 @@ area_fields x y w h = field x ++ field y ++ field w ++ field h
 unfoldable pub line_record : ℤ → ℤ → ℤ → ℤ → List ℕ
 line_record x y w h = codes "line" ++ area_fields x y w h ++ codes "\n"
 
--- a space and `NAME/STYLE/WEIGHT`
+-- the style of a face, between its name and its weight
 unfoldable pub style_name : Bool → List ℕ
 style_name italic = if italic then codes "/italic/" else codes "/normal/"
 
+-- a space and a face by its name, style and weight
 unfoldable pub face_field : List ℕ → Bool → ℕ → List ℕ
 face_field name italic weight = codes " " ++ name ++ style_name italic ++ signed_decimal (pos weight)
 
@@ -82,6 +82,7 @@ text_record x y face size color text =
 unfoldable pub rect_record : ℤ → ℤ → ℤ → ℤ → Color → List ℕ
 rect_record x y w h color = codes "rect" ++ area_fields x y w h ++ color_field color ++ codes "\n"
 
+-- the word for an upper and a lower edge
 abbrev pub edge_name : Bool → List ℕ
 edge_name opens = if opens then codes "open" else codes "close"
 
@@ -92,7 +93,8 @@ edge_record opens x y w h = codes "edge" ++ word (edge_name opens) ++ area_field
 -- `hyphen X Y FACE SIZE COLOR "-"`
 unfoldable pub hyphen_record : ℤ → ℤ → List ℕ → ℤ → Color → List ℕ
 hyphen_record x y face size color =
-    codes "hyphen" ++ field x ++ field y ++ face ++ field size ++ color_field color ++ string_field (codes "-") ++ codes "\n"
+    codes "hyphen" ++ field x ++ field y ++ face ++ field size ++ color_field color ++ string_field (codes "-")
+    ++ codes "\n"
 
 -- the record of what a page prints
 unfoldable pub item_record : Item → List ℕ

@@ -100,8 +100,8 @@ impl Buffer {
         put_all(sink, piece)
     }
 
-    /// Adds bytes: they wait where there is room for them, else what waits is put first. More bytes than can wait are put
-    /// as they are.
+    /// Adds bytes: they wait where there is room for them, else what waits is put first. More bytes than can wait are
+    /// put as they are.
     ///
     /// # Errors
     ///

@@ -1,7 +1,6 @@
 //! Fields of records, and records of fields.
 
-ghost use Rattle.std.specs.Prelude.{◌≡◌, ◌∷◌, ◌<◌, [], true};
-ghost use Rattle.std.specs.Char.{digit_char};
+ghost use Rattle.std.specs.Prelude.{◌≡◌, ◌∷◌, [], true};
 ghost use Rattle.std.specs.List.{flat_map};
 ghost use Rattle.bk_io.specs.Sink.{HasCause};
 ghost use Rattle.listing.specs.Buffers.{Gives};
@@ -9,6 +8,7 @@ ghost use Rattle.listing.specs.Fields.{field_bytes, record_bytes};
 ghost use Rattle.listing.specs.Records.{color_field, escape, face_field, field, string_field, style_name, word};
 
 use crate::buffer::Buffer;
+use crate::escape::{hex_digit, shown_byte, stands};
 use bk_io::sink::{Failed, Sink};
 use bk_num::values::Color;
 use itoa::Buffer as Digits;
@@ -33,7 +33,8 @@ pub(crate) enum Field<'a> {
 
 /// Adds some texts one after the other.
 fn add_texts<S: Sink>(buffer: &mut Buffer, sink: &mut S, texts: &[&str]) -> Result<(), Failed>
-    ensures bytes { Gives (S.taken sink.old) buffer.old (S.taken sink.new) buffer.new (flat_map (λ t. t.now) texts.now) result }
+    ensures bytes { Gives (S.taken sink.old) buffer.old (S.taken sink.new) buffer.new
+        (flat_map (λ t. t.now) texts.now) result }
     ensures cause { HasCause (S.faults sink.old) (S.faults sink.new) result }
 {
     for text in texts {
@@ -42,20 +43,12 @@ fn add_texts<S: Sink>(buffer: &mut Buffer, sink: &mut S, texts: &[&str]) -> Resu
     Ok(())
 }
 
-/// A hexadecimal digit in lower case.
-fn hex_digit(n: u8) -> u8
-    requires { n < 16 }
-    ensures { result ≡ digit_char n }
-{
-    if n < 10 { b'0' + n } else { b'a' + (n - 10) }
-}
-
-/// Whether a byte of a string stands as it is. Those of characters that aren't ASCII do.
+/// Whether a byte of a string stands as it is.
 #[tactic(auto, unfolding(crate::specs::Records::escape))]
-fn stands(b: u8) -> bool
+fn is_plain(b: u8) -> bool
     ensures { result ≡ true → escape b ≡ b ∷ [] }
 {
-    b >= 32 && b != b'"' && b != b'\\' && b != 127
+    b != b'"' && b != b'\\' && stands(b)
 }
 
 /// Adds a byte of a string.
@@ -67,18 +60,13 @@ fn add_escaped<S: Sink>(buffer: &mut Buffer, sink: &mut S, b: u8) -> Result<(), 
     if b == b'"' || b == b'\\' {
         return buffer.add(sink, &[b'\\', b]);
     }
-    if b == b'\n' {
-        return buffer.add(sink, b"\\n");
-    }
-    if b < 32 || b == 127 {
-        return buffer.add(sink, &[b'\\', b'x', hex_digit(b / 16), hex_digit(b % 16)]);
-    }
-    buffer.add(sink, &[b])
+    buffer.add(sink, shown_byte(b).as_slice())
 }
 
 /// Adds the bytes of a string one by one.
 fn add_all_escaped<S: Sink>(buffer: &mut Buffer, sink: &mut S, text: &str) -> Result<(), Failed>
-    ensures bytes { Gives (S.taken sink.old) buffer.old (S.taken sink.new) buffer.new (flat_map escape text.now) result }
+    ensures bytes { Gives (S.taken sink.old) buffer.old (S.taken sink.new) buffer.new
+        (flat_map escape text.now) result }
     ensures cause { HasCause (S.faults sink.old) (S.faults sink.new) result }
 {
     for b in text.as_bytes() {
@@ -92,7 +80,7 @@ fn all_stand(text: &str) -> bool
     ensures { result ≡ true → flat_map escape text.now ≡ text.now }
 {
     for b in text.as_bytes() {
-        if !stands(*b) {
+        if !is_plain(*b) {
             return false;
         }
     }
@@ -101,7 +89,8 @@ fn all_stand(text: &str) -> bool
 
 /// Adds the bytes of a string, at once where each stands as it is, as in most texts.
 fn add_bytes<S: Sink>(buffer: &mut Buffer, sink: &mut S, text: &str) -> Result<(), Failed>
-    ensures bytes { Gives (S.taken sink.old) buffer.old (S.taken sink.new) buffer.new (flat_map escape text.now) result }
+    ensures bytes { Gives (S.taken sink.old) buffer.old (S.taken sink.new) buffer.new
+        (flat_map escape text.now) result }
     ensures cause { HasCause (S.faults sink.old) (S.faults sink.new) result }
 {
     if all_stand(text) {
@@ -130,7 +119,7 @@ fn style_name(italic: bool) -> &'static str
 }
 
 /// A space and a colour.
-#[tactic(auto, unfolding(crate::specs::Records::color_field, crate::specs::Records::hex_pair))]
+#[tactic(auto, unfolding(crate::specs::Records::color_field, crate::specs::Escapes::hex_pair))]
 fn color_bytes(color: Color) -> [u8; 8]
     ensures { result ≡ color_field color }
 {
@@ -206,7 +195,8 @@ fn add_fields<S: Sink>(
     sink: &mut S,
     fields: &[Field<'_>],
 ) -> Result<(), Failed>
-    ensures bytes { Gives (S.taken sink.old) buffer.old (S.taken sink.new) buffer.new (flat_map field_bytes fields.now) result }
+    ensures bytes { Gives (S.taken sink.old) buffer.old (S.taken sink.new) buffer.new
+        (flat_map field_bytes fields.now) result }
     ensures cause { HasCause (S.faults sink.old) (S.faults sink.new) result }
 {
     for part in fields {
@@ -222,7 +212,8 @@ pub(crate) fn add_record<S: Sink>(
     name: &str,
     fields: &[Field<'_>],
 ) -> Result<(), Failed>
-    ensures bytes { Gives (S.taken sink.old) buffer.old (S.taken sink.new) buffer.new (record_bytes name.now fields.now) result }
+    ensures bytes { Gives (S.taken sink.old) buffer.old (S.taken sink.new) buffer.new
+        (record_bytes name.now fields.now) result }
     ensures cause { HasCause (S.faults sink.old) (S.faults sink.new) result }
 {
     buffer.add_text(sink, name)?;

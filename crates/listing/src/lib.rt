@@ -2,6 +2,7 @@
 #![tactic(auto)]
 
 mod buffer;
+pub mod escape;
 mod fields;
 pub mod pages;
 pub mod print;

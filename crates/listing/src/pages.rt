@@ -25,9 +25,9 @@ use std::sync::ledger::Ledger;
 use strings::assigned::Strings;
 use style::names::Names;
 
-/// What the pages of a book are printed with: in how many passes they settled, the faces, the flow that stands on them, the
-/// names of pages, the pages with their numbers and the running strings along them, and the page boxes with the styles of
-/// their margin boxes.
+/// What the pages of a book are printed with: in how many passes they settled, the faces, the flow that stands on them,
+/// the names of pages, the pages with their numbers and the running strings along them, and the page boxes with the
+/// styles of their margin boxes.
 #[derive(Clone, Copy)]
 pub struct Printer<'a> {
     pub passes: u32,
@@ -61,7 +61,8 @@ fn name_of<'a>(names: &'a Names, page: &Page) -> &'a str
 /// The number of the page at a place of the list.
 fn number_of(printer: &Printer<'_>, place: usize) -> i64
     requires { CanPrint printer.now }
-    ensures { result ≡ unwrap_or (slice_get (page_numbers (view_of printer.now) printer.now.list.now.pages) place) (pos 0) }
+    ensures { result ≡ unwrap_or (slice_get (page_numbers (view_of printer.now) printer.now.list.now.pages) place)
+        (pos 0) }
 {
     printer.numbers.get(place).copied().unwrap_or(0)
 }

@@ -71,7 +71,8 @@ fn put_page<O: Sink>(out: &mut O, faces: &Faces, page: &PrintedPage<'_>) -> Resu
 /// Writes pages one after the other.
 fn put_pages<O: Sink>(out: &mut O, faces: &Faces, pages: &[PrintedPage<'_>]) -> Result<(), Failed>
     requires { All (IsGoodPage faces.now) pages.now }
-    ensures bytes { AppendsAllOrPrefix (O.taken out.old) (O.taken out.new) (flat_map (page_in faces.now) pages.now) result }
+    ensures bytes { AppendsAllOrPrefix (O.taken out.old) (O.taken out.new)
+        (flat_map (page_in faces.now) pages.now) result }
     ensures cause { HasCause (O.faults out.old) (O.faults out.new) result }
 {
     for page in pages {
@@ -88,7 +89,8 @@ fn put_listing<O: Sink>(
 ) -> Result<(), Failed>
     requires printer { CanPrint printer.now }
     requires pages { ArePrinted printer.now pages.now }
-    ensures bytes { AppendsAllOrPrefix (O.taken out.old) (O.taken out.new) (listing_of (view_of printer.now) printer.now.list.now.pages) result }
+    ensures bytes { AppendsAllOrPrefix (O.taken out.old) (O.taken out.new)
+        (listing_of (view_of printer.now) printer.now.list.now.pages) result }
     ensures cause { HasCause (O.faults out.old) (O.faults out.new) result }
 {
     write_head(out, count_of(pages), printer.passes)?;
@@ -109,7 +111,8 @@ pub fn print<O: Sink, L: Ledger>(
     steps: &mut Steps<L>,
 ) -> Result<(), PrintErr>
     requires { CanPrint printer.now }
-    ensures bytes { Puts (O.taken out.old) (O.taken out.new) (listing_of (view_of printer.now) printer.now.list.now.pages) result }
+    ensures bytes { Puts (O.taken out.old) (O.taken out.new)
+        (listing_of (view_of printer.now) printer.now.list.now.pages) result }
     ensures cause { HasPutCause (O.faults out.old) (O.faults out.new) result }
 {
     let pages = printed_pages(alloc, printer, steps)?;

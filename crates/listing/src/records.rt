@@ -17,7 +17,7 @@ use bk_num::values::{Color, Side};
 use boxes::frames::PageKind;
 use margin_box::items::MarginText;
 use metrics::Faces;
-use paint::item::{Area, ItemRef, Style};
+use paint::item::{Area, ItemRef, TextPlace};
 
 /// A page: its index from 1, its number, side, kind and name, and its width and height in units.
 #[derive(Clone, Copy, Debug)]
@@ -66,7 +66,8 @@ pub(crate) fn add_book<S: Sink>(
     pages: u32,
     passes: u32,
 ) -> Result<(), Failed>
-    ensures bytes { Gives (S.taken sink.old) buffer.old (S.taken sink.new) buffer.new (book_record pages passes) result }
+    ensures bytes { Gives (S.taken sink.old) buffer.old (S.taken sink.new) buffer.new
+        (book_record pages passes) result }
     ensures cause { HasCause (S.faults sink.old) (S.faults sink.new) result }
 {
     add_record(
@@ -106,7 +107,8 @@ fn add_rect<S: Sink>(
     area: &Area,
     color: Color,
 ) -> Result<(), Failed>
-    ensures bytes { Gives (S.taken sink.old) buffer.old (S.taken sink.new) buffer.new (item_record (rect_item area.now color)) result }
+    ensures bytes { Gives (S.taken sink.old) buffer.old (S.taken sink.new) buffer.new
+        (item_record (rect_item area.now color)) result }
     ensures cause { HasCause (S.faults sink.old) (S.faults sink.new) result }
 {
     add_record(
@@ -130,7 +132,8 @@ fn add_edge<S: Sink>(
     opens: bool,
     area: &Area,
 ) -> Result<(), Failed>
-    ensures bytes { Gives (S.taken sink.old) buffer.old (S.taken sink.new) buffer.new (item_record (edge_item opens area.now)) result }
+    ensures bytes { Gives (S.taken sink.old) buffer.old (S.taken sink.new) buffer.new
+        (item_record (edge_item opens area.now)) result }
     ensures cause { HasCause (S.faults sink.old) (S.faults sink.new) result }
 {
     add_record(
@@ -149,7 +152,8 @@ fn add_edge<S: Sink>(
 
 /// Adds the record of a line.
 fn add_line<S: Sink>(buffer: &mut Buffer, sink: &mut S, area: &Area) -> Result<(), Failed>
-    ensures bytes { Gives (S.taken sink.old) buffer.old (S.taken sink.new) buffer.new (item_record (area_item area.now)) result }
+    ensures bytes { Gives (S.taken sink.old) buffer.old (S.taken sink.new) buffer.new
+        (item_record (area_item area.now)) result }
     ensures cause { HasCause (S.faults sink.old) (S.faults sink.new) result }
 {
     add_record(
@@ -167,7 +171,7 @@ fn add_line<S: Sink>(buffer: &mut Buffer, sink: &mut S, area: &Area) -> Result<(
 
 /// A face by its name, style and weight.
 #[tactic(auto, unfolding(crate::specs::Records::face_field, crate::specs::Records::style_name, crate::specs::Records::word, paint::specs::Faces::face_text))]
-fn label_of<'a>(faces: &'a Faces, style: &Style) -> FaceLabel<'a>
+fn label_of<'a>(faces: &'a Faces, style: &TextPlace) -> FaceLabel<'a>
     requires { style.now.face.0 < length faces.now }
     ensures { face_field result.name.now result.italic result.weight ≡ word (face_text faces.now style.now.face) }
 {
@@ -184,7 +188,7 @@ fn add_text<'a, S: Sink>(
     buffer: &mut Buffer,
     sink: &mut S,
     faces: &'a Faces,
-    style: &Style,
+    style: &TextPlace,
     text: &'a str,
 ) -> Result<(), Failed>
     requires { style.now.face.0 < length faces.now }
@@ -212,7 +216,7 @@ fn add_hyphen<S: Sink>(
     buffer: &mut Buffer,
     sink: &mut S,
     faces: &Faces,
-    style: &Style,
+    style: &TextPlace,
 ) -> Result<(), Failed>
     requires { style.now.face.0 < length faces.now }
     ensures bytes { Gives (S.taken sink.old) buffer.old (S.taken sink.new) buffer.new
@@ -242,7 +246,8 @@ fn add_item<'a, S: Sink>(
     item: &ItemRef<'a>,
 ) -> Result<(), Failed>
     requires { HasItemFace faces.now item.now }
-    ensures bytes { Gives (S.taken sink.old) buffer.old (S.taken sink.new) buffer.new (item_record (item_of faces.now item.now)) result }
+    ensures bytes { Gives (S.taken sink.old) buffer.old (S.taken sink.new) buffer.new
+        (item_record (item_of faces.now item.now)) result }
     ensures cause { HasCause (S.faults sink.old) (S.faults sink.new) result }
 {
     match item {

@@ -3,11 +3,12 @@ use Rattle.std.specs.Prelude.{ℤ, pos, ◌-ℤ◌, List, [], ◌∷◌}
 use Rattle.boxes.specs.declared.table.PageCell.{PageCell}
 use Rattle.paint.specs.declared.item.Area.{Area}
 
+-- an area by its left, top, width and height
 abbrev pub area : ℤ → ℤ → ℤ → ℤ → Area
 area x y w h = record { x = x; y = y; w = w; h = h }
 
--- the 16 boxes in the order of the listing, clockwise from the page's top left: by the width and the height of the page, its
--- margins, and the width and the height between them
+-- the 16 boxes in the order of the listing, clockwise from the page's top left: by the width and the height of the
+-- page, its margins, and the width and the height between them
 abbrev pub areas_by : ℤ → ℤ → ℤ → ℤ → ℤ → ℤ → ℤ → ℤ → List Area
 areas_by width height top right bottom left across down =
     -- top-left-corner; top-left, top-center and top-right; top-right-corner
@@ -32,7 +33,7 @@ areas_by width height top right bottom left across down =
     ∷ area (pos 0) top left down
     ∷ []
 
--- the margin boxes of a page: its frame's left and top are its left and top margins, and what is between the margins is as wide
--- and as high as the frame
+-- the margin boxes of a page: its frame's left and top are its left and top margins, and what is between the margins is
+-- as wide and as high as the frame
 abbrev pub areas_of : PageCell → List Area
 areas_of c = areas_by c.width c.height c.frame.top c.right c.bottom c.frame.left c.frame.width c.frame.height

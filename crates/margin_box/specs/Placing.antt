@@ -1,15 +1,11 @@
 -- Where the one line of a margin box stands in it.
-use Rattle.std.specs.Prelude.{ℕ, ℤ, pos, ◌+ℤ◌, ◌-ℤ◌, ◌^◌, min, List, Some}
-use Rattle.std.specs.List.{sum_by}
-use Rattle.std.specs.Str.{chars}
+use Rattle.std.specs.Prelude.{ℕ, ℤ, pos, ◌+ℤ◌, ◌-ℤ◌}
 use Rattle.bk_num.specs.Units.{floor_div}
 use Rattle.bk_num.specs.declared.values.Align.{Align}
 use Rattle.bk_num.specs.declared.values.Align.TheVariants as align
 use Rattle.css_page.specs.declared.values.Upright.{Upright}
 use Rattle.css_page.specs.declared.values.Upright.TheVariants as upright
-use Rattle.metrics.specs.Face.{FontFace}
-use Rattle.boxes.specs.declared.leaf.Span.{Span}
-use Rattle.line_fill.specs.Widths.{width_in}
+use Rattle.line_place.specs.declared.extent.Extent.{Extent}
 use Rattle.paint.specs.declared.item.Area.{Area}
 use Rattle.margin_box.specs.declared.place.Along.{Along}
 use Rattle.margin_box.specs.declared.place.Along.TheVariants.{Start, Middle, End}
@@ -37,14 +33,10 @@ along_height upright.Top = Start
 along_height upright.Middle = Middle
 along_height upright.Bottom = End
 
--- the width of a text in the style of a span, the spaces at its end too; above 2^60 units it counts as 2^60
-unfoldable pub text_width : List FontFace → Span → List ℕ → ℕ
-text_width faces span text = min (sum_by (width_in faces (Some span)) (chars text)) (2 ^ 60)
-
 -- where a text of a width begins in its box, from the page's left
 abbrev pub line_left : Area → Align → ℕ → ℤ
 line_left area align width = begin_in (along_width align) area.x area.w (pos width)
 
--- the baseline of a line in its box, from the page's top, where the line rises above its baseline and falls below it so far
-abbrev pub line_baseline : Area → Upright → ℤ → ℤ → ℤ
-line_baseline area upright up down = begin_in (along_height upright) area.y area.h (up +ℤ down) +ℤ up
+-- the baseline of a line in its box, from the page's top
+abbrev pub line_baseline : Area → Upright → Extent → ℤ
+line_baseline area upright e = begin_in (along_height upright) area.y area.h e.height +ℤ e.baseline

@@ -14,8 +14,9 @@ use Rattle.counters.specs.Numerals.{numeral_of}
 use Rattle.strings.specs.Shown.{string_of}
 use Rattle.page_ctx.specs.Margins.{MarginStyleOf}
 
--- what the margin boxes of a page list are printed with: the faces, the flow that stands on the pages, the pages with their
--- numbers, the page box of an index, a name and a kind, and the style of a margin box there, which only boxes with content have
+-- what the margin boxes of a page list are printed with: the faces, the flow that stands on the pages, the pages with
+-- their numbers, the page box of an index, a name and a kind, and the style of a margin box there, which only boxes
+-- with content have
 pub record MarginsOf : Type 0 where
   pub faces : List FontFace
   pub flow : Flow
@@ -24,12 +25,13 @@ pub record MarginsOf : Type 0 where
   pub cell : ℕ → NameId → PageKind → Option PageCell
   pub style : ℕ → NameId → PageKind → ℕ → Option MarginStyleOf
 
+-- a number in a style; nothing where there is none
 abbrev pub number_text : NumStyle → Option ℤ → List ℕ
 number_text style None = []
 number_text style (Some number) = numeral_of style number
 
--- what a part prints on a page: a text, a running string, the page's number, or how many pages there are; no margin box has
--- another part
+-- what a part prints on a page: a text, a running string, the page's number, or how many pages there are; no margin box
+-- has another part
 abbrev pub part_text : MarginsOf → ℕ → Part → List ℕ
 part_text m page (part.Text text) = text
 part_text m page (part.Running name keyword) = string_of m.flow.main m.pages m.flow.strings page name keyword

@@ -17,7 +17,7 @@ use metrics::Faces;
 use metrics::chosen::choose;
 use page_ctx::margins::MarginStyle;
 use page_ctx::resolve::PageStyles;
-use paint::item::{Area, Style};
+use paint::item::{Area, TextPlace};
 use std::alloc::Global;
 use strings::assigned::Strings;
 
@@ -36,7 +36,7 @@ pub struct Margins<'a> {
 /// A text in a margin box, with its place and how it is painted.
 #[derive(Drop)]
 pub struct MarginText {
-    pub style: Style,
+    pub style: TextPlace,
     pub text: Name,
 }
 
@@ -59,7 +59,7 @@ fn strut_of(faces: &Faces, style: &MarginStyle<'_>) -> Span
 }
 
 /// Where a text stands in its box, and how it is painted. None where its place is past 64 bits.
-fn placed_in(faces: &Faces, area: &Area, style: &MarginStyle<'_>, text: &str) -> Option<Style>
+fn placed_in(faces: &Faces, area: &Area, style: &MarginStyle<'_>, text: &str) -> Option<TextPlace>
     requires { pos 0 ≤ℤ style.now.size }
     ensures style { IfSome result (λ s. s ≡ spec.placed_in faces.now area.now (style_in style.now) text.now) }
     ensures face { IfSome result (λ s. s.face.0 < length faces.now) }
@@ -67,7 +67,7 @@ fn placed_in(faces: &Faces, area: &Area, style: &MarginStyle<'_>, text: &str) ->
     let strut = strut_of(faces, style);
     let x = line_left(faces, &strut, area, style.align, text)?;
     let y = line_baseline(faces, &strut, area, style.upright)?;
-    Some(Style {
+    Some(TextPlace {
         x,
         y,
         face: strut.face,
@@ -116,7 +116,8 @@ fn push_box(
     requires page { page < length margins.now.list.now.pages }
     requires size { IfSome style (λ s. pos 0 ≤ℤ s.now.size) }
     requires faces { All (HasFace margins.now.faces.now) items.old.items }
-    ensures items { OnOk result (items_of margins.now.faces.now items.new.items ≡ items_of margins.now.faces.now items.old.items ++
+    ensures items { OnOk result (items_of margins.now.faces.now items.new.items
+        ≡ items_of margins.now.faces.now items.old.items ++
         spec.styled_items (margins_in margins.now) page area.now (option_map (λ s. style_in s.now) style.entry)) }
     ensures faces { OnOk result (All (HasFace margins.now.faces.now) items.new.items) }
 {
@@ -141,7 +142,8 @@ fn push_numbered(
     requires number { number < length margins.now.list.now.pages }
     requires place { place < MARGIN_BOXES }
     requires faces { All (HasFace margins.now.faces.now) items.old.items }
-    ensures items { OnOk result (items_of margins.now.faces.now items.new.items ≡ items_of margins.now.faces.now items.old.items ++
+    ensures items { OnOk result (items_of margins.now.faces.now items.new.items
+        ≡ items_of margins.now.faces.now items.old.items ++
         spec.box_items (margins_in margins.now) number page.now areas.now place) }
     ensures faces { OnOk result (All (HasFace margins.now.faces.now) items.new.items) }
 {
@@ -172,8 +174,8 @@ fn boxes_items(
 }
 
 /// The texts of the margin boxes of a page, which is named by its place in the list, from 0, in the order in which the
-/// boxes are listed: from the page's top left corner clockwise (css-page-3, page-margin boxes). A box without content, or
-/// whose text is empty, has none. A text is one line, never broken, and stands in its box as its style says.
+/// boxes are listed: from the page's top left corner clockwise (css-page-3, page-margin boxes). A box without content,
+/// or whose text is empty, has none. A text is one line, never broken, and stands in its box as its style says.
 ///
 /// # Errors
 ///

@@ -28,8 +28,8 @@ fn push_number(alloc: Global, text: &mut String, number: i64, style: NumStyle) -
 fn running_text<'a>(margins: &Margins<'a>, page: usize, name: &str, keyword: Keyword) -> &'a str
     requires can { CanShowMargins margins.now }
     requires page { page < length margins.now.list.now.pages }
-    ensures { result.now ≡
-        string_of margins.now.flow.now.main margins.now.list.now.pages margins.now.flow.now.strings page name.now keyword }
+    ensures { result.now ≡ string_of margins.now.flow.now.main margins.now.list.now.pages
+        margins.now.flow.now.strings page name.now keyword }
 {
     margins.strings.text(margins.flow, page, name, keyword)
 }
@@ -51,7 +51,8 @@ fn push_part(
 ) -> Result<(), NoMem>
     requires can { CanShowMargins margins.now }
     requires page { page < length margins.now.list.now.pages }
-    ensures { OnOk result (string_bytes text.new ≡ string_bytes text.old ++ spec.part_text (margins_in margins.now) page part.now) }
+    ensures { OnOk result (string_bytes text.new ≡ string_bytes text.old
+        ++ spec.part_text (margins_in margins.now) page part.now) }
 {
     match part {
         Part::Text(printed) => text.push_str(printed.as_str())?,

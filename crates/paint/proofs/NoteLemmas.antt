@@ -17,8 +17,8 @@ use Rattle.paint.specs.Items.{for_some}
 use Rattle.paint.specs.Opens.{content_along}
 use Rattle.paint.specs.Pages.{note_items, opened_rects, rects_at, rects_of, solids_of, tree_items}
 use Rattle.paint.specs.Rects.{fragment_rects}
-use Rattle.paint.specs.declared.item.Origin.{Origin}
-use Rattle.paint.specs.declared.opens.Content.{Content}
+use Rattle.paint.specs.declared.item.SolidOrigin.{SolidOrigin}
+use Rattle.boxes.specs.declared.span.Content.{Content}
 
 -- ---- numbers in a row
 
@@ -45,12 +45,12 @@ flat_same f g a (suc n) same = ap₂ (λ (x y : List Item). x ++ y) (same a (ome
 
 -- ---- nothing is painted of a tree without solids
 
-none_for : (o : Origin) (c : Content) (p : Option BoxProps) → for_some (λ (q : BoxProps). fragment_rects o q c None None None) p ≡ []
+none_for : (o : SolidOrigin) (c : Content) (p : Option BoxProps) → for_some (λ (q : BoxProps). fragment_rects o q c None None None) p ≡ []
 unfolding fragment_rects
 none_for o c None = refl
 none_for o c (Some q) = refl
 
-none_at : (t : Tree) (o : Origin) (k : ℕ) → rects_at t o [] k ≡ []
+none_at : (t : Tree) (o : SolidOrigin) (k : ℕ) → rects_at t o [] k ≡ []
 none_at t o k = by (slice_get t.events k)
   where
     by : (e : Option Event) → opened_rects t o [] k e ≡ []
@@ -63,20 +63,20 @@ flat_none : (g : ℕ → List Item) (ns : List ℕ) → ((n : ℕ) → g n ≡ [
 flat_none g [] none = refl
 flat_none g (n ∷ ns) none = ap (λ (l : List Item). l ++ flat_map g ns) (none n) ∙ flat_none g ns none
 
-none_painted : (faces : List FontFace) (t : Tree) (o : Origin) → tree_items faces t o [] ≡ []
+none_painted : (faces : List FontFace) (t : Tree) (o : SolidOrigin) → tree_items faces t o [] ≡ []
 unfolding rects_of
 none_painted faces t o = append-nil (flat_map (rects_at t o []) (range_with_len 0 (length t.events))) ∙ flat_none (rects_at t o []) (range_with_len 0 (length t.events)) (none_at t o)
 
-none_of : (faces : List FontFace) (o : Origin) (solids : List Placed) (note : Option Note) → solids ≡ [] → for_some (λ (n : Note). tree_items faces n.body o solids) note ≡ []
+none_of : (faces : List FontFace) (o : SolidOrigin) (solids : List Placed) (note : Option Note) → solids ≡ [] → for_some (λ (n : Note). tree_items faces n.body o solids) note ≡ []
 none_of faces o solids None is = refl
 none_of faces o solids (Some n) is = ap (tree_items faces n.body o) is ∙ none_painted faces n.body o
 
 -- ---- steps
 
-pub painted_none : (faces : List FontFace) (all : List Note) (o : Origin) (old : List Item) (solids : List Placed) → solids ≡ [] → IsPainted faces all o old [] old 0 solids
+pub painted_none : (faces : List FontFace) (all : List Note) (o : SolidOrigin) (old : List Item) (solids : List Placed) → solids ≡ [] → IsPainted faces all o old [] old 0 solids
 painted_none faces all o old solids is = record { items = sym (append-nil old); solids_are = is; none_later = λ n low. refl }
 
-pub painted_to : (faces : List FontFace) (all : List Note) (o : Origin) (number next : ℕ) (items new : List Item) (solids kept : List Placed) → number < next →
+pub painted_to : (faces : List FontFace) (all : List Note) (o : SolidOrigin) (number next : ℕ) (items new : List Item) (solids kept : List Placed) → number < next →
     new ≡ items ++ for_some (λ (note : Note). tree_items faces note.body o solids) (slice_get all number) → kept ≡ [] → GoesOn faces all o items number solids new next kept
 painted_to faces all o number next items new solids kept less new_is kept_is old placed p =
     let g : ℕ → List Item = note_items faces all o placed in
@@ -103,7 +103,7 @@ solids_other : (k n : ℕ) (s : Placed) (placed : List (ℕ × Placed)) → (n �
 solids_other k n s placed other = solids_more k n s placed ∙ ap (λ (b : Bool). solids_of k placed ++ cond b (s ∷ []) []) (ne_eqb n k other) ∙ append-nil (solids_of k placed)
 
 -- a solid more of the note
-pub painted_more : (faces : List FontFace) (all : List Note) (o : Origin) (old items : List Item) (placed : List (ℕ × Placed)) (n : ℕ) (s : Placed) (solids : List Placed) → IsPainted faces all o old placed items n solids → IsPainted faces all o old (placed ++ (n, s) ∷ []) items n (solids ++ s ∷ [])
+pub painted_more : (faces : List FontFace) (all : List Note) (o : SolidOrigin) (old items : List Item) (placed : List (ℕ × Placed)) (n : ℕ) (s : Placed) (solids : List Placed) → IsPainted faces all o old placed items n solids → IsPainted faces all o old (placed ++ (n, s) ∷ []) items n (solids ++ s ∷ [])
 painted_more faces all o old items placed n s solids p = record {
   items = p.items ∙ ap (λ (l : List Item). old ++ l) (flat_same (note_items faces all o placed) (note_items faces all o (placed ++ (n, s) ∷ [])) 0 n same);
   solids_are = ap (λ (l : List Placed). l ++ s ∷ []) p.solids_are ∙ sym (solids_more n n s placed ∙ ap (λ (b : Bool). solids_of n placed ++ cond b (s ∷ []) []) (eq-eqb n n refl));
@@ -114,7 +114,7 @@ painted_more faces all o old items placed n s solids p = record {
     same k low = ap (λ (ss : List Placed). for_some (λ (note : Note). tree_items faces note.body o ss) (slice_get all k)) (sym (solids_other k n s placed (λ e. omega arith)))
 
 -- a step of a walk over placed notes: a turn to the note of a solid, which is then among those that are known
-pub painted_step : (faces : List FontFace) (all : List Note) (o : Origin) (old items new : List Item) (placed : List (ℕ × Placed)) (i : ℕ) (d : ℕ × Placed) (number next : ℕ) (solids kept more : List Placed) → i < length placed →
+pub painted_step : (faces : List FontFace) (all : List Note) (o : SolidOrigin) (old items new : List Item) (placed : List (ℕ × Placed)) (i : ℕ) (d : ℕ × Placed) (number next : ℕ) (solids kept more : List Placed) → i < length placed →
     IsPainted faces all o old (take i placed) items number solids → GoesOn faces all o items number solids new next kept → next ≡ (get_or placed i d).0 → more ≡ kept ++ (get_or placed i d).1 ∷ [] → IsPainted faces all o old (take (i + 1) placed) new next more
 painted_step faces all o old items new placed i d number next solids kept more low p goes next_is more_is =
     let x : ℕ × Placed = get_or placed i d in

@@ -1,21 +1,18 @@
 -- Open boxes as a list that grows and falls at its end.
-use Rattle.std.proofs.Common.{◌≡◌, ◌<◌, ◌+◌, ◌-◌, ℕ, zero, suc, ℤ, pos, ◌+ℤ◌, Bool, true, false, cond, ◌==◌, List, [], ◌∷◌, ◌++◌, Option, None, Some, length, take, get_or, slice_get, refl, sym, ap, ◌∙◌, arith, length-append}
+use Rattle.std.proofs.Common.{◌≡◌, ◌<◌, ◌+◌, ◌-◌, ℕ, zero, suc, ℤ, pos, Bool, true, false, cond, ◌==◌, List, [], ◌∷◌, ◌++◌, Option, None, Some, length, take, get_or, slice_get, refl, sym, ap, ◌∙◌, arith, length-append}
 use Rattle.std.proofs.Math.Seq.{take-append_seam, take-suc}
 use Rattle.std.proofs.lemmas.List.{length-take-le}
+use Rattle.std.proofs.lemmas.Option.{same_Some}
 use Rattle.boxes.proofs.ListLemmas.{get-end}
 use Rattle.boxes.specs.Tree.{Tree, rest_of}
-use Rattle.bk_num.specs.Lengths.{used_of}
-use Rattle.boxes.specs.Spans.{frame_at, left_margin, span_in, span_or, span_along, width_in_block}
+use Rattle.boxes.specs.Spans.{span_in, span_or, span_along}
 use Rattle.boxes.specs.declared.props.BoxProps.{BoxProps}
-use Rattle.paint.specs.declared.opens.Content.{Content}
-use Rattle.paint.specs.declared.opens.Open.{Open}
+use Rattle.boxes.specs.declared.span.Content.{Content}
+use Rattle.paint.specs.declared.opens.OpenBox.{OpenBox}
 use Rattle.paint.specs.Opens.{content_along, content_of, pair_of, opens_of, boxes_from}
 
-abbrev open_along : Tree → ℤ → ℕ → List ℕ → Open
+abbrev open_along : Tree → ℤ → ℕ → List ℕ → OpenBox
 open_along t m b boxes = record { number = b; content = content_along t m (b ∷ boxes) }
-
-some-same : {A : Type 0} {x y : A} → Some x ≡ Some y → x ≡ y
-some-same h = cc
 
 pub opens_size : (t : Tree) (m : ℤ) (boxes : List ℕ) → length (opens_of t m boxes) ≡ length boxes
 opens_size t m [] = refl
@@ -27,17 +24,17 @@ last_open t m b boxes =
     let n : length (opens_of t m (b ∷ boxes)) - 1 ≡ length (opens_of t m boxes) = omega (arith, length-append (opens_of t m boxes) (open_along t m b boxes ∷ [])) in
     ap (slice_get (opens_of t m (b ∷ boxes))) n ∙ get-end (opens_of t m boxes) (open_along t m b boxes)
 
-pub innermost_is : (t : Tree) (m : ℤ) (opens : List Open) (boxes : List ℕ) (o : Open) → opens ≡ opens_of t m boxes → slice_get opens (length opens - 1) ≡ Some o → o.content ≡ content_along t m boxes
-innermost_is t m opens [] o same there = absurd (let e : None ≡ Some o = ap (λ (l : List Open). slice_get l (length l - 1)) (sym same) ∙ there in cc)
+pub innermost_is : (t : Tree) (m : ℤ) (opens : List OpenBox) (boxes : List ℕ) (o : OpenBox) → opens ≡ opens_of t m boxes → slice_get opens (length opens - 1) ≡ Some o → o.content ≡ content_along t m boxes
+innermost_is t m opens [] o same there = absurd (let e : None ≡ Some o = ap (λ (l : List OpenBox). slice_get l (length l - 1)) (sym same) ∙ there in cc)
 innermost_is t m opens (b ∷ boxes) o same there =
-    ap (λ (x : Open). x.content) (some-same (sym there ∙ ap (λ (l : List Open). slice_get l (length l - 1)) same ∙ last_open t m b boxes))
+    ap (λ (x : OpenBox). x.content) (same_Some _ _ (sym there ∙ ap (λ (l : List OpenBox). slice_get l (length l - 1)) same ∙ last_open t m b boxes))
 
-pub none_open : (t : Tree) (m : ℤ) (opens : List Open) (boxes : List ℕ) → opens ≡ opens_of t m boxes → slice_get opens (length opens - 1) ≡ None → record { left = pos 0; width = m } ≡ content_along t m boxes
+pub none_open : (t : Tree) (m : ℤ) (opens : List OpenBox) (boxes : List ℕ) → opens ≡ opens_of t m boxes → slice_get opens (length opens - 1) ≡ None → record { left = pos 0; width = m } ≡ content_along t m boxes
 none_open t m opens [] same none = refl
-none_open t m opens (b ∷ boxes) same none = absurd (let e : None ≡ Some (open_along t m b boxes) = sym none ∙ ap (λ (l : List Open). slice_get l (length l - 1)) same ∙ last_open t m b boxes in cc)
+none_open t m opens (b ∷ boxes) same none = absurd (let e : None ≡ Some (open_along t m b boxes) = sym none ∙ ap (λ (l : List OpenBox). slice_get l (length l - 1)) same ∙ last_open t m b boxes in cc)
 
 -- without the innermost one they are those around it
-pub around : (t : Tree) (m : ℤ) (opens : List Open) (boxes : List ℕ) (n : ℕ) → opens ≡ opens_of t m boxes → suc n ≡ length opens → take n opens ≡ opens_of t m (rest_of boxes)
+pub around : (t : Tree) (m : ℤ) (opens : List OpenBox) (boxes : List ℕ) (n : ℕ) → opens ≡ opens_of t m boxes → suc n ≡ length opens → take n opens ≡ opens_of t m (rest_of boxes)
 around t m opens [] n same size = absurd (let s = ap length same in omega arith)
 around t m opens (b ∷ boxes) n same size =
     let s = ap length same ∙ opens_size t m (b ∷ boxes) in
@@ -45,19 +42,19 @@ around t m opens (b ∷ boxes) n same size =
     let place : n ≡ length (opens_of t m boxes) = omega arith in
     ap (take n) same ∙ ap (λ (k : ℕ). take k (opens_of t m boxes ++ open_along t m b boxes ∷ [])) place ∙ take-append_seam (opens_of t m boxes) (open_along t m b boxes ∷ [])
 
-pub none_around : (t : Tree) (m : ℤ) (opens : List Open) (boxes : List ℕ) → opens ≡ opens_of t m boxes → length opens ≡ 0 → opens ≡ opens_of t m (rest_of boxes)
+pub none_around : (t : Tree) (m : ℤ) (opens : List OpenBox) (boxes : List ℕ) → opens ≡ opens_of t m boxes → length opens ≡ 0 → opens ≡ opens_of t m (rest_of boxes)
 none_around t m opens [] same none = same
 none_around t m opens (b ∷ boxes) same none = absurd (let n = ap length same ∙ opens_size t m (b ∷ boxes) in omega arith)
 
 -- a box opens
-pub opened : (t : Tree) (m : ℤ) (opens : List Open) (boxes : List ℕ) (b : ℕ) (p : BoxProps) (inner c : Content) → slice_get t.boxes b ≡ Some p → opens ≡ opens_of t m boxes → inner ≡ content_along t m boxes → c ≡ content_of (span_in p (pair_of inner)) →
+pub opened : (t : Tree) (m : ℤ) (opens : List OpenBox) (boxes : List ℕ) (b : ℕ) (p : BoxProps) (inner c : Content) → slice_get t.boxes b ≡ Some p → opens ≡ opens_of t m boxes → inner ≡ content_along t m boxes → c ≡ content_of (span_in p (pair_of inner)) →
     opens ++ record { number = b; content = c } ∷ [] ≡ opens_of t m (b ∷ boxes)
 opened t m opens boxes b p inner c there same inner_is c_is =
     let own : c ≡ content_along t m (b ∷ boxes) = c_is ∙ ap (λ (i : Content). content_of (span_in p (pair_of i))) inner_is ∙ ap (λ (o : Option BoxProps). content_of (span_or o (span_along t.boxes m boxes))) (sym there) in
-    ap (λ (l : List Open). l ++ record { number = b; content = c } ∷ []) same ∙ ap (λ (x : Content). opens_of t m boxes ++ record { number = b; content = x } ∷ []) own
+    ap (λ (l : List OpenBox). l ++ record { number = b; content = c } ∷ []) same ∙ ap (λ (x : Content). opens_of t m boxes ++ record { number = b; content = x } ∷ []) own
 
 -- the open boxes up to a place, where a box is sought from the innermost one outwards
-pub record AreUpTo (t : Tree) (m : ℤ) (opens : List Open) (number at : ℕ) (boxes : List ℕ) : Type 0 where
+pub record AreUpTo (t : Tree) (m : ℤ) (opens : List OpenBox) (number at : ℕ) (boxes : List ℕ) : Type 0 where
   pub rest : List ℕ
   pub are : take at opens ≡ opens_of t m rest
   pub same : boxes_from number boxes ≡ boxes_from number rest
@@ -68,18 +65,18 @@ take_less [] (suc n) = refl
 take_less (x ∷ xs) zero = refl
 take_less {A} (x ∷ xs) (suc n) = ap (λ (l : List A). x ∷ l) (take_less xs n)
 
-pub up_to_all : (t : Tree) (m : ℤ) (opens : List Open) (number : ℕ) (boxes : List ℕ) → opens ≡ opens_of t m boxes → take (length opens) opens ≡ opens → AreUpTo t m opens number (length opens) boxes
+pub up_to_all : (t : Tree) (m : ℤ) (opens : List OpenBox) (number : ℕ) (boxes : List ℕ) → opens ≡ opens_of t m boxes → take (length opens) opens ≡ opens → AreUpTo t m opens number (length opens) boxes
 up_to_all t m opens number boxes same all = record { rest = boxes; are = all ∙ same; same = refl }
 
 -- the outermost boxes up to a place, of which the last one stands there
-record EndsWith (t : Tree) (m : ℤ) (opens : List Open) (n : ℕ) (o : Open) (rest : List ℕ) : Type 0 where
+record EndsWith (t : Tree) (m : ℤ) (opens : List OpenBox) (n : ℕ) (o : OpenBox) (rest : List ℕ) : Type 0 where
   inner : ℕ
   outer : List ℕ
   is : rest ≡ inner ∷ outer
   open_is : o ≡ open_along t m inner outer
   before : take n opens ≡ opens_of t m outer
 
-ends_with : (t : Tree) (m : ℤ) (opens : List Open) (n : ℕ) (d : Open) (rest : List ℕ) → n < length opens → take (suc n) opens ≡ opens_of t m rest → EndsWith t m opens n (get_or opens n d) rest
+ends_with : (t : Tree) (m : ℤ) (opens : List OpenBox) (n : ℕ) (d : OpenBox) (rest : List ℕ) → n < length opens → take (suc n) opens ≡ opens_of t m rest → EndsWith t m opens n (get_or opens n d) rest
 ends_with t m opens n d [] less same = absurd (let s : length (take (suc n) opens) ≡ 0 = ap length same in let f = length-take-le (suc n) opens (omega arith) in omega arith)
 ends_with t m opens n d (b ∷ boxes) less same =
     let size : length (take (suc n) opens) ≡ suc n = length-take-le (suc n) opens (omega arith) in
@@ -88,20 +85,20 @@ ends_with t m opens n d (b ∷ boxes) less same =
     let whole : take n opens ++ get_or opens n d ∷ [] ≡ opens_of t m boxes ++ open_along t m b boxes ∷ [] = sym (take-suc opens n d less) ∙ same in
     let got : Some (get_or opens n d) ≡ Some (open_along t m b boxes) =
     sym (get-end (take n opens) (get_or opens n d)) ∙ ap (slice_get (take n opens ++ get_or opens n d ∷ [])) (length-take-le n opens (omega arith) ∙ place)
-    ∙ ap (λ (l : List Open). slice_get l (length (opens_of t m boxes))) whole ∙ get-end (opens_of t m boxes) (open_along t m b boxes) in
+    ∙ ap (λ (l : List OpenBox). slice_get l (length (opens_of t m boxes))) whole ∙ get-end (opens_of t m boxes) (open_along t m b boxes) in
     record {
       inner = b;
       outer = boxes;
       is = refl;
-      open_is = some-same got;
+      open_is = same_Some _ _ got;
       before = sym (take_less opens n) ∙ ap (take n) same ∙ ap (λ (k : ℕ). take k (opens_of t m boxes ++ open_along t m b boxes ∷ [])) place ∙ take-append_seam (opens_of t m boxes) (open_along t m b boxes ∷ []);
     }
 
 -- the box at a place is another one
-pub up_to_less : (t : Tree) (m : ℤ) (opens : List Open) (number n : ℕ) (d : Open) (boxes : List ℕ) → n < length opens → ((get_or opens n d).number == number) ≡ false → AreUpTo t m opens number (suc n) boxes → AreUpTo t m opens number n boxes
+pub up_to_less : (t : Tree) (m : ℤ) (opens : List OpenBox) (number n : ℕ) (d : OpenBox) (boxes : List ℕ) → n < length opens → ((get_or opens n d).number == number) ≡ false → AreUpTo t m opens number (suc n) boxes → AreUpTo t m opens number n boxes
 up_to_less t m opens number n d boxes less other u =
     let e = ends_with t m opens n d u.rest less u.are in
-    let differs : (e.inner == number) ≡ false = ap (λ (o : Open). o.number == number) (sym e.open_is) ∙ other in
+    let differs : (e.inner == number) ≡ false = ap (λ (o : OpenBox). o.number == number) (sym e.open_is) ∙ other in
     record {
       rest = e.outer;
       are = e.before;
@@ -109,24 +106,16 @@ up_to_less t m opens number n d boxes less other u =
     }
 
 -- the box at a place is the one that is sought
-pub found_at : (t : Tree) (m : ℤ) (opens : List Open) (number n : ℕ) (d : Open) (boxes : List ℕ) → n < length opens → ((get_or opens n d).number == number) ≡ true → AreUpTo t m opens number (suc n) boxes → (get_or opens n d).content ≡ content_along t m (boxes_from number boxes)
+pub found_at : (t : Tree) (m : ℤ) (opens : List OpenBox) (number n : ℕ) (d : OpenBox) (boxes : List ℕ) → n < length opens → ((get_or opens n d).number == number) ≡ true → AreUpTo t m opens number (suc n) boxes → (get_or opens n d).content ≡ content_along t m (boxes_from number boxes)
 found_at t m opens number n d boxes less here u =
     let e = ends_with t m opens n d u.rest less u.are in
-    let is : (e.inner == number) ≡ true = ap (λ (o : Open). o.number == number) (sym e.open_is) ∙ here in
-    ap (λ (o : Open). o.content) e.open_is ∙ sym (ap (content_along t m) (u.same ∙ ap (boxes_from number) e.is ∙ ap (λ (b : Bool). cond b (e.inner ∷ e.outer) (boxes_from number e.outer)) is))
+    let is : (e.inner == number) ≡ true = ap (λ (o : OpenBox). o.number == number) (sym e.open_is) ∙ here in
+    ap (λ (o : OpenBox). o.content) e.open_is ∙ sym (ap (content_along t m) (u.same ∙ ap (boxes_from number) e.is ∙ ap (λ (b : Bool). cond b (e.inner ∷ e.outer) (boxes_from number e.outer)) is))
 
 -- no box is the one that is sought
-pub not_found : (t : Tree) (m : ℤ) (opens : List Open) (number : ℕ) (boxes : List ℕ) → AreUpTo t m opens number 0 boxes → pos 0 ≡ (content_along t m (boxes_from number boxes)).left
+pub not_found : (t : Tree) (m : ℤ) (opens : List OpenBox) (number : ℕ) (boxes : List ℕ) → AreUpTo t m opens number 0 boxes → pos 0 ≡ (content_along t m (boxes_from number boxes)).left
 not_found t m opens number boxes u = go u.rest u.are ∙ sym (ap (λ (l : List ℕ). (content_along t m l).left) u.same)
   where
     go : (rest : List ℕ) → take 0 opens ≡ opens_of t m rest → pos 0 ≡ (content_along t m (boxes_from number rest)).left
     go [] same = refl
     go (b ∷ rest) same = absurd (let n = ap length same ∙ opens_size t m (b ∷ rest) in omega arith)
-
--- the content of a box, by its parts
-pub content_is : (p : BoxProps) (outer : Content) (w m f c l : ℤ) → w ≡ outer.width → m ≡ left_margin p w (used_of p.width w) → f ≡ frame_at p 3 w → c ≡ width_in_block p w → l ≡ (outer.left +ℤ m) +ℤ f → record { left = l; width = c } ≡ content_of (span_in p (pair_of outer))
-content_is p outer w m f c l w_is m_is f_is c_is l_is =
-    let of : ℤ → ℤ → Content = λ a b. record { left = a; width = b } in
-    ap (λ (z : ℤ). of z c) (l_is ∙ ap (λ (z : ℤ). (outer.left +ℤ z) +ℤ f) m_is ∙ ap (λ (z : ℤ). (outer.left +ℤ left_margin p w (used_of p.width w)) +ℤ z) f_is)
-    ∙ ap (of ((outer.left +ℤ left_margin p w (used_of p.width w)) +ℤ frame_at p 3 w)) c_is
-    ∙ ap (λ (z : ℤ). of ((outer.left +ℤ left_margin p z (used_of p.width z)) +ℤ frame_at p 3 z) (width_in_block p z)) w_is

@@ -9,10 +9,10 @@ use Rattle.boxes.specs.declared.place.Event.TheVariants.{Opens, Closes, Leaf}
 use Rattle.boxes.specs.declared.page.Placed.{Placed}
 use Rattle.boxes.specs.declared.props.BoxProps.{BoxProps}
 use Rattle.boxes.proofs.TreeFacts.{box_there, closes_innermost, opens_once}
-use Rattle.paint.specs.declared.extent.Extent.{Extent}
-use Rattle.paint.specs.declared.item.Origin.{Origin}
-use Rattle.paint.specs.declared.opens.Content.{Content}
-use Rattle.paint.specs.declared.parts.Part.{Part}
+use Rattle.paint.specs.declared.extent.VerticalExtent.{VerticalExtent}
+use Rattle.paint.specs.declared.item.SolidOrigin.{SolidOrigin}
+use Rattle.boxes.specs.declared.span.Content.{Content}
+use Rattle.paint.specs.declared.parts.Fragment.{Fragment}
 use Rattle.paint.specs.Fragments.{boxes_at, boxes_with, closes_box, extent_of, here, is_lower, is_upper, join, opens_box, reach_by, stands_in}
 use Rattle.paint.specs.Items.{for_some}
 use Rattle.paint.specs.Opens.{content_along}
@@ -45,60 +45,60 @@ are_marks spine es [] (m ∷ marks) are = absurd are
 are_marks spine es (s ∷ solids) [] are = absurd are
 are_marks spine es (s ∷ solids) (m ∷ marks) are = ((boxes_at es s.at.event, are.0), are_marks spine es solids marks are.2)
 
-own_from : (parts : List Part) (marks : List Mark) → AreMarks (spine_of parts) marks → ((j : ℕ) (p : Part) → slice_get parts j ≡ Some p → p.reach ≡ over_marks (λ places. is_at (first_of places) j) marks) → HaveFrom (length parts) parts marks
+own_from : (parts : List Fragment) (marks : List Mark) → AreMarks (spine_of parts) marks → ((j : ℕ) (p : Fragment) → slice_get parts j ≡ Some p → p.reach ≡ over_marks (λ places. is_at (first_of places) j) marks) → HaveFrom (length parts) parts marks
 own_from parts marks are own j p e = own j p e ∙ over_same (spine_of parts) (λ places. is_at (first_of places) j) (reaches (length parts) j) marks are
     (λ places boxes a. sym (after_last (spine_of parts) places boxes (length parts) j a (subst (λ n. IsBelow n (first_of places)) (spine_size parts) (first_within (spine_of parts) places boxes a))))
 
 -- ---- a box is met once
 
-ascend_from : (a at : ℕ) (parts : List Part) (j : ℕ) (p : Part) → AscendTo a parts at → slice_get parts j ≡ Some p → a ≤ p.event
+ascend_from : (a at : ℕ) (parts : List Fragment) (j : ℕ) (p : Fragment) → AscendTo a parts at → slice_get parts j ≡ Some p → a ≤ p.event
 ascend_from a at [] j p up e = absurd (cc)
-ascend_from a at (q ∷ parts) zero p up e = let same : q ≡ p = cc in subst (λ (x : Part). a ≤ x.event) same up.0
+ascend_from a at (q ∷ parts) zero p up e = let same : q ≡ p = cc in subst (λ (x : Fragment). a ≤ x.event) same up.0
 ascend_from a at (q ∷ parts) (suc j) p up e = let more = ascend_from (suc q.event) at parts j p up.1 e in let low = up.0 in omega arith
 
-ascend_apart : (a at : ℕ) (parts : List Part) (i j : ℕ) (p q : Part) → AscendTo a parts at → slice_get parts i ≡ Some p → slice_get parts j ≡ Some q → p.event ≡ q.event → i ≡ j
+ascend_apart : (a at : ℕ) (parts : List Fragment) (i j : ℕ) (p q : Fragment) → AscendTo a parts at → slice_get parts i ≡ Some p → slice_get parts j ≡ Some q → p.event ≡ q.event → i ≡ j
 ascend_apart a at [] i j p q up x y e = absurd (cc)
 ascend_apart a at (r ∷ parts) zero zero p q up x y e = refl
-ascend_apart a at (r ∷ parts) zero (suc j) p q up x y e = let same : r ≡ p = cc in let event : r.event ≡ p.event = ap (λ (z : Part). z.event) same in let more = ascend_from (suc r.event) at parts j q up.1 y in absurd (omega arith)
-ascend_apart a at (r ∷ parts) (suc i) zero p q up x y e = let same : r ≡ q = cc in let event : r.event ≡ q.event = ap (λ (z : Part). z.event) same in let more = ascend_from (suc r.event) at parts i p up.1 x in absurd (omega arith)
+ascend_apart a at (r ∷ parts) zero (suc j) p q up x y e = let same : r ≡ p = cc in let event : r.event ≡ p.event = ap (λ (z : Fragment). z.event) same in let more = ascend_from (suc r.event) at parts j q up.1 y in absurd (omega arith)
+ascend_apart a at (r ∷ parts) (suc i) zero p q up x y e = let same : r ≡ q = cc in let event : r.event ≡ q.event = ap (λ (z : Fragment). z.event) same in let more = ascend_from (suc r.event) at parts i p up.1 x in absurd (omega arith)
 ascend_apart a at (r ∷ parts) (suc i) (suc j) p q up x y e = ap (λ n. suc n) (ascend_apart (suc r.event) at parts i j p q up.1 x y e)
 
 -- boxes that were met, each once
-record AreMet (t : Tree) (o : Origin) (parts : List Part) : Type 0 where
+record AreMet (t : Tree) (o : SolidOrigin) (parts : List Fragment) : Type 0 where
   at : ℕ
   ascend : AscendTo 0 parts at
   end : at ≤ length t.events
   opened : HaveOpened t o.width parts
 
-met_apart : (t : Tree) → IsTree t → (o : Origin) (parts : List Part) → AreMet t o parts → (i j : ℕ) (p q : Part) → slice_get parts i ≡ Some p → slice_get parts j ≡ Some q → p.number ≡ q.number → i ≡ j
+met_apart : (t : Tree) → IsTree t → (o : SolidOrigin) (parts : List Fragment) → AreMet t o parts → (i j : ℕ) (p q : Fragment) → slice_get parts i ≡ Some p → slice_get parts j ≡ Some q → p.number ≡ q.number → i ≡ j
 met_apart t tree o parts met i j p q x y e =
     let opens_p = (met.opened i p x).opens in
     let opens_q = (met.opened j q y).opens in
     ascend_apart 0 met.at parts i j p q met.ascend x y (opens_once t tree p.event q.event q.number (opens_p ∙ ap (λ (n : ℕ). Some (Opens n)) e) opens_q)
 
 -- a box's place is that of another where its number is
-place_eq : (t : Tree) → IsTree t → (o : Origin) (parts : List Part) → AreMet t o parts → (j : ℕ) (p : Part) → slice_get parts j ≡ Some p → (i d : ℕ) (outer : Option ℕ) → slice_get (spine_of parts) i ≡ Some (d, outer) → (i == j) ≡ (d == p.number)
+place_eq : (t : Tree) → IsTree t → (o : SolidOrigin) (parts : List Fragment) → AreMet t o parts → (j : ℕ) (p : Fragment) → slice_get parts j ≡ Some p → (i d : ℕ) (outer : Option ℕ) → slice_get (spine_of parts) i ≡ Some (d, outer) → (i == j) ≡ (d == p.number)
 place_eq t tree o parts met j p there i d outer at_i = by (cases_eq i j)
   where
-    back : (q : Part) × (slice_get parts i ≡ Some q) × (q.number ≡ d) × (q.outer ≡ outer)
+    back : (q : Fragment) × (slice_get parts i ≡ Some q) × (q.number ≡ d) × (q.outer ≡ outer)
     back = spine_at parts i d outer at_i
 
     by : (i ≡ j) ⊎ (i ≡ j → ⊥) → (i == j) ≡ (d == p.number)
     by (inl e) =
         let two : Some back.0 ≡ Some p = sym back.1 ∙ ap (slice_get parts) e ∙ there in
         let same : back.0 ≡ p = cc in
-        let number : d ≡ p.number = sym back.2 ∙ ap (λ (x : Part). x.number) same in
+        let number : d ≡ p.number = sym back.2 ∙ ap (λ (x : Fragment). x.number) same in
         eq-eqb i j e ∙ sym (eq-eqb d p.number number)
     by (inr other) = ne_eqb i j other ∙ sym (ne_eqb d p.number (λ e. other (met_apart t tree o parts met i j back.0 p back.1 there (back.2 ∙ e))))
 
-has_place : (t : Tree) → IsTree t → (o : Origin) (parts : List Part) → AreMet t o parts → (j : ℕ) (p : Part) → slice_get parts j ≡ Some p → (places boxes : List ℕ) → ArePlaces (spine_of parts) places boxes → reaches 0 j places ≡ list_any (λ c. c == p.number) boxes
+has_place : (t : Tree) → IsTree t → (o : SolidOrigin) (parts : List Fragment) → AreMet t o parts → (j : ℕ) (p : Fragment) → slice_get parts j ≡ Some p → (places boxes : List ℕ) → ArePlaces (spine_of parts) places boxes → reaches 0 j places ≡ list_any (λ c. c == p.number) boxes
 has_place t tree o parts met j p there [] [] are = refl
 has_place t tree o parts met j p there [] (b ∷ boxes) are = absurd are
 has_place t tree o parts met j p there (i ∷ places) [] are = absurd are
 has_place t tree o parts met j p there (i ∷ places) (b ∷ boxes) are =
     ap₂ (λ x y. x || y) (place_eq t tree o parts met j p there i b (first_of places) are.0) (ap (λ x. not x && reaches 0 j places) (le-ltb i 0 (omega arith)) ∙ has_place t tree o parts met j p there places boxes are.2)
 
-first_place : (t : Tree) → IsTree t → (o : Origin) (parts : List Part) → AreMet t o parts → (j : ℕ) (p : Part) → slice_get parts j ≡ Some p → (places boxes : List ℕ) (d : ℕ) → ArePlaces (spine_of parts) places boxes → first_of boxes ≡ Some d → is_at (first_of places) j ≡ (d == p.number)
+first_place : (t : Tree) → IsTree t → (o : SolidOrigin) (parts : List Fragment) → AreMet t o parts → (j : ℕ) (p : Fragment) → slice_get parts j ≡ Some p → (places boxes : List ℕ) (d : ℕ) → ArePlaces (spine_of parts) places boxes → first_of boxes ≡ Some d → is_at (first_of places) j ≡ (d == p.number)
 first_place t tree o parts met j p there [] [] d are first = absurd (cc)
 first_place t tree o parts met j p there [] (b ∷ boxes) d are first = absurd are
 first_place t tree o parts met j p there (i ∷ places) [] d are first = absurd are
@@ -106,11 +106,11 @@ first_place t tree o parts met j p there (i ∷ places) (b ∷ boxes) d are firs
 
 -- ---- how far a box and its edges reach
 
-reach_is : (t : Tree) → IsTree t → (o : Origin) (parts : List Part) → AreMet t o parts → (j : ℕ) (p : Part) → slice_get parts j ≡ Some p → (solids : List Placed) (marks : List Mark) → AreMarksOf (spine_of parts) t.events (solids_by any_event t.events solids) marks → over_marks (reaches 0 j) marks ≡ reach_by (stands_in t.events p.number) solids
+reach_is : (t : Tree) → IsTree t → (o : SolidOrigin) (parts : List Fragment) → AreMet t o parts → (j : ℕ) (p : Fragment) → slice_get parts j ≡ Some p → (solids : List Placed) (marks : List Mark) → AreMarksOf (spine_of parts) t.events (solids_by any_event t.events solids) marks → over_marks (reaches 0 j) marks ≡ reach_by (stands_in t.events p.number) solids
 reach_is t tree o parts met j p there solids marks are =
     over_reach (spine_of parts) any_event t.events (reaches 0 j) (stands_in t.events p.number) (λ s off. absurd (cc)) (λ s places on a. has_place t tree o parts met j p there places (boxes_at t.events s.at.event) a) solids marks are
 
-upper_is : (t : Tree) → IsTree t → (o : Origin) (parts : List Part) → AreMet t o parts → (j : ℕ) (p : Part) → slice_get parts j ≡ Some p → (solids : List Placed) (marks : List Mark) → AreMarksOf (spine_of parts) t.events (solids_by is_opening t.events solids) marks → over_marks (λ places. is_at (first_of places) j) marks ≡ reach_by (is_upper t.events p.number) solids
+upper_is : (t : Tree) → IsTree t → (o : SolidOrigin) (parts : List Fragment) → AreMet t o parts → (j : ℕ) (p : Fragment) → slice_get parts j ≡ Some p → (solids : List Placed) (marks : List Mark) → AreMarksOf (spine_of parts) t.events (solids_by is_opening t.events solids) marks → over_marks (λ places. is_at (first_of places) j) marks ≡ reach_by (is_upper t.events p.number) solids
 upper_is t tree o parts met j p there solids marks are =
     over_reach (spine_of parts) is_opening t.events (λ places. is_at (first_of places) j) (is_upper t.events p.number) (λ s off. miss (slice_get t.events s.at.event) off)
     (λ s places on a. hit (slice_get t.events s.at.event) (open_before t.events s.at.event) places on a) solids marks are
@@ -127,7 +127,7 @@ upper_is t tree o parts met j p there solids marks are =
     hit (Some (Closes b)) boxes places on a = absurd (cc)
     hit (Some (Leaf l)) boxes places on a = absurd (cc)
 
-lower_is : (t : Tree) → IsTree t → (o : Origin) (parts : List Part) → AreMet t o parts → (j : ℕ) (p : Part) → slice_get parts j ≡ Some p → (solids : List Placed) (marks : List Mark) → AreMarksOf (spine_of parts) t.events (solids_by is_closing t.events solids) marks → over_marks (λ places. is_at (first_of places) j) marks ≡ reach_by (is_lower t.events p.number) solids
+lower_is : (t : Tree) → IsTree t → (o : SolidOrigin) (parts : List Fragment) → AreMet t o parts → (j : ℕ) (p : Fragment) → slice_get parts j ≡ Some p → (solids : List Placed) (marks : List Mark) → AreMarksOf (spine_of parts) t.events (solids_by is_closing t.events solids) marks → over_marks (λ places. is_at (first_of places) j) marks ≡ reach_by (is_lower t.events p.number) solids
 lower_is t tree o parts met j p there solids marks are =
     over_reach (spine_of parts) is_closing t.events (λ places. is_at (first_of places) j) (is_lower t.events p.number) (λ s off. miss (slice_get t.events s.at.event) off)
     (λ s places on a. hit s (slice_get t.events s.at.event) refl places on a) solids marks are
@@ -145,7 +145,7 @@ lower_is t tree o parts met j p there solids marks are =
     hit s (Some (Leaf l)) is places on a = absurd (cc)
 
 -- a box that wasn't met has no solid
-has_not : (parts : List Part) (b : ℕ) → ((j : ℕ) (p : Part) → slice_get parts j ≡ Some p → p.number ≡ b → ⊥) → (places boxes : List ℕ) → ArePlaces (spine_of parts) places boxes → false ≡ list_any (λ c. c == b) boxes
+has_not : (parts : List Fragment) (b : ℕ) → ((j : ℕ) (p : Fragment) → slice_get parts j ≡ Some p → p.number ≡ b → ⊥) → (places boxes : List ℕ) → ArePlaces (spine_of parts) places boxes → false ≡ list_any (λ c. c == b) boxes
 has_not parts b none [] [] are = refl
 has_not parts b none [] (d ∷ boxes) are = absurd are
 has_not parts b none (i ∷ places) [] are = refl
@@ -157,17 +157,17 @@ over_nothing : (marks : List Mark) → over_marks (λ places. false) marks ≡ N
 over_nothing [] = refl
 over_nothing (m ∷ marks) = over_nothing marks
 
-no_reach : (t : Tree) (parts : List Part) (solids : List Placed) (marks : List Mark) (b : ℕ) → ((j : ℕ) (p : Part) → slice_get parts j ≡ Some p → p.number ≡ b → ⊥) → AreMarksOf (spine_of parts) t.events (solids_by any_event t.events solids) marks → reach_by (stands_in t.events b) solids ≡ None
+no_reach : (t : Tree) (parts : List Fragment) (solids : List Placed) (marks : List Mark) (b : ℕ) → ((j : ℕ) (p : Fragment) → slice_get parts j ≡ Some p → p.number ≡ b → ⊥) → AreMarksOf (spine_of parts) t.events (solids_by any_event t.events solids) marks → reach_by (stands_in t.events b) solids ≡ None
 no_reach t parts solids marks b none are =
     sym (over_reach (spine_of parts) any_event t.events (λ places. false) (stands_in t.events b) (λ s off. absurd (cc)) (λ s places on a. has_not parts b none places (boxes_at t.events s.at.event) a) solids marks are) ∙ over_nothing marks
 
 -- ---- in the order of Open
 
-ascend_low : (a at : ℕ) (parts : List Part) → AscendTo a parts at → a ≤ at
+ascend_low : (a at : ℕ) (parts : List Fragment) → AscendTo a parts at → a ≤ at
 ascend_low a at [] up = up
 ascend_low a at (p ∷ parts) up = let more = ascend_low (suc p.event) at parts up.1 in let low = up.0 in omega arith
 
-collect_is : (f : Part → List Item) (g : ℕ → List Item) (n b at : ℕ) (parts : List Part) → AscendTo b parts at → at ≤ b + n → ((j : ℕ) (p : Part) → slice_get parts j ≡ Some p → f p ≡ g p.event) → ((k : ℕ) → b ≤ k → ((j : ℕ) (p : Part) → slice_get parts j ≡ Some p → p.event ≡ k → ⊥) → g k ≡ []) → flat_map f parts ≡ flat_map g (range_with_len b n)
+collect_is : (f : Fragment → List Item) (g : ℕ → List Item) (n b at : ℕ) (parts : List Fragment) → AscendTo b parts at → at ≤ b + n → ((j : ℕ) (p : Fragment) → slice_get parts j ≡ Some p → f p ≡ g p.event) → ((k : ℕ) → b ≤ k → ((j : ℕ) (p : Fragment) → slice_get parts j ≡ Some p → p.event ≡ k → ⊥) → g k ≡ []) → flat_map f parts ≡ flat_map g (range_with_len b n)
 collect_is f g zero b at [] up room is none = refl
 collect_is f g zero b at (p ∷ parts) up room is none = let more = ascend_low (suc p.event) at parts up.1 in let low = up.0 in absurd (omega arith)
 collect_is f g (suc n) b at [] up room is none =
@@ -176,19 +176,19 @@ collect_is f g (suc n) b at [] up room is none =
     ∙ ap (λ (l : List Item). l ++ flat_map g (range_with_len (b + 1) n)) (sym nothing)
 collect_is f g (suc n) b at (p ∷ parts) up room is none = by (λ a r i x. collect_is f g n (b + 1) at parts a r i x) (λ a r i x. collect_is f g n (b + 1) at (p ∷ parts) a r i x) (cases_order p.event b)
   where
-    rest : p.event ≡ b → (k : ℕ) → b + 1 ≤ k → ((j : ℕ) (q : Part) → slice_get parts j ≡ Some q → q.event ≡ k → ⊥) → g k ≡ []
+    rest : p.event ≡ b → (k : ℕ) → b + 1 ≤ k → ((j : ℕ) (q : Fragment) → slice_get parts j ≡ Some q → q.event ≡ k → ⊥) → g k ≡ []
     rest e k low not_there = none k (omega arith) (λ j q. at_place j q)
       where
-        at_place : (j : ℕ) (q : Part) → slice_get (p ∷ parts) j ≡ Some q → q.event ≡ k → ⊥
-        at_place zero q there x = let same : p ≡ q = cc in let event : p.event ≡ q.event = ap (λ (z : Part). z.event) same in omega arith
+        at_place : (j : ℕ) (q : Fragment) → slice_get (p ∷ parts) j ≡ Some q → q.event ≡ k → ⊥
+        at_place zero q there x = let same : p ≡ q = cc in let event : p.event ≡ q.event = ap (λ (z : Fragment). z.event) same in omega arith
         at_place (suc j) q there x = not_there j q there x
 
-    above : b < p.event → (j : ℕ) (q : Part) → slice_get (p ∷ parts) j ≡ Some q → q.event ≡ b → ⊥
-    above less zero q there x = let same : p ≡ q = cc in let event : p.event ≡ q.event = ap (λ (z : Part). z.event) same in omega arith
+    above : b < p.event → (j : ℕ) (q : Fragment) → slice_get (p ∷ parts) j ≡ Some q → q.event ≡ b → ⊥
+    above less zero q there x = let same : p ≡ q = cc in let event : p.event ≡ q.event = ap (λ (z : Fragment). z.event) same in omega arith
     above less (suc j) q there x = let more = ascend_from (suc p.event) at parts j q up.1 there in omega arith
 
-    by : (AscendTo (b + 1) parts at → at ≤ (b + 1) + n → ((j : ℕ) (q : Part) → slice_get parts j ≡ Some q → f q ≡ g q.event) → ((k : ℕ) → b + 1 ≤ k → ((j : ℕ) (q : Part) → slice_get parts j ≡ Some q → q.event ≡ k → ⊥) → g k ≡ []) → flat_map f parts ≡ flat_map g (range_with_len (b + 1) n)) →
-        (AscendTo (b + 1) (p ∷ parts) at → at ≤ (b + 1) + n → ((j : ℕ) (q : Part) → slice_get (p ∷ parts) j ≡ Some q → f q ≡ g q.event) → ((k : ℕ) → b + 1 ≤ k → ((j : ℕ) (q : Part) → slice_get (p ∷ parts) j ≡ Some q → q.event ≡ k → ⊥) → g k ≡ []) → flat_map f (p ∷ parts) ≡ flat_map g (range_with_len (b + 1) n)) →
+    by : (AscendTo (b + 1) parts at → at ≤ (b + 1) + n → ((j : ℕ) (q : Fragment) → slice_get parts j ≡ Some q → f q ≡ g q.event) → ((k : ℕ) → b + 1 ≤ k → ((j : ℕ) (q : Fragment) → slice_get parts j ≡ Some q → q.event ≡ k → ⊥) → g k ≡ []) → flat_map f parts ≡ flat_map g (range_with_len (b + 1) n)) →
+        (AscendTo (b + 1) (p ∷ parts) at → at ≤ (b + 1) + n → ((j : ℕ) (q : Fragment) → slice_get (p ∷ parts) j ≡ Some q → f q ≡ g q.event) → ((k : ℕ) → b + 1 ≤ k → ((j : ℕ) (q : Fragment) → slice_get (p ∷ parts) j ≡ Some q → q.event ≡ k → ⊥) → g k ≡ []) → flat_map f (p ∷ parts) ≡ flat_map g (range_with_len (b + 1) n)) →
         (p.event ≡ b) ⊎ ((p.event < b) ⊎ (b < p.event)) → flat_map f (p ∷ parts) ≡ flat_map g (range_with_len b (suc n))
     by one all (inl e) =
         let next : suc p.event ≡ b + 1 = omega arith in
@@ -201,29 +201,29 @@ collect_is f g (suc n) b at (p ∷ parts) up room is none = by (λ a r i x. coll
 -- ---- the rectangles of a page
 
 -- the boxes that were met, and how far they reach
-record AreReached (t : Tree) (o : Origin) (solids : List Placed) (parts : List Part) : Type 0 where
+record AreReached (t : Tree) (o : SolidOrigin) (solids : List Placed) (parts : List Fragment) : Type 0 where
   met : AreMet t o parts
-  reach : (j : ℕ) (p : Part) → slice_get parts j ≡ Some p → p.reach ≡ reach_by (stands_in t.events p.number) solids
-  upper : (j : ℕ) (p : Part) → slice_get parts j ≡ Some p → p.upper ≡ reach_by (is_upper t.events p.number) solids
-  lower : (j : ℕ) (p : Part) → slice_get parts j ≡ Some p → p.lower ≡ reach_by (is_lower t.events p.number) solids
-  others : (b : ℕ) → ((j : ℕ) (p : Part) → slice_get parts j ≡ Some p → p.number ≡ b → ⊥) → reach_by (stands_in t.events b) solids ≡ None
+  reach : (j : ℕ) (p : Fragment) → slice_get parts j ≡ Some p → p.reach ≡ reach_by (stands_in t.events p.number) solids
+  upper : (j : ℕ) (p : Fragment) → slice_get parts j ≡ Some p → p.upper ≡ reach_by (is_upper t.events p.number) solids
+  lower : (j : ℕ) (p : Fragment) → slice_get parts j ≡ Some p → p.lower ≡ reach_by (is_lower t.events p.number) solids
+  others : (b : ℕ) → ((j : ℕ) (p : Fragment) → slice_get parts j ≡ Some p → p.number ≡ b → ⊥) → reach_by (stands_in t.events b) solids ≡ None
 
-part_is : (t : Tree) (o : Origin) (solids : List Placed) (parts : List Part) → AreReached t o solids parts → (j : ℕ) (p : Part) → slice_get parts j ≡ Some p → part_rects t o p ≡ rects_at t o solids p.event
+part_is : (t : Tree) (o : SolidOrigin) (solids : List Placed) (parts : List Fragment) → AreReached t o solids parts → (j : ℕ) (p : Fragment) → slice_get parts j ≡ Some p → part_rects t o p ≡ rects_at t o solids p.event
 part_is t o solids parts r j p there =
     let is : IsOpened t o.width p = r.met.opened j p there in
     let boxed : Option BoxProps = slice_get t.boxes p.number in
     ap (λ (c : Content). for_some (λ (q : BoxProps). fragment_rects o q c p.reach p.upper p.lower) boxed) is.around_is
-    ∙ ap (λ (e : Option Extent). for_some (λ (q : BoxProps). fragment_rects o q (content_along t o.width (open_before t.events p.event)) e p.upper p.lower) boxed) (r.reach j p there)
-    ∙ ap (λ (e : Option Extent). for_some (λ (q : BoxProps). fragment_rects o q (content_along t o.width (open_before t.events p.event)) (reach_by (stands_in t.events p.number) solids) e p.lower) boxed) (r.upper j p there)
-    ∙ ap (λ (e : Option Extent). for_some (λ (q : BoxProps). fragment_rects o q (content_along t o.width (open_before t.events p.event)) (reach_by (stands_in t.events p.number) solids) (reach_by (is_upper t.events p.number) solids) e) boxed) (r.lower j p there)
+    ∙ ap (λ (e : Option VerticalExtent). for_some (λ (q : BoxProps). fragment_rects o q (content_along t o.width (open_before t.events p.event)) e p.upper p.lower) boxed) (r.reach j p there)
+    ∙ ap (λ (e : Option VerticalExtent). for_some (λ (q : BoxProps). fragment_rects o q (content_along t o.width (open_before t.events p.event)) (reach_by (stands_in t.events p.number) solids) e p.lower) boxed) (r.upper j p there)
+    ∙ ap (λ (e : Option VerticalExtent). for_some (λ (q : BoxProps). fragment_rects o q (content_along t o.width (open_before t.events p.event)) (reach_by (stands_in t.events p.number) solids) (reach_by (is_upper t.events p.number) solids) e) boxed) (r.lower j p there)
     ∙ ap (opened_rects t o solids p.event) (sym is.opens)
 
-for_none : (t : Tree) (o : Origin) (c : Content) (reach upper lower : Option Extent) (p : Option BoxProps) → reach ≡ None → for_some (λ (q : BoxProps). fragment_rects o q c reach upper lower) p ≡ []
+for_none : (t : Tree) (o : SolidOrigin) (c : Content) (reach upper lower : Option VerticalExtent) (p : Option BoxProps) → reach ≡ None → for_some (λ (q : BoxProps). fragment_rects o q c reach upper lower) p ≡ []
 unfolding fragment_rects
 for_none t o c reach upper lower None is = refl
-for_none t o c reach upper lower (Some q) is = ap (λ (e : Option Extent). fragment_rects o q c e upper lower) is
+for_none t o c reach upper lower (Some q) is = ap (λ (e : Option VerticalExtent). fragment_rects o q c e upper lower) is
 
-other_is : (t : Tree) → IsTree t → (o : Origin) (solids : List Placed) (parts : List Part) → AreReached t o solids parts → (k : ℕ) → ((j : ℕ) (p : Part) → slice_get parts j ≡ Some p → p.event ≡ k → ⊥) → rects_at t o solids k ≡ []
+other_is : (t : Tree) → IsTree t → (o : SolidOrigin) (solids : List Placed) (parts : List Fragment) → AreReached t o solids parts → (k : ℕ) → ((j : ℕ) (p : Fragment) → slice_get parts j ≡ Some p → p.event ≡ k → ⊥) → rects_at t o solids k ≡ []
 other_is t tree o solids parts r k none = by (slice_get t.events k) refl
   where
     by : (e : Option Event) → slice_get t.events k ≡ e → opened_rects t o solids k e ≡ []
@@ -232,16 +232,16 @@ other_is t tree o solids parts r k none = by (slice_get t.events k) refl
     by (Some (Closes b)) is = refl
     by (Some (Leaf l)) is = refl
 
-reached_rects : (t : Tree) → IsTree t → (o : Origin) (solids : List Placed) (parts : List Part) → AreReached t o solids parts → flat_map (part_rects t o) parts ≡ rects_of t o solids
+reached_rects : (t : Tree) → IsTree t → (o : SolidOrigin) (solids : List Placed) (parts : List Fragment) → AreReached t o solids parts → flat_map (part_rects t o) parts ≡ rects_of t o solids
 unfolding rects_of
 reached_rects t tree o solids parts r =
     collect_is (part_rects t o) (rects_at t o solids) (length t.events) 0 r.met.at parts r.met.ascend (let e = r.met.end in omega arith) (part_is t o solids parts r) (λ k low none. other_is t tree o solids parts r k none)
 
 -- a box at a place had all but its reach before
-was_bare : (old new : List Part) → bare_of new ≡ bare_of old → (j : ℕ) (p : Part) → slice_get new j ≡ Some p → (q : Part) × (slice_get old j ≡ Some q) × (bare q ≡ bare p)
+was_bare : (old new : List Fragment) → bare_of new ≡ bare_of old → (j : ℕ) (p : Fragment) → slice_get new j ≡ Some p → (q : Fragment) × (slice_get old j ≡ Some q) × (bare q ≡ bare p)
 was_bare old new e j p there = get-map-back bare old j (bare p) (ap (λ s. slice_get s j) (sym e) ∙ get-map bare new j p there)
 
-merged_reached : (t : Tree) → IsTree t → (o : Origin) (solids : List Placed) (parts new : List Part) → AreGathered t o.width solids parts → bare_of new ≡ bare_of parts → AreMerged parts new → AreReached t o solids new
+merged_reached : (t : Tree) → IsTree t → (o : SolidOrigin) (solids : List Placed) (parts new : List Fragment) → AreGathered t o.width solids parts → bare_of new ≡ bare_of parts → AreMerged parts new → AreReached t o solids new
 merged_reached t tree o solids parts new g rest merged =
     let at : IsAt t o.width new g.at = at_same t o.width parts new g.at (places_bare parts new rest) g.is_at in
     let met : AreMet t o new = record { at = g.at.event; ascend = at.on.ascend; end = g.end; opened = at.opened } in
@@ -257,12 +257,12 @@ merged_reached t tree o solids parts new g rest merged =
     record {
       met = met;
       reach = λ j p there. from j p there ∙ reach_is t tree o new met j p there solids r.marks r_are;
-      upper = λ j p there. let was = was_bare parts new rest j p there in ap (λ (x : Part). x.upper) (sym was.2) ∙ u.own j was.0 was.1 ∙ upper_is t tree o new met j p there solids u.marks u_are;
-      lower = λ j p there. let was = was_bare parts new rest j p there in ap (λ (x : Part). x.lower) (sym was.2) ∙ l.own j was.0 was.1 ∙ lower_is t tree o new met j p there solids l.marks l_are;
+      upper = λ j p there. let was = was_bare parts new rest j p there in ap (λ (x : Fragment). x.upper) (sym was.2) ∙ u.own j was.0 was.1 ∙ upper_is t tree o new met j p there solids u.marks u_are;
+      lower = λ j p there. let was = was_bare parts new rest j p there in ap (λ (x : Fragment). x.lower) (sym was.2) ∙ l.own j was.0 was.1 ∙ lower_is t tree o new met j p there solids l.marks l_are;
       others = λ b none. no_reach t new solids r.marks b none r_are;
     }
 
-pub page_rects : (t : Tree) → IsTree t → (o : Origin) (solids : List Placed) (parts new : List Part) → AreGathered t o.width solids parts → bare_of new ≡ bare_of parts → AreMerged parts new → flat_map (part_rects t o) new ≡ rects_of t o solids
+pub page_rects : (t : Tree) → IsTree t → (o : SolidOrigin) (solids : List Placed) (parts new : List Fragment) → AreGathered t o.width solids parts → bare_of new ≡ bare_of parts → AreMerged parts new → flat_map (part_rects t o) new ≡ rects_of t o solids
 page_rects t tree o solids parts new g rest merged = reached_rects t tree o solids new (merged_reached t tree o solids parts new g rest merged)
 
 get_at : {A : Type 0} (xs : List A) (i : ℕ) (d : A) → i < length xs → slice_get xs i ≡ Some (get_or xs i d)
@@ -270,7 +270,7 @@ get_at [] i d low = absurd (omega arith)
 get_at (x ∷ xs) zero d low = refl
 get_at (x ∷ xs) (suc i) d low = get_at xs i d (omega arith)
 
-pub page_boxes : (t : Tree) → IsTree t → (o : Origin) (solids : List Placed) (parts new : List Part) → AreGathered t o.width solids parts → bare_of new ≡ bare_of parts → AreMerged parts new → All (λ p. p.number < length t.boxes) new
+pub page_boxes : (t : Tree) → IsTree t → (o : SolidOrigin) (solids : List Placed) (parts new : List Fragment) → AreGathered t o.width solids parts → bare_of new ≡ bare_of parts → AreMerged parts new → All (λ p. p.number < length t.boxes) new
 page_boxes t tree o solids parts new g rest merged = λ k d low.
     let opened : HaveOpened t o.width new = (at_same t o.width parts new g.at (places_bare parts new rest) g.is_at).opened in
     box_there t tree (get_or new k d).event (get_or new k d).number (opened k (get_or new k d) (get_at new k d low)).opens

@@ -10,8 +10,8 @@ use Rattle.boxes.specs.declared.place.Event.TheVariants.{Opens, Closes, Leaf}
 use Rattle.boxes.proofs.ListLemmas.{get-push, get-keep, get-end, slice_get_at}
 use Rattle.boxes.proofs.TreeLemmas.{open-step}
 use Rattle.boxes.proofs.TreeFacts.{box_there, opens_once, closes_innermost}
-use Rattle.paint.specs.declared.opens.Content.{Content}
-use Rattle.paint.specs.declared.parts.Part.{Part}
+use Rattle.boxes.specs.declared.span.Content.{Content}
+use Rattle.paint.specs.declared.parts.Fragment.{Fragment}
 use Rattle.paint.specs.Opens.{content_along, content_of, pair_of}
 use Rattle.paint.specs.Parts.{ArePlaces, IsBelow, AscendTo, IsOn, IsOpened, HaveOpened, IsAt, HaveNone, IsGrown, LeavesTo, content_at, content_or, last_of, part_in, spine_of}
 use Rattle.paint.proofs.ReachLemmas.{get-map}
@@ -58,23 +58,23 @@ first_within spine [] boxes are = tt
 first_within spine (i ∷ places) [] are = absurd are
 first_within spine (i ∷ places) (b ∷ boxes) are = slice_get_within spine i (b, first_of places) are.0
 
-pub spine_push : (parts more : List Part) → spine_of (parts ++ more) ≡ spine_of parts ++ spine_of more
-spine_push parts more = map-append (λ (p : Part). (p.number, p.outer)) parts more
+pub spine_push : (parts more : List Fragment) → spine_of (parts ++ more) ≡ spine_of parts ++ spine_of more
+spine_push parts more = map-append (λ (p : Fragment). (p.number, p.outer)) parts more
 
-pub spine_size : (parts : List Part) → length (spine_of parts) ≡ length parts
-spine_size parts = length-map parts (λ (p : Part). (p.number, p.outer))
+pub spine_size : (parts : List Fragment) → length (spine_of parts) ≡ length parts
+spine_size parts = length-map parts (λ (p : Fragment). (p.number, p.outer))
 
 pub get-map-back : {A B : Type 0} (f : A → B) (xs : List A) (k : ℕ) (y : B) → slice_get (map f xs) k ≡ Some y → (x : A) × (slice_get xs k ≡ Some x) × (f x ≡ y)
 get-map-back f [] k y e = absurd (cc)
 get-map-back f (x ∷ xs) zero y e = (x, refl, let same : f x ≡ y = cc in same)
 get-map-back f (x ∷ xs) (suc k) y e = get-map-back f xs k y e
 
-pub spine_at : (parts : List Part) (i b : ℕ) (o : Option ℕ) → slice_get (spine_of parts) i ≡ Some (b, o) → (q : Part) × (slice_get parts i ≡ Some q) × (q.number ≡ b) × (q.outer ≡ o)
+pub spine_at : (parts : List Fragment) (i b : ℕ) (o : Option ℕ) → slice_get (spine_of parts) i ≡ Some (b, o) → (q : Fragment) × (slice_get parts i ≡ Some q) × (q.number ≡ b) × (q.outer ≡ o)
 spine_at parts i b o e =
-    let back = get-map-back (λ (x : Part). (x.number, x.outer)) parts i (b, o) e in
+    let back = get-map-back (λ (x : Fragment). (x.number, x.outer)) parts i (b, o) e in
     (back.0, back.1, ap (λ (x : ℕ × Option ℕ). x.0) back.2, ap (λ (x : ℕ × Option ℕ). x.1) back.2)
 
-pub inner_within : (parts : List Part) (boxes : List ℕ) (inner : Option ℕ) (at : ℕ) → IsOn parts boxes inner at → ForSome inner (λ i. i < length parts)
+pub inner_within : (parts : List Fragment) (boxes : List ℕ) (inner : Option ℕ) (at : ℕ) → IsOn parts boxes inner at → ForSome inner (λ i. i < length parts)
 inner_within parts boxes inner at on i e = by (first_of on.places) (sym on.inner_is ∙ e) (first_within (spine_of parts) on.places boxes on.are)
   where
     by : (o : Option ℕ) → o ≡ Some i → IsBelow (length (spine_of parts)) o → i < length parts
@@ -82,7 +82,7 @@ inner_within parts boxes inner at on i e = by (first_of on.places) (sym on.inner
     by (Some j) is below = let same : j ≡ i = cc in let size = spine_size parts in omega arith
 
 -- the content of the innermost box is known
-pub content_is : (t : Tree) → IsTree t → (m : ℤ) (parts : List Part) (boxes : List ℕ) (inner : Option ℕ) (at n : ℕ) → IsOn parts boxes inner at → HaveOpened t m parts → WereBefore t.events n boxes → content_at m parts inner ≡ content_along t m boxes
+pub content_is : (t : Tree) → IsTree t → (m : ℤ) (parts : List Fragment) (boxes : List ℕ) (inner : Option ℕ) (at n : ℕ) → IsOn parts boxes inner at → HaveOpened t m parts → WereBefore t.events n boxes → content_at m parts inner ≡ content_along t m boxes
 content_is t tree m parts boxes inner at n on opened w = ap (content_at m parts) on.inner_is ∙ by on.places boxes on.are w
   where
     by : (places bs : List ℕ) → ArePlaces (spine_of parts) places bs → WereBefore t.events n bs → content_at m parts (first_of places) ≡ content_along t m bs
@@ -91,7 +91,7 @@ content_is t tree m parts boxes inner at n on opened w = ap (content_at m parts)
     by (i ∷ places) [] are v = absurd are
     by (i ∷ places) (b ∷ bs) are v =
         let back = spine_at parts i b (first_of places) are.0 in
-        let q : Part = back.0 in
+        let q : Fragment = back.0 in
         let is : IsOpened t m q = opened i q back.1 in
         let place : q.event ≡ v.0 = opens_once t tree q.event v.0 b (is.opens ∙ ap (λ (x : ℕ). Some (Opens x)) back.2) v.2 in
         ap (content_or m) back.1 ∙ is.content_is ∙ ap (λ (x : ℕ). content_along t m (x ∷ open_before t.events q.event)) back.2
@@ -99,21 +99,21 @@ content_is t tree m parts boxes inner at n on opened w = ap (content_at m parts)
 
 -- ---- a box more, a box less
 
-ascend_push : (a at : ℕ) (parts : List Part) (q : Part) → AscendTo a parts at → at ≤ q.event → AscendTo a (parts ++ q ∷ []) (suc q.event)
+ascend_push : (a at : ℕ) (parts : List Fragment) (q : Fragment) → AscendTo a parts at → at ≤ q.event → AscendTo a (parts ++ q ∷ []) (suc q.event)
 ascend_push a at [] q up low = (omega arith, omega arith)
 ascend_push a at (p ∷ parts) q up low = (up.0, ascend_push (suc p.event) at parts q up.1 low)
 
-ascend_more : (a at n : ℕ) (parts : List Part) → AscendTo a parts at → at ≤ n → AscendTo a parts n
+ascend_more : (a at n : ℕ) (parts : List Fragment) → AscendTo a parts at → at ≤ n → AscendTo a parts n
 ascend_more a at n [] up low = omega arith
 ascend_more a at n (p ∷ parts) up low = (up.0, ascend_more (suc p.event) at n parts up.1 low)
 
-pub on_more : (parts : List Part) (boxes : List ℕ) (inner : Option ℕ) (at n : ℕ) → IsOn parts boxes inner at → at ≤ n → IsOn parts boxes inner n
+pub on_more : (parts : List Fragment) (boxes : List ℕ) (inner : Option ℕ) (at n : ℕ) → IsOn parts boxes inner at → at ≤ n → IsOn parts boxes inner n
 on_more parts boxes inner at n on low = record { places = on.places; are = on.are; inner_is = on.inner_is; outers = on.outers; ascend = ascend_more 0 at n parts on.ascend low }
 
 abbrev some_pair : ℕ → Option ℕ → Option (ℕ × Option ℕ)
 some_pair n o = Some (n, o)
 
-on_push : (parts : List Part) (boxes : List ℕ) (inner : Option ℕ) (at : ℕ) (q : Part) → q.outer ≡ inner → IsOn parts boxes inner at → at ≤ q.event → IsOn (parts ++ q ∷ []) (q.number ∷ boxes) (Some (length parts)) (suc q.event)
+on_push : (parts : List Fragment) (boxes : List ℕ) (inner : Option ℕ) (at : ℕ) (q : Fragment) → q.outer ≡ inner → IsOn parts boxes inner at → at ≤ q.event → IsOn (parts ++ q ∷ []) (q.number ∷ boxes) (Some (length parts)) (suc q.event)
 on_push parts boxes inner at q outer_is on low = record {
   places = length parts ∷ on.places;
   are = (place, below, subst (λ s. ArePlaces s on.places boxes) (sym (spine_push parts (q ∷ []))) (places_grown (spine_of parts) (spine_of (q ∷ [])) on.places boxes on.are));
@@ -128,11 +128,11 @@ on_push parts boxes inner at q outer_is on low = record {
     below : IsBelow (length parts) (first_of on.places)
     below = subst (λ n. IsBelow n (first_of on.places)) (spine_size parts) (first_within (spine_of parts) on.places boxes on.are)
 
-    outers : (j : ℕ) (p : Part) → ((j ≡ length parts) × (p ≡ q)) ⊎ (slice_get parts j ≡ Some p) → IsBelow j p.outer
-    outers j p (inl (at_end, is)) = subst (λ (x : Part). IsBelow j x.outer) (sym is) (subst (λ o. IsBelow j o) (sym (outer_is ∙ on.inner_is)) (subst (λ n. IsBelow n (first_of on.places)) (sym at_end) below))
+    outers : (j : ℕ) (p : Fragment) → ((j ≡ length parts) × (p ≡ q)) ⊎ (slice_get parts j ≡ Some p) → IsBelow j p.outer
+    outers j p (inl (at_end, is)) = subst (λ (x : Fragment). IsBelow j x.outer) (sym is) (subst (λ o. IsBelow j o) (sym (outer_is ∙ on.inner_is)) (subst (λ n. IsBelow n (first_of on.places)) (sym at_end) below))
     outers j p (inr old) = on.outers j p old
 
-on_pop : (parts : List Part) (b : ℕ) (boxes : List ℕ) (inner now : Option ℕ) (at : ℕ) → IsOn parts (b ∷ boxes) inner at → LeavesTo parts inner now → IsOn parts boxes now at
+on_pop : (parts : List Fragment) (b : ℕ) (boxes : List ℕ) (inner now : Option ℕ) (at : ℕ) → IsOn parts (b ∷ boxes) inner at → LeavesTo parts inner now → IsOn parts boxes now at
 on_pop parts b boxes inner now at on to = by on.places on.are on.inner_is
   where
     by : (places : List ℕ) → ArePlaces (spine_of parts) places (b ∷ boxes) → inner ≡ first_of places → IsOn parts boxes now at
@@ -141,18 +141,18 @@ on_pop parts b boxes inner now at on to = by on.places on.are on.inner_is
       where
         of : LeavesTo parts (Some i) now → IsOn parts boxes now at
         of (p, there, now_is) =
-            let two : Some (p.number, p.outer) ≡ Some (b, first_of places) = sym (get-map (λ (x : Part). (x.number, x.outer)) parts i p there) ∙ are.0 in
+            let two : Some (p.number, p.outer) ≡ Some (b, first_of places) = sym (get-map (λ (x : Fragment). (x.number, x.outer)) parts i p there) ∙ are.0 in
             let pair : (p.number, p.outer) ≡ (b, first_of places) = cc in
             record { places = places; are = are.2; inner_is = now_is ∙ ap (λ (x : ℕ × Option ℕ). x.1) pair; outers = on.outers; ascend = on.ascend }
 
-opened_push : (t : Tree) (m : ℤ) (parts : List Part) (q : Part) → HaveOpened t m parts → IsOpened t m q → HaveOpened t m (parts ++ q ∷ [])
+opened_push : (t : Tree) (m : ℤ) (parts : List Fragment) (q : Fragment) → HaveOpened t m parts → IsOpened t m q → HaveOpened t m (parts ++ q ∷ [])
 opened_push t m parts q opened is j p e = by (get-push parts q p j e)
   where
     by : ((j ≡ length parts) × (p ≡ q)) ⊎ (slice_get parts j ≡ Some p) → IsOpened t m p
     by (inl (at_end, same)) = subst (IsOpened t m) (sym same) is
     by (inr old) = opened j p old
 
-part_opened : (t : Tree) (m : ℤ) (parts : List Part) (inner : Option ℕ) (event b : ℕ) → slice_get t.events event ≡ Some (Opens b) → content_at m parts inner ≡ content_along t m (open_before t.events event) → IsOpened t m (part_in t m parts inner event b)
+part_opened : (t : Tree) (m : ℤ) (parts : List Fragment) (inner : Option ℕ) (event b : ℕ) → slice_get t.events event ≡ Some (Opens b) → content_at m parts inner ≡ content_along t m (open_before t.events event) → IsOpened t m (part_in t m parts inner event b)
 part_opened t m parts inner event b at is = record {
   opens = at;
   around_is = is;
@@ -161,10 +161,10 @@ part_opened t m parts inner event b at is = record {
 
 -- ---- an event
 
-pub pass_opens : (t : Tree) → IsTree t → (m : ℤ) (parts new : List Part) (at b : ℕ) (inner : Option ℕ) → at ≤ length t.events → slice_get t.events at ≡ Some (Opens b) → IsAt t m parts (record { event = at; inner = inner }) →
+pub pass_opens : (t : Tree) → IsTree t → (m : ℤ) (parts new : List Fragment) (at b : ℕ) (inner : Option ℕ) → at ≤ length t.events → slice_get t.events at ≡ Some (Opens b) → IsAt t m parts (record { event = at; inner = inner }) →
     new ≡ parts ++ part_in t m parts inner at b ∷ [] → IsAt t m new (record { event = at + 1; inner = Some (length parts) })
 pass_opens t tree m parts new at b inner low there a new_is =
-    let q : Part = part_in t m parts inner at b in
+    let q : Fragment = part_in t m parts inner at b in
     let next : suc at ≡ at + 1 = omega arith in
     let content : content_at m parts inner ≡ content_along t m (open_before t.events at) = content_is t tree m parts (open_before t.events at) inner at at a.on a.opened (were_before t.events at low) in
     let on : IsOn (parts ++ q ∷ []) (b ∷ open_before t.events at) (Some (length parts)) (suc at) = on_push parts (open_before t.events at) inner at q refl a.on (omega arith) in
@@ -175,7 +175,7 @@ pass_opens t tree m parts new at b inner low there a new_is =
       opened = subst (HaveOpened t m) (sym new_is) (opened_push t m parts q a.opened (part_opened t m parts inner at b there content));
     }
 
-pub pass_closes : (t : Tree) → IsTree t → (m : ℤ) (parts : List Part) (at b : ℕ) (inner now : Option ℕ) → slice_get t.events at ≡ Some (Closes b) → IsAt t m parts (record { event = at; inner = inner }) → LeavesTo parts inner now → IsAt t m parts (record { event = at + 1; inner = now })
+pub pass_closes : (t : Tree) → IsTree t → (m : ℤ) (parts : List Fragment) (at b : ℕ) (inner now : Option ℕ) → slice_get t.events at ≡ Some (Closes b) → IsAt t m parts (record { event = at; inner = inner }) → LeavesTo parts inner now → IsAt t m parts (record { event = at + 1; inner = now })
 pass_closes t tree m parts at b inner now there a to = by (open_before t.events at) refl (closes_innermost t tree at b there) a.on
   where
     by : (boxes : List ℕ) → open_before t.events at ≡ boxes → first_of boxes ≡ Some b → IsOn parts boxes inner at → IsAt t m parts (record { event = at + 1; inner = now })
@@ -189,7 +189,7 @@ pass_closes t tree m parts at b inner now there a to = by (open_before t.events 
           opened = a.opened;
         }
 
-pub pass_leaf : (t : Tree) (m : ℤ) (parts : List Part) (at l : ℕ) (inner : Option ℕ) → slice_get t.events at ≡ Some (Leaf l) → IsAt t m parts (record { event = at; inner = inner }) → IsAt t m parts (record { event = at + 1; inner = inner })
+pub pass_leaf : (t : Tree) (m : ℤ) (parts : List Fragment) (at l : ℕ) (inner : Option ℕ) → slice_get t.events at ≡ Some (Leaf l) → IsAt t m parts (record { event = at; inner = inner }) → IsAt t m parts (record { event = at + 1; inner = inner })
 pass_leaf t m parts at l inner there a =
     let next : suc at ≡ at + 1 = omega arith in
     let same : IsOn parts (open_before t.events (suc at)) inner at = subst (λ l. IsOn parts l inner at) (sym (open-step t.events at (Leaf l) there)) a.on in
@@ -198,30 +198,30 @@ pass_leaf t m parts at l inner there a =
       opened = a.opened;
     }
 
-none_append : (parts more : List Part) → HaveNone parts → HaveNone more → HaveNone (parts ++ more)
+none_append : (parts more : List Fragment) → HaveNone parts → HaveNone more → HaveNone (parts ++ more)
 none_append [] more a b = b
 none_append (p ∷ parts) more a b = (a.0, none_append parts more a.1 b)
 
-pub grown_none : (parts : List Part) → IsGrown parts parts
+pub grown_none : (parts : List Fragment) → IsGrown parts parts
 grown_none parts = ([], sym (append-nil parts), tt)
 
-pub grown_push : (t : Tree) (m : ℤ) (parts new : List Part) (inner : Option ℕ) (event b : ℕ) → new ≡ parts ++ part_in t m parts inner event b ∷ [] → IsGrown parts new
+pub grown_push : (t : Tree) (m : ℤ) (parts new : List Fragment) (inner : Option ℕ) (event b : ℕ) → new ≡ parts ++ part_in t m parts inner event b ∷ [] → IsGrown parts new
 grown_push t m parts new inner event b is = (part_in t m parts inner event b ∷ [], is, (record { no_reach = refl; no_upper = refl; no_lower = refl }, tt))
 
-pub grown_more : (old parts new : List Part) → IsGrown old parts → IsGrown parts new → IsGrown old new
-grown_more old parts new g h = (g.0 ++ h.0, h.1 ∙ ap (λ (ps : List Part). ps ++ h.0) g.1 ∙ append_assoc old g.0 h.0, none_append g.0 h.0 g.2 h.2)
+pub grown_more : (old parts new : List Fragment) → IsGrown old parts → IsGrown parts new → IsGrown old new
+grown_more old parts new g h = (g.0 ++ h.0, h.1 ∙ ap (λ (ps : List Fragment). ps ++ h.0) g.1 ∙ append_assoc old g.0 h.0, none_append g.0 h.0 g.2 h.2)
 
 -- ---- the boxes that are open at the start
 
 -- the boxes of a chain were met down to a place, the outermost first
-pub record IsStarted (t : Tree) (m : ℤ) (chain : List ℕ) (left : ℕ) (parts : List Part) : Type 0 where
+pub record IsStarted (t : Tree) (m : ℤ) (chain : List ℕ) (left : ℕ) (parts : List Fragment) : Type 0 where
   pub next : ℕ
   pub on : IsOn parts (drop left chain) (last_of (length parts)) next
   pub opened : HaveOpened t m parts
   pub low : (k : ℕ) → WereBefore t.events k (drop left chain) → next ≤ k
   pub fresh : HaveNone parts
 
-pub started_none : (t : Tree) (m : ℤ) (chain : List ℕ) (parts : List Part) → length parts ≡ 0 → IsStarted t m chain (length chain) parts
+pub started_none : (t : Tree) (m : ℤ) (chain : List ℕ) (parts : List Fragment) → length parts ≡ 0 → IsStarted t m chain (length chain) parts
 started_none t m chain (p ∷ parts) none = absurd (omega arith)
 started_none t m chain [] none =
     let nothing : drop (length chain) chain ≡ [] = drop_all (length chain) chain (omega arith) in
@@ -233,7 +233,7 @@ started_none t m chain [] none =
       fresh = tt;
     }
 
-pub started_step : (t : Tree) → IsTree t → (m : ℤ) (event left k b : ℕ) (chain : List ℕ) (parts new : List Part) → event ≤ length t.events → chain ≡ open_before t.events event → drop left chain ≡ b ∷ drop (suc left) chain → slice_get t.events k ≡ Some (Opens b) →
+pub started_step : (t : Tree) → IsTree t → (m : ℤ) (event left k b : ℕ) (chain : List ℕ) (parts new : List Fragment) → event ≤ length t.events → chain ≡ open_before t.events event → drop left chain ≡ b ∷ drop (suc left) chain → slice_get t.events k ≡ Some (Opens b) →
     new ≡ parts ++ part_in t m parts (last_of (length parts)) k b ∷ [] → IsStarted t m chain (suc left) parts → IsStarted t m chain left new
 started_step t tree m event left k b chain parts new low chain_is cons there new_is s = by (before_drop t.events left event chain (subst (WereBefore t.events event) (sym chain_is) (were_before t.events event low)))
   where
@@ -245,7 +245,7 @@ started_step t tree m event left k b chain parts new low chain_is cons there new
       where
         of : WereBefore t.events d.0 (b ∷ drop (suc left) chain) → IsStarted t m chain left new
         of v =
-            let q : Part = part_in t m parts (last_of (length parts)) k b in
+            let q : Fragment = part_in t m parts (last_of (length parts)) k b in
             let place : v.0 ≡ k = opens_once t tree v.0 k b v.2 there in
             let were : WereBefore t.events k (drop (suc left) chain) = subst (λ (n : ℕ). WereBefore t.events n (drop (suc left) chain)) place v.4 in
             let content : content_at m parts (last_of (length parts)) ≡ content_along t m (open_before t.events k) =
@@ -265,7 +265,7 @@ started_step t tree m event left k b chain parts new low chain_is cons there new
             least : (n : ℕ) → WereBefore t.events n (b ∷ drop (suc left) chain) → suc k ≤ n
             least n w = let place : w.0 ≡ k = opens_once t tree w.0 k b w.2 there in let l = w.1 in omega arith
 
-pub started_all : (t : Tree) (m : ℤ) (event : ℕ) (chain : List ℕ) (parts : List Part) → event ≤ length t.events → chain ≡ open_before t.events event → IsStarted t m chain 0 parts → IsAt t m parts (record { event = event; inner = last_of (length parts) })
+pub started_all : (t : Tree) (m : ℤ) (event : ℕ) (chain : List ℕ) (parts : List Fragment) → event ≤ length t.events → chain ≡ open_before t.events event → IsStarted t m chain 0 parts → IsAt t m parts (record { event = event; inner = last_of (length parts) })
 started_all t m event chain parts low is s = record {
   on = subst (λ l. IsOn parts l (last_of (length parts)) event) is (on_more parts chain (last_of (length parts)) s.next event s.on (s.low event (subst (WereBefore t.events event) (sym is) (were_before t.events event low))));
   opened = s.opened;

@@ -5,21 +5,21 @@ use Rattle.std.proofs.lemmas.Int.{ints, clamps}
 use Rattle.std.proofs.lemmas.Bool.{cases_order, lt-ltb, le-ltb, eq-eqb, ne_eqb}
 use Rattle.boxes.specs.Tree.{first_of}
 use Rattle.boxes.proofs.ListLemmas.{get-set}
-use Rattle.paint.specs.declared.extent.Extent.{Extent}
-use Rattle.paint.specs.declared.parts.Part.{Part}
+use Rattle.paint.specs.declared.extent.VerticalExtent.{VerticalExtent}
+use Rattle.paint.specs.declared.parts.Fragment.{Fragment}
 use Rattle.paint.specs.Fragments.{join, here}
 use Rattle.paint.specs.Parts.{Mark, AreMarks, ArePlaces, IsBelow, HaveFrom, HaveOuters, HandsTo, IsHandedOn, bare, bare_of, is_at, reaches, over_marks, spine_of}
 
 -- ---- joins
 
-abbrev extent : ℤ → ℤ → Option Extent
+abbrev extent : ℤ → ℤ → Option VerticalExtent
 extent a b = Some (record { top = a; bottom = b })
 
-pub join_none : (a : Option Extent) → join a None ≡ a
+pub join_none : (a : Option VerticalExtent) → join a None ≡ a
 join_none None = refl
 join_none (Some a) = refl
 
-pub join_comm : (a b : Option Extent) → join a b ≡ join b a
+pub join_comm : (a b : Option VerticalExtent) → join a b ≡ join b a
 join_comm None b = sym (join_none b)
 join_comm (Some a) None = refl
 join_comm (Some a) (Some b) =
@@ -27,7 +27,7 @@ join_comm (Some a) (Some b) =
     let u : int_max a.bottom b.bottom ≡ int_max b.bottom a.bottom = omega (arith, ints, clamps) in
     ap₂ (λ (x y : ℤ). extent x y) t u
 
-pub join_assoc : (a b c : Option Extent) → join (join a b) c ≡ join a (join b c)
+pub join_assoc : (a b c : Option VerticalExtent) → join (join a b) c ≡ join a (join b c)
 join_assoc None b c = refl
 join_assoc (Some a) None c = refl
 join_assoc (Some a) (Some b) None = refl
@@ -36,18 +36,18 @@ join_assoc (Some a) (Some b) (Some c) =
     let u : int_max (int_max a.bottom b.bottom) c.bottom ≡ int_max a.bottom (int_max b.bottom c.bottom) = omega (arith, ints, clamps) in
     ap₂ (λ (x y : ℤ). extent x y) t u
 
-pub join_self : (a : Option Extent) → a ≡ join a a
+pub join_self : (a : Option VerticalExtent) → a ≡ join a a
 join_self None = refl
 join_self (Some a) =
     let t : a.top ≡ int_min a.top a.top = omega (arith, ints, clamps) in
     let u : a.bottom ≡ int_max a.bottom a.bottom = omega (arith, ints, clamps) in
     ap₂ (λ (x y : ℤ). extent x y) t u
 
-pub join_swap : (a b c d : Option Extent) → join (join a b) (join c d) ≡ join (join a c) (join b d)
+pub join_swap : (a b c d : Option VerticalExtent) → join (join a b) (join c d) ≡ join (join a c) (join b d)
 join_swap a b c d =
     join_assoc a b (join c d) ∙ ap (join a) (sym (join_assoc b c d) ∙ ap (λ x. join x d) (join_comm b c) ∙ join_assoc c b d) ∙ sym (join_assoc a c (join b d))
 
-here_or : (a b : Bool) (e : Extent) → here (a || b) e ≡ join (here a e) (here b e)
+here_or : (a b : Bool) (e : VerticalExtent) → here (a || b) e ≡ join (here a e) (here b e)
 here_or false b e = refl
 here_or true false e = refl
 here_or true true e = join_self (Some e)
@@ -136,28 +136,28 @@ map-set f [] k x y e g = refl
 map-set f (z ∷ xs) zero x y e g = let same : z ≡ x = cc in ap (λ v. v ∷ map f xs) (g ∙ ap f (sym same))
 map-set f (z ∷ xs) (suc k) x y e g = ap (λ vs. f z ∷ vs) (map-set f xs k x y e g)
 
-pub bare_step : (old new : List Part) (at : ℕ) → IsHandedOn old at new → bare_of new ≡ bare_of old
+pub bare_step : (old new : List Fragment) (at : ℕ) → IsHandedOn old at new → bare_of new ≡ bare_of old
 bare_step old new at h = by h.0.outer h.2
   where
     by : (o : Option ℕ) → HandsTo old h.0 o new → bare_of new ≡ bare_of old
     by None to = ap bare_of to
     by (Some outer) to = ap bare_of to.2 ∙ map-set bare old outer to.0 _ to.1 refl
 
-spine_bare : (parts : List Part) → spine_of parts ≡ map (λ (p : Part). (p.number, p.outer)) (bare_of parts)
+spine_bare : (parts : List Fragment) → spine_of parts ≡ map (λ (p : Fragment). (p.number, p.outer)) (bare_of parts)
 spine_bare [] = refl
 spine_bare (p ∷ parts) = ap (λ (s : List (ℕ × Option ℕ)). (p.number, p.outer) ∷ s) (spine_bare parts)
 
-pub spine_same : (old new : List Part) → bare_of new ≡ bare_of old → spine_of new ≡ spine_of old
-spine_same old new e = spine_bare new ∙ ap (λ (l : List Part). map (λ (p : Part). (p.number, p.outer)) l) e ∙ sym (spine_bare old)
+pub spine_same : (old new : List Fragment) → bare_of new ≡ bare_of old → spine_of new ≡ spine_of old
+spine_same old new e = spine_bare new ∙ ap (λ (l : List Fragment). map (λ (p : Fragment). (p.number, p.outer)) l) e ∙ sym (spine_bare old)
 
-pub merge_step : (old new : List Part) (at : ℕ) (marks : List Mark) → IsHandedOn old at new → AreMarks (spine_of old) marks → HaveFrom (suc at) old marks → HaveFrom at new marks
+pub merge_step : (old new : List Fragment) (at : ℕ) (marks : List Mark) → IsHandedOn old at new → AreMarks (spine_of old) marks → HaveFrom (suc at) old marks → HaveFrom at new marks
 merge_step old new at marks h are from j r e = by h.0.outer refl h.2
   where
     spine : List (ℕ × Option ℕ)
     spine = spine_of old
 
     at_is : slice_get (spine_of old) at ≡ Some (h.0.number, h.0.outer)
-    at_is = get-map (λ (p : Part). (p.number, p.outer)) old at h.0 h.1
+    at_is = get-map (λ (p : Fragment). (p.number, p.outer)) old at h.0 h.1
 
     whole : over_marks (reaches at j) marks ≡ join (over_marks (reaches (suc at) j) marks) (over_marks (λ places. is_at h.0.outer j && reaches (suc at) at places) marks)
     whole = over_same (spine_of old) (reaches at j) (λ places. reaches (suc at) j places || (is_at h.0.outer j && reaches (suc at) at places)) marks are (λ places stack a. reach_step (spine_of old) at h.0.number h.0.outer j at_is places stack a) ∙ over_or (reaches (suc at) j) (λ places. is_at h.0.outer j && reaches (suc at) at places) marks
@@ -176,23 +176,23 @@ merge_step old new at marks h are from j r e = by h.0.outer refl h.2
     by None is to = from j r (subst (λ xs. slice_get xs j ≡ Some r) to e) ∙ sym (stays (ap (λ x. is_at x j) is))
     by (Some outer) is to = of (get-set old outer j _ r (subst (λ xs. slice_get xs j ≡ Some r) to.2 e))
       where
-        of : ((w : Part) × (slice_get old j ≡ Some w) × (((j ≡ outer) × (r ≡ record to.0 { reach = join to.0.reach h.0.reach })) ⊎ ((j ≡ outer → ⊥) × (r ≡ w)))) → r.reach ≡ over_marks (reaches at j) marks
+        of : ((w : Fragment) × (slice_get old j ≡ Some w) × (((j ≡ outer) × (r ≡ record to.0 { reach = join to.0.reach h.0.reach })) ⊎ ((j ≡ outer → ⊥) × (r ≡ w)))) → r.reach ≡ over_marks (reaches at j) marks
         of (w, there, inl (same, r_is)) =
             let q_there : slice_get old j ≡ Some to.0 = ap (slice_get old) same ∙ to.1 in
-            ap (λ (x : Part). x.reach) r_is ∙ ap₂ join (from j to.0 q_there) (from at h.0 h.1) ∙ sym (gains (ap (λ x. is_at x j) is ∙ eq-eqb outer j (sym same)))
+            ap (λ (x : Fragment). x.reach) r_is ∙ ap₂ join (from j to.0 q_there) (from at h.0 h.1) ∙ sym (gains (ap (λ x. is_at x j) is ∙ eq-eqb outer j (sym same)))
         of (w, there, inr (other, r_is)) =
-            ap (λ (x : Part). x.reach) r_is ∙ from j w there ∙ sym (stays (ap (λ x. is_at x j) is ∙ ne_eqb outer j (λ s. other (sym s))))
+            ap (λ (x : Fragment). x.reach) r_is ∙ from j w there ∙ sym (stays (ap (λ x. is_at x j) is ∙ ne_eqb outer j (λ s. other (sym s))))
 
-pub outers_step : (old new : List Part) (at : ℕ) → IsHandedOn old at new → HaveOuters old → HaveOuters new
+pub outers_step : (old new : List Fragment) (at : ℕ) → IsHandedOn old at new → HaveOuters old → HaveOuters new
 outers_step old new at h outers j r e = by h.0.outer h.2
   where
     by : (o : Option ℕ) → HandsTo old h.0 o new → IsBelow j r.outer
     by None to = outers j r (subst (λ xs. slice_get xs j ≡ Some r) to e)
     by (Some outer) to = of (get-set old outer j _ r (subst (λ xs. slice_get xs j ≡ Some r) to.2 e))
       where
-        of : ((w : Part) × (slice_get old j ≡ Some w) × (((j ≡ outer) × (r ≡ record to.0 { reach = join to.0.reach h.0.reach })) ⊎ ((j ≡ outer → ⊥) × (r ≡ w)))) → IsBelow j r.outer
-        of (w, there, inl (same, r_is)) = subst (λ (x : Part). IsBelow j x.outer) (sym r_is) (outers j to.0 (ap (slice_get old) same ∙ to.1))
-        of (w, there, inr (other, r_is)) = subst (λ (x : Part). IsBelow j x.outer) (sym r_is) (outers j w there)
+        of : ((w : Fragment) × (slice_get old j ≡ Some w) × (((j ≡ outer) × (r ≡ record to.0 { reach = join to.0.reach h.0.reach })) ⊎ ((j ≡ outer → ⊥) × (r ≡ w)))) → IsBelow j r.outer
+        of (w, there, inl (same, r_is)) = subst (λ (x : Fragment). IsBelow j x.outer) (sym r_is) (outers j to.0 (ap (slice_get old) same ∙ to.1))
+        of (w, there, inr (other, r_is)) = subst (λ (x : Fragment). IsBelow j x.outer) (sym r_is) (outers j w there)
 
 get_at : {A : Type 0} (xs : List A) (i : ℕ) (d : A) → i < length xs → slice_get xs i ≡ Some (get_or xs i d)
 get_at [] i d low = absurd (omega arith)
@@ -200,17 +200,17 @@ get_at (x ∷ xs) zero d low = refl
 get_at (x ∷ xs) (suc i) d low = get_at xs i d (omega arith)
 
 -- a box was handed on to the box around it
-pub handed : (old : List Part) (at outer : ℕ) (d e f p q w : Part) (r : Option Extent) → at < length old → HaveOuters old → p ≡ get_or old at d → q ≡ get_or old outer e → w ≡ get_or old outer f → p.outer ≡ Some outer → r ≡ join w.reach p.reach → IsHandedOn old at (slice_set old outer (record q { reach = r }))
+pub handed : (old : List Fragment) (at outer : ℕ) (d e f p q w : Fragment) (r : Option VerticalExtent) → at < length old → HaveOuters old → p ≡ get_or old at d → q ≡ get_or old outer e → w ≡ get_or old outer f → p.outer ≡ Some outer → r ≡ join w.reach p.reach → IsHandedOn old at (slice_set old outer (record q { reach = r }))
 handed old at outer d e f p q w r low outers p_is q_is w_is outer_is r_is =
-    let there : slice_get old at ≡ Some p = get_at old at d low ∙ ap (λ (x : Part). Some x) (sym p_is) in
+    let there : slice_get old at ≡ Some p = get_at old at d low ∙ ap (λ (x : Fragment). Some x) (sym p_is) in
     let below : outer < at = subst (IsBelow at) outer_is (outers at p there) in
-    let around : slice_get old outer ≡ Some q = get_at old outer e (omega arith) ∙ ap (λ (x : Part). Some x) (sym q_is) in
-    let two : Some w ≡ Some q = ap (λ (x : Part). Some x) w_is ∙ sym (get_at old outer f (omega arith)) ∙ around in
+    let around : slice_get old outer ≡ Some q = get_at old outer e (omega arith) ∙ ap (λ (x : Fragment). Some x) (sym q_is) in
+    let two : Some w ≡ Some q = ap (λ (x : Fragment). Some x) w_is ∙ sym (get_at old outer f (omega arith)) ∙ around in
     let same : w ≡ q = cc in
-    (p, there, subst (λ o. HandsTo old p o (slice_set old outer (record q { reach = r }))) (sym outer_is) (q, around, ap (λ (x : Option Extent). slice_set old outer (record q { reach = x })) (r_is ∙ ap (λ (x : Part). join x.reach p.reach) same)))
+    (p, there, subst (λ o. HandsTo old p o (slice_set old outer (record q { reach = r }))) (sym outer_is) (q, around, ap (λ (x : Option VerticalExtent). slice_set old outer (record q { reach = x })) (r_is ∙ ap (λ (x : Fragment). join x.reach p.reach) same)))
 
 -- the outermost box is handed on to none
-pub handed_none : (old : List Part) (at : ℕ) (d p : Part) → at < length old → p ≡ get_or old at d → p.outer ≡ None → IsHandedOn old at old
+pub handed_none : (old : List Fragment) (at : ℕ) (d p : Fragment) → at < length old → p ≡ get_or old at d → p.outer ≡ None → IsHandedOn old at old
 handed_none old at d p low p_is none =
-    let there : slice_get old at ≡ Some p = get_at old at d low ∙ ap (λ (x : Part). Some x) (sym p_is) in
+    let there : slice_get old at ≡ Some p = get_at old at d low ∙ ap (λ (x : Fragment). Some x) (sym p_is) in
     (p, there, subst (λ o. HandsTo old p o old) (sym none) refl)

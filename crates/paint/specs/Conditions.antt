@@ -19,7 +19,11 @@ pub record CanBePainted (faces : List FontFace) (t : Tree) : Type 0 where
   pub depth : depth_of t.events ≤ most_open
   pub faced : (l : ℕ) (leaf : LeafData) → slice_get t.leaves l ≡ Some leaf → IsFaced faces leaf
 
+-- the bodies of notes can be painted
+abbrev pub CanNotesBePainted : List FontFace → List Note → Type 0
+CanNotesBePainted faces notes = (n : ℕ) (note : Note) → slice_get notes n ≡ Some note → CanBePainted faces note.body
+
 -- so can its main tree and the bodies of its notes
 pub record CanFlowBePainted (faces : List FontFace) (flow : Flow) : Type 0 where
   pub main : CanBePainted faces flow.main
-  pub notes : (n : ℕ) (note : Note) → slice_get flow.notes n ≡ Some note → CanBePainted faces note.body
+  pub notes : CanNotesBePainted faces flow.notes

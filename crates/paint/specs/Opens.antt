@@ -1,31 +1,48 @@
 -- The boxes that are open at a place of a tree, with the places of their contents and border boxes (CSS 2.1, 10.3.3).
-use Rattle.std.specs.Prelude.{ℕ, ℤ, ◌+ℤ◌, List, [], ◌∷◌, ◌++◌, ◌==◌, if◌then◌else◌}
-use Rattle.bk_num.specs.Lengths.{used_of}
+use Rattle.std.specs.Prelude.{◌≡◌, ◌^◌, ◌≤ℤ◌, pos, ℕ, ℤ, ◌+ℤ◌, List, [], ◌∷◌, ◌++◌, ◌==◌, if◌then◌else◌}
 use Rattle.boxes.specs.declared.props.BoxProps.{BoxProps}
-use Rattle.boxes.specs.Spans.{frame_at, left_margin, span_along, width_in_block}
-use Rattle.boxes.specs.Tree.{Tree}
-use Rattle.paint.specs.declared.opens.Content.{Content}
-use Rattle.paint.specs.declared.opens.Open.{Open}
+use Rattle.boxes.specs.Spans.{frame_at, left_in_block, span_along, width_in_block}
+use Rattle.boxes.specs.Tree.{Tree, open_before}
+use Rattle.boxes.specs.declared.span.Content.{Content}
+use Rattle.paint.specs.declared.item.SolidOrigin.{SolidOrigin}
+use Rattle.paint.specs.declared.opens.OpenBox.{OpenBox}
 
+-- a content box by its left and its width
 abbrev pub content_of : ℤ × ℤ → Content
 content_of span = record { left = span.0; width = span.1 }
 
+-- the left and the width of a content box
 abbrev pub pair_of : Content → ℤ × ℤ
 pair_of c = (c.left, c.width)
 
--- the content of the innermost of some boxes, each in the next one, in a frame of a width; the frame's where there is none
+-- the content of the innermost of some boxes, each in the next one, in a frame of a width; the frame's where there is
+-- none
 abbrev pub content_along : Tree → ℤ → List ℕ → Content
 content_along t measure boxes = content_of (span_along t.boxes measure boxes)
 
+-- a containing block is from 0 to 2^40 units wide
+pub record IsWide (c : Content) : Type 0 where
+  pub low : pos 0 ≤ℤ c.width
+  pub high : c.width ≤ℤ pos (2 ^ 40)
+
 -- some boxes that are open one in another, the outermost first
-abbrev pub opens_of : Tree → ℤ → List ℕ → List Open
+abbrev pub opens_of : Tree → ℤ → List ℕ → List OpenBox
 opens_of t measure [] = []
-opens_of t measure (b ∷ boxes) = opens_of t measure boxes ++ record { number = b; content = content_along t measure (b ∷ boxes) } ∷ []
+opens_of t measure (b ∷ boxes) =
+    opens_of t measure boxes ++ record { number = b; content = content_along t measure (b ∷ boxes) } ∷ []
+
+-- the boxes that are open before an event, the outermost first
+abbrev pub AreOpen : Tree → SolidOrigin → ℕ → List OpenBox → Type 0
+AreOpen t o at opens = opens ≡ opens_of t o.width (open_before t.events at)
 
 -- the boxes from one of them on, which is then the innermost; none where it isn't among them
 abbrev pub boxes_from : ℕ → List ℕ → List ℕ
 boxes_from b [] = []
 boxes_from b (x ∷ boxes) = if x == b then x ∷ boxes else boxes_from b boxes
+
+-- the left of the content of a box that is open before an event
+abbrev pub open_left : Tree → SolidOrigin → ℕ → ℕ → ℤ
+open_left t o at b = (content_along t o.width (boxes_from b (open_before t.events at))).left
 
 -- the width of the border box of a box in a containing block of a width
 abbrev pub border_width : BoxProps → ℤ → ℤ
@@ -33,4 +50,4 @@ border_width p width = width_in_block p width +ℤ (frame_at p 3 width +ℤ fram
 
 -- the left and the width of the border box of a box in a containing block: its left margin stands before it
 unfoldable pub border_in : BoxProps → Content → Content
-border_in p outer = record { left = outer.left +ℤ left_margin p outer.width (used_of p.width outer.width); width = border_width p outer.width }
+border_in p outer = record { left = outer.left +ℤ left_in_block p outer.width; width = border_width p outer.width }

@@ -5,6 +5,7 @@ use Rattle.std.specs.List.{flat_map, range_with_len}
 use Rattle.bk_num.specs.Units.{floor_div}
 use Rattle.bk_num.specs.declared.values.Color.{Color}
 use Rattle.metrics.specs.Face.{FontFace}
+use Rattle.bk_num.specs.Limits.{separator}
 use Rattle.boxes.specs.Tree.{Tree, open_before}
 use Rattle.boxes.specs.declared.flow.Flow.{Flow}
 use Rattle.boxes.specs.declared.flow.Note.{Note}
@@ -19,47 +20,58 @@ use Rattle.paint.specs.Fragments.{is_lower, is_upper, reach_by, stands_in}
 use Rattle.paint.specs.Items.{for_some, solid_items}
 use Rattle.paint.specs.Opens.{content_along}
 use Rattle.paint.specs.Rects.{fragment_rects}
-use Rattle.paint.specs.declared.item.Origin.{Origin}
+use Rattle.paint.specs.declared.item.Area.{Area}
+use Rattle.paint.specs.declared.item.SolidOrigin.{SolidOrigin}
 use Rattle.paint.specs.Views.{rect_item}
 
 -- the rectangles of the box that an event opens, over the solids of the page that stand in it
-abbrev pub opened_rects : Tree → Origin → List Placed → ℕ → Option Event → List Item
+abbrev pub opened_rects : Tree → SolidOrigin → List Placed → ℕ → Option Event → List Item
 opened_rects t o solids k None = []
-opened_rects t o solids k (Some (Opens b)) = for_some (λ (p : BoxProps). fragment_rects o p (content_along t o.width (open_before t.events k))
-    (reach_by (stands_in t.events b) solids) (reach_by (is_upper t.events b) solids) (reach_by (is_lower t.events b) solids)) (slice_get t.boxes b)
+opened_rects t o solids k (Some (Opens b)) =
+    for_some (λ (p : BoxProps). fragment_rects o p (content_along t o.width (open_before t.events k))
+    (reach_by (stands_in t.events b) solids) (reach_by (is_upper t.events b) solids)
+    (reach_by (is_lower t.events b) solids)) (slice_get t.boxes b)
 opened_rects t o solids k (Some (Closes b)) = []
 opened_rects t o solids k (Some (Leaf l)) = []
 
-abbrev pub rects_at : Tree → Origin → List Placed → ℕ → List Item
+-- the rectangles of the box that the event of a number opens
+abbrev pub rects_at : Tree → SolidOrigin → List Placed → ℕ → List Item
 rects_at t o solids k = opened_rects t o solids k (slice_get t.events k)
 
 -- the backgrounds and borders of the boxes of a tree that have one of the page's solids, in the order of Open
-unfoldable pub rects_of : Tree → Origin → List Placed → List Item
+unfoldable pub rects_of : Tree → SolidOrigin → List Placed → List Item
 rects_of t o solids = flat_map (rects_at t o solids) (range_with_len 0 (length t.events))
 
 -- what is painted of a tree: the rectangles of its boxes, then its solids in order
-abbrev pub tree_items : List FontFace → Tree → Origin → List Placed → List Item
+abbrev pub tree_items : List FontFace → Tree → SolidOrigin → List Placed → List Item
 tree_items faces t o solids = rects_of t o solids ++ flat_map (solid_items faces t o) solids
 
 -- the main tree's solids count from the frame's left and top
-abbrev pub flow_origin : Frame → Origin
+abbrev pub flow_origin : Frame → SolidOrigin
 flow_origin f = record { left = f.left; top = f.top; width = f.width }
 
--- the height of the note area: it begins with a separator of 512 units, and reaches to the greatest bottom of its solids
+-- the height of the note area: it begins with the separator's room, and reaches to the greatest bottom of its
+-- solids
 abbrev pub area_height : List (ℕ × Placed) → ℤ
-area_height [] = pos 512
+area_height [] = separator
 area_height ((n, s) ∷ notes) = int_max (s.top +ℤ s.height) (area_height notes)
 
 -- the note area stands at the frame's foot, and the notes' solids count from its top
-abbrev pub area_origin : Frame → List (ℕ × Placed) → Origin
+abbrev pub area_origin : Frame → List (ℕ × Placed) → SolidOrigin
 area_origin f notes = record { left = f.left; top = (f.top +ℤ f.height) -ℤ area_height notes; width = f.width }
 
+-- the colour of the separator
 abbrev pub black : Color
 black = record { red = 0; green = 0; blue = 0 }
 
--- the separator: a third of the frame's width, in the middle of its room
-abbrev pub separator_at : Origin → Item
-separator_at o = rect_item (record { x = o.left; y = o.top +ℤ pos 256; w = floor_div o.width 3; h = pos 64 }) black
+-- where the separator stands: it is as wide as a third of the frame, 64 units high, and begins in the middle of its
+-- room
+abbrev pub separator_area : SolidOrigin → Area
+separator_area o = record { x = o.left; y = o.top +ℤ floor_div separator 2; w = floor_div o.width 3; h = pos 64 }
+
+-- the separator, a black line
+abbrev pub separator_at : SolidOrigin → Item
+separator_at o = rect_item (separator_area o) black
 
 -- the solids of a note on the page
 abbrev pub solids_of : ℕ → List (ℕ × Placed) → List Placed
@@ -67,14 +79,17 @@ solids_of n [] = []
 solids_of n ((m, s) ∷ notes) = if m == n then s ∷ solids_of n notes else solids_of n notes
 
 -- what is painted of a note of the flow, by its number
-abbrev pub note_items : List FontFace → List Note → Origin → List (ℕ × Placed) → ℕ → List Item
-note_items faces all o notes n = for_some (λ (note : Note). tree_items faces note.body o (solids_of n notes)) (slice_get all n)
+abbrev pub note_items : List FontFace → List Note → SolidOrigin → List (ℕ × Placed) → ℕ → List Item
+note_items faces all o notes n =
+    for_some (λ (note : Note). tree_items faces note.body o (solids_of n notes)) (slice_get all n)
 
 -- the note area of a page: its separator, then note after note its rectangles and its solids
 abbrev pub area_items : List FontFace → List Note → Frame → List (ℕ × Placed) → List Item
 area_items faces all f [] = []
-area_items faces all f (n ∷ notes) = separator_at (area_origin f (n ∷ notes)) ∷ flat_map (note_items faces all (area_origin f (n ∷ notes)) (n ∷ notes)) (range_with_len 0 (length all))
+area_items faces all f (n ∷ notes) = separator_at (area_origin f (n ∷ notes))
+    ∷ flat_map (note_items faces all (area_origin f (n ∷ notes)) (n ∷ notes)) (range_with_len 0 (length all))
 
 -- the items of a page: the main tree's, then those of the note area
 abbrev pub items_of : List FontFace → Flow → Page → List Item
-items_of faces flow page = tree_items faces flow.main (flow_origin page.frame) page.solids ++ area_items faces flow.notes page.frame page.notes
+items_of faces flow page =
+    tree_items faces flow.main (flow_origin page.frame) page.solids ++ area_items faces flow.notes page.frame page.notes

@@ -12,27 +12,30 @@ use Rattle.paint.specs.Fragments.{boxes_at, extent_of, here, join}
 use Rattle.paint.specs.Items.{for_some}
 use Rattle.paint.specs.Opens.{content_along, content_of, pair_of}
 use Rattle.paint.specs.Rects.{fragment_rects}
-use Rattle.paint.specs.declared.extent.Extent.{Extent}
-use Rattle.paint.specs.declared.item.Origin.{Origin}
-use Rattle.paint.specs.declared.opens.Content.{Content}
-use Rattle.paint.specs.declared.parts.Part.{Part}
+use Rattle.paint.specs.declared.extent.VerticalExtent.{VerticalExtent}
+use Rattle.paint.specs.declared.item.SolidOrigin.{SolidOrigin}
+use Rattle.boxes.specs.declared.span.Content.{Content}
+use Rattle.paint.specs.declared.parts.Fragment.{Fragment}
 use Rattle.paint.specs.declared.parts.Reached.{Reached}
 
 -- the rectangles of a box that was met
-abbrev pub part_rects : Tree → Origin → Part → List Item
-part_rects t o part = for_some (λ (p : BoxProps). fragment_rects o p part.around part.reach part.upper part.lower) (slice_get t.boxes part.number)
+abbrev pub part_rects : Tree → SolidOrigin → Fragment → List Item
+part_rects t o part = for_some (λ (p : BoxProps). fragment_rects o p part.around part.reach part.upper part.lower)
+    (slice_get t.boxes part.number)
 
 -- a box and the place of the box around it
-abbrev pub spine_of : List Part → List (ℕ × Option ℕ)
-spine_of parts = map (λ (p : Part). (p.number, p.outer)) parts
+abbrev pub spine_of : List Fragment → List (ℕ × Option ℕ)
+spine_of parts = map (λ (p : Fragment). (p.number, p.outer)) parts
 
 -- all that is written down of boxes but how far they reach
-abbrev pub bare : Part → Part
+abbrev pub bare : Fragment → Fragment
 bare p = record p { reach = None }
 
-abbrev pub bare_of : List Part → List Part
+-- the same of a list of boxes
+abbrev pub bare_of : List Fragment → List Fragment
 bare_of parts = map bare parts
 
+-- a place stands below another, if there is one
 abbrev pub IsBelow : ℕ → Option ℕ → Type 0
 IsBelow c None = Unit {0}
 IsBelow c (Some p) = p < c
@@ -42,13 +45,15 @@ abbrev pub ArePlaces : List (ℕ × Option ℕ) → List ℕ → List ℕ → Ty
 ArePlaces spine [] [] = Unit {0}
 ArePlaces spine [] (b ∷ boxes) = ⊥
 ArePlaces spine (i ∷ places) [] = ⊥
-ArePlaces spine (i ∷ places) (b ∷ boxes) = (slice_get spine i ≡ Some (b, first_of places)) × IsBelow i (first_of places) × ArePlaces spine places boxes
+ArePlaces spine (i ∷ places) (b ∷ boxes) =
+    (slice_get spine i ≡ Some (b, first_of places)) × IsBelow i (first_of places) × ArePlaces spine places boxes
 
 -- a solid: the places of the boxes in which it stands, and where it stands
 pub record Mark : Type 0 where
   pub places : List ℕ
-  pub extent : Extent
+  pub extent : VerticalExtent
 
+-- each mark names boxes that are open one in another
 abbrev pub AreMarks : List (ℕ × Option ℕ) → List Mark → Type 0
 AreMarks spine [] = Unit {0}
 AreMarks spine (m ∷ marks) = ((boxes : List ℕ) × ArePlaces spine m.places boxes) × AreMarks spine marks
@@ -59,39 +64,43 @@ reaches lim j [] = false
 reaches lim j (c ∷ places) = (c == j) || (not (nat_lt c lim) && reaches lim j places)
 
 -- the extent of the marks that pass
-abbrev pub over_marks : (List ℕ → Bool) → List Mark → Option Extent
+abbrev pub over_marks : (List ℕ → Bool) → List Mark → Option VerticalExtent
 over_marks p [] = None
 over_marks p (m ∷ marks) = join (here (p m.places) m.extent) (over_marks p marks)
 
 -- each box reaches over the marks in it, where boxes from a limit on were handed on to the boxes around them
-abbrev pub HaveFrom : ℕ → List Part → List Mark → Type 0
-HaveFrom lim parts marks = (j : ℕ) (p : Part) → slice_get parts j ≡ Some p → p.reach ≡ over_marks (reaches lim j) marks
+abbrev pub HaveFrom : ℕ → List Fragment → List Mark → Type 0
+HaveFrom lim parts marks =
+    (j : ℕ) (p : Fragment) → slice_get parts j ≡ Some p → p.reach ≡ over_marks (reaches lim j) marks
 
 -- each box was handed on
-abbrev pub AreMerged : List Part → List Part → Type 0
-AreMerged old new = (marks : List Mark) → AreMarks (spine_of old) marks → HaveFrom (length old) old marks → HaveFrom 0 new marks
+abbrev pub AreMerged : List Fragment → List Fragment → Type 0
+AreMerged old new =
+    (marks : List Mark) → AreMarks (spine_of old) marks → HaveFrom (length old) old marks → HaveFrom 0 new marks
 
 -- each box stands after the box around it
-abbrev pub HaveOuters : List Part → Type 0
-HaveOuters parts = (j : ℕ) (p : Part) → slice_get parts j ≡ Some p → IsBelow j p.outer
+abbrev pub HaveOuters : List Fragment → Type 0
+HaveOuters parts = (j : ℕ) (p : Fragment) → slice_get parts j ≡ Some p → IsBelow j p.outer
 
 -- the box at a place is handed on to the box around it
-abbrev pub HandsTo : List Part → Part → Option ℕ → List Part → Type 0
+abbrev pub HandsTo : List Fragment → Fragment → Option ℕ → List Fragment → Type 0
 HandsTo old p None new = new ≡ old
-HandsTo old p (Some outer) new = (q : Part) × (slice_get old outer ≡ Some q) × (new ≡ slice_set old outer (record q { reach = join q.reach p.reach }))
+HandsTo old p (Some outer) new = (q : Fragment) × (slice_get old outer ≡ Some q)
+    × (new ≡ slice_set old outer (record q { reach = join q.reach p.reach }))
 
-abbrev pub IsHandedOn : List Part → ℕ → List Part → Type 0
-IsHandedOn old at new = (p : Part) × (slice_get old at ≡ Some p) × HandsTo old p p.outer new
+-- the box at a place is handed on to the box around it, as far as its solids reach
+abbrev pub IsHandedOn : List Fragment → ℕ → List Fragment → Type 0
+IsHandedOn old at new = (p : Fragment) × (slice_get old at ≡ Some p) × HandsTo old p p.outer new
 
 -- ---- the way along the events
 
 -- the boxes open at ascending events, from one on and before another
-abbrev pub AscendTo : ℕ → List Part → ℕ → Type 0
+abbrev pub AscendTo : ℕ → List Fragment → ℕ → Type 0
 AscendTo k [] at = k ≤ at
 AscendTo k (p ∷ parts) at = (k ≤ p.event) × AscendTo (suc p.event) parts at
 
 -- some open boxes are among those that were met, the innermost at a place
-pub record IsOn (parts : List Part) (boxes : List ℕ) (inner : Option ℕ) (at : ℕ) : Type 0 where
+pub record IsOn (parts : List Fragment) (boxes : List ℕ) (inner : Option ℕ) (at : ℕ) : Type 0 where
   pub places : List ℕ
   pub are : ArePlaces (spine_of parts) places boxes
   pub inner_is : inner ≡ first_of places
@@ -99,50 +108,56 @@ pub record IsOn (parts : List Part) (boxes : List ℕ) (inner : Option ℕ) (at 
   pub ascend : AscendTo 0 parts at
 
 -- what is written down of where a box stands
-pub record IsOpened (t : Tree) (measure : ℤ) (p : Part) : Type 0 where
+pub record IsOpened (t : Tree) (measure : ℤ) (p : Fragment) : Type 0 where
   pub opens : slice_get t.events p.event ≡ Some (Opens p.number)
   pub around_is : p.around ≡ content_along t measure (open_before t.events p.event)
   pub content_is : p.content ≡ content_along t measure (p.number ∷ open_before t.events p.event)
 
-abbrev pub HaveOpened : Tree → ℤ → List Part → Type 0
-HaveOpened t measure parts = (j : ℕ) (p : Part) → slice_get parts j ≡ Some p → IsOpened t measure p
+-- the same of each box that was met
+abbrev pub HaveOpened : Tree → ℤ → List Fragment → Type 0
+HaveOpened t measure parts = (j : ℕ) (p : Fragment) → slice_get parts j ≡ Some p → IsOpened t measure p
 
 -- the boxes that were met when all events before one were passed
-pub record IsAt (t : Tree) (measure : ℤ) (parts : List Part) (r : Reached) : Type 0 where
+pub record IsAt (t : Tree) (measure : ℤ) (parts : List Fragment) (r : Reached) : Type 0 where
   pub on : IsOn parts (open_before t.events r.event) r.inner r.event
   pub opened : HaveOpened t measure parts
 
-pub record IsFresh (p : Part) : Type 0 where
+-- no solid of a box was met
+pub record IsFresh (p : Fragment) : Type 0 where
   pub no_reach : p.reach ≡ None
   pub no_upper : p.upper ≡ None
   pub no_lower : p.lower ≡ None
 
-abbrev pub HaveNone : List Part → Type 0
+-- no solid of some boxes was met
+abbrev pub HaveNone : List Fragment → Type 0
 HaveNone [] = Unit {0}
 HaveNone (p ∷ parts) = IsFresh p × HaveNone parts
 
 -- further boxes, whose solids were not yet met
-abbrev pub IsGrown : List Part → List Part → Type 0
-IsGrown old new = (more : List Part) × (new ≡ old ++ more) × HaveNone more
+abbrev pub IsGrown : List Fragment → List Fragment → Type 0
+IsGrown old new = (more : List Fragment) × (new ≡ old ++ more) × HaveNone more
 
+-- the last of so many places
 abbrev pub last_of : ℕ → Option ℕ
 last_of zero = None
 last_of (suc n) = Some n
 
+-- the content of a frame: it begins at its left and is as wide as it
 abbrev pub frame_content : ℤ → Content
 frame_content measure = record { left = pos 0; width = measure }
 
-abbrev pub content_or : ℤ → Option Part → Content
+-- the content of a box, and the frame's where there is none
+abbrev pub content_or : ℤ → Option Fragment → Content
 content_or measure None = frame_content measure
 content_or measure (Some p) = p.content
 
 -- the content of the box at a place, or the frame's
-abbrev pub content_at : ℤ → List Part → Option ℕ → Content
+abbrev pub content_at : ℤ → List Fragment → Option ℕ → Content
 content_at measure parts None = frame_content measure
 content_at measure parts (Some i) = content_or measure (slice_get parts i)
 
 -- a box that opens at an event inside the box at a place
-abbrev pub part_in : Tree → ℤ → List Part → Option ℕ → ℕ → ℕ → Part
+abbrev pub part_in : Tree → ℤ → List Fragment → Option ℕ → ℕ → ℕ → Fragment
 part_in t measure parts inner event b = record {
   event = event;
   number = b;
@@ -155,9 +170,9 @@ part_in t measure parts inner event b = record {
 }
 
 -- the place of the box around the box at a place
-abbrev pub LeavesTo : List Part → Option ℕ → Option ℕ → Type 0
+abbrev pub LeavesTo : List Fragment → Option ℕ → Option ℕ → Type 0
 LeavesTo parts None outer = outer ≡ None
-LeavesTo parts (Some i) outer = (p : Part) × (slice_get parts i ≡ Some p) × (outer ≡ p.outer)
+LeavesTo parts (Some i) outer = (p : Fragment) × (slice_get parts i ≡ Some p) × (outer ≡ p.outer)
 
 -- after an event where it opens a box, else before it
 abbrev pub end_by : Option Event → ℕ → ℕ
@@ -166,9 +181,7 @@ end_by (Some (Opens b)) k = suc k
 end_by (Some (Closes b)) k = k
 end_by (Some (Leaf l)) k = k
 
-abbrev pub end_at : List Event → ℕ → ℕ
-end_at es k = end_by (slice_get es k) k
-
+-- the event of the first of some solids
 abbrev pub first_event : List Placed → ℕ
 first_event [] = 0
 first_event (s ∷ solids) = s.at.event
@@ -176,16 +189,18 @@ first_event (s ∷ solids) = s.at.event
 -- ---- the solids
 
 -- a box reaches over a solid more, and so does its edge where the solid is that
-abbrev pub with_solid : Event → Extent → Part → Part
+abbrev pub with_solid : Event → VerticalExtent → Fragment → Fragment
 with_solid (Opens b) e p = record p { reach = join p.reach (Some e); upper = join p.upper (Some e) }
 with_solid (Closes b) e p = record p { reach = join p.reach (Some e); lower = join p.lower (Some e) }
 with_solid (Leaf l) e p = record p { reach = join p.reach (Some e) }
 
 -- a solid is written down at the innermost box in which it stands
-abbrev pub Extends : List Part → Option ℕ → Event → Extent → List Part → Type 0
+abbrev pub Extends : List Fragment → Option ℕ → Event → VerticalExtent → List Fragment → Type 0
 Extends old None event e new = new ≡ old
-Extends old (Some i) event e new = (p : Part) × (slice_get old i ≡ Some p) × (new ≡ slice_set old i (with_solid event e p))
+Extends old (Some i) event e new =
+    (p : Fragment) × (slice_get old i ≡ Some p) × (new ≡ slice_set old i (with_solid event e p))
 
+-- whether a place is a certain one
 abbrev pub is_at : Option ℕ → ℕ → Bool
 is_at None j = false
 is_at (Some p) j = p == j
@@ -195,37 +210,44 @@ abbrev pub AreMarksOf : List (ℕ × Option ℕ) → List Event → List Placed 
 AreMarksOf spine es [] [] = Unit {0}
 AreMarksOf spine es [] (m ∷ marks) = ⊥
 AreMarksOf spine es (s ∷ solids) [] = ⊥
-AreMarksOf spine es (s ∷ solids) (m ∷ marks) = ArePlaces spine m.places (boxes_at es s.at.event) × (m.extent ≡ extent_of s) × AreMarksOf spine es solids marks
+AreMarksOf spine es (s ∷ solids) (m ∷ marks) =
+    ArePlaces spine m.places (boxes_at es s.at.event) × (m.extent ≡ extent_of s) × AreMarksOf spine es solids marks
 
+-- a test that each event passes
 abbrev pub any_event : Option Event → Bool
 any_event e = true
 
+-- whether an event closes a box
 abbrev pub is_closing : Option Event → Bool
 is_closing None = false
 is_closing (Some (Opens b)) = false
 is_closing (Some (Closes b)) = true
 is_closing (Some (Leaf l)) = false
 
+-- the solids whose event passes a test
 abbrev pub solids_by : (Option Event → Bool) → List Event → List Placed → List Placed
 solids_by test es solids = filter (λ (s : Placed). test (slice_get es s.at.event)) solids
 
 -- an extent of each box is that of the solids whose event passes a test and whose innermost box it is
-pub record HaveBy (get : Part → Option Extent) (test : Option Event → Bool) (es : List Event) (solids : List Placed) (parts : List Part) : Type 0 where
+pub record HaveBy (get : Fragment → Option VerticalExtent) (test : Option Event → Bool) (es : List Event)
+    (solids : List Placed) (parts : List Fragment) : Type 0 where
   pub marks : List Mark
   pub are : AreMarksOf (spine_of parts) es (solids_by test es solids) marks
-  pub own : (j : ℕ) (p : Part) → slice_get parts j ≡ Some p → get p ≡ over_marks (λ places. is_at (first_of places) j) marks
+  pub own : (j : ℕ) (p : Fragment) → slice_get parts j ≡ Some p →
+      get p ≡ over_marks (λ places. is_at (first_of places) j) marks
 
-pub record HaveSolids (es : List Event) (solids : List Placed) (parts : List Part) : Type 0 where
+-- what is written down of boxes is that of the solids that were met
+pub record HaveSolids (es : List Event) (solids : List Placed) (parts : List Fragment) : Type 0 where
   pub reaches : HaveBy (λ p. p.reach) any_event es solids parts
   pub uppers : HaveBy (λ p. p.upper) is_opening es solids parts
   pub lowers : HaveBy (λ p. p.lower) is_closing es solids parts
 
 -- whatever solids were met, a further one was met too
-abbrev pub AddsSolid : List Event → Placed → List Part → List Part → Type 0
+abbrev pub AddsSolid : List Event → Placed → List Fragment → List Fragment → Type 0
 AddsSolid es s old new = (solids : List Placed) → HaveSolids es solids old → HaveSolids es (solids ++ s ∷ []) new
 
 -- the boxes in which a page's solids stand, each with the solids whose innermost box it is
-pub record AreGathered (t : Tree) (measure : ℤ) (solids : List Placed) (parts : List Part) : Type 0 where
+pub record AreGathered (t : Tree) (measure : ℤ) (solids : List Placed) (parts : List Fragment) : Type 0 where
   pub at : Reached
   pub is_at : IsAt t measure parts at
   pub end : at.event ≤ length t.events

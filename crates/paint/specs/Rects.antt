@@ -1,4 +1,5 @@
--- The rectangles of a box on a page: its background, then its borders top, right, bottom and left (CSS 2.1, E.2; css-break-3, 5.4).
+-- The rectangles of a box on a page: its background, then its borders top, right, bottom and left (CSS 2.1, E.2;
+-- css-break-3, 5.4).
 use Rattle.std.specs.Prelude.{ℤ, pos, ◌+ℤ◌, ◌-ℤ◌, List, [], ◌∷◌, ◌++◌, Option, None, Some, slice_get, if◌then◌else◌}
 use Rattle.std.specs.Ordering.{int_eq}
 use Rattle.bk_num.specs.declared.values.Color.{Color}
@@ -7,14 +8,16 @@ use Rattle.boxes.specs.declared.item.Item.{Item}
 use Rattle.boxes.specs.declared.props.BoxProps.{BoxProps}
 use Rattle.paint.specs.Opens.{border_in}
 use Rattle.paint.specs.Views.{rect_item}
-use Rattle.paint.specs.declared.extent.Extent.{Extent}
+use Rattle.paint.specs.declared.extent.VerticalExtent.{VerticalExtent}
 use Rattle.paint.specs.declared.item.Area.{Area}
-use Rattle.paint.specs.declared.item.Origin.{Origin}
-use Rattle.paint.specs.declared.opens.Content.{Content}
+use Rattle.paint.specs.declared.item.SolidOrigin.{SolidOrigin}
+use Rattle.boxes.specs.declared.span.Content.{Content}
 
--- the area of a fragment: it has the left and the width of the border box, and reaches from the least top to the greatest bottom
-abbrev pub fragment_area : Origin → Content → Extent → Area
-fragment_area o border e = record { x = o.left +ℤ border.left; y = o.top +ℤ e.top; w = border.width; h = e.bottom -ℤ e.top }
+-- the area of a fragment: it has the left and the width of the border box, and reaches from the least top to the
+-- greatest bottom
+abbrev pub fragment_area : SolidOrigin → Content → VerticalExtent → Area
+fragment_area o border e =
+    record { x = o.left +ℤ border.left; y = o.top +ℤ e.top; w = border.width; h = e.bottom -ℤ e.top }
 
 -- a transparent background isn't painted
 unfoldable pub background_rects : Option Color → Area → List Item
@@ -35,19 +38,21 @@ edge_rects thick color a (Some y) = border_rects thick color (record { x = a.x; 
 abbrev pub left_area : Area → ℤ → Area
 left_area a thick = record { x = a.x; y = a.y; w = thick; h = a.h }
 
+-- the border at the right edge of the fragment
 abbrev pub right_area : Area → ℤ → Area
 right_area a thick = record { x = (a.x +ℤ a.w) -ℤ thick; y = a.y; w = thick; h = a.h }
 
 -- the upper border stands at the top of the upper edge
-abbrev pub upper_top : Origin → Option Extent → Option ℤ
+abbrev pub upper_top : SolidOrigin → Option VerticalExtent → Option ℤ
 upper_top o None = None
 upper_top o (Some e) = Some (o.top +ℤ e.top)
 
 -- the lower border ends at the bottom of the lower edge
-abbrev pub lower_top : Origin → ℤ → Option Extent → Option ℤ
+abbrev pub lower_top : SolidOrigin → ℤ → Option VerticalExtent → Option ℤ
 lower_top o thick None = None
 lower_top o thick (Some e) = Some ((o.top +ℤ e.bottom) -ℤ thick)
 
+-- the borders of a fragment: top, right, bottom and left, each in its colour
 abbrev pub side_rects : BoxProps → Area → Option ℤ → Option ℤ → List Item
 side_rects p a upper lower =
     edge_rects (units_at p.border 0) (slice_get p.colors 0) a upper
@@ -59,7 +64,10 @@ side_rects p a upper lower =
 unfoldable pub box_rects : BoxProps → Area → Option ℤ → Option ℤ → List Item
 box_rects p a upper lower = background_rects p.background a ++ side_rects p a upper lower
 
--- the rectangles of a box in the content of the box around it, which reaches so far, as do its upper and its lower edge; none where it has no solid
-unfoldable pub fragment_rects : Origin → BoxProps → Content → Option Extent → Option Extent → Option Extent → List Item
+-- the rectangles of a box in the content of the box around it, which reaches so far, as do its upper and its lower
+-- edge; none where it has no solid
+unfoldable pub fragment_rects : SolidOrigin → BoxProps → Content → Option VerticalExtent → Option VerticalExtent →
+    Option VerticalExtent → List Item
 fragment_rects o p outer None upper lower = []
-fragment_rects o p outer (Some e) upper lower = box_rects p (fragment_area o (border_in p outer) e) (upper_top o upper) (lower_top o (units_at p.border 2) lower)
+fragment_rects o p outer (Some e) upper lower =
+    box_rects p (fragment_area o (border_in p outer) e) (upper_top o upper) (lower_top o (units_at p.border 2) lower)

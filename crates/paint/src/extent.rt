@@ -8,19 +8,19 @@ use boxes::page::Placed;
 
 /// From a least top to a greatest bottom, in units from the top that the solids count from.
 #[derive(Clone, Copy, Debug)]
-pub struct Extent {
+pub struct VerticalExtent {
     pub top: i64,
     pub bottom: i64,
 }
 
 /// The least top and the greatest bottom.
-pub(crate) fn join(a: Option<Extent>, b: Option<Extent>) -> Option<Extent>
+pub(crate) fn join(a: Option<VerticalExtent>, b: Option<VerticalExtent>) -> Option<VerticalExtent>
     ensures { result ≡ join a b }
 {
     match (a, b) {
         (None, _) => b,
         (Some(_), None) => a,
-        (Some(a), Some(b)) => Some(Extent {
+        (Some(a), Some(b)) => Some(VerticalExtent {
             top: a.top.min(b.top),
             bottom: a.bottom.max(b.bottom),
         }),
@@ -28,10 +28,10 @@ pub(crate) fn join(a: Option<Extent>, b: Option<Extent>) -> Option<Extent>
 }
 
 /// The extent of a solid. None where it is past 64 bits.
-pub(crate) fn extent_of(s: &Placed) -> Option<Extent>
+pub(crate) fn extent_of(s: &Placed) -> Option<VerticalExtent>
     ensures { IfSome result (λ e. e ≡ extent_of s.now) }
 {
-    Some(Extent {
+    Some(VerticalExtent {
         top: s.top,
         bottom: sum(s.top, s.height)?,
     })

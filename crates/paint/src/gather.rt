@@ -1,6 +1,6 @@
 //! Goes along a page's solids and writes down the boxes in which they stand.
 
-ghost use Rattle.std.specs.Prelude.{◌≡◌, ◌+◌, ◌<◌, ◌≤◌, ◌-◌, ◌^◌, Some, length, take, All, IfOk, IfSome, OnOk, IsTrue};
+ghost use Rattle.std.specs.Prelude.{◌≡◌, ◌+◌, ◌<◌, ◌≤◌, ◌-◌, ◌^◌, Some, length, take, All, IfOk, OnOk};
 ghost use Rattle.std.specs.List.{flat_map};
 ghost use Rattle.std.specs.Option.{ForSome};
 ghost use Rattle.bk_num.specs.Limits.{most_open};
@@ -9,8 +9,8 @@ ghost use Rattle.paint.specs.Pages.{rects_of};
 ghost use Rattle.paint.specs.Parts.{AddsSolid, AreGathered, HaveNone, IsAt, IsGrown, LeavesTo, end_by, first_event, last_of, part_rects};
 
 use crate::extent::extent_of;
-use crate::item::Origin;
-use crate::parts::{Part, Reached, extend, merge, open_part};
+use crate::item::SolidOrigin;
+use crate::parts::{Fragment, Reached, extend, merge, open_part};
 use bk_num::limits::MOST_OPEN;
 use bk_num::name::NoMem;
 use boxes::page::Placed;
@@ -28,18 +28,20 @@ fn last_of(count: usize) -> Option<usize>
 
 /// Appends open boxes, each inside the next one, the outermost first.
 fn open_all(
-    parts: &mut Vec<Part>,
+    parts: &mut Vec<Fragment>,
     tree: &BoxTree,
     chain: &[u32],
     event: u32,
-    origin: &Origin,
+    origin: &SolidOrigin,
 ) -> Result<(), NoMem>
     requires none { length parts.old.items ≡ 0 }
     requires within { event ≤ length tree.now.events }
     requires chain { chain.now ≡ open_before tree.now.events event }
-    ensures at { OnOk result (IsAt tree.now origin.now.width parts.new.items (record { event = event; inner = last_of (length parts.new.items) })) }
+    ensures at { OnOk result (IsAt tree.now origin.now.width parts.new.items
+        (record { event = event; inner = last_of (length parts.new.items) })) }
     ensures none { OnOk result (HaveNone parts.new.items) }
 {
+    // a tree is known to be one by its count
     let _count = tree.count();
     let mut left = chain.len();
     while left > 0 {
@@ -59,6 +61,7 @@ fn write_open(tree: &BoxTree, event: u32, chain: &mut [u32]) -> usize
     ensures few { result ≤ most_open }
     ensures chain { take result chain.new ≡ open_before tree.now.events event }
 {
+    // a tree is known to be one by its count
     let _count = tree.count();
     match tree.around(event) {
         None => 0,
@@ -68,10 +71,10 @@ fn write_open(tree: &BoxTree, event: u32, chain: &mut [u32]) -> usize
 
 /// Begins at an event: appends the boxes around it to an empty list.
 fn begin(
-    parts: &mut Vec<Part>,
+    parts: &mut Vec<Fragment>,
     tree: &BoxTree,
     event: u32,
-    origin: &Origin,
+    origin: &SolidOrigin,
 ) -> Result<Reached, NoMem>
     requires none { length parts.old.items ≡ 0 }
     requires within { event ≤ length tree.now.events }
@@ -90,7 +93,7 @@ fn begin(
 }
 
 /// The place of the box around the box at a place.
-fn outer_of(parts: &[Part], inner: Option<usize>) -> Option<usize>
+fn outer_of(parts: &[Fragment], inner: Option<usize>) -> Option<usize>
     requires { ForSome inner (λ i. i < length parts.now) }
     ensures { LeavesTo parts.now inner result }
 {
@@ -102,17 +105,19 @@ fn outer_of(parts: &[Part], inner: Option<usize>) -> Option<usize>
 
 /// Goes past an event, and answers the place of the innermost box that is open after it.
 fn pass(
-    parts: &mut Vec<Part>,
+    parts: &mut Vec<Fragment>,
     tree: &BoxTree,
     inner: Option<usize>,
     at: u32,
-    origin: &Origin,
+    origin: &SolidOrigin,
 ) -> Result<Option<usize>, NoMem>
     requires within { at < length tree.now.events }
     requires at { IsAt tree.now origin.now.width parts.old.items (record { event = at; inner = inner }) }
-    ensures at { IfOk result (λ now. IsAt tree.now origin.now.width parts.new.items (record { event = at + 1; inner = now })) }
+    ensures at { IfOk result (λ now. IsAt tree.now origin.now.width parts.new.items
+        (record { event = at + 1; inner = now })) }
     ensures grown { OnOk result (IsGrown parts.old.items parts.new.items) }
 {
+    // a tree is known to be one by its count
     let _count = tree.count();
     match tree.event(at) {
         Event::Opens(number) => {
@@ -127,16 +132,17 @@ fn pass(
 
 /// Goes on to an event.
 fn pass_to(
-    parts: &mut Vec<Part>,
+    parts: &mut Vec<Fragment>,
     tree: &BoxTree,
     reached: Reached,
     to: u32,
-    origin: &Origin,
+    origin: &SolidOrigin,
 ) -> Result<Option<usize>, NoMem>
     requires order { reached.event ≤ to }
     requires within { to ≤ length tree.now.events }
     requires at { IsAt tree.now origin.now.width parts.old.items reached }
-    ensures at { IfOk result (λ now. IsAt tree.now origin.now.width parts.new.items (record { event = to; inner = now })) }
+    ensures at { IfOk result (λ now. IsAt tree.now origin.now.width parts.new.items
+        (record { event = to; inner = now })) }
     ensures grown { OnOk result (IsGrown parts.old.items parts.new.items) }
 {
     let mut inner = reached.inner;
@@ -159,11 +165,11 @@ fn end_at(event: Event, at: u32) -> u32
 
 /// Goes on to a solid, and writes it down. None of this where it isn't one of the tree's, or stands before the event.
 fn add_solid(
-    parts: &mut Vec<Part>,
+    parts: &mut Vec<Fragment>,
     tree: &BoxTree,
     reached: Reached,
     solid: &Placed,
-    origin: &Origin,
+    origin: &SolidOrigin,
 ) -> Result<Reached, NoMem>
     requires at { IsAt tree.now origin.now.width parts.old.items reached }
     ensures at { IfOk result (λ now. IsAt tree.now origin.now.width parts.new.items now) }
@@ -201,9 +207,9 @@ fn first_event(solids: &[Placed]) -> u32
 fn gather(
     alloc: Global,
     tree: &BoxTree,
-    origin: &Origin,
+    origin: &SolidOrigin,
     solids: &[Placed],
-) -> Result<Vec<Part>, NoMem>
+) -> Result<Vec<Fragment>, NoMem>
     requires depth { depth_of tree.now.events ≤ most_open }
     ensures { IfOk result (λ v. AreGathered tree.now origin.now.width solids.now v.items) }
 {
@@ -224,13 +230,15 @@ fn gather(
 pub(crate) fn parts_of(
     alloc: Global,
     tree: &BoxTree,
-    origin: &Origin,
+    origin: &SolidOrigin,
     solids: &[Placed],
-) -> Result<Vec<Part>, NoMem>
+) -> Result<Vec<Fragment>, NoMem>
     requires depth { depth_of tree.now.events ≤ most_open }
-    ensures rects { IfOk result (λ v. flat_map (part_rects tree.now origin.now) v.items ≡ rects_of tree.now origin.now solids.now) }
+    ensures rects { IfOk result (λ v. flat_map (part_rects tree.now origin.now) v.items
+        ≡ rects_of tree.now origin.now solids.now) }
     ensures there { IfOk result (λ v. All (λ p. p.number < length tree.now.boxes) v.items) }
 {
+    // a tree is known to be one by its count
     let _count = tree.count();
     let mut parts = gather(alloc, tree, origin, solids)?;
     merge(&mut parts);

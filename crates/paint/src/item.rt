@@ -3,12 +3,12 @@
 ghost use Rattle.std.specs.Prelude.{◌≡◌, IfSome, ◌+ℤ◌, ◌-ℤ◌};
 ghost use Rattle.paint.specs.Areas.{area_of, style_of};
 
-use crate::opens::Content;
 use bk_num::ids::FaceId;
 use bk_num::px::Px;
 use bk_num::values::Color;
 use boxes::leaf::Span;
 use boxes::page::Placed;
+use boxes::span::Content;
 use boxes::tree::BoxTree;
 use metrics::Faces;
 
@@ -23,7 +23,7 @@ pub struct Area {
 
 /// Where a text stands, its left and its baseline in units of 1/64 px from the page's top left, and how it is painted.
 #[derive(Clone, Copy, Debug)]
-pub struct Style {
+pub struct TextPlace {
     pub x: i64,
     pub y: i64,
     pub face: FaceId,
@@ -31,20 +31,20 @@ pub struct Style {
     pub color: Color,
 }
 
-/// A record of a page's listing: what `boxes::item::Item` is with texts of its own. A text is borrowed from the flow, and
-/// a face is named by its number.
+/// A record of a page's listing: what `boxes::item::Item` is with texts of its own. A text is borrowed from the flow,
+/// and a face is named by its number.
 #[derive(Debug, Drop)]
 pub enum ItemRef<'a> {
     Rect { area: Area, color: Color },
     Edge { opens: bool, area: Area },
     Line { area: Area },
-    Text { style: Style, text: &'a str },
-    Hyphen { style: Style },
+    Text { style: TextPlace, text: &'a str },
+    Hyphen { style: TextPlace },
 }
 
 /// Where solids stand: the left and the top that their places count from, and the width of their frame, in units.
 #[derive(Clone, Copy, Debug)]
-pub struct Origin {
+pub struct SolidOrigin {
     pub left: i64,
     pub top: i64,
     pub width: i64,
@@ -65,10 +65,10 @@ pub(crate) fn difference(a: i64, b: i64) -> Option<i64>
 }
 
 /// The style of a span at a left, on a baseline.
-pub(crate) fn style_at(span: &Span, x: i64, y: i64) -> Style
+pub(crate) fn style_at(span: &Span, x: i64, y: i64) -> TextPlace
     ensures { result ≡ style_of x y span.now }
 {
-    Style {
+    TextPlace {
         x,
         y,
         face: span.face,
@@ -78,7 +78,7 @@ pub(crate) fn style_at(span: &Span, x: i64, y: i64) -> Style
 }
 
 /// The area of a solid whose content or border box has a left and a width. None where it is past 64 bits.
-pub(crate) fn area_at(origin: &Origin, content: &Content, s: &Placed) -> Option<Area>
+pub(crate) fn area_at(origin: &SolidOrigin, content: &Content, s: &Placed) -> Option<Area>
     ensures { IfSome result (λ area. area ≡ area_of origin.now content.now s.now) }
 {
     Some(Area {
@@ -94,5 +94,5 @@ pub(crate) fn area_at(origin: &Origin, content: &Content, s: &Placed) -> Option<
 pub(crate) struct Canvas<'a> {
     pub faces: &'a Faces,
     pub tree: &'a BoxTree,
-    pub origin: Origin,
+    pub origin: SolidOrigin,
 }

@@ -1,69 +1,52 @@
 //! Items of markers.
 
-ghost use Rattle.std.specs.Prelude.{◌≡◌, ◌<◌, ◌≤◌, ◌++◌, ◌∷◌, [], ◌^◌, pos, ◌≤ℤ◌, map, length, All, OnOk, IfSome, Some, ◌+ℤ◌, ◌-ℤ◌};
+ghost use Rattle.std.specs.Prelude.{◌≡◌, ◌<◌, ◌≤◌, ◌∷◌, [], ◌^◌, pos, ◌≤ℤ◌, map, length, All, OnOk, IfSome, ◌+ℤ◌, ◌-ℤ◌};
 ghost use Rattle.boxes.specs.Contents.{IsGoodSpan};
 ghost use Rattle.boxes.specs.Tree.{open_before};
-ghost use Rattle.line_fill.specs.Widths.{width_in};
-ghost use Rattle.paint.specs.Items as spec;
+ghost use Rattle.metrics.specs.Widths.{text_width};
+ghost use Rattle.line_fill.specs.Widths.{pen_of};
 ghost use Rattle.paint.specs.Items.{lead_item};
-ghost use Rattle.paint.specs.Opens.{boxes_from, content_along, opens_of};
-ghost use Rattle.paint.specs.Views.{HasItemFace, items_in};
+ghost use Rattle.paint.specs.Opens.{AreOpen, open_left};
+ghost use Rattle.paint.specs.Views.{Adds, HaveItemFaces};
 
 use crate::item::{Canvas, ItemRef, difference, style_at, sum};
-use crate::opens::{Open, left_of};
+use crate::opens::{OpenBox, left_of};
 use bk_num::name::NoMem;
-use boxes::leaf::{Lead, Span};
+use boxes::leaf::Lead;
 use metrics::Faces;
 
-/// The greatest width of a marker, in units.
-const WIDEST: u64 = 1 << 60;
-
-/// The width of a character in a span's style.
-#[tactic(auto, unfolding(line_fill::specs::Widths::width_in, line_fill::specs::Widths::has_width))]
-fn char_width(faces: &Faces, span: &Span, c: char) -> u64
-    requires face { span.now.face.0 < length faces.now }
-    requires size { pos 0 ≤ℤ span.now.size }
-    ensures value { result ≡ width_in faces.now (Some span.now) c }
-    ensures most { result ≤ 2 ^ 27 }
-{
-    if matches!(c, '\u{AD}' | '\u{200B}' | '\n') {
-        return 0;
-    }
-    let advance = faces.advance(span.face, span.size, c);
-    u64::from(advance.units().unsigned_abs())
-}
-
 /// The width of a marker in units, the spaces at its end too, at most 2^60.
-#[tactic(auto, unfolding(crate::specs::Items::lead_width))]
 fn lead_width(faces: &Faces, lead: &Lead) -> u64
     requires face { lead.now.span.face.0 < length faces.now }
     requires size { pos 0 ≤ℤ lead.now.span.size }
-    ensures value { result ≡ spec.lead_width faces.now lead.now }
+    ensures value { result ≡ text_width (pen_of faces.now lead.now.span) lead.now.text }
     ensures most { result ≤ 2 ^ 60 }
 {
-    let mut width = 0;
-    for c in lead.text.as_str().chars() {
-        width = WIDEST.min(width + char_width(faces, &lead.span, c));
-    }
-    width
+    let span = &lead.span;
+    faces
+        .pen(span.face, span.size)
+        .text_width(lead.text.as_str())
 }
 
 /// The left of the content of a marker's item, which is one of the boxes that are open at an event.
-fn left_in(canvas: &Canvas<'_>, opens: &[Open], at: u32, owner: u32) -> i64
-    requires { opens.now ≡ opens_of canvas.now.tree.now canvas.now.origin.width (open_before canvas.now.tree.now.events at) }
-    ensures { result ≡ (content_along canvas.now.tree.now canvas.now.origin.width (boxes_from owner (open_before canvas.now.tree.now.events at))).left }
+fn left_in(canvas: &Canvas<'_>, opens: &[OpenBox], at: u32, owner: u32) -> i64
+    requires { AreOpen canvas.now.tree.now canvas.now.origin at opens.now }
+    ensures { result ≡ open_left canvas.now.tree.now canvas.now.origin at owner }
 {
+    // named by the clauses alone
     let _canvas = canvas;
     let _at = at;
     left_of(opens, owner)
 }
 
 /// Where a marker of the leaf at an event begins, in units from the page's left. None where it is past 64 bits.
-fn lead_left(canvas: &Canvas<'_>, opens: &[Open], at: u32, lead: &Lead) -> Option<i64>
-    requires opens { opens.now ≡ opens_of canvas.now.tree.now canvas.now.origin.width (open_before canvas.now.tree.now.events at) }
+fn lead_left(canvas: &Canvas<'_>, opens: &[OpenBox], at: u32, lead: &Lead) -> Option<i64>
+    requires opens { AreOpen canvas.now.tree.now canvas.now.origin at opens.now }
     requires face { lead.now.span.face.0 < length canvas.now.faces.now }
     requires size { pos 0 ≤ℤ lead.now.span.size }
-    ensures { IfSome result (λ x. x ≡ (canvas.now.origin.left +ℤ (content_along canvas.now.tree.now canvas.now.origin.width (boxes_from lead.now.owner (open_before canvas.now.tree.now.events at))).left) -ℤ pos (spec.lead_width canvas.now.faces.now lead.now)) }
+    ensures { IfSome result
+        (λ x. x ≡ (canvas.now.origin.left +ℤ open_left canvas.now.tree.now canvas.now.origin at lead.now.owner) -ℤ pos
+        (text_width (pen_of canvas.now.faces.now lead.now.span) lead.now.text)) }
 {
     let right = sum(canvas.origin.left, left_in(canvas, opens, at, lead.owner))?;
     let width = lead_width(canvas.faces, lead) as i64;
@@ -75,17 +58,19 @@ fn lead_left(canvas: &Canvas<'_>, opens: &[Open], at: u32, lead: &Lead) -> Optio
 fn push_lead<'a>(
     out: &mut Vec<ItemRef<'a>>,
     canvas: &Canvas<'a>,
-    opens: &[Open],
+    opens: &[OpenBox],
     at: u32,
     baseline: i64,
     lead: &'a Lead,
 ) -> Result<(), NoMem>
-    requires opens { opens.now ≡ opens_of canvas.now.tree.now canvas.now.origin.width (open_before canvas.now.tree.now.events at) }
+    requires opens { AreOpen canvas.now.tree.now canvas.now.origin at opens.now }
     requires face { lead.now.span.face.0 < length canvas.now.faces.now }
     requires span { IsGoodSpan lead.now.span }
-    requires faces { All (HasItemFace canvas.now.faces.now) out.old.items }
-    ensures items { OnOk result (items_in canvas.now.faces.now out.new.items ≡ items_in canvas.now.faces.now out.old.items ++ lead_item canvas.now.faces.now canvas.now.tree.now canvas.now.origin (open_before canvas.now.tree.now.events at) baseline lead.now ∷ []) }
-    ensures faces { OnOk result (All (HasItemFace canvas.now.faces.now) out.new.items) }
+    requires faces { HaveItemFaces canvas.now.faces.now out.old.items }
+    ensures items { OnOk result (Adds canvas.now.faces.now out.old.items
+        (lead_item canvas.now.faces.now canvas.now.tree.now canvas.now.origin
+        (open_before canvas.now.tree.now.events at) baseline lead.now ∷ []) out.new.items) }
+    ensures faces { OnOk result (HaveItemFaces canvas.now.faces.now out.new.items) }
 {
     let Some(x) = lead_left(canvas, opens, at, lead) else {
         return Err(NoMem);
@@ -102,17 +87,19 @@ fn push_lead<'a>(
 pub(crate) fn push_leads<'a>(
     out: &mut Vec<ItemRef<'a>>,
     canvas: &Canvas<'a>,
-    opens: &[Open],
+    opens: &[OpenBox],
     at: u32,
     baseline: i64,
     leads: &'a [Lead],
 ) -> Result<(), NoMem>
-    requires opens { opens.now ≡ opens_of canvas.now.tree.now canvas.now.origin.width (open_before canvas.now.tree.now.events at) }
+    requires opens { AreOpen canvas.now.tree.now canvas.now.origin at opens.now }
     requires lead_faces { All (λ lead. lead.span.face.0 < length canvas.now.faces.now) leads.now }
     requires spans { All (λ lead. IsGoodSpan lead.span) leads.now }
-    requires faces { All (HasItemFace canvas.now.faces.now) out.old.items }
-    ensures items { OnOk result (items_in canvas.now.faces.now out.new.items ≡ items_in canvas.now.faces.now out.old.items ++ map (lead_item canvas.now.faces.now canvas.now.tree.now canvas.now.origin (open_before canvas.now.tree.now.events at) baseline) leads.now) }
-    ensures faces { OnOk result (All (HasItemFace canvas.now.faces.now) out.new.items) }
+    requires faces { HaveItemFaces canvas.now.faces.now out.old.items }
+    ensures items { OnOk result (Adds canvas.now.faces.now out.old.items
+        (map (lead_item canvas.now.faces.now canvas.now.tree.now canvas.now.origin
+        (open_before canvas.now.tree.now.events at) baseline) leads.now) out.new.items) }
+    ensures faces { OnOk result (HaveItemFaces canvas.now.faces.now out.new.items) }
 {
     for lead in leads {
         push_lead(out, canvas, opens, at, baseline, lead)?;

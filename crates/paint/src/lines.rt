@@ -1,6 +1,6 @@
 //! Items of lines.
 
-ghost use Rattle.std.specs.Prelude.{◌≡◌, ◌+◌, ◌≤◌, ◌++◌, ◌∷◌, [], ◌^◌, pos, ◌≤ℤ◌, ◌+ℤ◌, ◌==◌, if◌then◌else◌, map, length, All, OnOk, IfSome, IsSome};
+ghost use Rattle.std.specs.Prelude.{◌≡◌, ◌+◌, ◌≤◌, ◌∷◌, [], ◌+ℤ◌, ◌==◌, if◌then◌else◌, map, length, OnOk, IfSome, IsSome};
 ghost use Rattle.boxes.specs.Contents.{IsGoodLeaf};
 ghost use Rattle.boxes.specs.Tree.{open_before};
 ghost use Rattle.line_place.specs.Conditions.{IsInLeaf};
@@ -8,18 +8,19 @@ ghost use Rattle.line_place.specs.Extents.{extent_of};
 ghost use Rattle.paint.specs.Areas.{area_of};
 ghost use Rattle.paint.specs.Conditions.{IsFaced};
 ghost use Rattle.paint.specs.Items.{lead_item, line_items, line_of, words_items};
-ghost use Rattle.paint.specs.Opens.{opens_of};
-ghost use Rattle.paint.specs.Views.{HasItemFace, area_item, items_in};
+ghost use Rattle.paint.specs.Opens.{AreOpen, IsWide};
+ghost use Rattle.paint.specs.Views.{Adds, HaveItemFaces, area_item};
 
 use crate::item::{Canvas, ItemRef, area_at, sum};
 use crate::leads::push_leads;
-use crate::opens::{Content, Open, innermost, is_wide};
+use crate::opens::{OpenBox, innermost, is_wide};
 use crate::runs::push_runs;
 use bk_num::name::NoMem;
 use bk_num::steps::Steps;
 use boxes::leaf::Leaf;
 use boxes::line::Line;
 use boxes::page::Placed;
+use boxes::span::Content;
 use line_fill::next_line;
 use line_place::extent::line_height;
 use line_place::runs::runs;
@@ -34,9 +35,10 @@ fn push_area<'a>(
     s: &Placed,
     content: &Content,
 ) -> Result<(), NoMem>
-    requires faces { All (HasItemFace canvas.now.faces.now) out.old.items }
-    ensures items { OnOk result (items_in canvas.now.faces.now out.new.items ≡ items_in canvas.now.faces.now out.old.items ++ area_item (area_of canvas.now.origin content.now s.now) ∷ []) }
-    ensures faces { OnOk result (All (HasItemFace canvas.now.faces.now) out.new.items) }
+    requires faces { HaveItemFaces canvas.now.faces.now out.old.items }
+    ensures items { OnOk result (Adds canvas.now.faces.now out.old.items
+        (area_item (area_of canvas.now.origin content.now s.now) ∷ []) out.new.items) }
+    ensures faces { OnOk result (HaveItemFaces canvas.now.faces.now out.new.items) }
 {
     let Some(area) = area_at(&canvas.origin, content, s) else {
         return Err(NoMem);
@@ -51,7 +53,7 @@ fn push_area<'a>(
 fn push_first<'a>(
     out: &mut Vec<ItemRef<'a>>,
     canvas: &Canvas<'a>,
-    opens: &[Open],
+    opens: &[OpenBox],
     at: u32,
     baseline: i64,
     leaf: &'a Leaf,
@@ -59,10 +61,12 @@ fn push_first<'a>(
 ) -> Result<(), NoMem>
     requires good { IsGoodLeaf leaf.now }
     requires faced { IsFaced canvas.now.faces.now leaf.now }
-    requires opens { opens.now ≡ opens_of canvas.now.tree.now canvas.now.origin.width (open_before canvas.now.tree.now.events at) }
-    requires faces { All (HasItemFace canvas.now.faces.now) out.old.items }
-    ensures items { OnOk result (items_in canvas.now.faces.now out.new.items ≡ items_in canvas.now.faces.now out.old.items ++ (if line.from == 0 then map (lead_item canvas.now.faces.now canvas.now.tree.now canvas.now.origin (open_before canvas.now.tree.now.events at) baseline) leaf.now.leads else [])) }
-    ensures faces { OnOk result (All (HasItemFace canvas.now.faces.now) out.new.items) }
+    requires opens { AreOpen canvas.now.tree.now canvas.now.origin at opens.now }
+    requires faces { HaveItemFaces canvas.now.faces.now out.old.items }
+    ensures items { OnOk result (Adds canvas.now.faces.now out.old.items
+        ((if line.from == 0 then map (lead_item canvas.now.faces.now canvas.now.tree.now canvas.now.origin
+        (open_before canvas.now.tree.now.events at) baseline) leaf.now.leads else [])) out.new.items) }
+    ensures faces { OnOk result (HaveItemFaces canvas.now.faces.now out.new.items) }
 {
     if line.from() == 0 {
         push_leads(out, canvas, opens, at, baseline, leaf.leads.as_slice())
@@ -76,7 +80,7 @@ fn push_words<'a>(
     alloc: Global,
     out: &mut Vec<ItemRef<'a>>,
     canvas: &Canvas<'a>,
-    opens: &[Open],
+    opens: &[OpenBox],
     at: u32,
     baseline: i64,
     leaf: &'a Leaf,
@@ -85,13 +89,14 @@ fn push_words<'a>(
 ) -> Result<(), NoMem>
     requires good { IsGoodLeaf leaf.now }
     requires faced { IsFaced canvas.now.faces.now leaf.now }
-    requires opens { opens.now ≡ opens_of canvas.now.tree.now canvas.now.origin.width (open_before canvas.now.tree.now.events at) }
+    requires opens { AreOpen canvas.now.tree.now canvas.now.origin at opens.now }
     requires line { IsInLeaf leaf.now line }
-    requires low { pos 0 ≤ℤ content.now.width }
-    requires high { content.now.width ≤ℤ pos (2 ^ 40) }
-    requires faces { All (HasItemFace canvas.now.faces.now) out.old.items }
-    ensures items { OnOk result (items_in canvas.now.faces.now out.new.items ≡ items_in canvas.now.faces.now out.old.items ++ words_items canvas.now.faces.now canvas.now.tree.now canvas.now.origin (open_before canvas.now.tree.now.events at) leaf.now line content.now baseline) }
-    ensures faces { OnOk result (All (HasItemFace canvas.now.faces.now) out.new.items) }
+    requires wide { IsWide content.now }
+    requires faces { HaveItemFaces canvas.now.faces.now out.old.items }
+    ensures items { OnOk result (Adds canvas.now.faces.now out.old.items
+        (words_items canvas.now.faces.now canvas.now.tree.now canvas.now.origin
+        (open_before canvas.now.tree.now.events at) leaf.now line content.now baseline) out.new.items) }
+    ensures faces { OnOk result (HaveItemFaces canvas.now.faces.now out.new.items) }
 {
     let Some(left) = sum(canvas.origin.left, content.left) else {
         return Err(NoMem);
@@ -107,7 +112,8 @@ fn baseline_of(canvas: &Canvas<'_>, s: &Placed, leaf: &Leaf, line: Line) -> Opti
     requires good { IsGoodLeaf leaf.now }
     requires faced { IsFaced canvas.now.faces.now leaf.now }
     requires line { IsInLeaf leaf.now line }
-    ensures { IfSome result (λ y. y ≡ (canvas.now.origin.top +ℤ s.now.top) +ℤ (extent_of canvas.now.faces.now leaf.now line.from line.to).baseline) }
+    ensures { IfSome result (λ y. y ≡ (canvas.now.origin.top +ℤ s.now.top) +ℤ
+        (extent_of canvas.now.faces.now leaf.now line.from line.to).baseline) }
 {
     let top = sum(canvas.origin.top, s.top)?;
     sum(top, line_height(canvas.faces, leaf, line).baseline)
@@ -124,8 +130,8 @@ fn end_in(leaf: &Leaf, s: &Placed) -> usize
     }
 }
 
-/// The line of a leaf that a solid is, filled in the content of its block. None where the leaf has no such line there. It
-/// takes at most a step.
+/// The line of a leaf that a solid is, filled in the content of its block. None where the leaf has no such line there.
+/// It takes at most a step.
 fn line_at<L: Ledger>(
     faces: &Faces,
     leaf: &Leaf,
@@ -137,8 +143,7 @@ fn line_at<L: Ledger>(
     requires faced { IsFaced faces.now leaf.now }
     ensures line { IfSome result (λ line. line ≡ line_of leaf.now s.now) }
     ensures inside { IfSome result (λ line. IsInLeaf leaf.now line) }
-    ensures low { IsSome result → pos 0 ≤ℤ content.now.width }
-    ensures high { IsSome result → content.now.width ≤ℤ pos (2 ^ 40) }
+    ensures wide { IsSome result → IsWide content.now }
     ensures steps { steps.new ≤ steps.old + 1 }
 {
     let text = leaf.text.as_str();
@@ -161,17 +166,18 @@ pub(crate) fn push_line<'a, L: Ledger>(
     alloc: Global,
     out: &mut Vec<ItemRef<'a>>,
     canvas: &Canvas<'a>,
-    opens: &[Open],
+    opens: &[OpenBox],
     s: &Placed,
     leaf: &'a Leaf,
     steps: &mut Steps<L>,
 ) -> Result<(), NoMem>
     requires good { IsGoodLeaf leaf.now }
     requires faced { IsFaced canvas.now.faces.now leaf.now }
-    requires opens { opens.now ≡ opens_of canvas.now.tree.now canvas.now.origin.width (open_before canvas.now.tree.now.events s.now.at.event) }
-    requires faces { All (HasItemFace canvas.now.faces.now) out.old.items }
-    ensures items { OnOk result (items_in canvas.now.faces.now out.new.items ≡ items_in canvas.now.faces.now out.old.items ++ line_items canvas.now.faces.now canvas.now.tree.now canvas.now.origin s.now leaf.now) }
-    ensures faces { OnOk result (All (HasItemFace canvas.now.faces.now) out.new.items) }
+    requires opens { AreOpen canvas.now.tree.now canvas.now.origin s.now.at.event opens.now }
+    requires faces { HaveItemFaces canvas.now.faces.now out.old.items }
+    ensures items { OnOk result (Adds canvas.now.faces.now out.old.items
+        (line_items canvas.now.faces.now canvas.now.tree.now canvas.now.origin s.now leaf.now) out.new.items) }
+    ensures faces { OnOk result (HaveItemFaces canvas.now.faces.now out.new.items) }
     ensures steps { steps.new ≤ steps.old + 1 }
 {
     let content = innermost(opens, &canvas.origin);

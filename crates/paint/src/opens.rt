@@ -1,26 +1,18 @@
 //! Boxes that are open one in another, with the places of their contents.
 
-ghost use Rattle.std.specs.Prelude.{◌≡◌, ◌==◌, ℕ, ℤ, List, IfSome, IsTrue, pos, ◌≤ℤ◌, ◌^◌};
+ghost use Rattle.std.specs.Prelude.{◌≡◌, ◌==◌, ℕ, ℤ, List, IfSome, IsTrue, pos, neg_ℤ, ◌≤ℤ◌, ◌^◌};
 ghost use Rattle.boxes.specs.Contents.{IsGoodBox};
 ghost use Rattle.boxes.specs.Spans.{span_in};
 ghost use Rattle.boxes.specs.Tree.{Tree, rest_of};
-ghost use Rattle.paint.specs.Opens.{border_in, border_width, boxes_from, content_along, content_of, opens_of, pair_of};
+ghost use Rattle.paint.specs.Opens.{IsWide, border_in, border_width, boxes_from, content_along, content_of, opens_of, pair_of};
 
-use crate::item::{Origin, sum};
-use crate::margin::left_margin;
+use crate::item::{SolidOrigin, sum};
 use boxes::props::BoxProps;
-use boxes::span::{content_width_in, frame_units};
-
-/// Where the content of a box begins, and how wide it is, in units.
-#[derive(Clone, Copy, Debug)]
-pub struct Content {
-    pub left: i64,
-    pub width: i64,
-}
+use boxes::span::{Content, content_in, content_width_in, frame_units, left_margin_in};
 
 /// An open box: its number and its content.
 #[derive(Clone, Copy, Debug)]
-pub struct Open {
+pub struct OpenBox {
     pub number: u32,
     pub content: Content,
 }
@@ -28,27 +20,34 @@ pub struct Open {
 /// The greatest width of a containing block, in units: a tree within the limits has no wider one.
 const WIDEST: i64 = 1 << 40;
 
+/// How far to the left and the right a containing block may begin: one of a tree within the limits begins nearer.
+const FARTHEST: i64 = 1 << 60;
+
 /// Whether a containing block is from 0 to 2^40 units wide.
 pub(crate) fn is_wide(content: &Content) -> bool
-    ensures low { IsTrue result → pos 0 ≤ℤ content.now.width }
-    ensures high { IsTrue result → content.now.width ≤ℤ pos (2 ^ 40) }
+    ensures { IsTrue result → IsWide content.now }
 {
     content.width >= 0 && content.width <= WIDEST
 }
 
-/// The content of a box in that of the box around it. None where it is past 64 bits.
-pub(crate) fn content_in(props: &BoxProps, outer: &Content) -> Option<Content>
+/// Whether a containing block begins at most 2^60 units to the left or the right.
+fn is_near(content: &Content) -> bool
+    ensures low { IsTrue result → neg_ℤ (pos (2 ^ 60)) ≤ℤ content.now.left }
+    ensures high { IsTrue result → content.now.left ≤ℤ pos (2 ^ 60) }
+{
+    content.left >= -FARTHEST && content.left <= FARTHEST
+}
+
+/// The content of a box in that of the box around it. None where that one is past 2^60 units or wider than 2^40.
+pub(crate) fn checked_content(props: &BoxProps, outer: &Content) -> Option<Content>
     requires good { IsGoodBox props.now }
     ensures { IfSome result (λ c. c ≡ content_of (span_in props.now (pair_of outer.now))) }
 {
-    if !is_wide(outer) {
-        return None;
+    if is_wide(outer) && is_near(outer) {
+        Some(content_in(props, *outer))
+    } else {
+        None
     }
-    let left = sum(outer.left, left_margin(props, outer.width))?;
-    Some(Content {
-        left: sum(left, frame_units(props, 3, outer.width))?,
-        width: content_width_in(props, outer.width),
-    })
 }
 
 /// How wide the border box of a box is in a containing block of a width, in units.
@@ -63,7 +62,7 @@ fn border_width(props: &BoxProps, width: i64) -> i64
 
 /// The border box of a box in the content of the box around it. None where it is past 64 bits.
 #[tactic(auto, unfolding(crate::specs::Opens::border_in))]
-pub(crate) fn border_in(props: &BoxProps, outer: &Content) -> Option<Content>
+pub(crate) fn checked_border(props: &BoxProps, outer: &Content) -> Option<Content>
     requires good { IsGoodBox props.now }
     ensures { IfSome result (λ c. c ≡ border_in props.now outer.now) }
 {
@@ -71,14 +70,15 @@ pub(crate) fn border_in(props: &BoxProps, outer: &Content) -> Option<Content>
         return None;
     }
     Some(Content {
-        left: sum(outer.left, left_margin(props, outer.width))?,
+        left: sum(outer.left, left_margin_in(props, outer.width))?,
         width: border_width(props, outer.width),
     })
 }
 
 /// The content of the innermost of some open boxes, the outermost first; the frame's where none is open.
-pub(crate) fn innermost(opens: &[Open], origin: &Origin) -> Content
-    ensures { (t : Tree) (boxes : List ℕ) → opens.now ≡ opens_of t origin.now.width boxes → result ≡ content_along t origin.now.width boxes }
+pub(crate) fn innermost(opens: &[OpenBox], origin: &SolidOrigin) -> Content
+    ensures { (t : Tree) (boxes : List ℕ) → opens.now ≡ opens_of t origin.now.width boxes →
+        result ≡ content_along t origin.now.width boxes }
 {
     match opens.last() {
         None => Content {
@@ -90,8 +90,9 @@ pub(crate) fn innermost(opens: &[Open], origin: &Origin) -> Content
 }
 
 /// The content of the box around the innermost of some open boxes; the frame's where there is none.
-pub(crate) fn outer(opens: &[Open], origin: &Origin) -> Content
-    ensures { (t : Tree) (boxes : List ℕ) → opens.now ≡ opens_of t origin.now.width boxes → result ≡ content_along t origin.now.width (rest_of boxes) }
+pub(crate) fn outer(opens: &[OpenBox], origin: &SolidOrigin) -> Content
+    ensures { (t : Tree) (boxes : List ℕ) → opens.now ≡ opens_of t origin.now.width boxes →
+        result ≡ content_along t origin.now.width (rest_of boxes) }
 {
     let count = opens.len();
     if count == 0 {
@@ -100,15 +101,16 @@ pub(crate) fn outer(opens: &[Open], origin: &Origin) -> Content
     innermost(&opens[..count - 1], origin)
 }
 
-fn has_number(opened: &Open, number: u32) -> bool
+fn has_number(opened: &OpenBox, number: u32) -> bool
     ensures { result ≡ (opened.now.number == number) }
 {
     opened.number == number
 }
 
 /// The left of the content of the open box of a number, sought from the innermost one; 0 where there is none.
-pub(crate) fn left_of(opens: &[Open], number: u32) -> i64
-    ensures { (t : Tree) (measure : ℤ) (boxes : List ℕ) → opens.now ≡ opens_of t measure boxes → result ≡ (content_along t measure (boxes_from number boxes)).left }
+pub(crate) fn left_of(opens: &[OpenBox], number: u32) -> i64
+    ensures { (t : Tree) (measure : ℤ) (boxes : List ℕ) → opens.now ≡ opens_of t measure boxes →
+        result ≡ (content_along t measure (boxes_from number boxes)).left }
 {
     let mut at = opens.len();
     while at > 0 {

@@ -1,28 +1,29 @@
 //! The boxes in which a page's solids stand, each with the place of the box around it.
 
-ghost use Rattle.std.specs.Prelude.{◌≡◌, ◌<◌, ◌++◌, ◌∷◌, [], length, slice_get, Some, IfSome, OnOk};
+ghost use Rattle.std.specs.Prelude.{◌≡◌, ◌<◌, ◌++◌, ◌∷◌, [], length, Some, OnOk};
 ghost use Rattle.std.specs.Option.{ForSome};
 ghost use Rattle.paint.specs.Parts.{AreMerged, Extends, HaveOuters, IsHandedOn, bare_of, content_at, part_in, with_solid};
 
-use crate::extent::{Extent, join};
-use crate::item::Origin;
-use crate::opens::{Content, content_in};
+use crate::extent::{VerticalExtent, join};
+use crate::item::SolidOrigin;
+use crate::opens::checked_content;
 use bk_num::name::NoMem;
 use boxes::place::Event;
+use boxes::span::Content;
 use boxes::tree::BoxTree;
 
 /// A box: the event that opens it, its number, the place of the box around it and that one's content, and its own
 /// content; then how far its solids reach, and its upper and its lower edge.
 #[derive(Clone, Copy, Debug)]
-pub struct Part {
+pub struct Fragment {
     pub event: u32,
     pub number: u32,
     pub outer: Option<usize>,
     pub around: Content,
     pub content: Content,
-    pub reach: Option<Extent>,
-    pub upper: Option<Extent>,
-    pub lower: Option<Extent>,
+    pub reach: Option<VerticalExtent>,
+    pub upper: Option<VerticalExtent>,
+    pub lower: Option<VerticalExtent>,
 }
 
 /// How far one has gone: the event before which one stands, and the place of the innermost box that is open there.
@@ -33,7 +34,7 @@ pub struct Reached {
 }
 
 /// The content of the box at a place, or the frame's.
-fn content_at(parts: &[Part], inner: Option<usize>, origin: &Origin) -> Content
+fn content_at(parts: &[Fragment], inner: Option<usize>, origin: &SolidOrigin) -> Content
     requires { ForSome inner (λ i. i < length parts.now) }
     ensures { result ≡ content_at origin.now.width parts.now inner }
 {
@@ -48,23 +49,25 @@ fn content_at(parts: &[Part], inner: Option<usize>, origin: &Origin) -> Content
 
 /// Appends a box that an event opens inside the box at a place.
 pub(crate) fn open_part(
-    parts: &mut Vec<Part>,
+    parts: &mut Vec<Fragment>,
     tree: &BoxTree,
     inner: Option<usize>,
     event: u32,
     number: u32,
-    origin: &Origin,
+    origin: &SolidOrigin,
 ) -> Result<(), NoMem>
     requires number { number < length tree.now.boxes }
     requires inner { ForSome inner (λ i. i < length parts.old.items) }
-    ensures { OnOk result (parts.new.items ≡ parts.old.items ++ part_in tree.now origin.now.width parts.old.items inner event number ∷ []) }
+    ensures { OnOk result (parts.new.items ≡ parts.old.items
+        ++ part_in tree.now origin.now.width parts.old.items inner event number ∷ []) }
 {
+    // a tree is known to be one by its count
     let _count = tree.count();
     let around = content_at(parts, inner, origin);
-    let Some(content) = content_in(tree.props(number), &around) else {
+    let Some(content) = checked_content(tree.props(number), &around) else {
         return Err(NoMem);
     };
-    parts.push(Part {
+    parts.push(Fragment {
         event,
         number,
         outer: inner,
@@ -78,27 +81,32 @@ pub(crate) fn open_part(
 }
 
 /// A box with a solid more whose innermost box it is.
-fn with_solid(part: Part, event: Event, extent: Extent) -> Part
+fn with_solid(part: Fragment, event: Event, extent: VerticalExtent) -> Fragment
     ensures { result ≡ with_solid event extent part }
 {
     let reach = join(part.reach, Some(extent));
     match event {
-        Event::Opens(_) => Part {
+        Event::Opens(_) => Fragment {
             reach,
             upper: join(part.upper, Some(extent)),
             ..part
         },
-        Event::Closes(_) => Part {
+        Event::Closes(_) => Fragment {
             reach,
             lower: join(part.lower, Some(extent)),
             ..part
         },
-        Event::Leaf(_) => Part { reach, ..part },
+        Event::Leaf(_) => Fragment { reach, ..part },
     }
 }
 
 /// Writes a solid down at its innermost box.
-pub(crate) fn extend(parts: &mut Vec<Part>, inner: Option<usize>, event: Event, extent: Extent)
+pub(crate) fn extend(
+    parts: &mut Vec<Fragment>,
+    inner: Option<usize>,
+    event: Event,
+    extent: VerticalExtent,
+)
     requires { ForSome inner (λ i. i < length parts.old.items) }
     ensures { Extends parts.old.items inner event extent parts.new.items }
 {
@@ -108,7 +116,7 @@ pub(crate) fn extend(parts: &mut Vec<Part>, inner: Option<usize>, event: Event, 
 }
 
 /// Hands a box's reach on to the box around it.
-fn hand_on(parts: &mut Vec<Part>, at: usize)
+fn hand_on(parts: &mut Vec<Fragment>, at: usize)
     requires place { at < length parts.old.items }
     requires outers { HaveOuters parts.old.items }
     ensures { IsHandedOn parts.old.items at parts.new.items }
@@ -120,7 +128,7 @@ fn hand_on(parts: &mut Vec<Part>, at: usize)
 }
 
 /// Hands each box's reach on, from the last box to the first.
-pub(crate) fn merge(parts: &mut Vec<Part>)
+pub(crate) fn merge(parts: &mut Vec<Fragment>)
     requires outers { HaveOuters parts.old.items }
     ensures rest { bare_of parts.new.items ≡ bare_of parts.old.items }
     ensures merged { AreMerged parts.old.items parts.new.items }

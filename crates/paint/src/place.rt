@@ -1,12 +1,12 @@
 //! The items of a page.
 
-ghost use Rattle.std.specs.Prelude.{◌≡◌, ◌+◌, ◌≤◌, length, All, IfOk};
+ghost use Rattle.std.specs.Prelude.{◌≡◌, ◌+◌, ◌≤◌, length, IfOk};
 ghost use Rattle.paint.specs.Conditions.{CanFlowBePainted};
 ghost use Rattle.paint.specs.Pages.{items_of};
-ghost use Rattle.paint.specs.Views.{HasItemFace, items_in};
+ghost use Rattle.paint.specs.Views.{HaveItemFaces, items_in};
 
-use crate::item::{Canvas, ItemRef, Origin};
-use crate::notes::push_area;
+use crate::item::{Canvas, ItemRef, SolidOrigin};
+use crate::note_area::push_area;
 use crate::trees::push_tree;
 use bk_num::name::NoMem;
 use bk_num::steps::Steps;
@@ -16,12 +16,12 @@ use metrics::Faces;
 use std::alloc::Global;
 use std::sync::ledger::Ledger;
 
-/// The items of a page of a flow, in the order of the listing: the backgrounds and borders of the main tree's boxes, its
-/// edges and lines, each line with its markers, runs and hyphen, and then the note area: its separator, and note after note
-/// the like of its body. Places are sums of units from the page's top left. Want of memory is answered too for a page that
-/// isn't one of the flow's, whose solids aren't in order or whose lines its leaves don't have, and where a sum is past 64
-/// bits. It takes at most a step for each solid; its time goes with the page's solids, the events between them and their
-/// text.
+/// The items of a page of a flow, in the order of the listing: the backgrounds and borders of the main tree's boxes,
+/// its edges and lines, each line with its markers, runs and hyphen, and then the note area: its separator, and note
+/// after note the like of its body. Places are sums of units from the page's top left. Want of memory is answered too
+/// for a page that isn't one of the flow's, whose solids aren't in order or whose lines its leaves don't have, and
+/// where a sum is past 64 bits. It takes at most a step for each solid; its time goes with the page's solids, the
+/// events between them and their text.
 pub fn place<'a, L: Ledger>(
     alloc: Global,
     flow: &'a Flow,
@@ -31,14 +31,14 @@ pub fn place<'a, L: Ledger>(
 ) -> Result<Vec<ItemRef<'a>>, NoMem>
     requires { CanFlowBePainted faces.now flow.now }
     ensures items { IfOk result (λ v. items_in faces.now v.items ≡ items_of faces.now flow.now page.now) }
-    ensures faces { IfOk result (λ v. All (HasItemFace faces.now) v.items) }
+    ensures faces { IfOk result (λ v. HaveItemFaces faces.now v.items) }
     ensures steps { steps.new ≤ steps.old + (length page.now.solids + length page.now.notes) }
 {
     let frame = &page.frame;
     let canvas = Canvas {
         faces,
         tree: &flow.main,
-        origin: Origin {
+        origin: SolidOrigin {
             left: frame.left,
             top: frame.top,
             width: frame.width,

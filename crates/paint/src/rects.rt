@@ -1,6 +1,6 @@
 //! Items of backgrounds and borders.
 
-ghost use Rattle.std.specs.Prelude.{◌≡◌, ◌<◌, ◌++◌, ◌∷◌, [], length, All, OnOk, IfOk, IfSome, Some, ◌+ℤ◌, ◌-ℤ◌, slice_get};
+ghost use Rattle.std.specs.Prelude.{◌≡◌, ◌<◌, ◌∷◌, [], length, All, OnOk, IfOk, IfSome, Some, ◌+ℤ◌, ◌-ℤ◌, slice_get};
 ghost use Rattle.std.specs.List.{flat_map};
 ghost use Rattle.boxes.specs.Contents.{IsGoodBox};
 ghost use Rattle.boxes.specs.Spans.{units_at};
@@ -9,31 +9,33 @@ ghost use Rattle.paint.specs.Opens as spec;
 ghost use Rattle.paint.specs.Pages.{rects_of};
 ghost use Rattle.paint.specs.Parts.{part_rects};
 ghost use Rattle.paint.specs.Rects.{background_rects, border_rects, box_rects, edge_rects, fragment_area, left_area, lower_top, right_area, side_rects, upper_top};
-ghost use Rattle.paint.specs.Views.{HasItemFace, items_in, rect_item};
+ghost use Rattle.paint.specs.Views.{Adds, HaveItemFaces, rect_item};
 
-use crate::extent::Extent;
+use crate::extent::VerticalExtent;
 use crate::gather::parts_of;
-use crate::item::{Area, Canvas, ItemRef, Origin, difference, sum};
-use crate::opens::{Content, border_in};
-use crate::parts::Part;
+use crate::item::{Area, Canvas, ItemRef, SolidOrigin, difference, sum};
+use crate::opens::checked_border;
+use crate::parts::Fragment;
 use bk_num::name::NoMem;
 use bk_num::values::Color;
 use boxes::page::Placed;
 use boxes::props::BoxProps;
+use boxes::span::Content;
 use metrics::Faces;
 use std::alloc::Global;
 
 /// Adds a rectangle.
-fn push_rect<'a>(
+pub(crate) fn push_rect<'a>(
     out: &mut Vec<ItemRef<'a>>,
     faces: &Faces,
     area: Area,
     color: Color,
 ) -> Result<(), NoMem>
-    requires faces { All (HasItemFace faces.now) out.old.items }
-    ensures items { OnOk result (items_in faces.now out.new.items ≡ items_in faces.now out.old.items ++ rect_item area color ∷ []) }
-    ensures faces { OnOk result (All (HasItemFace faces.now) out.new.items) }
+    requires faces { HaveItemFaces faces.now out.old.items }
+    ensures items { OnOk result (Adds faces.now out.old.items (rect_item area color ∷ []) out.new.items) }
+    ensures faces { OnOk result (HaveItemFaces faces.now out.new.items) }
 {
+    // named by the clauses alone
     let _faces = faces;
     if out.push(ItemRef::Rect { area, color }).is_err() {
         return Err(NoMem);
@@ -49,9 +51,9 @@ fn push_background<'a>(
     color: Option<Color>,
     area: Area,
 ) -> Result<(), NoMem>
-    requires faces { All (HasItemFace faces.now) out.old.items }
-    ensures items { OnOk result (items_in faces.now out.new.items ≡ items_in faces.now out.old.items ++ background_rects color area) }
-    ensures faces { OnOk result (All (HasItemFace faces.now) out.new.items) }
+    requires faces { HaveItemFaces faces.now out.old.items }
+    ensures items { OnOk result (Adds faces.now out.old.items (background_rects color area) out.new.items) }
+    ensures faces { OnOk result (HaveItemFaces faces.now out.new.items) }
 {
     match color {
         None => Ok(()),
@@ -68,9 +70,9 @@ fn push_border<'a>(
     color: Color,
     area: Area,
 ) -> Result<(), NoMem>
-    requires faces { All (HasItemFace faces.now) out.old.items }
-    ensures items { OnOk result (items_in faces.now out.new.items ≡ items_in faces.now out.old.items ++ border_rects width (Some color) area) }
-    ensures faces { OnOk result (All (HasItemFace faces.now) out.new.items) }
+    requires faces { HaveItemFaces faces.now out.old.items }
+    ensures items { OnOk result (Adds faces.now out.old.items (border_rects width (Some color) area) out.new.items) }
+    ensures faces { OnOk result (HaveItemFaces faces.now out.new.items) }
 {
     if width == 0 {
         Ok(())
@@ -89,9 +91,9 @@ fn push_edge<'a>(
     area: Area,
     top: Option<i64>,
 ) -> Result<(), NoMem>
-    requires faces { All (HasItemFace faces.now) out.old.items }
-    ensures items { OnOk result (items_in faces.now out.new.items ≡ items_in faces.now out.old.items ++ edge_rects width (Some color) area top) }
-    ensures faces { OnOk result (All (HasItemFace faces.now) out.new.items) }
+    requires faces { HaveItemFaces faces.now out.old.items }
+    ensures items { OnOk result (Adds faces.now out.old.items (edge_rects width (Some color) area top) out.new.items) }
+    ensures faces { OnOk result (HaveItemFaces faces.now out.new.items) }
 {
     match top {
         None => Ok(()),
@@ -150,10 +152,10 @@ fn right_area(area: Area, width: i64) -> Option<Area>
     })
 }
 
-/// Where the borders of a fragment stand: itself, the right border, and the tops of the upper and the lower one, each if its
-/// edge stands on the page.
+/// Where the borders of a fragment stand: itself, the right border, and the tops of the upper and the lower one, each
+/// if its edge stands on the page.
 #[derive(Clone, Copy)]
-struct Sides {
+struct BorderPlaces {
     area: Area,
     right: Area,
     upper: Option<i64>,
@@ -165,12 +167,13 @@ fn push_sides<'a>(
     out: &mut Vec<ItemRef<'a>>,
     faces: &Faces,
     props: &BoxProps,
-    sides: &Sides,
+    sides: &BorderPlaces,
 ) -> Result<(), NoMem>
-    requires faces { All (HasItemFace faces.now) out.old.items }
+    requires faces { HaveItemFaces faces.now out.old.items }
     requires right { sides.now.right ≡ right_area sides.now.area (units_at props.now.border 1) }
-    ensures items { OnOk result (items_in faces.now out.new.items ≡ items_in faces.now out.old.items ++ side_rects props.now sides.now.area sides.now.upper sides.now.lower) }
-    ensures faces { OnOk result (All (HasItemFace faces.now) out.new.items) }
+    ensures items { OnOk result (Adds faces.now out.old.items
+        (side_rects props.now sides.now.area sides.now.upper sides.now.lower) out.new.items) }
+    ensures faces { OnOk result (HaveItemFaces faces.now out.new.items) }
 {
     let (top, bottom) = (border_at(props, 0), border_at(props, 2));
     let (right, left) = (border_at(props, 1), border_at(props, 3));
@@ -203,7 +206,7 @@ fn push_sides<'a>(
 }
 
 /// The area of a fragment of a box. None where it is past 64 bits.
-fn fragment_area(origin: &Origin, border: &Content, extent: Extent) -> Option<Area>
+fn fragment_area(origin: &SolidOrigin, border: &Content, extent: VerticalExtent) -> Option<Area>
     ensures { IfSome result (λ a. a ≡ fragment_area origin.now border.now extent) }
 {
     Some(Area {
@@ -215,7 +218,7 @@ fn fragment_area(origin: &Origin, border: &Content, extent: Extent) -> Option<Ar
 }
 
 /// The top of an upper border, if its edge stands on the page.
-fn upper_top(origin: &Origin, upper: Option<Extent>) -> Result<Option<i64>, NoMem>
+fn upper_top(origin: &SolidOrigin, upper: Option<VerticalExtent>) -> Result<Option<i64>, NoMem>
     ensures { IfOk result (λ y. y ≡ upper_top origin.now upper) }
 {
     match upper {
@@ -228,7 +231,7 @@ fn upper_top(origin: &Origin, upper: Option<Extent>) -> Result<Option<i64>, NoMe
 }
 
 /// Where a lower border begins, which ends at the bottom of its edge. None where it is past 64 bits.
-fn top_above(origin: &Origin, width: i64, edge: Extent) -> Option<i64>
+fn top_above(origin: &SolidOrigin, width: i64, edge: VerticalExtent) -> Option<i64>
     ensures { IfSome result (λ y. y ≡ (origin.now.top +ℤ edge.bottom) -ℤ width) }
 {
     let bottom = sum(origin.top, edge.bottom)?;
@@ -236,7 +239,11 @@ fn top_above(origin: &Origin, width: i64, edge: Extent) -> Option<i64>
 }
 
 /// The top of a lower border, if its edge stands on the page.
-fn lower_top(origin: &Origin, width: i64, lower: Option<Extent>) -> Result<Option<i64>, NoMem>
+fn lower_top(
+    origin: &SolidOrigin,
+    width: i64,
+    lower: Option<VerticalExtent>,
+) -> Result<Option<i64>, NoMem>
     ensures { IfOk result (λ y. y ≡ lower_top origin.now width lower) }
 {
     match lower {
@@ -249,7 +256,12 @@ fn lower_top(origin: &Origin, width: i64, lower: Option<Extent>) -> Result<Optio
 }
 
 /// Where the borders of a part of a box stand.
-fn sides_of(origin: &Origin, props: &BoxProps, part: &Part, area: Area) -> Result<Sides, NoMem>
+fn sides_of(
+    origin: &SolidOrigin,
+    props: &BoxProps,
+    part: &Fragment,
+    area: Area,
+) -> Result<BorderPlaces, NoMem>
     ensures area { IfOk result (λ s. s.area ≡ area) }
     ensures right { IfOk result (λ s. s.right ≡ right_area area (units_at props.now.border 1)) }
     ensures upper { IfOk result (λ s. s.upper ≡ upper_top origin.now part.now.upper) }
@@ -258,7 +270,7 @@ fn sides_of(origin: &Origin, props: &BoxProps, part: &Part, area: Area) -> Resul
     let Some(right) = right_area(area, border_at(props, 1)) else {
         return Err(NoMem);
     };
-    Ok(Sides {
+    Ok(BorderPlaces {
         area,
         right,
         upper: upper_top(origin, part.upper)?,
@@ -267,11 +279,16 @@ fn sides_of(origin: &Origin, props: &BoxProps, part: &Part, area: Area) -> Resul
 }
 
 /// The area of a part of a box that reaches so far. None where it is past 64 bits.
-fn area_of_part(origin: &Origin, props: &BoxProps, around: &Content, extent: Extent) -> Option<Area>
+fn area_of_part(
+    origin: &SolidOrigin,
+    props: &BoxProps,
+    around: &Content,
+    extent: VerticalExtent,
+) -> Option<Area>
     requires { IsGoodBox props.now }
     ensures { IfSome result (λ a. a ≡ fragment_area origin.now (spec.border_in props.now around.now) extent) }
 {
-    let border = border_in(props, around)?;
+    let border = checked_border(props, around)?;
     fragment_area(origin, &border, extent)
 }
 
@@ -281,13 +298,16 @@ fn push_fragment<'a>(
     out: &mut Vec<ItemRef<'a>>,
     canvas: &Canvas<'a>,
     props: &BoxProps,
-    part: &Part,
-    extent: Extent,
+    part: &Fragment,
+    extent: VerticalExtent,
 ) -> Result<(), NoMem>
     requires good { IsGoodBox props.now }
-    requires faces { All (HasItemFace canvas.now.faces.now) out.old.items }
-    ensures items { OnOk result (items_in canvas.now.faces.now out.new.items ≡ items_in canvas.now.faces.now out.old.items ++ box_rects props.now (fragment_area canvas.now.origin (spec.border_in props.now part.now.around) extent) (upper_top canvas.now.origin part.now.upper) (lower_top canvas.now.origin (units_at props.now.border 2) part.now.lower)) }
-    ensures faces { OnOk result (All (HasItemFace canvas.now.faces.now) out.new.items) }
+    requires faces { HaveItemFaces canvas.now.faces.now out.old.items }
+    ensures items { OnOk result (Adds canvas.now.faces.now out.old.items
+        (box_rects props.now (fragment_area canvas.now.origin (spec.border_in props.now part.now.around) extent)
+        (upper_top canvas.now.origin part.now.upper) (lower_top canvas.now.origin
+        (units_at props.now.border 2) part.now.lower)) out.new.items) }
+    ensures faces { OnOk result (HaveItemFaces canvas.now.faces.now out.new.items) }
 {
     let Some(area) = area_of_part(&canvas.origin, props, &part.around, extent) else {
         return Err(NoMem);
@@ -300,12 +320,18 @@ fn push_fragment<'a>(
 
 /// Adds the rectangles of a box, if it has a solid.
 #[tactic(auto, unfolding(crate::specs::Rects::fragment_rects))]
-fn push_part<'a>(out: &mut Vec<ItemRef<'a>>, canvas: &Canvas<'a>, part: &Part) -> Result<(), NoMem>
+fn push_part<'a>(
+    out: &mut Vec<ItemRef<'a>>,
+    canvas: &Canvas<'a>,
+    part: &Fragment,
+) -> Result<(), NoMem>
     requires there { part.now.number < length canvas.now.tree.now.boxes }
-    requires faces { All (HasItemFace canvas.now.faces.now) out.old.items }
-    ensures items { OnOk result (items_in canvas.now.faces.now out.new.items ≡ items_in canvas.now.faces.now out.old.items ++ part_rects canvas.now.tree.now canvas.now.origin part.now) }
-    ensures faces { OnOk result (All (HasItemFace canvas.now.faces.now) out.new.items) }
+    requires faces { HaveItemFaces canvas.now.faces.now out.old.items }
+    ensures items { OnOk result (Adds canvas.now.faces.now out.old.items
+        (part_rects canvas.now.tree.now canvas.now.origin part.now) out.new.items) }
+    ensures faces { OnOk result (HaveItemFaces canvas.now.faces.now out.new.items) }
 {
+    // a tree is known to be one by its count
     let _count = canvas.tree.count();
     let props = canvas.tree.props(part.number);
     match part.reach {
@@ -318,12 +344,13 @@ fn push_part<'a>(out: &mut Vec<ItemRef<'a>>, canvas: &Canvas<'a>, part: &Part) -
 fn push_parts<'a>(
     out: &mut Vec<ItemRef<'a>>,
     canvas: &Canvas<'a>,
-    parts: &[Part],
+    parts: &[Fragment],
 ) -> Result<(), NoMem>
     requires there { All (λ p. p.number < length canvas.now.tree.now.boxes) parts.now }
-    requires faces { All (HasItemFace canvas.now.faces.now) out.old.items }
-    ensures items { OnOk result (items_in canvas.now.faces.now out.new.items ≡ items_in canvas.now.faces.now out.old.items ++ flat_map (part_rects canvas.now.tree.now canvas.now.origin) parts.now) }
-    ensures faces { OnOk result (All (HasItemFace canvas.now.faces.now) out.new.items) }
+    requires faces { HaveItemFaces canvas.now.faces.now out.old.items }
+    ensures items { OnOk result (Adds canvas.now.faces.now out.old.items
+        (flat_map (part_rects canvas.now.tree.now canvas.now.origin) parts.now) out.new.items) }
+    ensures faces { OnOk result (HaveItemFaces canvas.now.faces.now out.new.items) }
 {
     for part in parts {
         push_part(out, canvas, part)?;
@@ -339,9 +366,10 @@ pub(crate) fn push_rects<'a>(
     solids: &[Placed],
 ) -> Result<(), NoMem>
     requires tree { CanBePainted canvas.now.faces.now canvas.now.tree.now }
-    requires faces { All (HasItemFace canvas.now.faces.now) out.old.items }
-    ensures items { OnOk result (items_in canvas.now.faces.now out.new.items ≡ items_in canvas.now.faces.now out.old.items ++ rects_of canvas.now.tree.now canvas.now.origin solids.now) }
-    ensures faces { OnOk result (All (HasItemFace canvas.now.faces.now) out.new.items) }
+    requires faces { HaveItemFaces canvas.now.faces.now out.old.items }
+    ensures items { OnOk result (Adds canvas.now.faces.now out.old.items
+        (rects_of canvas.now.tree.now canvas.now.origin solids.now) out.new.items) }
+    ensures faces { OnOk result (HaveItemFaces canvas.now.faces.now out.new.items) }
 {
     let parts = parts_of(alloc, canvas.tree, &canvas.origin, solids)?;
     push_parts(out, canvas, &parts)?;

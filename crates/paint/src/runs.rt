@@ -1,12 +1,12 @@
 //! Items of the runs of a line.
 
-ghost use Rattle.std.specs.Prelude.{◌≡◌, ◌<◌, ◌++◌, ◌∷◌, [], map, length, All, OnOk, IfSome, slice_range, ◌+ℤ◌};
+ghost use Rattle.std.specs.Prelude.{◌≡◌, ◌<◌, ◌∷◌, [], map, length, OnOk, IfSome, slice_range, ◌+ℤ◌};
 ghost use Rattle.line_place.specs.Conditions.{HasFaces};
 ghost use Rattle.paint.specs.Areas.{style_of};
 ghost use Rattle.paint.specs.Items.{run_item, span_of};
-ghost use Rattle.paint.specs.Views.{HasItemFace, hyphen_item, items_in, text_item};
+ghost use Rattle.paint.specs.Views.{Adds, HaveItemFaces, hyphen_item, text_item};
 
-use crate::item::{Canvas, ItemRef, Style, style_at, sum};
+use crate::item::{Canvas, ItemRef, TextPlace, style_at, sum};
 use bk_num::name::NoMem;
 use boxes::leaf::Leaf;
 use line_place::place::Run;
@@ -28,13 +28,15 @@ fn part_of(text: &str, from: u32, to: u32) -> Option<&str>
 fn push_hyphen<'a>(
     out: &mut Vec<ItemRef<'a>>,
     canvas: &Canvas<'a>,
-    style: Style,
+    style: TextPlace,
 ) -> Result<(), NoMem>
     requires face { style.face.0 < length canvas.now.faces.now }
-    requires faces { All (HasItemFace canvas.now.faces.now) out.old.items }
-    ensures items { OnOk result (items_in canvas.now.faces.now out.new.items ≡ items_in canvas.now.faces.now out.old.items ++ hyphen_item canvas.now.faces.now style ∷ []) }
-    ensures faces { OnOk result (All (HasItemFace canvas.now.faces.now) out.new.items) }
+    requires faces { HaveItemFaces canvas.now.faces.now out.old.items }
+    ensures items { OnOk result (Adds canvas.now.faces.now out.old.items
+        (hyphen_item canvas.now.faces.now style ∷ []) out.new.items) }
+    ensures faces { OnOk result (HaveItemFaces canvas.now.faces.now out.new.items) }
 {
+    // named by the clauses alone
     let _canvas = canvas;
     if out.push(ItemRef::Hyphen { style }).is_err() {
         return Err(NoMem);
@@ -46,14 +48,16 @@ fn push_hyphen<'a>(
 fn push_text<'a>(
     out: &mut Vec<ItemRef<'a>>,
     canvas: &Canvas<'a>,
-    style: Style,
+    style: TextPlace,
     text: &'a str,
 ) -> Result<(), NoMem>
     requires face { style.face.0 < length canvas.now.faces.now }
-    requires faces { All (HasItemFace canvas.now.faces.now) out.old.items }
-    ensures items { OnOk result (items_in canvas.now.faces.now out.new.items ≡ items_in canvas.now.faces.now out.old.items ++ text_item canvas.now.faces.now style text.now ∷ []) }
-    ensures faces { OnOk result (All (HasItemFace canvas.now.faces.now) out.new.items) }
+    requires faces { HaveItemFaces canvas.now.faces.now out.old.items }
+    ensures items { OnOk result (Adds canvas.now.faces.now out.old.items
+        (text_item canvas.now.faces.now style text.now ∷ []) out.new.items) }
+    ensures faces { OnOk result (HaveItemFaces canvas.now.faces.now out.new.items) }
 {
+    // named by the clauses alone
     let _canvas = canvas;
     if out.push(ItemRef::Text { style, text }).is_err() {
         return Err(NoMem);
@@ -62,11 +66,19 @@ fn push_text<'a>(
 }
 
 /// The style of a run of a line whose content begins at a left, on a baseline. None where its left is past 64 bits.
-fn style_of_run(faces: &Faces, leaf: &Leaf, left: i64, baseline: i64, run: &Run) -> Option<Style>
+fn style_of_run(
+    faces: &Faces,
+    leaf: &Leaf,
+    left: i64,
+    baseline: i64,
+    run: &Run,
+) -> Option<TextPlace>
     requires { HasFaces faces.now leaf.now }
-    ensures style { IfSome result (λ style. style ≡ style_of (left +ℤ run.now.x) baseline (span_of leaf.now run.now.span)) }
+    ensures style { IfSome result (λ style. style ≡ style_of (left +ℤ run.now.x) baseline
+        (span_of leaf.now run.now.span)) }
     ensures face { IfSome result (λ style. style.face.0 < length faces.now) }
 {
+    // named by the clauses alone
     let _faces = faces;
     let spans = leaf.spans.as_slice();
     let number = run.span as usize;
@@ -88,9 +100,10 @@ fn push_run<'a>(
     run: &Run,
 ) -> Result<(), NoMem>
     requires leaf { HasFaces canvas.now.faces.now leaf.now }
-    requires faces { All (HasItemFace canvas.now.faces.now) out.old.items }
-    ensures items { OnOk result (items_in canvas.now.faces.now out.new.items ≡ items_in canvas.now.faces.now out.old.items ++ run_item canvas.now.faces.now leaf.now left baseline run.now ∷ []) }
-    ensures faces { OnOk result (All (HasItemFace canvas.now.faces.now) out.new.items) }
+    requires faces { HaveItemFaces canvas.now.faces.now out.old.items }
+    ensures items { OnOk result (Adds canvas.now.faces.now out.old.items
+        (run_item canvas.now.faces.now leaf.now left baseline run.now ∷ []) out.new.items) }
+    ensures faces { OnOk result (HaveItemFaces canvas.now.faces.now out.new.items) }
 {
     let Some(style) = style_of_run(canvas.faces, leaf, left, baseline, run) else {
         return Err(NoMem);
@@ -116,9 +129,10 @@ pub(crate) fn push_runs<'a>(
     runs: &[Run],
 ) -> Result<(), NoMem>
     requires leaf { HasFaces canvas.now.faces.now leaf.now }
-    requires faces { All (HasItemFace canvas.now.faces.now) out.old.items }
-    ensures items { OnOk result (items_in canvas.now.faces.now out.new.items ≡ items_in canvas.now.faces.now out.old.items ++ map (run_item canvas.now.faces.now leaf.now left baseline) runs.now) }
-    ensures faces { OnOk result (All (HasItemFace canvas.now.faces.now) out.new.items) }
+    requires faces { HaveItemFaces canvas.now.faces.now out.old.items }
+    ensures items { OnOk result (Adds canvas.now.faces.now out.old.items
+        (map (run_item canvas.now.faces.now leaf.now left baseline) runs.now) out.new.items) }
+    ensures faces { OnOk result (HaveItemFaces canvas.now.faces.now out.new.items) }
 {
     for run in runs {
         push_run(out, canvas, leaf, left, baseline, run)?;

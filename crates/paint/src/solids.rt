@@ -1,18 +1,17 @@
 //! Items of the solids of a tree.
 
-ghost use Rattle.std.specs.Prelude.{◌≡◌, ◌+◌, ◌≤◌, ◌<◌, ◌++◌, length, All, OnOk};
+ghost use Rattle.std.specs.Prelude.{◌+◌, ◌≤◌, ◌<◌, length, OnOk};
 ghost use Rattle.std.specs.Option.{ForSome};
 ghost use Rattle.std.specs.List.{flat_map};
-ghost use Rattle.boxes.specs.Tree.{open_before};
 ghost use Rattle.paint.specs.Conditions.{CanBePainted};
 ghost use Rattle.paint.specs.Items.{solid_items};
-ghost use Rattle.paint.specs.Opens.{opens_of};
-ghost use Rattle.paint.specs.Views.{HasItemFace, items_in};
+ghost use Rattle.paint.specs.Opens.{AreOpen};
+ghost use Rattle.paint.specs.Views.{Adds, HaveItemFaces};
 
 use crate::edges::push_edge;
 use crate::item::{Canvas, ItemRef};
 use crate::lines::push_line;
-use crate::opens::{Open, innermost, outer};
+use crate::opens::{OpenBox, innermost, outer};
 use crate::walk::go_to;
 use bk_num::name::NoMem;
 use bk_num::steps::Steps;
@@ -27,19 +26,21 @@ fn push_solid<'a, L: Ledger>(
     alloc: Global,
     out: &mut Vec<ItemRef<'a>>,
     canvas: &Canvas<'a>,
-    opens: &[Open],
+    opens: &[OpenBox],
     s: &Placed,
     steps: &mut Steps<L>,
 ) -> Result<(), NoMem>
     requires tree { CanBePainted canvas.now.faces.now canvas.now.tree.now }
     requires within { s.now.at.event < length canvas.now.tree.now.events }
-    requires opens { opens.now ≡ opens_of canvas.now.tree.now canvas.now.origin.width (open_before canvas.now.tree.now.events s.now.at.event) }
-    requires faces { All (HasItemFace canvas.now.faces.now) out.old.items }
-    ensures items { OnOk result (items_in canvas.now.faces.now out.new.items ≡ items_in canvas.now.faces.now out.old.items ++ solid_items canvas.now.faces.now canvas.now.tree.now canvas.now.origin s.now) }
-    ensures faces { OnOk result (All (HasItemFace canvas.now.faces.now) out.new.items) }
+    requires opens { AreOpen canvas.now.tree.now canvas.now.origin s.now.at.event opens.now }
+    requires faces { HaveItemFaces canvas.now.faces.now out.old.items }
+    ensures items { OnOk result (Adds canvas.now.faces.now out.old.items
+        (solid_items canvas.now.faces.now canvas.now.tree.now canvas.now.origin s.now) out.new.items) }
+    ensures faces { OnOk result (HaveItemFaces canvas.now.faces.now out.new.items) }
     ensures steps { steps.new ≤ steps.old + 1 }
 {
     let tree = canvas.tree;
+    // a tree is known to be one by its count
     let _count = tree.count();
     let origin = &canvas.origin;
     match tree.event(s.at.event) {
@@ -66,17 +67,18 @@ pub(crate) fn push_next<'a, L: Ledger>(
     alloc: Global,
     out: &mut Vec<ItemRef<'a>>,
     canvas: &Canvas<'a>,
-    opens: &mut Vec<Open>,
+    opens: &mut Vec<OpenBox>,
     reached: Option<u32>,
     s: &Placed,
     steps: &mut Steps<L>,
 ) -> Result<(), NoMem>
     requires tree { CanBePainted canvas.now.faces.now canvas.now.tree.now }
-    requires opens { ForSome reached (λ at. opens.old.items ≡ opens_of canvas.now.tree.now canvas.now.origin.width (open_before canvas.now.tree.now.events at)) }
-    requires faces { All (HasItemFace canvas.now.faces.now) out.old.items }
-    ensures items { OnOk result (items_in canvas.now.faces.now out.new.items ≡ items_in canvas.now.faces.now out.old.items ++ solid_items canvas.now.faces.now canvas.now.tree.now canvas.now.origin s.now) }
-    ensures faces { OnOk result (All (HasItemFace canvas.now.faces.now) out.new.items) }
-    ensures opens { OnOk result (opens.new.items ≡ opens_of canvas.now.tree.now canvas.now.origin.width (open_before canvas.now.tree.now.events s.now.at.event)) }
+    requires opens { ForSome reached (λ at. AreOpen canvas.now.tree.now canvas.now.origin at opens.old.items) }
+    requires faces { HaveItemFaces canvas.now.faces.now out.old.items }
+    ensures items { OnOk result (Adds canvas.now.faces.now out.old.items
+        (solid_items canvas.now.faces.now canvas.now.tree.now canvas.now.origin s.now) out.new.items) }
+    ensures faces { OnOk result (HaveItemFaces canvas.now.faces.now out.new.items) }
+    ensures opens { OnOk result (AreOpen canvas.now.tree.now canvas.now.origin s.now.at.event opens.new.items) }
     ensures steps { steps.new ≤ steps.old + 1 }
 {
     if s.at.event >= canvas.tree.count() {
@@ -87,8 +89,8 @@ pub(crate) fn push_next<'a, L: Ledger>(
     Ok(())
 }
 
-/// Adds the items of solids of a tree, in order. It takes at most a step for each. The boxes that are open go along from
-/// solid to solid.
+/// Adds the items of solids of a tree, in order. It takes at most a step for each. The boxes that are open go along
+/// from solid to solid.
 pub(crate) fn push_solids<'a, L: Ledger>(
     alloc: Global,
     out: &mut Vec<ItemRef<'a>>,
@@ -97,9 +99,10 @@ pub(crate) fn push_solids<'a, L: Ledger>(
     steps: &mut Steps<L>,
 ) -> Result<(), NoMem>
     requires tree { CanBePainted canvas.now.faces.now canvas.now.tree.now }
-    requires faces { All (HasItemFace canvas.now.faces.now) out.old.items }
-    ensures items { OnOk result (items_in canvas.now.faces.now out.new.items ≡ items_in canvas.now.faces.now out.old.items ++ flat_map (solid_items canvas.now.faces.now canvas.now.tree.now canvas.now.origin) solids.now) }
-    ensures faces { OnOk result (All (HasItemFace canvas.now.faces.now) out.new.items) }
+    requires faces { HaveItemFaces canvas.now.faces.now out.old.items }
+    ensures items { OnOk result (Adds canvas.now.faces.now out.old.items
+        (flat_map (solid_items canvas.now.faces.now canvas.now.tree.now canvas.now.origin) solids.now) out.new.items) }
+    ensures faces { OnOk result (HaveItemFaces canvas.now.faces.now out.new.items) }
     ensures steps { steps.new ≤ steps.old + length solids.now }
 {
     let mut opens = Vec::new(alloc);

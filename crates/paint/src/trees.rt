@@ -1,9 +1,9 @@
 //! Items of a tree on a page.
 
-ghost use Rattle.std.specs.Prelude.{◌≡◌, ◌+◌, ◌≤◌, ◌++◌, length, All, OnOk};
+ghost use Rattle.std.specs.Prelude.{◌+◌, ◌≤◌, length, OnOk};
 ghost use Rattle.paint.specs.Conditions.{CanBePainted};
 ghost use Rattle.paint.specs.Pages.{tree_items};
-ghost use Rattle.paint.specs.Views.{HasItemFace, items_in};
+ghost use Rattle.paint.specs.Views.{Adds, HaveItemFaces};
 
 use crate::item::{Canvas, ItemRef};
 use crate::rects::push_rects;
@@ -23,9 +23,10 @@ pub(crate) fn push_tree<'a, L: Ledger>(
     steps: &mut Steps<L>,
 ) -> Result<(), NoMem>
     requires tree { CanBePainted canvas.now.faces.now canvas.now.tree.now }
-    requires faces { All (HasItemFace canvas.now.faces.now) out.old.items }
-    ensures items { OnOk result (items_in canvas.now.faces.now out.new.items ≡ items_in canvas.now.faces.now out.old.items ++ tree_items canvas.now.faces.now canvas.now.tree.now canvas.now.origin solids.now) }
-    ensures faces { OnOk result (All (HasItemFace canvas.now.faces.now) out.new.items) }
+    requires faces { HaveItemFaces canvas.now.faces.now out.old.items }
+    ensures items { OnOk result (Adds canvas.now.faces.now out.old.items
+        (tree_items canvas.now.faces.now canvas.now.tree.now canvas.now.origin solids.now) out.new.items) }
+    ensures faces { OnOk result (HaveItemFaces canvas.now.faces.now out.new.items) }
     ensures steps { steps.new ≤ steps.old + length solids.now }
 {
     push_rects(alloc, out, canvas, solids)?;

@@ -31,6 +31,7 @@ pub data Asked : Type 0 where
 unfoldable pub is_format : Text → Bool
 is_format word = bytes_eq word (codes "format")
 
+-- the word `sample`
 unfoldable pub is_sample : Text → Bool
 is_sample word = bytes_eq word (codes "sample")
 
@@ -65,20 +66,26 @@ unless_fault (first ∷ rest) asked = refused (fault_for first)
 unfoldable pub asked_format : List Text → Asked
 asked_format words = unless_fault (fault_of format_app words) (format (format_in (matches_of format_app words)))
 
+-- what `sample` with these words asks for
 unfoldable pub asked_sample : List Text → Asked
-asked_sample words = unless_fault (fault_of sample_app words) (sample (number_in (matches_of sample_app words) (codes "n")))
+asked_sample words =
+    unless_fault (fault_of sample_app words) (sample (number_in (matches_of sample_app words) (codes "n")))
 
 -- what the words after the program's name ask for: the first is the command
 unfoldable pub asked : List Text → Asked
 asked [] = refused fault.NoCommand
-asked (command ∷ words) = if is_format command then asked_format words else if is_sample command then asked_sample words else
+asked (command ∷ words) =
+    if is_format command then asked_format words else if is_sample command then asked_sample words else
     refused fault.UnknownCommand
 
 -- ---- answers
 
+-- the words of `format` as contracts see them
 abbrev pub format_view : Format → FormatWords
-format_view f = record { passes = f.passes; metrics = f.metrics.now; html = f.html.now; sheets = map (λ s. s.now) f.sheets.items }
+format_view f =
+    record { passes = f.passes; metrics = f.metrics.now; html = f.html.now; sheets = map (λ s. s.now) f.sheets.items }
 
+-- a request as contracts see it
 abbrev pub request_of : Request → Asked
 request_of (request.Format f) = format (format_view f)
 request_of (request.Sample n) = sample n

@@ -1,6 +1,6 @@
 //! The commands as `clap` reads them.
 
-ghost use Rattle.std.specs.Prelude.{◌≡◌, IfOk, false, codes};
+ghost use Rattle.std.specs.Prelude.{◌≡◌, IfOk, false};
 ghost use Rattle.clap.specs.Words.{app_of, new_app, rule_of};
 ghost use Rattle.words.specs.Grammar.{format_app, sample_app, passes_rule, name_rule, names_rule, chapters_rule, without_name};
 

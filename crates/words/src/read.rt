@@ -70,7 +70,8 @@ fn is_sample(word: &str) -> bool
     word == "sample"
 }
 
-/// What the words after the program's name ask for. The names are the words themselves, and any number of sheets is taken.
+/// What the words after the program's name ask for. The names are the words themselves, and any number of sheets is
+/// taken.
 #[tactic(auto, unfolding(crate::specs::Asked::asked))]
 pub fn read_words<'a>(alloc: Global, words: &'a [String]) -> Result<Request<'a>, WordsErr>
     ensures answers { Answers (asked (map (λ w. string_bytes w) words.entry.now)) result }

@@ -1,6 +1,6 @@
 //! What the matches of a parse ask for.
 
-ghost use Rattle.std.specs.Prelude.{◌≡◌, ◌≤◌, IfOk, IfErr, Some, codes, is_some, true, unwrap_or, map, []};
+ghost use Rattle.std.specs.Prelude.{◌≡◌, ◌≤◌, IfOk, IfErr, codes, is_some, true, unwrap_or, map, []};
 ghost use Rattle.clap.specs.Words.{found_of, first_value, all_of, rows_of};
 ghost use Rattle.words.specs.Grammar.{format_app, sample_app};
 ghost use Rattle.words.specs.Asked.{format_view, format_in, number_in, text_in};
@@ -21,7 +21,8 @@ fn text_in<'a>(matches: &ArgMatches<'a>, id: &str) -> &'a str
 
 /// The names of the sheets.
 fn sheets_in<'a>(alloc: Global, matches: &ArgMatches<'a>) -> Result<Vec<&'a str>, WordsErr>
-    ensures sheets { IfOk result (λ v. map (λ s. s.now) v.items ≡ unwrap_or (all_of (codes "css") (rows_of (found_of matches.now))) []) }
+    ensures sheets { IfOk result (λ v. map (λ s. s.now) v.items
+        ≡ unwrap_or (all_of (codes "css") (rows_of (found_of matches.now))) []) }
     ensures fault { IfErr result (λ e. e ≡ WordsErr.NoMemory) }
 {
     let names = matches.get_strs("css").unwrap_or(&[]);

@@ -13,21 +13,21 @@ returns-in_err-sheets-clause-document c =
     λ reading h. rw (p.1, p.2) (sheets_refused reading (texts_in c.args.texts) c.in_ok-faces.faces c.in_ok-dom.dom
     c.in_ok-faces.ensures.faces c.in_ok-dom.ensures.nodes c.in_err-sheets.field-0.0 (c.in_err-sheets.ensures.sheets reading h))
 
-pub returns-in_err-document-clause-document : goal.returns-in_err-document-clause-document
-returns-in_err-document-clause-document c =
-    let p = err_from_is_err_and c.from_residual-in_err-document.result c.from_residual-in_err-document.ensures.1 in
+pub returns-in_err-boxed-clause-document : goal.returns-in_err-boxed-clause-document
+returns-in_err-boxed-clause-document c =
+    let p = err_from_is_err_and c.from_residual-in_err-boxed.result c.from_residual-in_err-boxed.ensures.1 in
     λ reading h. rw (p.1, p.2) tt
 
-pub returns-in_err-document-clause-of_texts : goal.returns-in_err-document-clause-of_texts
-returns-in_err-document-clause-of_texts c =
-    let p = err_from_is_err_and c.from_residual-in_err-document.result c.from_residual-in_err-document.ensures.1 in
+pub returns-in_err-boxed-clause-of_texts : goal.returns-in_err-boxed-clause-of_texts
+returns-in_err-boxed-clause-of_texts c =
+    let p = err_from_is_err_and c.from_residual-in_err-boxed.result c.from_residual-in_err-boxed.ensures.1 in
     rw (p.1, p.2) tt
 
 pub returns-clause-document : goal.returns-clause-document
 returns-clause-document c =
-    λ reading h. subst (λ (d : InMemory). IsGiven (document_of reading (texts_in c.args.texts)) (document_in d)) (sym c.in_ok-document.ensures)
+    λ reading h. subst (λ (d : InMemory). IsGiven (document_of reading (texts_in c.args.texts)) (document_in d)) (sym c.in_ok-boxed.ensures)
     (document_given reading (texts_in c.args.texts) c.in_ok-faces.faces c.in_ok-dom.dom c.in_ok-faces.ensures.faces
     c.in_ok-dom.ensures.nodes (c.in_ok-sheets.ensures.sheets reading h))
 
 pub returns-clause-read : goal.returns-clause-read
-returns-clause-read c = subst HasSheets (sym c.in_ok-document.ensures) (record { read = c.in_ok-sheets.ensures.read; pages = c.in_ok-sheets.ensures.pages })
+returns-clause-read c = subst HasSheets (sym c.in_ok-boxed.ensures) (record { read = c.in_ok-sheets.ensures.read; pages = c.in_ok-sheets.ensures.pages })

@@ -1,12 +1,33 @@
-use Rattle.std.proofs.Common.{◌∙◌}
+use Rattle.std.proofs.Common.{◌∙◌, arith, subst}
 use Rattle.std.proofs.lemmas.Result.{err_from_is_err_and}
+use Rattle.listing.specs.Printed.{Print, listing_of}
+use Rattle.listing.specs.Puts.{Puts}
+use Rattle.book.proofs.Conditions.{can_be_painted}
 use Rattle.book.proofs.Stopping.{keeps_same}
+use Rattle.book.proofs.Tables.{print_is}
 use Rattle.book.proofs.lay_out.print_settled.Goals as goal
 
-pub print_numbered-requires-clause-numbers : goal.print_numbered-requires-clause-numbers
-print_numbered-requires-clause-numbers g c = c.as_slice.ensures.value ∙ c.in_ok-numbers.ensures
+pub print-requires : goal.print-requires
+print-requires g c = record {
+  painted = can_be_painted c.args.styled.now.faces c.args.laid.now.flow c.requires.good;
+  table = c.requires.boxes.good;
+  numbers = c.as_slice.ensures.value ∙ c.in_ok-numbers.ensures;
+  strings = c.in_ok-strings.ensures;
+  few = omega (arith, c.requires.few);
+}
+
+pub returns-clause-bytes : goal.returns-clause-bytes
+returns-clause-bytes g c =
+    let s = c.args.styled.now in
+    subst (λ (p : Print). Puts (g.O.Sink.taken c.args.out.now) (g.O.Sink.taken c.print.new.out) (listing_of p c.args.laid.now.pages.pages) c.print.result)
+    (print_is s.rules s.names s.faces c.args.laid.now.passes c.args.laid.now.flow c.args.boxes.now c.requires.boxes.table c.requires.boxes.boxes) c.print.ensures.bytes
 
 pub returns-in_err-numbers-clause-bytes : goal.returns-in_err-numbers-clause-bytes
 returns-in_err-numbers-clause-bytes g c =
     let p = err_from_is_err_and c.from_residual.result c.from_residual.ensures.1 in
+    rw (p.1, p.2) (keeps_same _)
+
+pub returns-in_err-strings-clause-bytes : goal.returns-in_err-strings-clause-bytes
+returns-in_err-strings-clause-bytes g c =
+    let p = err_from_is_err_and c.from_residual-in_err-strings.result c.from_residual-in_err-strings.ensures.1 in
     rw (p.1, p.2) (keeps_same _)

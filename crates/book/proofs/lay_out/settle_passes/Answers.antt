@@ -12,14 +12,14 @@ returns-clause-settled g c =
     let rows = c.args.boxes.now.table.rows in
     let same : c.new-frames.result.table.rows ≡ rows = ap (λ (t : PageTable). t.rows) (c.new-frames.ensures ∙ c.in_ok-copy.ensures) in
     let frames : table_frames c.new-frames.result.table.rows ≡ page_frames s.rules s.names = ap table_frames same ∙ frames_are s.rules s.names rows c.requires.boxes.table in
-    let is = c.in_ok-settled.ensures.settles in
+    let is = c.in_ok-settle.ensures.settles in
     in_frames s (table_frames c.new-frames.result.table.rows) _ frames is.targets is.are is.ends
 
-pub returns-in_err-settled-clause-stops : goal.returns-in_err-settled-clause-stops
-returns-in_err-settled-clause-stops g c =
+pub returns-in_err-settle-clause-stops : goal.returns-in_err-settle-clause-stops
+returns-in_err-settle-clause-stops g c =
     let s = c.args.styled.now in
     let rows = c.args.boxes.now.table.rows in
     let same : c.new-frames.result.table.rows ≡ rows = ap (λ (t : PageTable). t.rows) (c.new-frames.ensures ∙ c.in_ok-copy.ensures) in
     let frames : table_frames c.new-frames.result.table.rows ≡ page_frames s.rules s.names = ap table_frames same ∙ frames_are s.rules s.names rows c.requires.boxes.table in
-    let p = err_from_is_err_and c.from_residual-in_err-settled.result c.from_residual-in_err-settled.ensures.1 in
-    rw (p.1, p.2) (stops_by s _ (table_frames c.new-frames.result.table.rows) (λ end is. in_frames s (table_frames c.new-frames.result.table.rows) end frames is.targets is.are is.ends) c.in_err-settled.field-0.0 c.in_err-settled.ensures.settles)
+    let p = err_from_is_err_and c.from_residual-in_err-settle.result c.from_residual-in_err-settle.ensures.1 in
+    rw (p.1, p.2) (stops_by s _ (table_frames c.new-frames.result.table.rows) (λ end is. in_frames s (table_frames c.new-frames.result.table.rows) end frames is.targets is.are is.ends) c.in_err-settle.field-0.0 c.in_err-settle.ensures.settles)

@@ -1,4 +1,4 @@
 use Rattle.book.proofs.target.put_target.Goals as goal
 
-pub returns-then-all_stand-clause-bytes : goal.returns-then-all_stand-clause-bytes
-returns-then-all_stand-clause-bytes g c = rw (c.all_stand.ensures c.if-all_stand.true, ← c.as_bytes.ensures.value) c.put_all.ensures.bytes
+pub returns-then-has_no_control-clause-bytes : goal.returns-then-has_no_control-clause-bytes
+returns-then-has_no_control-clause-bytes g c = rw (c.has_no_control.ensures c.if-has_no_control.true, ← c.as_bytes.ensures.value) c.put_all.ensures.bytes

@@ -9,7 +9,7 @@ pub loop-b-init : goal.loop-b-init
 loop-b-init c = refl
 
 pub loop-b-preserved : goal.loop-b-preserved
-loop-b-preserved c = next_stands escape c.as_bytes-b-items.result.now c.loop-b.b-index 0 c.loop-b-test.true c.loop-b.invariant (c.stands.ensures c.if-not-stands.false)
+loop-b-preserved c = next_stands escape c.as_bytes-b-items.result.now c.loop-b.b-index 0 c.loop-b-test.true c.loop-b.invariant (c.is_plain.ensures c.if-not-is_plain.false)
 
 pub returns : goal.returns
 returns c = λ _.

@@ -1,7 +1,7 @@
 use Rattle.std.proofs.Common.{◌≡◌, ◌<◌, ◌-◌, ◌∷◌, [], ◌++◌, ◌∙◌, ℕ, suc, List, length, drop, get_or, ap, subst, arith}
 use Rattle.std.proofs.Math.Seq.{drop-cons}
 use Rattle.paint.specs.Parts.{last_of, part_in}
-use Rattle.paint.specs.declared.parts.Part.{Part}
+use Rattle.paint.specs.declared.parts.Fragment.{Fragment}
 use Rattle.paint.proofs.PartLemmas.{IsStarted, chain_there, started_all, started_none, started_step}
 use Rattle.paint.proofs.gather.open_all.Goals as goal
 
@@ -27,7 +27,7 @@ loop-left-preserved c =
     let t = c.args.tree.now in
     let m = c.args.origin.now.width in
     let chain : List ℕ = c.args.chain.now in
-    let parts : List Part = c.loop-left.parts.items in
+    let parts : List Fragment = c.loop-left.parts.items in
     let left : ℕ = c.loop-left.left - 1 in
     let next : c.loop-left.left ≡ suc left = omega arith in
     let low : left < length chain = (let w = c.loop-left.invariant.within in omega arith) in

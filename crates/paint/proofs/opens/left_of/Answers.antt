@@ -1,7 +1,7 @@
 use Rattle.std.proofs.Common.{◌≡◌, ◌∙◌, ◌<◌, ◌-◌, ℕ, suc, sym, subst, ap, length, arith}
 use Rattle.std.proofs.Math.Seq.{take-length}
 use Rattle.std.proofs.lemmas.Int.{ints}
-use Rattle.paint.specs.declared.opens.Content.{Content}
+use Rattle.boxes.specs.declared.span.Content.{Content}
 use Rattle.paint.proofs.OpenLemmas.{AreUpTo, found_at, not_found, up_to_all, up_to_less}
 use Rattle.paint.proofs.opens.left_of.Goals as goal
 

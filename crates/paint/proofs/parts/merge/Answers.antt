@@ -1,14 +1,14 @@
 use Rattle.std.proofs.Common.{◌≡◌, ◌-◌, ℕ, suc, List, length, ap, sym, ◌∙◌, subst, arith}
 use Rattle.std.proofs.lemmas.List.{length-map}
 use Rattle.paint.specs.Parts.{AreMarks, HaveFrom, bare}
-use Rattle.paint.specs.declared.parts.Part.{Part}
+use Rattle.paint.specs.declared.parts.Fragment.{Fragment}
 use Rattle.paint.proofs.ReachLemmas.{bare_step, merge_step, outers_step, spine_same}
 use Rattle.paint.proofs.parts.merge.Goals as goal
 
 pub loop-at-preserved : goal.loop-at-preserved
 loop-at-preserved c =
-    let old : List Part = c.loop-at.parts.items in
-    let new : List Part = c.hand_on.new.parts.items in
+    let old : List Fragment = c.loop-at.parts.items in
+    let new : List Fragment = c.hand_on.new.parts.items in
     let at : ℕ = c.loop-at.at - 1 in
     let next : c.loop-at.at ≡ suc at = omega arith in
     let rest = bare_step old new at c.hand_on.ensures in

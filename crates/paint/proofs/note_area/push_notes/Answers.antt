@@ -2,7 +2,7 @@ use Rattle.std.proofs.Common.{◌≡◌, ◌+◌, ◌∷◌, [], List, ap, lengt
 use Rattle.boxes.specs.declared.page.Placed.{Placed}
 use Rattle.paint.specs.Views.{items_in}
 use Rattle.paint.proofs.NoteLemmas.{painted_step}
-use Rattle.paint.proofs.notes.push_notes.Goals as goal
+use Rattle.paint.proofs.note_area.push_notes.Goals as goal
 
 pub loop-number-preserved : goal.loop-number-preserved
 loop-number-preserved g c =

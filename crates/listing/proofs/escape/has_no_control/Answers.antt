@@ -2,8 +2,8 @@ use Rattle.std.proofs.Common.{◌≡◌, ◌∙◌, ℕ, List, subst, refl}
 use Rattle.std.specs.List.{flat_map}
 use Rattle.std.proofs.lemmas.List.{take_all}
 use Rattle.listing.proofs.Passing.{next_stands}
-use Rattle.book.specs.Message.{shown_byte}
-use Rattle.book.proofs.target.all_stand.Goals as goal
+use Rattle.listing.specs.Escapes.{shown_byte}
+use Rattle.listing.proofs.escape.has_no_control.Goals as goal
 
 pub loop-b-init : goal.loop-b-init
 loop-b-init c = refl

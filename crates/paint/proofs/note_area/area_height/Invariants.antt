@@ -1,6 +1,6 @@
 use Rattle.std.proofs.Common.{◌≡◌, ◌≤◌, length, drop}
 use Rattle.paint.specs.Pages.{area_height}
-use Rattle.paint.proofs.notes.area_height.Given as goal
+use Rattle.paint.proofs.note_area.area_height.Given as goal
 
 abbrev pub invariant-loop-at : goal.invariant-loop-at
 invariant-loop-at l = record {

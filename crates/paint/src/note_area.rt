@@ -1,16 +1,19 @@
 //! Items of the note area of a page.
 
-ghost use Rattle.std.specs.Prelude.{◌≡◌, ℕ, ◌+◌, ◌≤◌, ◌++◌, ◌∷◌, [], All, OnOk, IfSome, Some, length, slice_get, option_map};
+ghost use Rattle.std.specs.Prelude.{◌≡◌, ◌+◌, ◌≤◌, ◌∷◌, [], OnOk, IfSome, Some, ◌+ℤ◌, length, slice_get, option_map};
+ghost use Rattle.std.specs.Int.{int_max};
 ghost use Rattle.std.specs.List.{flat_map, range_with_len};
 ghost use Rattle.boxes.specs.declared.flow.Note.{Note};
-ghost use Rattle.paint.specs.Conditions.{CanBePainted};
+ghost use Rattle.paint.specs.Conditions.{CanNotesBePainted};
 ghost use Rattle.paint.specs.Groups.{GoesOn};
 ghost use Rattle.paint.specs.Items.{for_some};
-ghost use Rattle.paint.specs.Pages.{area_height, area_items, area_origin, note_items, separator_at, tree_items};
-ghost use Rattle.paint.specs.Views.{HasItemFace, items_in};
+ghost use Rattle.paint.specs.Pages.{area_height, area_items, area_origin, note_items, separator_area, separator_at, tree_items};
+ghost use Rattle.paint.specs.Views.{Adds, HaveItemFaces, items_in};
 
-use crate::item::{Area, Canvas, ItemRef, Origin, sum};
+use crate::item::{Area, Canvas, ItemRef, SolidOrigin, sum};
+use crate::rects::push_rect;
 use crate::trees::push_tree;
+use bk_num::limits::SEPARATOR;
 use bk_num::name::NoMem;
 use bk_num::steps::Steps;
 use bk_num::values::Color;
@@ -21,14 +24,18 @@ use metrics::Faces;
 use std::alloc::Global;
 use std::sync::ledger::Ledger;
 
-/// The room of the separator, in which its line is 64 units high, 256 below the top.
-const SEPARATOR: i64 = 512;
-
 const BLACK: Color = Color {
     red: 0,
     green: 0,
     blue: 0,
 };
+
+/// A height that reaches at least to the bottom of a solid. None where that is past 64 bits.
+fn height_with(solid: &Placed, height: i64) -> Option<i64>
+    ensures { IfSome result (λ h. h ≡ int_max (solid.now.top +ℤ solid.now.height) height) }
+{
+    Some(sum(solid.top, solid.height)?.max(height))
+}
 
 /// The height of a note area. None where it is past 64 bits.
 fn area_height(notes: &[PlacedNote]) -> Option<i64>
@@ -38,22 +45,33 @@ fn area_height(notes: &[PlacedNote]) -> Option<i64>
     let mut at = notes.len();
     while at > 0 {
         at -= 1;
-        let (_, s) = notes[at];
-        height = sum(s.top, s.height)?.max(height);
+        height = height_with(&notes[at].1, height)?;
     }
     Some(height)
 }
 
 /// What the places of a page's note solids count from. None where it is past 64 bits.
-fn area_origin(frame: &Frame, notes: &[PlacedNote]) -> Option<Origin>
+fn area_origin(frame: &Frame, notes: &[PlacedNote]) -> Option<SolidOrigin>
     ensures { IfSome result (λ origin. origin ≡ area_origin frame.now notes.now) }
 {
     let bottom = sum(frame.top, frame.height)?;
     let top = bottom.checked_sub(area_height(notes)?)?;
-    Some(Origin {
+    Some(SolidOrigin {
         left: frame.left,
         top,
         width: frame.width,
+    })
+}
+
+/// Where the separator stands. None where it is past 64 bits.
+fn separator_area(origin: &SolidOrigin) -> Option<Area>
+    ensures { IfSome result (λ area. area ≡ separator_area origin.now) }
+{
+    Some(Area {
+        x: origin.left,
+        y: sum(origin.top, SEPARATOR.div_euclid(2))?,
+        w: origin.width.div_euclid(3),
+        h: 64,
     })
 }
 
@@ -61,26 +79,16 @@ fn area_origin(frame: &Frame, notes: &[PlacedNote]) -> Option<Origin>
 fn push_separator<'a>(
     out: &mut Vec<ItemRef<'a>>,
     faces: &Faces,
-    origin: &Origin,
+    origin: &SolidOrigin,
 ) -> Result<(), NoMem>
-    requires faces { All (HasItemFace faces.now) out.old.items }
-    ensures items { OnOk result (items_in faces.now out.new.items ≡ items_in faces.now out.old.items ++ separator_at origin.now ∷ []) }
-    ensures faces { OnOk result (All (HasItemFace faces.now) out.new.items) }
+    requires faces { HaveItemFaces faces.now out.old.items }
+    ensures items { OnOk result (Adds faces.now out.old.items (separator_at origin.now ∷ []) out.new.items) }
+    ensures faces { OnOk result (HaveItemFaces faces.now out.new.items) }
 {
-    let _faces = faces;
-    let Some(y) = sum(origin.top, SEPARATOR / 2) else {
+    let Some(area) = separator_area(origin) else {
         return Err(NoMem);
     };
-    let area = Area {
-        x: origin.left,
-        y,
-        w: origin.width.div_euclid(3),
-        h: 64,
-    };
-    if out.push(ItemRef::Rect { area, color: BLACK }).is_err() {
-        return Err(NoMem);
-    }
-    Ok(())
+    push_rect(out, faces, area, BLACK)
 }
 
 /// The note of a number.
@@ -107,14 +115,16 @@ fn push_note<'a, L: Ledger>(
     out: &mut Vec<ItemRef<'a>>,
     faces: &'a Faces,
     notes: &'a [Note],
-    origin: Origin,
+    origin: SolidOrigin,
     group: &Group,
     steps: &mut Steps<L>,
 ) -> Result<(), NoMem>
-    requires bodies { (n : ℕ) (note : Note) → slice_get notes.now n ≡ Some note → CanBePainted faces.now note.body }
-    requires faces { All (HasItemFace faces.now) out.old.items }
-    ensures items { OnOk result (items_in faces.now out.new.items ≡ items_in faces.now out.old.items ++ for_some (λ (note : Note). tree_items faces.now note.body origin group.now.solids.items) (slice_get notes.now group.now.number)) }
-    ensures faces { OnOk result (All (HasItemFace faces.now) out.new.items) }
+    requires bodies { CanNotesBePainted faces.now notes.now }
+    requires faces { HaveItemFaces faces.now out.old.items }
+    ensures items { OnOk result (Adds faces.now out.old.items
+        (for_some (λ (note : Note). tree_items faces.now note.body origin group.now.solids.items)
+        (slice_get notes.now group.now.number)) out.new.items) }
+    ensures faces { OnOk result (HaveItemFaces faces.now out.new.items) }
     ensures steps { steps.new ≤ steps.old + length group.now.solids.items }
 {
     let Some(note) = note_at(notes, group.number) else {
@@ -129,23 +139,25 @@ fn push_note<'a, L: Ledger>(
     Ok(())
 }
 
-/// Turns to a later note, or stays: adds what is painted of the note that was met. Want of memory where it is an earlier
-/// one. It takes at most a step for each solid that goes.
+/// Turns to a later note, or stays: adds what is painted of the note that was met. Want of memory where it is an
+/// earlier one. It takes at most a step for each solid that goes.
 fn turn_to<'a, L: Ledger>(
     alloc: Global,
     out: &mut Vec<ItemRef<'a>>,
     faces: &'a Faces,
     notes: &'a [Note],
-    origin: Origin,
+    origin: SolidOrigin,
     group: &mut Group,
     next: usize,
     steps: &mut Steps<L>,
 ) -> Result<(), NoMem>
-    requires bodies { (n : ℕ) (note : Note) → slice_get notes.now n ≡ Some note → CanBePainted faces.now note.body }
-    requires faces { All (HasItemFace faces.now) out.old.items }
-    ensures items { OnOk result (GoesOn faces.now notes.now origin (items_in faces.now out.old.items) group.old.number group.old.solids.items (items_in faces.now out.new.items) group.new.number group.new.solids.items) }
+    requires bodies { CanNotesBePainted faces.now notes.now }
+    requires faces { HaveItemFaces faces.now out.old.items }
+    ensures items { OnOk result (GoesOn faces.now notes.now origin
+        (items_in faces.now out.old.items) group.old.number group.old.solids.items
+        (items_in faces.now out.new.items) group.new.number group.new.solids.items) }
     ensures number { OnOk result (group.new.number ≡ next) }
-    ensures faces { OnOk result (All (HasItemFace faces.now) out.new.items) }
+    ensures faces { OnOk result (HaveItemFaces faces.now out.new.items) }
     ensures steps { steps.new ≤ steps.old + length group.old.solids.items }
     ensures rest { OnOk result (steps.new + length group.new.solids.items ≤ steps.old + length group.old.solids.items) }
 {
@@ -167,14 +179,16 @@ fn push_notes<'a, L: Ledger>(
     out: &mut Vec<ItemRef<'a>>,
     faces: &'a Faces,
     notes: &'a [Note],
-    origin: Origin,
+    origin: SolidOrigin,
     placed: &[PlacedNote],
     steps: &mut Steps<L>,
 ) -> Result<(), NoMem>
-    requires bodies { (n : ℕ) (note : Note) → slice_get notes.now n ≡ Some note → CanBePainted faces.now note.body }
-    requires faces { All (HasItemFace faces.now) out.old.items }
-    ensures items { OnOk result (items_in faces.now out.new.items ≡ items_in faces.now out.old.items ++ flat_map (note_items faces.now notes.now origin placed.now) (range_with_len 0 (length notes.now))) }
-    ensures faces { OnOk result (All (HasItemFace faces.now) out.new.items) }
+    requires bodies { CanNotesBePainted faces.now notes.now }
+    requires faces { HaveItemFaces faces.now out.old.items }
+    ensures items { OnOk result (Adds faces.now out.old.items
+        (flat_map (note_items faces.now notes.now origin placed.now)
+        (range_with_len 0 (length notes.now))) out.new.items) }
+    ensures faces { OnOk result (HaveItemFaces faces.now out.new.items) }
     ensures steps { steps.new ≤ steps.old + length placed.now }
 {
     let mut group = Group {
@@ -217,10 +231,11 @@ pub(crate) fn push_area<'a, L: Ledger>(
     placed: &[PlacedNote],
     steps: &mut Steps<L>,
 ) -> Result<(), NoMem>
-    requires bodies { (n : ℕ) (note : Note) → slice_get notes.now n ≡ Some note → CanBePainted faces.now note.body }
-    requires faces { All (HasItemFace faces.now) out.old.items }
-    ensures items { OnOk result (items_in faces.now out.new.items ≡ items_in faces.now out.old.items ++ area_items faces.now notes.now frame.now placed.now) }
-    ensures faces { OnOk result (All (HasItemFace faces.now) out.new.items) }
+    requires bodies { CanNotesBePainted faces.now notes.now }
+    requires faces { HaveItemFaces faces.now out.old.items }
+    ensures items { OnOk result (Adds faces.now out.old.items
+        (area_items faces.now notes.now frame.now placed.now) out.new.items) }
+    ensures faces { OnOk result (HaveItemFaces faces.now out.new.items) }
     ensures steps { steps.new ≤ steps.old + length placed.now }
 {
     if placed.is_empty() {

@@ -2,7 +2,7 @@ use Rattle.std.proofs.Common.{◌≤◌, ◌+◌, length, take}
 use Rattle.std.specs.List.{All}
 use Rattle.paint.specs.Groups.{IsPainted}
 use Rattle.paint.specs.Views.{HasItemFace, items_in}
-use Rattle.paint.proofs.notes.push_notes.Given as goal
+use Rattle.paint.proofs.note_area.push_notes.Given as goal
 
 abbrev pub invariant-loop-number : goal.invariant-loop-number
 invariant-loop-number g l = record {

@@ -1,7 +1,7 @@
 use Rattle.std.proofs.Common.{◌<◌, ℕ, arith}
 use Rattle.paint.specs.Views.{items_in}
 use Rattle.paint.proofs.NoteLemmas.{painted_to}
-use Rattle.paint.proofs.notes.turn_to.Goals as goal
+use Rattle.paint.proofs.note_area.turn_to.Goals as goal
 
 pub returns-clause-items : goal.returns-clause-items
 returns-clause-items g c =
