@@ -51,6 +51,20 @@ class Book(Folder):
         with pikepdf.open(self.path("b.pdf")) as pdf:
             self.assertEqual((len(pdf.pages), str(pdf.docinfo["/Title"])), (1, "A & B"))
 
+    def test_unread(self):
+        told = "sheet 2:3: declaration not read: colr: red\\nhtml: table is set as blocks: t\\n"
+        asked = f"if [ \"$1\" = --unread ]; then\n  echo \"$*\" >'{self.folder}/asked'; printf '{told}'; exit 1\nfi\n"
+        program = PROGRAM.format(folder=self.folder)
+        self.write("program", program.replace("\n", f"\n{asked}", 1))
+        status, _, err = self.book("--unread", "--fonts", ".", "m.txt", "b.html", "a.css", "b.css")
+        self.assertEqual(status, 0, err)
+        self.assertEqual(self.read("asked"), "--unread format -- m.txt b.html a.css b.css\n")
+        self.assertEqual(
+            err.splitlines()[:2],
+            ["unread: b.css:3: declaration not read: colr: red", "unread: html: table is set as blocks: t"],
+        )
+        self.assertEqual(self.book("--unread", "--strict", "--fonts", ".", "m.txt", "b.html", "a.css", "b.css")[0], 1)
+
     def test_options(self):
         status, _, err = self.book(
             "m.txt",

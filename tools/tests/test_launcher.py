@@ -19,8 +19,8 @@ case $1 in
     [ ! -e "$here/fails" ] || exit 1
     echo "== bookfmt"; echo "logic=proved bookfmt"; echo "== summary"; echo "2 of 2 crates ok" ;;
   run)
-    printf '#!/bin/sh\necho "words: $*"\necho "in: $(cat)"\nexit 3\n' >out/bookfmt
-    chmod +x out/bookfmt; echo "logic=proved"; exit 2 ;;
+    printf '#!/bin/sh\necho "words: $*"\necho "in: $(cat)"\nexit 3\n' >"out/${PWD##*/}"
+    chmod +x "out/${PWD##*/}"; echo "logic=proved"; exit 2 ;;
   try)
     [ ! -e "$here/large" ] || { echo "out of room" >&2; echo "run=none proved=no" >&2; exit 6; }
     while [ "$1" != -- ]; do [ "$1" != --data ] || { echo "data ${2%%=*}: $(cat "${2#*=}")"; }; shift; done
@@ -105,6 +105,20 @@ class Launcher(Folder):
         first, second = self.calls()
         self.assertRegex(first, "^crates/bookfmt all check --jobs [1-9][0-9]*$")
         self.assertEqual(second, "crates/bookfmt run")
+
+    def test_unread_is_a_program_of_its_own(self):
+        os.makedirs(self.path("crates/unread/src"))
+        self.write("crates/unread/src/main.rt", "1")
+        self.write("crates.txt", "low:\nbookfmt: low std\nunread: low std\n")
+        status, out, err = self.start("--unread", "format", "a b")
+        self.assertEqual((status, out), (3, "words: format a b\nin: x\n"))
+        self.assertIn("2 crates", err)
+        first, second = self.calls()
+        self.assertRegex(first, "^crates/unread all check --jobs [1-9][0-9]*$")
+        self.assertEqual(second, "crates/unread run")
+        self.assertEqual(self.start("--unread"), (3, "words: \nin: x\n", ""))
+        self.start()
+        self.assertEqual(self.calls()[-1], "crates/bookfmt run")
 
     def test_a_start_over_the_same_sources_asks_for_nothing(self):
         self.start()

@@ -1,0 +1,57 @@
+//! What a run comes to.
+
+ghost use Rattle.std.specs.Prelude.{◌≡◌};
+ghost use Rattle.unread.specs.Status.{status_of};
+
+/// One of the files that the words name. Sheets are numbered from 1.
+#[derive(Clone, Copy)]
+pub enum FileOf {
+    Metrics,
+    Html,
+    Sheet(u64),
+}
+
+/// What a run comes to.
+#[derive(Clone, Copy)]
+pub enum Outcome {
+    /// Nothing was found.
+    Clean,
+    /// Something was found, and its lines were written.
+    Found,
+    /// The words ask for help.
+    Help,
+    /// The words ask for nothing that the program does.
+    Usage,
+    /// A file could not be read.
+    CannotRead(FileOf),
+    /// A file has more than 16,777,216 bytes.
+    TooLarge(FileOf),
+    /// A file isn't UTF-8.
+    NotUtf8(FileOf),
+    /// The metrics text has no reading: its first bad line, from 1.
+    BadMetrics(u32),
+    /// There are more than 400,000 nodes, elements more than 200 deep, or more than 16 sheets.
+    Limit,
+    /// The lines could not be written.
+    CannotWrite,
+    /// Memory ran out.
+    NoMemory,
+}
+
+impl Outcome {
+    /// The status that the program ends with.
+    pub fn status(&self) -> u8
+        ensures { result ≡ status_of self.now }
+    {
+        match self {
+            Outcome::Clean | Outcome::Help => 0,
+            Outcome::Found | Outcome::CannotRead(_) => 1,
+            Outcome::Usage => 2,
+            Outcome::NotUtf8(_) => 3,
+            Outcome::BadMetrics(_) => 5,
+            Outcome::CannotWrite => 7,
+            Outcome::TooLarge(_) | Outcome::Limit => 8,
+            Outcome::NoMemory => 9,
+        }
+    }
+}

@@ -1,0 +1,90 @@
+//! Texts of a report.
+
+ghost use Rattle.std.specs.Prelude.{◌≡◌, ◌<◌, ◌≤◌, ◌++◌, ◌==◌, not, length, OnOk};
+ghost use Rattle.std.specs.Char.{digit_char};
+ghost use Rattle.std.specs.List.{flat_map};
+ghost use Rattle.unread.specs.Report as spec;
+
+use bk_num::name::NoMem;
+use css_tok::lengths::is_blank;
+use itoa::Buffer;
+
+/// Appends a text.
+pub(crate) fn push(out: &mut Vec<u8>, text: &str) -> Result<(), NoMem>
+    ensures { OnOk result (out.new.items ≡ out.old.items ++ text.now) }
+{
+    Ok(out.extend_from_slice(text.as_bytes())?)
+}
+
+/// Appends a number.
+pub(crate) fn push_number(out: &mut Vec<u8>, number: u64) -> Result<(), NoMem>
+    ensures { OnOk result (out.new.items ≡ out.old.items ++ spec.decimal number) }
+{
+    let mut buffer = Buffer::new();
+    push(out, buffer.format(number))
+}
+
+/// A hexadecimal digit in lower case.
+fn hex_digit(n: u8) -> u8
+    requires { n < 16 }
+    ensures { result ≡ digit_char n }
+{
+    if n < 10 { b'0' + n } else { b'a' + (n - 10) }
+}
+
+/// Appends a byte of a text as a line shows it.
+#[tactic(auto, unfolding(crate::specs::Report::shown_byte))]
+fn push_byte(out: &mut Vec<u8>, b: u8) -> Result<(), NoMem>
+    ensures { OnOk result (out.new.items ≡ out.old.items ++ spec.shown_byte b) }
+{
+    if b < 32 || b == 127 {
+        Ok(out.extend_from_slice(&[b'\\', b'x', hex_digit(b / 16), hex_digit(b % 16)])?)
+    } else {
+        Ok(out.extend_from_slice(&[b])?)
+    }
+}
+
+/// How long the first line of a text is.
+fn line_len(text: &[u8]) -> usize
+    ensures value { result ≡ spec.line_len text.now }
+    ensures within { result ≤ length text.now }
+{
+    let mut len = 0;
+    while len < text.len() && text[len] != b'\n' {
+        len += 1;
+    }
+    len
+}
+
+/// How many of the first bytes are left without the white space at their end.
+#[tactic(auto, unfolding(crate::specs::Report::trimmed_len))]
+fn trimmed_len(text: &[u8], len: usize) -> usize
+    requires { len ≤ length text.now }
+    ensures value { result ≡ spec.trimmed_len text.now len }
+    ensures within { result ≤ len }
+{
+    let mut end = len;
+    while 0 < end && is_blank(text[end - 1]) {
+        end -= 1;
+    }
+    end
+}
+
+/// Appends bytes as a line shows them.
+fn push_bytes(out: &mut Vec<u8>, bytes: &[u8]) -> Result<(), NoMem>
+    ensures { OnOk result (out.new.items ≡ out.old.items ++ flat_map spec.shown_byte bytes.now) }
+{
+    for b in bytes {
+        push_byte(out, *b)?;
+    }
+    Ok(())
+}
+
+/// Appends what a line shows of a text.
+pub(crate) fn push_shown(out: &mut Vec<u8>, text: &str) -> Result<(), NoMem>
+    ensures { OnOk result (out.new.items ≡ out.old.items ++ spec.shown text.now) }
+{
+    let bytes = text.as_bytes();
+    let len = trimmed_len(bytes, line_len(bytes));
+    push_bytes(out, &bytes[..len])
+}
