@@ -1,5 +1,5 @@
-//! Runs the books of files and prints the files again, each book with what its run gave in place of what is wanted of it. So
-//! the output is a copy of the files, and what differs is a wrong answer.
+//! Runs the books of files and prints the files again, each book with what its run gave in place of what is wanted of
+//! it. So the output is a copy of the files, and what differs is a wrong answer.
 #![tactic(auto)]
 
 mod books;

@@ -134,8 +134,8 @@ fn push_failing<F: Shelf>(
     }
 }
 
-/// Puts what a run over a shelf gave at the end. The put that is to fail stands in a heading, with how much a put takes; so does
-/// the room for the listing.
+/// Puts what a run over a shelf gave at the end. The put that is to fail stands in a heading, with how much a put
+/// takes; so does the room for the listing.
 fn push_written<F: Shelf>(
     printed: &mut String,
     alloc: Global,

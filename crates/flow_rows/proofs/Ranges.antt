@@ -2,6 +2,7 @@
 use Rattle.std.proofs.Common.{ℕ, List}
 use Rattle.bk_num.specs.declared.length.Len.{Len}
 use Rattle.bk_num.specs.declared.length.Len.TheVariants as len
+use Rattle.bk_num.specs.declared.sides.BoxSide.TheVariants as side
 use Rattle.boxes.specs.Contents.{IsNotNegative, IsNotAuto}
 use Rattle.box_gen.specs.Sources.{IsHeight, IsInRange, AreInRange}
 use Rattle.cascade.specs.declared.sheet.ReadSheet.{ReadSheet}
@@ -32,18 +33,18 @@ in_range : (s : Style) → IsComputed s → IsInRange s
 in_range s (font, borders, paddings, margins, width, indent) = record {
   size = font.size;
   height = high s.line_height font.height;
-  border_top = borders.top;
-  border_right = borders.right;
-  border_bottom = borders.bottom;
-  border_left = borders.left;
-  padding_top = least s.padding_top paddings.top.least;
-  padding_right = least s.padding_right paddings.right.least;
-  padding_bottom = least s.padding_bottom paddings.bottom.least;
-  padding_left = least s.padding_left paddings.left.least;
-  given_top = not_auto s.padding_top paddings.top.given;
-  given_right = not_auto s.padding_right paddings.right.given;
-  given_bottom = not_auto s.padding_bottom paddings.bottom.given;
-  given_left = not_auto s.padding_left paddings.left.given;
+  border_top = borders side.Top;
+  border_right = borders side.Right;
+  border_bottom = borders side.Bottom;
+  border_left = borders side.Left;
+  padding_top = least s.padding_top (paddings side.Top).least;
+  padding_right = least s.padding_right (paddings side.Right).least;
+  padding_bottom = least s.padding_bottom (paddings side.Bottom).least;
+  padding_left = least s.padding_left (paddings side.Left).least;
+  given_top = not_auto s.padding_top (paddings side.Top).given;
+  given_right = not_auto s.padding_right (paddings side.Right).given;
+  given_bottom = not_auto s.padding_bottom (paddings side.Bottom).given;
+  given_left = not_auto s.padding_left (paddings side.Left).given;
   width = least s.width width;
   indent = not_auto s.text_indent indent;
 }

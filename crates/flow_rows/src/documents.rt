@@ -1,5 +1,5 @@
-//! Documents and their flows: by the default sheet and an author's, in a face of 16 units to the em, each of whose characters has 8 and a
-//! combining mark 0.
+//! Documents and their flows: by the default sheet and an author's, in a face of 16 units to the em, each of whose
+//! characters has 8 and a combining mark 0.
 
 ghost use Rattle.std.specs.Prelude.{IfOk};
 ghost use Rattle.box_gen.specs.Sources.{AreInRange};

@@ -22,8 +22,8 @@ pub(crate) struct Form {
     pub(crate) line_height: u16,
 }
 
-/// A leaf: its text, its ordinary and its emergency places, where its second span begins, the forms of both spans and of the strut, and
-/// how its lines are set.
+/// A leaf: its text, its ordinary and its emergency places, where its second span begins, the forms of both spans and
+/// of the strut, and how its lines are set.
 #[derive(Clone, Copy)]
 pub(crate) struct Shape<'a> {
     pub(crate) text: &'a str,

@@ -1,6 +1,6 @@
-//! Worked rows of flows: trees of boxes, texts and their lines, seams, frames. A line of standard input is `CALL|PART|PART.. => ANSWER`,
-//! with the answer that is wanted; it is printed again with the answer that the library gives. So the file `stdout` is a copy of `stdin`,
-//! and what differs is a wrong answer.
+//! Worked rows of flows: trees of boxes, texts and their lines, seams, frames. A line of standard input is
+//! `CALL|PART|PART.. => ANSWER`, with the answer that is wanted; it is printed again with the answer that the library
+//! gives. So the file `stdout` is a copy of `stdin`, and what differs is a wrong answer.
 #![tactic(auto)]
 
 mod answers;

@@ -8,7 +8,7 @@ use bk_num::name::NoMem;
 use boxes::frames::Demand;
 use boxes::place::Position;
 use boxes::tree::BoxTree;
-use seams::level::{leaves_few, level};
+use seams::level::{kept_lines, level, too_few};
 use seams::seam::seam;
 use seams::seam_info::{Class, SeamInfo};
 use std::alloc::Global;
@@ -43,8 +43,8 @@ fn found(tree: &BoxTree, at: Position) -> Option<SeamInfo> {
     }
 }
 
-/// The seam before an event or inside a leaf: its class, the demand of a forced break, both gaps, whether a break is to be avoided, and
-/// the page name in quotes.
+/// The seam before an event or inside a leaf: its class, the demand of a forced break, both gaps, whether a break is to
+/// be avoided, and the page name in quotes.
 pub(crate) fn seam_at(
     alloc: Global,
     tree: &BoxTree,
@@ -98,7 +98,8 @@ pub(crate) fn level_at(
     let (before, after) = lines.split_once(' ').unwrap_or((lines, "0"));
     let before = before.parse::<u32>().unwrap_or(0);
     let after = after.parse::<u32>().unwrap_or(0);
-    let few = if leaves_few(tree, at.event, before, after) {
+    let kept = kept_lines(tree, at.event);
+    let few = if too_few(kept.orphans, kept.widows, before as usize, after as usize) {
         "few"
     } else {
         "enough"

@@ -40,6 +40,7 @@ fn note_of(alloc: Global, faces: &Faces, note: &NoteInShort<'_>) -> Result<Note,
     ensures call { IfOk result (λ n. n.call ≡ note.now.call) }
 {
     let body = tree_of(alloc, note.body.as_slice())?;
+    // that the tree is one that can be built
     let _count = body.count();
     Ok(Note {
         call: note.call,
@@ -49,7 +50,8 @@ fn note_of(alloc: Global, faces: &Faces, note: &NoteInShort<'_>) -> Result<Note,
 
 /// Whether a call stands before the last one of a list.
 fn falls(list: &[Note], call: Position) -> bool
-    ensures { result ≡ false → (k : ℕ) (a : Note) → k + 1 ≡ length list.now → slice_get list.now k ≡ Some a → is_before call a.call ≡ false }
+    ensures { result ≡ false → (k : ℕ) (a : Note) → k + 1 ≡ length list.now → slice_get list.now k ≡ Some a →
+        is_before call a.call ≡ false }
 {
     match list.last() {
         Some(last) => is_before(call, last.call),
@@ -87,6 +89,7 @@ pub fn flow_with_notes(
     ensures paged { IfOk result (λ flow. CanBePaged faces.now flow) }
 {
     let tree = tree_of(alloc, steps)?;
+    // that the tree is one that can be built
     let _count = tree.count();
     let list = notes_of(alloc, faces, notes)?;
     Ok(Flow {

@@ -2,24 +2,24 @@
 
 ghost use Rattle.std.specs.Prelude.{◌≡◌, All, None};
 ghost use Rattle.cuts.specs.Areas.{IsArea};
-ghost use Rattle.cuts.specs.Rows.{AreForcedBetween, IsSmall};
+ghost use Rattle.cuts.specs.Rows.{AreForcedBetween, IsSmallRow};
 
 use crate::notation::unknown;
 use bk_num::ids::NameId;
 use bk_num::name::NoMem;
 use cuts::cut::cut_noted;
 use cuts::look::Look;
-use cuts::row::{Room, Row};
+use cuts::row::{PageRoom, SolidRow};
 use rows::number;
 use seams::seam_info::{Class, SeamInfo};
 use std::alloc::Global;
 
 /// A line with a gap of 100 where it is the page's first.
-const fn line(class: Class) -> Row
-    ensures small { IsSmall result }
+const fn line(class: Class) -> SolidRow
+    ensures small { IsSmallRow result }
     ensures free { result.seam.forced ≡ None }
 {
-    Row {
+    SolidRow {
         seam: SeamInfo {
             class,
             forced: None,
@@ -36,8 +36,8 @@ const fn line(class: Class) -> Row
 
 /// Six lines of one leaf.
 #[tactic(auto, using(cuts::proofs::PointLemmas::free_between))]
-fn leaf() -> [Row; 6]
-    ensures small { All IsSmall result }
+fn leaf() -> [SolidRow; 6]
+    ensures small { All IsSmallRow result }
     ensures between { AreForcedBetween result }
 {
     [
@@ -73,10 +73,10 @@ fn areas(part: &str) -> [i64; 6]
 }
 
 /// The room of a page: `kept` or `dropped` for the gap at its top, its height, and the area of the carried notes.
-fn room(kept: &str, height: &str, carried: &str) -> Room
+fn room(kept: &str, height: &str, carried: &str) -> PageRoom
     ensures { IsArea result.carried }
 {
-    Room {
+    PageRoom {
         kept: kept == "kept",
         height: number(height),
         carried: area(Some(carried)),
@@ -84,17 +84,17 @@ fn room(kept: &str, height: &str, carried: &str) -> Room
 }
 
 /// The cut of the six lines, as a level and a number of lines.
-fn cut(areas: &[i64; 6], room: &Room) -> (u8, usize)
+fn cut(areas: &[i64; 6], room: &PageRoom) -> (u8, usize)
     requires areas { All IsArea areas.now }
     requires carried { IsArea room.now.carried }
 {
     let rows = leaf();
     let cut = cut_noted(&rows, areas, room);
-    (cut.level, cut.count)
+    (cut.level.number(), cut.count)
 }
 
 /// How many of the lines are read until the cut is told.
-fn lines_read(areas: &[i64; 6], room: &Room) -> usize
+fn lines_read(areas: &[i64; 6], room: &PageRoom) -> usize
     requires areas { All IsArea areas.now }
     requires carried { IsArea room.now.carried }
 {

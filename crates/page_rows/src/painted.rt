@@ -197,6 +197,7 @@ fn tree_of(alloc: Global, faces: &Faces, sides: &[i64], leaf: Leaf) -> Result<Bo
     requires owner { All (λ lead. lead.owner ≡ 2) leaf.leads }
     ensures { IfOk result (λ tree. CanBePainted faces.now tree) }
 {
+    // only contracts name the faces
     let _faces = faces;
     let mut tree = BoxTree::new(alloc);
     let opened = open_all(&mut tree, sides);

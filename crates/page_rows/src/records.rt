@@ -14,7 +14,7 @@ use listing::records::PageHead;
 use listing::write::{write_end, write_head, write_page};
 use margin_box::items::MarginText;
 use metrics::Faces;
-use paint::item::{Area, ItemRef, Style};
+use paint::item::{Area, ItemRef, TextPlace};
 use rows::escaped;
 use std::alloc::Global;
 use std::str::from_utf8;
@@ -34,10 +34,10 @@ const AREA: Area = Area {
     h: 1280,
 };
 
-fn style_in(face: FaceId) -> Style
+fn style_in(face: FaceId) -> TextPlace
     ensures { result.face ≡ face }
 {
-    Style {
+    TextPlace {
         x: 3,
         y: -4,
         face,

@@ -50,8 +50,8 @@ fn ask_of_sheets(alloc: Global, into: &mut String, parts: &[&str]) -> Answered {
     }
 }
 
-/// What is answered to the parts of a question: `nothing` where that has no text, `-` where a text has no reading, and `?` where the
-/// question has no known form.
+/// What is answered to the parts of a question: `nothing` where that has no text, `-` where a text has no reading, and
+/// `?` where the question has no known form.
 fn answer_to(alloc: Global, parts: &[&str]) -> Result<String, AllocError> {
     let mut text = String::new(alloc);
     let answered = ask(alloc, &mut text, parts);

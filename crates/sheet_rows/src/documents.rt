@@ -6,8 +6,8 @@ use dom::Dom;
 use html_tree::read_html;
 use std::alloc::Global;
 
-/// A row of a document: the number of an element, what it gets (`e` an element, `t` a text, else an attribute of that name), and the
-/// name, text or value.
+/// A row of a document: the number of an element, what it gets (`e` an element, `t` a text, else an attribute of that
+/// name), and the name, text or value.
 fn grow(alloc: Global, dom: &mut Dom, row: &str) -> Answered {
     let (number, rest) = row.split_once(' ').unwrap_or((row, ""));
     let (kind, text) = rest.split_once(' ').unwrap_or((rest, ""));

@@ -1,5 +1,5 @@
-//! Worked rows of the crates that read style sheets. A line of standard input is `CALL|PART|PART.. => ANSWER`, with the answer that is
-//! wanted; it is printed again with the answer that the library gives.
+//! Worked rows of the crates that read style sheets. A line of standard input is `CALL|PART|PART.. => ANSWER`, with the
+//! answer that is wanted; it is printed again with the answer that the library gives.
 #![tactic(auto)]
 
 mod answers;

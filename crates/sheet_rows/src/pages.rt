@@ -96,8 +96,8 @@ fn print_rule(into: &mut String, rule: &PageRule) -> Written {
     Ok(())
 }
 
-/// How many longhands each declaration of a page rule gives, `!` where it is important, and the number of each of its boxes and
-/// of that box's declarations.
+/// How many longhands each declaration of a page rule gives, `!` where it is important, and the number of each of its
+/// boxes and of that box's declarations.
 fn counts(into: &mut String, rule: &PageRule) -> Written {
     for decl in rule.decls.as_slice() {
         let mark = if decl.important { "!" } else { "" };

@@ -5,11 +5,11 @@ use crate::printed::{Printed, Written, print_all};
 use crate::unanswered::{Answered, Unanswered, done};
 use bk_num::ids::NodeId;
 use bk_num::values::Pseudo;
-use cascade::choice::{Applied, choose};
+use cascade::choice::{AppliedDecls, choose};
 use cascade::decl::ReadDecl;
 use cascade::sheet::{Origin, ReadSheet, read_rules};
 use cascade::table::{NodeWinners, WinnerTable};
-use cascade::weight::Weight;
+use cascade::weight::DeclWeight;
 use cascade::winners::{all_winners, winners};
 use css_rules::decls::{DeclSlice, read_decls};
 use css_rules::sheet::read_sheet;
@@ -24,8 +24,8 @@ fn whole(text: &str) -> u32 {
 }
 
 /// The weight of a rule, by whether it is the author's and the numbers of its specificity and its place.
-fn weight_of(author: bool, numbers: &[u32]) -> Weight {
-    Weight {
+fn weight_of(author: bool, numbers: &[u32]) -> DeclWeight {
+    DeclWeight {
         important: false,
         author,
         styled: false,
@@ -47,9 +47,9 @@ fn nth(numbers: &[u32], place: usize) -> u32 {
 }
 
 /// The weight of a style attribute, or of a rule: its origin, specificity and place.
-fn weight(alloc: Global, text: &str) -> Result<Weight, AllocError> {
+fn weight(alloc: Global, text: &str) -> Result<DeclWeight, AllocError> {
     if text == "style" {
-        return Ok(Weight::of_style());
+        return Ok(DeclWeight::of_style());
     }
     let mut numbers = Vec::new(alloc);
     for word in text.split(' ') {
@@ -98,11 +98,11 @@ fn applied<'a>(
     alloc: Global,
     weights: &str,
     all: &'a [Vec<ReadDecl>],
-) -> Result<Vec<Applied<'a>>, AllocError> {
+) -> Result<Vec<AppliedDecls<'a>>, AllocError> {
     let mut rules = Vec::new(alloc);
     for (text, decls) in weights.split(", ").zip(all) {
         let weight = weight(alloc, text)?;
-        rules.push(Applied { weight, decls })?;
+        rules.push(AppliedDecls { weight, decls })?;
     }
     Ok(rules)
 }

@@ -6,7 +6,8 @@ use bk_num::name::NoMem;
 use rows::question_of;
 use std::alloc::{AllocError, Global};
 
-/// Puts the answer to a question at the end: of a number in some styles, of a document by its sheet, or of numbers alone.
+/// Puts the answer to a question at the end: of a number in some styles, of a document by its sheet, or of numbers
+/// alone.
 fn push_answer(alloc: Global, answer: &mut String, question: &Question<'_>) -> Result<(), NoMem> {
     match question.call {
         "numerals" => counted::push_numerals(alloc, answer, question),

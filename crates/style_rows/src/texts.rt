@@ -10,7 +10,7 @@ use bk_num::name::{Name, NoMem};
 use bk_num::values::{NumStyle, Pseudo};
 use counters::at::CounterAt;
 use counters::number::number_all;
-use css_content::content::{Place, content_list};
+use css_content::content::{ContentPlace, content_list};
 use css_words::reader::{Reader, Skipped};
 use css_words::unread::Unread;
 use gen_text::eval::eval;
@@ -25,20 +25,20 @@ use style::content::{Content, Keyword, Part};
 /// What stands in margin boxes alone: a named string, the page's number, and how many pages there are.
 fn page_parts(alloc: Global) -> Result<Content, NoMem> {
     let name = Name::new(alloc, "string")?;
-    let mut content = Content::new(alloc);
-    content.push(Part::Running(name, Keyword::First))?;
-    content.push(Part::Page(NumStyle::Decimal))?;
-    content.push(Part::Pages(NumStyle::Decimal))?;
-    Ok(content)
+    let mut parts = Vec::new(alloc);
+    parts.push(Part::Running(name, Keyword::First))?;
+    parts.push(Part::Page(NumStyle::Decimal))?;
+    parts.push(Part::Pages(NumStyle::Decimal))?;
+    Ok(Content::of(parts))
 }
 
 /// A list of content as CSS writes it: of `string-set` where it has `content()`, of `content` else.
 fn read_list(alloc: Global, list: &str) -> Result<Content, Unread> {
     let mut reader = Reader::new(list, Skipped::CommentsAndSpaces);
     let place = if list.contains("content(") {
-        Place::StringSet
+        ContentPlace::StringSet
     } else {
-        Place::Content
+        ContentPlace::Content
     };
     content_list(alloc, &mut reader, place)
 }
@@ -46,7 +46,7 @@ fn read_list(alloc: Global, list: &str) -> Result<Content, Unread> {
 /// A list of content, where `page parts` stands for what margin boxes have.
 fn content_of(alloc: Global, list: &str) -> Result<Content, Unread> {
     match list {
-        "" => Ok(Content::new(alloc)),
+        "" => Ok(Content::of(Vec::new(alloc))),
         "page parts" => page_parts(alloc).map_err(Unread::from),
         _ => read_list(alloc, list),
     }

@@ -73,7 +73,8 @@ fn font_weight(parent: &str, value: &str) -> i64 {
     i64::from(chosen_weight(&Given::Value(weight), parent))
 }
 
-/// The used line height of a child of some font size, where `normal` is inherited by the element that declares the value.
+/// The used line height of a child of some font size, where `normal` is inherited by the element that declares the
+/// value.
 fn line_height(font: &str, root: &str, child: &str, value: &str) -> i64 {
     let normal = LineHeight::Number(Decimal::new(125, 2));
     let given = match (value, measure(value)) {
@@ -98,7 +99,8 @@ fn value(question: &Question<'_>) -> Option<i64> {
     }
 }
 
-/// The answer where there is no value: a length that is `auto` or a percentage has no units, and no other call is known.
+/// The answer where there is no value: a length that is `auto` or a percentage has no units, and no other call is
+/// known.
 fn blank(call: &str) -> char {
     if call == "length" { '-' } else { '?' }
 }
