@@ -3,10 +3,12 @@
 #![tactic(auto)]
 
 pub mod dir_shelf;
+pub mod escape;
 pub mod mem_shelf;
 pub mod mem_sink;
 pub mod put_all;
 pub mod read_all;
+pub mod read_text;
 pub mod shelf;
 pub mod sink;
 pub mod std_sink;

@@ -1,3 +1,6 @@
+//! Puts whole texts.
+
+ghost use Rattle.std.specs.List.{flat_map};
 ghost use Rattle.bk_io.specs.Sink.{AppendsAllOrPrefix, HasCause};
 
 use crate::sink::{Failed, Sink};
@@ -10,6 +13,17 @@ pub fn put_all<S: Sink>(sink: &mut S, bytes: &[u8]) -> Result<(), Failed>
     let mut at = 0;
     while at < bytes.len() {
         at += sink.put(&bytes[at..])?;
+    }
+    Ok(())
+}
+
+/// Puts some texts one after the other, or a part of them from their start.
+pub fn put_texts<S: Sink>(sink: &mut S, texts: &[&str]) -> Result<(), Failed>
+    ensures bytes { AppendsAllOrPrefix (S.taken sink.old) (S.taken sink.new) (flat_map (λ t. t.now) texts.now) result }
+    ensures cause { HasCause (S.faults sink.old) (S.faults sink.new) result }
+{
+    for text in texts {
+        put_all(sink, text.as_bytes())?;
     }
     Ok(())
 }

@@ -3,10 +3,12 @@
 
 mod commands;
 mod fault;
+mod program;
 mod read;
 mod request;
 mod values;
 
 pub use fault::{WordsErr, WordsFault};
+pub use program::program_words;
 pub use read::read_words;
 pub use request::{Format, Request};

@@ -1,0 +1,25 @@
+-- The files that the words name.
+use Rattle.std.specs.Prelude.{ℕ, zero, suc, ◌+◌, List, [], codes, pos, Option, Some, None, slice_get}
+use Rattle.std.specs.Fmt.{signed_decimal}
+use Rattle.words.specs.Asked.{FormatWords}
+use Rattle.named_files.specs.declared.file.FileOf.{FileOf}
+use Rattle.named_files.specs.declared.file.FileOf.TheVariants as file
+
+-- the name that the words give a file; none for a sheet that they don't name
+abbrev pub name_of : FormatWords → FileOf → Option (List ℕ)
+name_of names file.Metrics = Some names.metrics
+name_of names file.Html = Some names.html
+name_of names (file.Sheet zero) = None
+name_of names (file.Sheet (suc place)) = slice_get names.sheets place
+
+-- the order of the files
+abbrev pub file_stage : FileOf → ℕ
+file_stage file.Metrics = 1
+file_stage file.Html = 2
+file_stage (file.Sheet n) = 2 + n
+
+-- the word for a file, and the number of a sheet
+unfoldable pub file_words : FileOf → List ℕ × List ℕ
+file_words file.Metrics = (codes "metrics", [])
+file_words file.Html = (codes "html", [])
+file_words (file.Sheet n) = (codes "sheet ", signed_decimal (pos n))
