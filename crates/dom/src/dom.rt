@@ -2,6 +2,7 @@
 ghost use Rattle.std.specs.Prelude.{IfErr, IsTrue, ◌≡◌, ◌+◌, ◌<◌, ◌≤◌, List, [], ◌∷◌, ◌++◌, Option, Some, IfOk, OnErr, OnOk, length, option_map, true, false, not, is_some, if◌then◌else◌};
 ghost use Rattle.dom.specs.Nodes.{Element, Text, IsTree, parents_of, element_parents_of, parent_at, first_child_of, next_of, prev_of, is_element, child_of, depth_at, is_element_at, last_child_of, element_count, elements_before_of, name_at, text_at, attribute_at, root, with_attribute};
 ghost use Rattle.std.specs.Prelude.{take, codes, IfSome};
+ghost use Rattle.bk_num.specs.Limits.{most_depth, most_nodes};
 ghost use Rattle.dom.specs.StoreFields.{made_of};
 ghost use Rattle.dom.specs.Links.{IsRowOf};
 ghost use Rattle.std.specs.Ordering.{nat_cmp, is_gt};
@@ -143,8 +144,8 @@ impl Dom {
     pub fn depth(&self, node: NodeId) -> u8
         requires { node.0 < length self.now }
         ensures depth { result ≡ depth_at self.now node.0 }
-        ensures element { IsTrue (is_element_at self.now node.0) → result ≤ 200 }
-        ensures most { result ≤ 201 }
+        ensures element { IsTrue (is_element_at self.now node.0) → result ≤ most_depth }
+        ensures most { result ≤ most_depth + 1 }
         ensures tree { IsTree self.now }
     {
         self.row(node).depth
@@ -162,7 +163,7 @@ impl Dom {
     pub fn element_count(&self, node: NodeId) -> u32
         requires { node.0 < length self.now }
         ensures count { result ≡ element_count (element_parents_of self.now) node.0 }
-        ensures few { result ≤ 400000 }
+        ensures few { result ≤ most_nodes }
     {
         self.row(node).elements
     }
@@ -309,7 +310,7 @@ impl Dom {
     fn write_way(&self, node: NodeId, way: &mut [u32; WAY]) -> usize
         requires { node.0 < length self.now }
         ensures way { take result way.new ≡ way_to self.now node.0 }
-        ensures len { result ≤ 201 }
+        ensures len { result ≤ most_depth + 1 }
     {
         let depth = self.depth(node) as usize;
         let mut place = depth;
@@ -326,9 +327,9 @@ impl Dom {
     fn row(&self, node: NodeId) -> &Row
         requires { node.0 < length self.now }
         ensures row { IsRowOf self.now node.0 result.now }
-        ensures most { result.now.depth ≤ 201 }
-        ensures element { IsTrue (is_element_at self.now node.0) → result.now.depth ≤ 200 }
-        ensures few { result.now.elements ≤ 400000 }
+        ensures most { result.now.depth ≤ most_depth + 1 }
+        ensures element { IsTrue (is_element_at self.now node.0) → result.now.depth ≤ most_depth }
+        ensures few { result.now.elements ≤ most_nodes }
         ensures tree { IsTree self.now }
     {
         &self.rows[node.0 as usize]
@@ -390,7 +391,7 @@ fn is_below_all(element: bool, depth: u8) -> bool
 
 /// How many element children there are after one more child.
 fn count_after(before: u32, element: bool) -> u32
-    requires { before ≤ 400000 }
+    requires { before ≤ most_nodes }
     ensures { result ≡ before + (if element then 1 else 0) }
 {
     if element { before + 1 } else { before }

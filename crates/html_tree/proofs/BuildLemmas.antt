@@ -73,7 +73,7 @@ current-element nodes opened root h = by (slice_get opened (length opened - 1)) 
 
 -- ---- attributes
 
-set-element : (nodes : List Node) (n m : ℕ) (a y : Node) → slice_get nodes n ≡ Some a → is_element y.what ≡ is_element a.what → is_element_at (slice_set nodes n y) m ≡ is_element_at nodes m
+pub set-element : (nodes : List Node) (n m : ℕ) (a y : Node) → slice_get nodes n ≡ Some a → is_element y.what ≡ is_element a.what → is_element_at (slice_set nodes n y) m ≡ is_element_at nodes m
 set-element [] n m a y h e = refl
 set-element (x ∷ nodes) zero zero a y h e = let s : x ≡ a = cc in e ∙ ap (λ (z : Node). is_element z.what) (sym s)
 set-element (x ∷ nodes) zero (suc m) a y h e = refl

@@ -1,7 +1,6 @@
 -- A tree that is read has its numbers in tree order.
-use Rattle.std.proofs.Common.{◌≡◌, ◌⊎◌, inl, inr, ℕ, suc, zero, ◌+◌, ◌-◌, ◌<◌, ◌≤◌, Bool, true, false, nat_le, List, [], ◌∷◌, ◌++◌, Option, None, Some, Result, Ok, Err, IfOk, fold, map, option_map, is_some, length, length-append, take, slice_get, slice_set, if◌then◌else◌, refl, sym, ◌∙◌, ap, subst, arith, codes}
+use Rattle.std.proofs.Common.{◌≡◌, ◌⊎◌, inl, inr, ℕ, suc, zero, ◌+◌, ◌-◌, ◌<◌, ◌≤◌, Bool, true, false, nat_le, List, [], ◌∷◌, ◌++◌, Option, None, Some, Result, Ok, Err, IfOk, map, option_map, is_some, length, length-append, take, slice_get, slice_set, if◌then◌else◌, refl, sym, ◌∙◌, ap, subst, arith}
 use Rattle.std.proofs.lemmas.Option.{slice_get_within, slice_get-map}
-use Rattle.std.specs.Str.{bytes_eq}
 use Rattle.bk_num.specs.declared.ids.NodeId.{NodeId}
 use Rattle.bk_num.specs.Limits.{most_nodes}
 use Rattle.bk_num.proofs.ListLemmas.{get-push, get-before, get-end, get-none, get-take}
@@ -9,14 +8,14 @@ use Rattle.dom.specs.Nodes.{Node, NodeData, Element, Text, root, child_of, depth
 use Rattle.dom.specs.Answers.{is_below_all}
 use Rattle.dom.specs.declared.dom.DomErr.{DomErr}
 use Rattle.dom.specs.declared.dom.DomErr.TheVariants.{Nodes, Depth}
-use Rattle.html_tok.specs.Listed.{TokenView, tokens_of}
-use Rattle.html_tok.specs.Pieces.{KindView, text, raw, start, close, skip}
+use Rattle.html_tok.specs.Listed.{TokenView}
 use Rattle.html_tok.specs.Tags.{attributes_of}
-use Rattle.html_tree.specs.Rules.{Rule, rules, has_name, names_tag, void_names}
+use Rattle.html_tree.specs.Rules.{has_name, void_names}
 use Rattle.html_tree.specs.Texts.{name_of, text_of}
-use Rattle.html_tree.specs.Tree.{State, closed_by, after_rule, without, current, number_of, is_text_under, last_of, longer, appended, add_text, put, put_all, add_element, after_start, after_text, after_kind, after_result, after_tokens, nodes_in, begun, tree_of, is_blank, is_escapable, current_name}
+use Rattle.html_tree.specs.Tree.{State, current, number_of, is_text_under, last_of, longer, appended, add_text, put, put_all, add_element, after_tokens, begun, tree_of}
 use Rattle.html_tree.specs.Order.{AreInOrder}
 use Rattle.html_tree.specs.Built.{Answers}
+use Rattle.html_tree.proofs.StepLemmas.{keeps-tokens, keeps-tree}
 
 -- an open element's place among the open ones gives its depth, and all nodes after it are deeper
 pub record IsPlaced (nodes : List Node) (i : ℕ) (o : NodeId) : Type 0 where
@@ -84,17 +83,21 @@ module _ (xs ys : List Node) (same : map shape xs ≡ map shape ys) where
     };
   }
 
-shape-set : (nodes : List Node) (i : ℕ) (a y : Node) → slice_get nodes i ≡ Some a → shape y ≡ shape a → map shape nodes ≡ map shape (slice_set nodes i y)
-shape-set [] i a y h e = refl
-shape-set (x ∷ nodes) zero a y h e = let s : x ≡ a = cc in ap (λ n. n ∷ map shape nodes) (ap shape s ∙ sym e)
-shape-set (x ∷ nodes) (suc i) a y h e = ap (λ l. shape x ∷ l) (shape-set nodes i a y h e)
+view-set : {A : Type 0} (view : Node → A) (nodes : List Node) (i : ℕ) (a y : Node) → slice_get nodes i ≡ Some a → view y ≡ view a → map view nodes ≡ map view (slice_set nodes i y)
+view-set view [] i a y h e = refl
+view-set view (x ∷ nodes) zero a y h e = let s : x ≡ a = cc in ap (λ n. n ∷ map view nodes) (ap view s ∙ sym e)
+view-set view (x ∷ nodes) (suc i) a y h e = ap (λ l. view x ∷ l) (view-set view nodes i a y h e)
+
+-- what a change of nodes leaves of each is the same after it
+pub view-change : {A : Type 0} (view : Node → A) (f : Node → Node) (nodes : List Node) (i : ℕ) → ((n : Node) → view (f n) ≡ view n) → map view nodes ≡ map view (changed_at f nodes i (slice_get nodes i))
+view-change view f nodes i same = by (slice_get nodes i) refl
+  where
+    by : (o : Option Node) → slice_get nodes i ≡ o → map view nodes ≡ map view (changed_at f nodes i o)
+    by None e = refl
+    by (Some a) e = view-set view nodes i a (f a) e (same a)
 
 pub shape-change : (f : Node → Node) (nodes : List Node) (i : ℕ) → ((n : Node) → shape (f n) ≡ shape n) → map shape nodes ≡ map shape (changed_at f nodes i (slice_get nodes i))
-shape-change f nodes i same = by (slice_get nodes i) refl
-  where
-    by : (o : Option Node) → slice_get nodes i ≡ o → map shape nodes ≡ map shape (changed_at f nodes i o)
-    by None e = refl
-    by (Some a) e = shape-set nodes i a (f a) e (same a)
+shape-change f nodes i same = view-change shape f nodes i same
 
 shape-put : (n : ℕ) (nodes : List Node) (a : List ℕ × List ℕ) → map shape nodes ≡ map shape (put n nodes a)
 shape-put n nodes a = by (is_some (attribute_at nodes n (name_of a.0)))
@@ -189,77 +192,37 @@ module _ (s : State) (what : NodeData) (h : IsOrdered s) where
 
 -- ---- tokens
 
-abbrev pub Keeps : Result State DomErr → Type 0
-Keeps (Ok s) = IsOrdered s
-Keeps (Err e) = Unit {0}
-
 keeps-taken : (s : State) (n : ℕ) → IsOrdered s → IsOrdered (record s { opened = take n s.opened })
 keeps-taken s n h = record { order = h.order; some = h.some; top = h.top; deeper = h.deeper; placed = λ i o g. h.placed i o (get-take s.opened n i o g).1 }
 
-keeps-rules : (name : List ℕ) (table : List Rule) (s : State) → IsOrdered s → IsOrdered (record s { opened = fold (after_rule name s.nodes) s.opened table })
-keeps-rules name [] s h = h
-keeps-rules name (r ∷ table) s h = keeps-rules name table (record s { opened = after_rule name s.nodes s.opened r }) (by (names_tag r name))
-  where
-    by : (b : Bool) → IsOrdered (record s { opened = if b then closed_by (has_name r.closes) (has_name r.scope) s.nodes s.opened else s.opened })
-    by true = keeps-taken s _ h
-    by false = h
+keeps-attributes : (attrs : List (List ℕ × List ℕ)) (s : State) → IsOrdered s → IsOrdered (record s { nodes = put_all 0 attrs s.nodes })
+keeps-attributes attrs s h = ordered-same s.nodes (put_all 0 attrs s.nodes) (shape-put_all 0 attrs s.nodes) s.opened h
 
-keeps-text : (bytes : List ℕ) (s : State) → IsOrdered s → Keeps (add_text bytes s)
+keeps-text : (bytes : List ℕ) (s : State) → IsOrdered s → IfOk (add_text bytes s) IsOrdered
 keeps-text [] s h = h
 keeps-text (b ∷ bs) s h = by (is_text_under (current s.opened) (last_of s.nodes)) (nat_le most_nodes (length s.nodes))
   where
-    by : (c d : Bool) → Keeps (if c then Ok (record s { nodes = appended s.nodes (b ∷ bs) }) else if d then Err Nodes else Ok (record s { nodes = s.nodes ++ child_of s.nodes (current s.opened) (Text (b ∷ bs)) ∷ [] }))
+    by : (c d : Bool) → IfOk (if c then Ok (record s { nodes = appended s.nodes (b ∷ bs) }) else if d then Err Nodes else Ok (record s { nodes = s.nodes ++ child_of s.nodes (current s.opened) (Text (b ∷ bs)) ∷ [] })) IsOrdered
     by true d = ordered-same s.nodes (appended s.nodes (b ∷ bs)) (shape-change (λ n. record n { what = longer (b ∷ bs) n.what }) s.nodes (length s.nodes - 1) (λ n. refl)) s.opened h
     by false true = tt
     by false false = push-child s (Text (b ∷ bs)) h
 
-keeps-element : (name attrs : List ℕ) (s : State) → IsOrdered s → Keeps (add_element name attrs s)
+keeps-element : (name attrs : List ℕ) (s : State) → IsOrdered s → IfOk (add_element name attrs s) IsOrdered
 keeps-element name attrs s h = by (nat_le most_nodes (length s.nodes)) (is_below_all true (depth_at s.nodes (current s.opened))) (has_name void_names name)
   where
     made : (opened : List NodeId) → IsOrdered (record { nodes = s.nodes ++ child_of s.nodes (current s.opened) (Element name []) ∷ []; opened = opened }) → IsOrdered (record { nodes = put_all (length s.nodes) (attributes_of attrs) (s.nodes ++ child_of s.nodes (current s.opened) (Element name []) ∷ []); opened = opened })
     made opened k = ordered-same (s.nodes ++ child_of s.nodes (current s.opened) (Element name []) ∷ []) (put_all (length s.nodes) (attributes_of attrs) (s.nodes ++ child_of s.nodes (current s.opened) (Element name []) ∷ [])) (shape-put_all (length s.nodes) (attributes_of attrs) (s.nodes ++ child_of s.nodes (current s.opened) (Element name []) ∷ [])) opened k
 
-    by : (a b v : Bool) → Keeps (if a then Err Nodes else if b then Err Depth else Ok (record {
+    by : (a b v : Bool) → IfOk (if a then Err Nodes else if b then Err Depth else Ok (record {
       nodes = put_all (length s.nodes) (attributes_of attrs) (s.nodes ++ child_of s.nodes (current s.opened) (Element name []) ∷ []);
       opened = if v then s.opened else s.opened ++ record { 0 = length s.nodes } ∷ [];
-    }))
+    })) IsOrdered
     by true b v = tt
     by false true v = tt
     by false false true = made s.opened (push-child s (Element name []) h)
     by false false false = made (s.opened ++ record { 0 = length s.nodes } ∷ []) (open-child s (Element name []) h)
 
-keeps-start : (name attrs : List ℕ) (s : State) → IsOrdered s → Keeps (after_start name attrs s)
-keeps-start name attrs s h = by (bytes_eq name (codes "html"))
-  where
-    by : (b : Bool) → Keeps (if b then Ok (record s { nodes = put_all 0 (attributes_of attrs) s.nodes }) else add_element name attrs (record s { opened = fold (after_rule name s.nodes) s.opened rules }))
-    by true = ordered-same s.nodes (put_all 0 (attributes_of attrs) s.nodes) (shape-put_all 0 (attributes_of attrs) s.nodes) s.opened h
-    by false = keeps-element name attrs (record s { opened = fold (after_rule name s.nodes) s.opened rules }) (keeps-rules name rules s h)
-
-keeps-after_text : (bytes : List ℕ) (s : State) → IsOrdered s → Keeps (after_text bytes s)
-keeps-after_text bytes s h = keeps-text bytes (if is_blank bytes then s else record s { opened = without (codes "head") s.nodes s.opened }) (by (is_blank bytes))
-  where
-    by : (b : Bool) → IsOrdered (if b then s else record s { opened = without (codes "head") s.nodes s.opened })
-    by true = h
-    by false = keeps-taken s _ h
-
-keeps-kind : (k : KindView) (bytes : List ℕ) (s : State) → IsOrdered s → Keeps (after_kind k bytes s)
-unfolding after_kind
-keeps-kind text bytes s h = keeps-after_text (text_of true bytes) s h
-keeps-kind raw bytes s h = keeps-text (text_of (is_escapable (current_name s)) bytes) s h
-keeps-kind (start name attrs) bytes s h = keeps-start (name_of name) attrs s h
-keeps-kind (close name) bytes s h = keeps-taken s _ h
-keeps-kind skip bytes s h = h
-
-pub keeps-tokens : (tokens : List TokenView) (s : State) → IsOrdered s → Keeps (after_tokens tokens s)
-unfolding after_tokens
-keeps-tokens [] s h = h
-keeps-tokens (t ∷ ts) s h = by (after_kind t.kind t.slice s) (keeps-kind t.kind t.slice s h) (keeps-tokens ts)
-  where
-    by : (r : Result State DomErr) → Keeps r → ((x : State) → IsOrdered x → Keeps (after_tokens ts x)) → Keeps (after_result r (after_tokens ts))
-    by (Ok x) k rest = rest x k
-    by (Err e) k rest = tt
-
-pub begun-ordered : IsOrdered begun
+begun-ordered : IsOrdered begun
 begun-ordered = record {
   order = record { between = λ k j p n m a e l q b. absurd (none k n p a e) };
   some = omega arith;
@@ -276,14 +239,13 @@ begun-ordered = record {
     past zero m l g = omega arith
     past (suc j) m l g = cc
 
+-- the state after any tokens
+pub ordered-tokens : (tokens : List TokenView) → IfOk (after_tokens tokens begun) IsOrdered
+ordered-tokens tokens = keeps-tokens IsOrdered keeps-taken keeps-attributes keeps-text keeps-element tokens begun begun-ordered
+
 -- the nodes of a text that is read
 pub tree-order : (bytes : List ℕ) (nodes : List Node) → tree_of bytes ≡ Ok nodes → AreInOrder nodes
-unfolding tree_of
-tree-order bytes nodes h = by (after_tokens (tokens_of bytes) begun) (keeps-tokens (tokens_of bytes) begun begun-ordered) h
-  where
-    by : (r : Result State DomErr) → Keeps r → nodes_in r ≡ Ok nodes → AreInOrder nodes
-    by (Ok s) k e = let same : s.nodes ≡ nodes = cc in subst (λ l. AreInOrder l) same k.order
-    by (Err x) k e = cc
+tree-order bytes nodes h = let (s, same, is) = keeps-tree IsOrdered keeps-taken keeps-attributes keeps-text keeps-element begun-ordered bytes nodes h in subst (λ (ns : List Node). AreInOrder ns) same is.order
 
 pub answers-order : (bytes : List ℕ) (result : Result (List Node) DomErr) → Answers (tree_of bytes) result (λ dom. dom) → IfOk result (λ dom. AreInOrder dom)
 answers-order bytes (Ok nodes) h = tree-order bytes nodes h

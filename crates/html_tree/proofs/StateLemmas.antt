@@ -1,5 +1,5 @@
 -- The states before each token of a text, and what is open in them.
-use Rattle.std.proofs.Common.{◌≡◌, ◌⊎◌, inl, inr, ℕ, suc, zero, ◌+◌, ◌-◌, ◌<◌, ◌≤◌, List, [], ◌∷◌, ◌++◌, Option, None, Some, Result, Ok, Err, Contains, length, option_map, take, slice_get, refl, sym, ◌∙◌, ap, subst, arith}
+use Rattle.std.proofs.Common.{◌≡◌, ◌⊎◌, inl, inr, ℕ, suc, zero, ◌+◌, ◌-◌, ◌<◌, ◌≤◌, List, [], ◌∷◌, ◌++◌, Option, None, Some, Result, Ok, Err, IfOk, Contains, length, option_map, take, slice_get, refl, sym, ◌∙◌, ap, subst, arith}
 use Rattle.std.proofs.lemmas.Bool.{cases_lt}
 use Rattle.std.proofs.lemmas.List.{take_more}
 use Rattle.std.proofs.lemmas.Option.{slice_get_within, slice_get-map, get_or_from_slice_get}
@@ -11,7 +11,7 @@ use Rattle.dom.specs.declared.dom.DomErr.{DomErr}
 use Rattle.html_tok.specs.Listed.{TokenView, tokens_of}
 use Rattle.html_tree.specs.Tree.{State, current, number_of, after_kind, after_result, after_tokens, nodes_in, begun, tree_of}
 use Rattle.html_tree.specs.Open.{KindCloses, KindOpens, IsStateAt, Closes, Opens, Adds, IsOpenSince, StaysSince, IsParentAt, OpenIsOpened, OpenIsPath, NodesAreAdded, ParentIsLastOpened, TreeIsLastState}
-use Rattle.html_tree.proofs.OrderLemmas.{IsOrdered, Keeps, keeps-tokens, begun-ordered}
+use Rattle.html_tree.proofs.OrderLemmas.{IsOrdered, ordered-tokens}
 use Rattle.html_tree.proofs.ScopeLemmas.{AreApart, within-contains}
 use Rattle.html_tree.proofs.TokenLemmas.{left, left-within, left-stays, left-not, IsNext, kind-next, next-cases, next-left, opens-next, next-opens, next-keeps, next-more, next-parent, parents-length, IsPath, next-path}
 
@@ -65,9 +65,9 @@ module _ (tokens : List TokenView) where
   state-begun s h = cc
 
   ordered-at : (t : ℕ) (s : State) → IsStateAt tokens t s → IsOrdered s
-  ordered-at t s h = by (after_tokens (take t tokens) begun) (keeps-tokens (take t tokens) begun begun-ordered) h
+  ordered-at t s h = by (after_tokens (take t tokens) begun) (ordered-tokens (take t tokens)) h
     where
-      by : (r : Result State DomErr) → Keeps r → r ≡ Ok s → IsOrdered s
+      by : (r : Result State DomErr) → IfOk r IsOrdered → r ≡ Ok s → IsOrdered s
       by (Ok m) k e = let same : m ≡ s = cc in subst IsOrdered same k
       by (Err x) k e = cc
 

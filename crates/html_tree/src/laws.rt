@@ -1,7 +1,7 @@
 //! Laws of the tree, for the layers above. Each function is empty and carries one law.
 
 ghost use Rattle.html_tree.specs.Open.{KeptIsInnermost, AllIsKept, OpenIsOpened, OpenIsPath, NodesAreAdded, ParentIsLastOpened, TreeIsLastState};
-ghost use Rattle.html_tree.specs.Order.{TreeOrderIsNumberOrder};
+ghost use Rattle.html_tree.specs.Order.{TextsAreInOrder, TextsAreTrees, TreeOrderIsNumberOrder};
 
 /// What closes is the innermost of a row's elements that has none of those inside it that keep it open; nothing closes
 /// exactly where there is none.
@@ -28,4 +28,11 @@ pub fn parent_is_last_opened()
 /// In a tree that is read one node comes after another in tree order exactly where its number is greater.
 pub fn numbers_are_in_tree_order()
     ensures { TreeOrderIsNumberOrder }
+{}
+
+/// The nodes of a text are a tree, of at most 400,000 nodes and elements 200 deep, whose numbers are in order: what the
+/// law above asks for.
+pub fn texts_are_trees()
+    ensures tree { TextsAreTrees }
+    ensures order { TextsAreInOrder }
 {}
