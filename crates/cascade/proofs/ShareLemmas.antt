@@ -10,7 +10,7 @@ use Rattle.cascade.specs.declared.table.NodeWinners.{NodeWinners}
 use Rattle.cascade.specs.Document.{rules_of, decls_in, style_decls, AreNodeWinners, AreAllWinners}
 use Rattle.cascade.specs.Selected.{SelectedOf, selected_from, selectors_of, AreChosen}
 use Rattle.cascade.specs.Sharing.{IsLike, IsChosenAt, AreChosenAt, AddsChosen}
-use Rattle.cascade.specs.Table.{AddsLike}
+use Rattle.cascade.specs.Table.{WinnersOf, AddsLike, no_winners}
 use Rattle.cascade.proofs.PlaceLemmas.{listed_places, of_chosen}
 
 pub on-ok : {A E P : Type 0} (res : Result A E) → P → OnOk res P
@@ -28,8 +28,8 @@ like-chosen dom ss matched e n w like c places at = subst (λ d. AreChosen ss pl
 pub chosen-here : (dom : Tree) (ss : List SelectedOf) (matched : List (List ℕ)) (n : ℕ) (row : List ℕ) (styled : List ReadDecl) (w : NodeWinners) → slice_get matched n ≡ Some row → styled ≡ style_decls dom n → AreChosen ss row styled w → IsChosenAt dom ss matched n w
 chosen-here dom ss matched n row styled w there same c places at = subst (λ l. AreChosen ss l (style_decls dom n) w) (same_Some _ _ (sym there ∙ at)) (subst (λ d. AreChosen ss row d w) same c)
 
-pub adds-like : (dom : Tree) (ss : List SelectedOf) (matched : List (List ℕ)) (e n : ℕ) (all more : List NodeWinners) → IsLike dom matched e n → AddsLike all e more → AddsChosen dom ss matched n all more
-adds-like dom ss matched e n all more like adds = record { winners = adds.winners; added = adds.added; chosen = λ h. like-chosen dom ss matched e n adds.winners like (h e adds.winners adds.there) }
+pub adds-like : (dom : Tree) (ss : List SelectedOf) (matched : List (List ℕ)) (e n : ℕ) (all more : WinnersOf) → IsLike dom matched e n → AddsLike all e more → AddsChosen dom ss matched n all.winners more.winners
+adds-like dom ss matched e n all more like adds = record { winners = adds.wins; added = ap (λ (t : WinnersOf). t.winners) adds.added; chosen = λ h. like-chosen dom ss matched e n adds.wins like (h e adds.wins adds.there) }
 
 pub adds-new : (dom : Tree) (ss : List SelectedOf) (matched : List (List ℕ)) (n : ℕ) (all more : List NodeWinners) (w : NodeWinners) → IsChosenAt dom ss matched n w → more ≡ all ++ w ∷ [] → AddsChosen dom ss matched n all more
 adds-new dom ss matched n all more w c e = record { winners = w; added = e; chosen = λ h. c }
@@ -44,8 +44,8 @@ chosen-turn dom ss matched n all more len old adds k w at = by (get-push all add
 pub count-turn : (dom : Tree) (ss : List SelectedOf) (matched : List (List ℕ)) (n : ℕ) (all more : List NodeWinners) → length all ≡ n → AddsChosen dom ss matched n all more → length more ≡ n + 1
 count-turn dom ss matched n all more len adds = ap length adds.added ∙ length-append all (adds.winners ∷ []) ∙ ap (λ k. k + 1) len
 
-pub none-chosen : (dom : Tree) (ss : List SelectedOf) (matched : List (List ℕ)) (all : List NodeWinners) → all ≡ [] → AreChosenAt dom ss matched all × (length all ≡ 0)
-none-chosen dom ss matched all e = ((λ k w at. let h : slice_get [] k ≡ Some w = subst (λ l. slice_get l k ≡ Some w) e at in cc), rw e refl)
+pub none-chosen : (dom : Tree) (ss : List SelectedOf) (matched : List (List ℕ)) (all : WinnersOf) → all ≡ no_winners → AreChosenAt dom ss matched all.winners × (length all.winners ≡ 0)
+none-chosen dom ss matched all e = ((λ k w at. let h : slice_get [] k ≡ Some w = subst (λ (t : WinnersOf). slice_get t.winners k ≡ Some w) e at in cc), ap (λ (t : WinnersOf). length t.winners) e)
 
 pub all-chosen : (dom : Tree) (sheets : List ReadSheet) (ss : List SelectedOf) (matched : List (List ℕ)) (all : List NodeWinners) → ss ≡ selected_from 0 (rules_of sheets) → length matched ≡ length dom → AreMatchLists dom (selectors_of ss) matched → length all ≡ length dom → AreChosenAt dom ss matched all → AreAllWinners dom sheets all
 all-chosen dom sheets ss matched all same rows lists count chosen = record { count = count; each = each }

@@ -1,12 +1,13 @@
 -- One more item of a list in a loop.
 use Rattle.std.proofs.Common.{◌≡◌, ℕ, suc, ◌+◌, ◌<◌, ◌≤◌, List, [], ◌∷◌, ◌++◌, Option, None, Some, length, map, drop, get_or, append_assoc, append-nil, refl, sym, ◌∙◌, ap, arith, rules}
 use Rattle.std.specs.List.{filter_map, cons_option}
+use Rattle.std.specs.Option.{option_to_list}
 use Rattle.std.proofs.Math.Seq.{drop-cons}
 use Rattle.std.proofs.lemmas.List.{map-append}
 use Rattle.std.proofs.lemmas.Grind.{common_steps}
 use Rattle.cascade.specs.declared.sheet.ReadSheet.{ReadSheet}
 use Rattle.cascade.specs.Document.{RuleIn, from_origin, rules_of}
-use Rattle.cascade.specs.Selected.{SelectedOf, listed, selected_by, selected_from}
+use Rattle.cascade.specs.Selected.{SelectedOf, selected_by, selected_from}
 
 pub item_drop : {A : Type 0} (xs : List A) (i : ℕ) (x : A) → i < length xs → x ≡ get_or xs i x → drop i xs ≡ x ∷ drop (i + 1) xs
 item_drop xs i x low is =
@@ -18,12 +19,12 @@ none_left xs i low = first_of (search rules, grind (arith, common_steps))
 
 -- what a function gives of the items passed and of those left is what it gives of all
 pub filter_turn : {A B C : Type 0} (v : A → B) (h : B → Option C) (out : List C) (xs : List A) (i : ℕ) (x : A) → i < length xs → x ≡ get_or xs i x
-    → (out ++ listed (h (v x))) ++ filter_map h (map v (drop (i + 1) xs)) ≡ out ++ filter_map h (map v (drop i xs))
+    → (out ++ option_to_list (h (v x))) ++ filter_map h (map v (drop (i + 1) xs)) ≡ out ++ filter_map h (map v (drop i xs))
 filter_turn {C = C} v h out xs i x low is =
-    append_assoc out (listed (h (v x))) (filter_map h (map v (drop (i + 1) xs)))
+    append_assoc out (option_to_list (h (v x))) (filter_map h (map v (drop (i + 1) xs)))
     ∙ ap (λ z. out ++ z) (sym (ap (λ ys. filter_map h (map v ys)) (item_drop xs i x low is) ∙ by (h (v x))))
   where
-    by : (o : Option C) → cons_option o (filter_map h (map v (drop (i + 1) xs))) ≡ listed o ++ filter_map h (map v (drop (i + 1) xs))
+    by : (o : Option C) → cons_option o (filter_map h (map v (drop (i + 1) xs))) ≡ option_to_list o ++ filter_map h (map v (drop (i + 1) xs))
     by None = refl
     by (Some y) = refl
 
@@ -37,11 +38,11 @@ map_turn f out xs i x low is =
 pub map_done : {A B : Type 0} (f : A → B) (out whole : List B) (xs : List A) (i : ℕ) → length xs ≤ i → out ++ map f (drop i xs) ≡ whole → out ≡ whole
 map_done f out whole xs i low e = sym (append-nil out) ∙ sym (ap (λ ys. out ++ map f ys) (none_left xs i low)) ∙ e
 
-pub step_turn : {A B : Type 0} (h : A → Option B) (out : List B) (xs : List A) (i : ℕ) (x : A) → i < length xs → x ≡ get_or xs i x → (out ++ listed (h x)) ++ filter_map h (drop (i + 1) xs) ≡ out ++ filter_map h (drop i xs)
+pub step_turn : {A B : Type 0} (h : A → Option B) (out : List B) (xs : List A) (i : ℕ) (x : A) → i < length xs → x ≡ get_or xs i x → (out ++ option_to_list (h x)) ++ filter_map h (drop (i + 1) xs) ≡ out ++ filter_map h (drop i xs)
 step_turn {B = B} h out xs i x low is =
-    append_assoc out (listed (h x)) (filter_map h (drop (i + 1) xs)) ∙ ap (λ z. out ++ z) (sym (ap (filter_map h) (item_drop xs i x low is) ∙ by (h x)))
+    append_assoc out (option_to_list (h x)) (filter_map h (drop (i + 1) xs)) ∙ ap (λ z. out ++ z) (sym (ap (filter_map h) (item_drop xs i x low is) ∙ by (h x)))
   where
-    by : (o : Option B) → cons_option o (filter_map h (drop (i + 1) xs)) ≡ listed o ++ filter_map h (drop (i + 1) xs)
+    by : (o : Option B) → cons_option o (filter_map h (drop (i + 1) xs)) ≡ option_to_list o ++ filter_map h (drop (i + 1) xs)
     by None = refl
     by (Some y) = refl
 

@@ -16,11 +16,6 @@ use Rattle.cascade.specs.Candidates.{AppliedDeclsOf, applied_in, DeclaredBy}
 use Rattle.cascade.specs.Winners.{AreWinners}
 use Rattle.cascade.specs.Document.{RuleIn, weight_of}
 
--- one or none as a list
-abbrev pub listed : {A : Type 0} → Option A → List A
-listed None = []
-listed (Some x) = x ∷ []
-
 -- the same with the rule as a value
 abbrev pub ruled_in : Ruled → RuleIn
 ruled_in r = record { origin = r.origin; read = r.rule.now }

@@ -3,6 +3,7 @@ use Rattle.std.specs.Prelude.{◌≡◌, ℕ, List, [], Option, None, Some, map,
 use Rattle.cascade.specs.declared.table.NodeWinners.{NodeWinners}
 use Rattle.cascade.specs.declared.table.Shared.{Shared}
 use Rattle.cascade.specs.declared.table.WinnerTable.TheInside.{Inside}
+use Rattle.cascade.specs.Table.{WinnersOf}
 
 -- what wins where nothing is declared
 abbrev pub nothing_wins : NodeWinners
@@ -13,13 +14,26 @@ abbrev pub winners_in : Option Shared → NodeWinners
 winners_in None = nothing_wins
 winners_in (Some s) = s.winners
 
--- what wins by the entry of a number
-abbrev pub numbered : List Shared → ℕ → NodeWinners
-numbered shared i = winners_in (slice_get shared i)
+-- the first of an entry's nodes
+abbrev pub first_in : Option Shared → ℕ
+first_in None = 0
+first_in (Some s) = s.first.0
 
--- what wins for each node
-abbrev pub all_of : Inside → List NodeWinners
-all_of a = map (numbered a.shared.items) a.numbers.items
+-- what an entry says, by its number
+abbrev pub numbered : {A : Type 0} → (Option Shared → A) → List Shared → ℕ → A
+numbered said shared i = said (slice_get shared i)
+
+-- the same for each node
+abbrev pub seen : {A : Type 0} → (Option Shared → A) → List Shared → List ℕ → List A
+seen said shared numbers = map (numbered said shared) numbers
+
+-- what wins for each node, and the first of its like
+abbrev pub table_of : List Shared → List ℕ → WinnersOf
+table_of shared numbers = record { winners = seen winners_in shared numbers; firsts = seen first_in shared numbers }
+
+-- what is seen of the fields
+abbrev pub all_of : Inside → WinnersOf
+all_of a = table_of a.shared.items a.numbers.items
 
 -- a number is that of an entry, whose first node has this number
 pub record IsNumber (shared : List Shared) (numbers : List ℕ) (i : ℕ) : Type 0 where

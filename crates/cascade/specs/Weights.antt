@@ -1,12 +1,14 @@
 -- What decides between two declarations of a longhand (CSS 2.1, 6.4.1 and 6.4.3).
 use Rattle.std.specs.Prelude.{ℕ, Bool, true, false, ◌&&◌, List, [], ◌∷◌}
-use Rattle.style.specs.Ranking.{rank, outranks}
+use Rattle.std.specs.Int.{from_bool}
+use Rattle.style.specs.Ranking.{outranks}
 use Rattle.cascade.specs.declared.weight.DeclWeight.{DeclWeight}
 
 -- importance, origin, style attribute, specificity, order of appearance: what comes first decides first
 abbrev pub ranks_of : DeclWeight → List ℕ
 ranks_of w =
-    rank w.important ∷ rank w.author ∷ rank w.styled ∷ w.ids ∷ w.classes ∷ w.types ∷ w.rule ∷ w.decl ∷ w.place ∷ []
+    from_bool w.important ∷ from_bool w.author ∷ from_bool w.styled ∷ w.ids ∷ w.classes ∷ w.types ∷ w.rule ∷ w.decl ∷
+    w.place ∷ []
 
 -- a weight wins over another
 abbrev pub is_above : DeclWeight → DeclWeight → Bool

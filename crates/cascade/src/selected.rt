@@ -1,6 +1,6 @@
 //! The rules of sheets by their selectors.
 
-ghost use Rattle.std.specs.Prelude.{◌≡◌, ◌++◌, map, option_map, IfOk, OnOk};
+ghost use Rattle.std.specs.Prelude.{◌≡◌, ◌++◌, map, option_map, option_to_list, IfOk, OnOk};
 ghost use Rattle.std.specs.List.{filter_map};
 ghost use Rattle.cascade.specs.Candidates.{applied_in, DeclaredBy};
 ghost use Rattle.cascade.specs.Document.{rules_of, from_origin, weight_of, is_author};
@@ -103,10 +103,7 @@ fn push_selected<'s>(
 }
 
 /// The selectors of the rules.
-pub(crate) fn selected_of<'s>(
-    alloc: Global,
-    rules: &[Ruled<'s>],
-) -> Result<Vec<Selected<'s>>, NoMem>
+fn selected_of<'s>(alloc: Global, rules: &[Ruled<'s>]) -> Result<Vec<Selected<'s>>, NoMem>
     ensures { IfOk result (λ v. map spec.selected_in v.items ≡ spec.selected_from 0 (map spec.ruled_in rules.now)) }
 {
     let mut selected = Vec::new(alloc);
@@ -143,7 +140,7 @@ fn push_named<'s: 't, 't>(
     wanted: Pseudo,
 ) -> Result<(), NoMem>
     ensures { OnOk result (map applied_in rules.new.items ≡ map applied_in rules.old.items ++
-        spec.listed (spec.named wanted (option_map (λ s. spec.selected_in s.now) selected.entry))) }
+        option_to_list (spec.named wanted (option_map (λ s. spec.selected_in s.now) selected.entry))) }
 {
     if let Some(selected) = selected {
         if is_same(pseudo(selected.selector), wanted) {

@@ -1,10 +1,9 @@
 //! Sheets whose selectors and values are read.
 
-ghost use Rattle.std.specs.Prelude.{◌≡◌, ◌++◌, map, IfOk, OnOk};
+ghost use Rattle.std.specs.Prelude.{◌≡◌, map, IfOk};
 ghost use Rattle.std.specs.List.{filter_map};
 ghost use Rattle.css_rules.specs.Decls.{decl_in};
 ghost use Rattle.css_rules.specs.Sheet.{rule_in, rules_in};
-ghost use Rattle.cascade.specs.Selected.{listed};
 ghost use Rattle.cascade.specs.Sheets as spec;
 
 use crate::decl::ReadDecl;
@@ -38,16 +37,6 @@ pub struct ReadSheet {
     pub rules: Items<ReadRule>,
 }
 
-/// Appends an item, if there is one.
-fn push_some<T: Drop>(items: &mut Items<T>, item: Option<T>) -> Result<(), NoMem>
-    ensures { OnOk result (items.new ≡ items.old ++ listed item) }
-{
-    match item {
-        Some(item) => items.push(item),
-        None => Ok(()),
-    }
-}
-
 fn read_one(alloc: Global, slice: &DeclSlice<'_>) -> Result<Option<ReadDecl>, NoMem>
     ensures { IfOk result (λ decl. decl ≡ spec.read_of (decl_in slice.now)) }
 {
@@ -66,8 +55,9 @@ pub(crate) fn read_all(alloc: Global, slices: &[DeclSlice<'_>]) -> Result<Items<
 {
     let mut decls = Items::new(alloc);
     for slice in slices {
-        let decl = read_one(alloc, slice)?;
-        push_some(&mut decls, decl)?;
+        if let Some(decl) = read_one(alloc, slice)? {
+            decls.push(decl)?;
+        }
     }
     Ok(decls)
 }
@@ -90,8 +80,9 @@ fn read_list(alloc: Global, rules: &[Rule<'_>]) -> Result<Items<ReadRule>, NoMem
 {
     let mut all = Items::new(alloc);
     for rule in rules {
-        let read = read_rule(alloc, rule)?;
-        push_some(&mut all, read)?;
+        if let Some(read) = read_rule(alloc, rule)? {
+            all.push(read)?;
+        }
     }
     Ok(all)
 }

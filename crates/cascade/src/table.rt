@@ -1,7 +1,7 @@
 //! What wins for the nodes of a document, kept once for nodes that have the same.
 
 ghost use Rattle.std.specs.Prelude.{◌≡◌, ◌<◌, ◌∷◌, ◌++◌, [], Some, OnOk, OnErr, IfOk, length, slice_get};
-ghost use Rattle.cascade.specs.Table.{AddsLike};
+ghost use Rattle.cascade.specs.Table.{AddsLike, no_winners, with_node};
 
 use bk_num::ids::NodeId;
 use bk_num::items::Items;
@@ -28,8 +28,8 @@ pub(crate) struct Shared {
     winners: NodeWinners,
 }
 
-/// What wins for each node, by the numbers of the nodes. Contracts see the list of that. A node that is added as one
-/// like an earlier one takes a number alone.
+/// What wins for each node, by the numbers of the nodes. Contracts see that, and for each node the first of those that
+/// were added like one another. A node that is added as one like an earlier one takes a number alone.
 #[derive(Drop)]
 pub struct WinnerTable {
     shared: Vec<Shared>,
@@ -37,10 +37,9 @@ pub struct WinnerTable {
 }
 
 impl Model for WinnerTable {
-    ghost use Rattle.std.specs.Prelude.{List};
-    ghost use Rattle.cascade.specs.declared.table.NodeWinners.{NodeWinners};
+    ghost use Rattle.cascade.specs.Table.{WinnersOf};
 
-    ghost Value = { List NodeWinners };
+    ghost Value = { WinnersOf };
 
     ghost use Rattle.cascade.specs.TableFields.{all_of, IsSound};
 
@@ -52,7 +51,7 @@ impl Model for WinnerTable {
 impl WinnerTable {
     /// What wins for no nodes.
     pub fn new(alloc: Global) -> WinnerTable
-        ensures { result ≡ [] }
+        ensures { result ≡ no_winners }
     {
         WinnerTable {
             shared: Vec::new(alloc),
@@ -62,33 +61,33 @@ impl WinnerTable {
 
     /// How many nodes there are.
     pub fn len(&self) -> usize
-        ensures { result ≡ length self.now }
+        ensures { result ≡ length self.now.winners }
     {
         self.numbers.len()
     }
 
     /// What wins for a node.
     pub fn of(&self, node: NodeId) -> &NodeWinners
-        requires { node.0 < length self.now }
-        ensures { slice_get self.now node.0 ≡ Some result.now }
+        requires { node.0 < length self.now.winners }
+        ensures { slice_get self.now.winners node.0 ≡ Some result.now }
     {
         let number = self.numbers[node.0 as usize];
         &self.shared[number as usize].winners
     }
 
-    /// A node for which the same wins. Clauses don't say which: it is the first of those that were added like one
-    /// another, and any other would do.
+    /// The first of the nodes that were added like one another, of which this is one. The same wins for it.
     pub fn first(&self, node: NodeId) -> NodeId
-        requires { node.0 < length self.now }
-        ensures { slice_get self.now result.0 ≡ slice_get self.now node.0 }
+        requires { node.0 < length self.now.winners }
+        ensures first { slice_get self.now.firsts node.0 ≡ Some result.0 }
+        ensures same { slice_get self.now.winners result.0 ≡ slice_get self.now.winners node.0 }
     {
         let number = self.numbers[node.0 as usize];
         self.shared[number as usize].first
     }
 
-    /// Adds a node.
+    /// Adds a node, which is the first of its like.
     pub fn push(&mut self, winners: NodeWinners) -> Result<(), NoMem>
-        ensures ok { OnOk result (self.new ≡ self.old ++ winners ∷ []) }
+        ensures ok { OnOk result (self.new ≡ with_node self.old winners (length self.old.winners)) }
         ensures err { OnErr result (self.new ≡ self.old) }
     {
         let Ok(node) = u32::try_from(self.numbers.len()) else {
@@ -99,9 +98,9 @@ impl WinnerTable {
         push_number(&mut self.numbers, number)
     }
 
-    /// Adds a node for which the same wins as for an earlier one.
+    /// Adds a node for which the same wins as for an earlier one, and which is like it.
     pub fn push_like(&mut self, node: NodeId) -> Result<(), NoMem>
-        requires { node.0 < length self.old }
+        requires { node.0 < length self.old.winners }
         ensures ok { OnOk result (AddsLike self.old node.0 self.new) }
         ensures err { OnErr result (self.new ≡ self.old) }
     {

@@ -148,8 +148,9 @@ fn add_winners<'a>(
 ) -> Result<(), NoMem>
     requires node { node.0 < length dom.now }
     requires count { length matched.now ≡ length dom.now }
-    requires rows { length all.old ≡ node.0 }
-    ensures { OnOk result (AddsChosen dom.now (map spec.selected_in selected.now) matched.now node.0 all.old all.new) }
+    requires rows { length all.old.winners ≡ node.0 }
+    ensures { OnOk result (AddsChosen dom.now (map spec.selected_in selected.now) matched.now node.0 all.old.winners
+        all.new.winners) }
 {
     if let Some(earlier) = alike.earlier(dom, matched, node) {
         return all.push_like(earlier);
@@ -186,8 +187,8 @@ fn winners_by_matches(
     matched: &MatchTable,
 ) -> Result<WinnerTable, NoMem>
     requires { length matched.now ≡ length dom.now }
-    ensures count { IfOk result (λ t. length t ≡ length dom.now) }
-    ensures chosen { IfOk result (λ t. AreChosenAt dom.now (map spec.selected_in selected.now) matched.now t) }
+    ensures count { IfOk result (λ t. length t.winners ≡ length dom.now) }
+    ensures chosen { IfOk result (λ t. AreChosenAt dom.now (map spec.selected_in selected.now) matched.now t.winners) }
 {
     let mut alike = SameMatches::new(alloc);
     let mut all = WinnerTable::new(alloc);
@@ -202,7 +203,7 @@ fn winners_by_matches(
 /// selectors are matched in one call. What wins is chosen once, and a style attribute read once, for all nodes with the
 /// same style attribute that the same selectors match. No value is read again.
 pub fn all_winners(alloc: Global, dom: &Dom, sheets: &[ReadSheet]) -> Result<WinnerTable, NoMem>
-    ensures { IfOk result (λ t. AreAllWinners dom.now sheets.now t) }
+    ensures { IfOk result (λ t. AreAllWinners dom.now sheets.now t.winners) }
 {
     let selected = selected_in(alloc, sheets)?;
     let matched = matches_of(alloc, dom, &selected)?;

@@ -2,11 +2,11 @@
 use Rattle.std.specs.Prelude.{ℤ, List, Option, None, Some, fold}
 use Rattle.bk_num.specs.Limits.{root_size}
 use Rattle.bk_num.specs.Sides as sides
+use Rattle.style.specs.Initial.{initial_border}
 use Rattle.style.specs.Longs.{side_long}
 use Rattle.style.specs.Sides.{border_styles}
 use Rattle.style.specs.Styles.{initial_style}
 use Rattle.style.specs.declared.style.Style.{Style}
-use Rattle.style.specs.declared.values.BorderStyle.TheVariants as border
 use Rattle.style.specs.declared.long.Long.{Long}
 use Rattle.style.specs.declared.long.Long.TheVariants as long
 use Rattle.style.specs.declared.long.SideLong.{SideLong}
@@ -17,12 +17,12 @@ use Rattle.computed_values.specs.Values.{given_by, same, size_of}
 -- that of an element without winners
 abbrev pub bare : Style → ElementContext
 bare p =
-    record { font_size = p.font_size; root_size = p.font_size; color = p.color; border_styles = sides.same border.Off }
+    record { font_size = p.font_size; root_size = p.font_size; color = p.color; border_styles = sides.same initial_border }
 
 -- with what a winner gives to a side
 abbrev pub noted_side : Style → ElementContext → SideLong → ElementContext
 noted_side p c (given.BorderStyle s g) = record c {
-  border_styles = sides.with_side s (given_by same g (sides.at (border_styles p) s) border.Off) c.border_styles;
+  border_styles = sides.with_side s (given_by same g (sides.at (border_styles p) s) initial_border) c.border_styles;
 }
 noted_side p c l = c
 

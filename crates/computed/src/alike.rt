@@ -47,8 +47,8 @@ impl SameStyles {
     /// What decides the styles of an element below the root.
     fn deciding(&self, dom: &Dom, winners: &WinnerTable, node: NodeId) -> Option<Deciding>
         requires node { node.0 < length dom.now }
-        requires count { length winners.now ≡ length dom.now }
-        ensures { IfSome result (λ d. IsDeciding dom.now winners.now self.now node.0 d) }
+        requires count { length winners.now.winners ≡ length dom.now }
+        ensures { IfSome result (λ d. IsDeciding dom.now winners.now.winners self.now node.0 d) }
     {
         if dom.name(node).is_none() {
             return None;
@@ -61,8 +61,8 @@ impl SameStyles {
     /// A node before this one that must have the same styles, if one is known.
     pub(crate) fn earlier(&self, dom: &Dom, winners: &WinnerTable, node: NodeId) -> Option<NodeId>
         requires node { node.0 < length dom.now }
-        requires count { length winners.now ≡ length dom.now }
-        ensures { IfSome result (λ e. IsLike dom.now winners.now self.now e.0 node.0) }
+        requires count { length winners.now.winners ≡ length dom.now }
+        ensures { IfSome result (λ e. IsLike dom.now winners.now.winners self.now e.0 node.0) }
     {
         let mine = self.deciding(dom, winners, node)?;
         let earlier = NodeId(*self.known.get(&mine)?);
@@ -93,7 +93,7 @@ impl SameStyles {
         node: NodeId,
     ) -> Result<(), NoMem>
         requires node { node.0 < length dom.now }
-        requires count { length winners.now ≡ length dom.now }
+        requires count { length winners.now.winners ≡ length dom.now }
         ensures { OnOk result (self.new ≡ self.old ++ node.0 ∷ []) }
     {
         if let Some(deciding) = self.deciding(dom, winners, node) {

@@ -11,15 +11,16 @@ use bk_num::ids::NameId;
 use bk_num::name::NoMem;
 use bk_num::px::Px;
 use bk_num::sides::Sides;
-use bk_num::values::{Align, BreakAt, NumStyle, WhiteSpace};
 use computed_values::fonts::{chosen_height, chosen_weight};
 use computed_values::given::{chosen, chosen_color};
 use std::alloc::Global;
 use style::content::Content;
+use style::initial::{
+    INITIAL_ALIGN, INITIAL_BREAK, INITIAL_DISPLAY, INITIAL_LINES, INITIAL_MARKER, INITIAL_SPACE,
+};
 use style::lists::{CounterList, Families, StringSets};
 use style::long::{Given, Long, SideLong};
 use style::style::Style;
-use style::values::Display;
 
 /// The computed style of an element below a parent, by its winners, but for its page name, which is 0. `root` is the
 /// root's font size, and None is the root itself.
@@ -132,20 +133,20 @@ fn apply_flow(style: &mut Style, parent: &Style, context: &ElementContext, long:
     ensures { style.new ≡ spec.applied_flow parent.now context.now style.old long.now }
 {
     match long {
-        Long::Display(g) => style.display = chosen(g, parent.display, Display::Inline),
+        Long::Display(g) => style.display = chosen(g, parent.display, INITIAL_DISPLAY),
         Long::Float(g) => style.float = chosen(g, parent.float, false),
         Long::Width(g) => style.width = chosen_length(LengthUse::Width, g, parent.width, context),
         Long::BackgroundColor(g) => {
             style.background_color = chosen(g, parent.background_color, None);
         }
         Long::ListStyleType(g) => {
-            style.list_style_type = chosen(g, parent.list_style_type, NumStyle::Disc);
+            style.list_style_type = chosen(g, parent.list_style_type, INITIAL_MARKER);
         }
-        Long::BreakBefore(g) => style.break_before = chosen(g, parent.break_before, BreakAt::Auto),
-        Long::BreakAfter(g) => style.break_after = chosen(g, parent.break_after, BreakAt::Auto),
+        Long::BreakBefore(g) => style.break_before = chosen(g, parent.break_before, INITIAL_BREAK),
+        Long::BreakAfter(g) => style.break_after = chosen(g, parent.break_after, INITIAL_BREAK),
         Long::BreakInside(g) => style.break_inside = chosen(g, parent.break_inside, false),
-        Long::Widows(g) => style.widows = chosen(g, parent.widows, 2),
-        Long::Orphans(g) => style.orphans = chosen(g, parent.orphans, 2),
+        Long::Widows(g) => style.widows = chosen(g, parent.widows, INITIAL_LINES),
+        Long::Orphans(g) => style.orphans = chosen(g, parent.orphans, INITIAL_LINES),
         _ => {}
     }
 }
@@ -161,12 +162,12 @@ fn apply_text(style: &mut Style, parent: &Style, context: &ElementContext, long:
             let (font, root) = (context.font_size, context.root_size);
             style.line_height = chosen_height(g, &parent.line_height, font, root);
         }
-        Long::TextAlign(g) => style.text_align = chosen(g, parent.text_align, Align::Left),
+        Long::TextAlign(g) => style.text_align = chosen(g, parent.text_align, INITIAL_ALIGN),
         Long::TextIndent(g) => {
             style.text_indent = chosen_length(LengthUse::Indent, g, parent.text_indent, context);
         }
         Long::WhiteSpace(g) => {
-            style.white_space = chosen(g, parent.white_space, WhiteSpace::Normal);
+            style.white_space = chosen(g, parent.white_space, INITIAL_SPACE);
         }
         Long::OverflowWrap(g) => style.overflow_wrap = chosen(g, parent.overflow_wrap, false),
         _ => {}

@@ -8,7 +8,7 @@ use bk_num::sides::Sides;
 use bk_num::values::Color;
 use computed_values::fonts::chosen_size;
 use computed_values::given::chosen;
-use style::initial::medium_size;
+use style::initial::{INITIAL_BORDER, INITIAL_COLOR, medium_size};
 use style::long::{Long, SideLong};
 use style::style::Style;
 use style::values::BorderStyle;
@@ -43,7 +43,7 @@ fn bare(parent: &Style) -> ElementContext
         font_size: parent.font_size,
         root_size: parent.font_size,
         color: parent.color,
-        border_styles: Sides::same(BorderStyle::Off),
+        border_styles: Sides::same(INITIAL_BORDER),
     }
 }
 
@@ -84,7 +84,7 @@ fn note_side(context: &mut ElementContext, parent: &Style, given: &SideLong)
             let inherited = parent.border_styles().at(*side);
             context
                 .border_styles
-                .put(*side, chosen(given, inherited, BorderStyle::Off));
+                .put(*side, chosen(given, inherited, INITIAL_BORDER));
         }
         _ => {}
     }
@@ -96,14 +96,7 @@ fn note_alone(context: &mut ElementContext, parent: &Style, rem: &Px, long: &Lon
 {
     match long {
         Long::FontSize(given) => context.font_size = chosen_size(given, parent.font_size, *rem),
-        Long::Color(given) => context.color = chosen(given, parent.color, BLACK),
+        Long::Color(given) => context.color = chosen(given, parent.color, INITIAL_COLOR),
         _ => {}
     }
 }
-
-/// The initial color.
-const BLACK: Color = Color {
-    red: 0,
-    green: 0,
-    blue: 0,
-};

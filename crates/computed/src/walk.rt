@@ -17,6 +17,7 @@ use bk_num::values::Pseudo;
 use cascade::table::{NodeWinners, WinnerTable};
 use dom::Dom;
 use std::alloc::Global;
+use style::initial::medium_size;
 use style::names::Names;
 use style::style::Style;
 use style::styles::Styles;
@@ -24,8 +25,8 @@ use style::styles::Styles;
 /// The styles of a document's nodes and the names of its pages, by the winners of each node. Names are numbered in the
 /// order in which they are first seen. Elements with the same winners whose parents share their styles share them too.
 pub fn styles_of(alloc: Global, dom: &Dom, winners: &WinnerTable) -> Result<(Styles, Names), NoMem>
-    requires { length winners.now ≡ length dom.now }
-    ensures { IfOk result (λ r. AreStyles r.1 dom.now winners.now r.0) }
+    requires { length winners.now.winners ≡ length dom.now }
+    ensures { IfOk result (λ r. AreStyles r.1 dom.now winners.now.winners r.0) }
 {
     let above_root = boxed(alloc, Style::initial(alloc)?)?;
     let mut styles = Styles::new(alloc);
@@ -43,11 +44,11 @@ fn add_all(
     styles: &mut Styles,
     names: &mut Names,
 ) -> Result<(), NoMem>
-    requires count { length winners.now ≡ length dom.now }
+    requires count { length winners.now.winners ≡ length dom.now }
     requires styles { styles.old ≡ [] }
     requires names { names.old ≡ [] ∷ [] }
     requires initial { initial.now ≡ initial_style }
-    ensures { OnOk result (AreStyles names.new dom.now winners.now styles.new) }
+    ensures { OnOk result (AreStyles names.new dom.now winners.now.winners styles.new) }
 {
     let mut alike = SameStyles::new(alloc);
     for index in 0..dom.len() {
@@ -71,11 +72,11 @@ fn add_next(
     node: NodeId,
 ) -> Result<(), NoMem>
     requires node { node.0 < length dom.now }
-    requires count { length winners.now ≡ length dom.now }
+    requires count { length winners.now.winners ≡ length dom.now }
     requires rows { length styles.old ≡ node.0 }
     requires initial { initial.now ≡ initial_style }
-    ensures adds { OnOk result (AddsNext names.old names.new dom.now winners.now node.0 alike.old alike.new styles.old
-        styles.new) }
+    ensures adds { OnOk result (AddsNext names.old names.new dom.now winners.now.winners node.0 alike.old alike.new
+        styles.old styles.new) }
     ensures names { Extends names.old names.new }
 {
     if let Some(earlier) = alike.earlier(dom, winners, node) {
@@ -208,13 +209,12 @@ fn root_above(styles: &Styles, parent: &Option<NodeId>) -> Option<Px>
     }
 }
 
-#[tactic(auto, unfolding(bk_num::specs::Units::clamped))]
 fn font_of(style: Option<&Style>) -> Px
     ensures { result ≡ font_of (option_map (λ s. s.now) style.entry) }
 {
     match style {
         Some(style) => style.font_size,
-        None => Px::from_units(1024),
+        None => medium_size(),
     }
 }
 

@@ -61,7 +61,7 @@ pub fn chosen_weight(given: &Given<Weight>, parent: u16) -> u16
 
 /// A height of lines, never negative: a number stays one, `em`, `ex` and percentages are of the font size, `rem` of the
 /// root's.
-pub fn height_of(font: Px, root: Px, height: &GivenHeight) -> LineHeight
+fn height_of(font: Px, root: Px, height: &GivenHeight) -> LineHeight
     ensures height { result ≡ spec.height_of font root height.now }
     ensures least { spec.IsHeight result }
 {

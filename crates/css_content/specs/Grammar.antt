@@ -1,5 +1,6 @@
--- Lists of content, of counters and of named strings (CSS 2.1, 12.2 and 12.4; css-gcpm-3, 1.1).
-use Rattle.std.specs.Prelude.{ℕ, Bool, ◌&&◌, ◌||◌, if◌then◌else◌, List, [], ◌∷◌, codes, Option, Some, None, ℤ, nat_eq}
+-- Lists of content, of counters and of named strings (CSS 2.1, 12.2 and 12.4; css-gcpm-3, 1.1 and 1.2; css-page-3,
+-- 7.1).
+use Rattle.std.specs.Prelude.{ℕ, ◌&&◌, ◌||◌, if◌then◌else◌, List, [], ◌∷◌, codes, Option, Some, None, is_some, ℤ, nat_eq}
 use Rattle.std.specs.Cmp.Lexicographic.{pointwise}
 use Rattle.bk_num.specs.declared.values.NumStyle.{NumStyle}
 use Rattle.bk_num.specs.declared.values.NumStyle.TheVariants as style
@@ -9,6 +10,8 @@ use Rattle.css_words.specs.Parser.{Parser, ◌>>=◌, ◌>>◌, pure, refuse, on
 use Rattle.css_words.specs.Repeat.{first_and, many, fewer_than, comma_list}
 use Rattle.css_words.specs.Table.{find_word}
 use Rattle.css_words.specs.Words.{of_kind, is_none, is_mark, is_named, slice_of, value, ident, lower_ident, string, expect, close}
+use Rattle.style.specs.declared.content.Keyword.{Keyword}
+use Rattle.style.specs.declared.content.Keyword.TheVariants as keyword
 use Rattle.style.specs.declared.content.Link.{Link}
 use Rattle.style.specs.declared.content.Link.TheVariants as link
 use Rattle.style.specs.declared.content.Part.{Part}
@@ -26,7 +29,8 @@ use Rattle.css_content.specs.declared.content.ContentFunction.TheVariants as fun
 unfoldable pub functions : List (List ℕ × ContentFunction)
 functions =
     (codes "attr", function.Attr) ∷ (codes "counter", function.Counter) ∷ (codes "counters", function.Counters) ∷
-    (codes "target-counter", function.Target) ∷ (codes "content", function.Own) ∷ []
+    (codes "target-counter", function.Target) ∷ (codes "content", function.Own) ∷ (codes "string", function.Running) ∷
+    []
 
 -- a comma and a style, or `decimal`
 unfoldable pub style_argument : Parser NumStyle
@@ -41,17 +45,29 @@ attr_arguments = do
   _ ← close
   pure (part.Attr name)
 
--- the names that pages count by: the flow has no counter() of them
-abbrev pub is_of_pages : List ℕ → Bool
-is_of_pages name = pointwise nat_eq name (codes "page") || pointwise nat_eq name (codes "pages")
+-- `page` counts the page's number, and `pages` how many pages there are (css-page-3, 7.1)
+abbrev pub page_counter : List ℕ → NumStyle → Option Part
+page_counter name s =
+    if pointwise nat_eq name (codes "page") then Some (part.Page s)
+    else (if pointwise nat_eq name (codes "pages") then Some (part.Pages s) else None)
+
+-- every other name counts in the flow
+abbrev pub flow_counter : List ℕ → NumStyle → Option Part
+flow_counter name s = if is_some (page_counter name s) then None else Some (part.Counter name s)
+
+-- what counter() prints by its name: in a margin box pages alone count, and in the flow all else
+abbrev pub counter_of : ContentPlace → List ℕ → NumStyle → Option Part
+counter_of place.Content name s = flow_counter name s
+counter_of place.StringSet name s = flow_counter name s
+counter_of place.MarginBox name s = page_counter name s
 
 -- the arguments of counter(): a name, and a style of numerals (CSS 2.1, 12.2)
-unfoldable pub counter_arguments : Parser Part
-counter_arguments = do
+unfoldable pub counter_arguments : ContentPlace → Parser Part
+counter_arguments p = do
   name ← ident
   s ← style_argument
   _ ← close
-  if is_of_pages name then refuse else pure (part.Counter name s)
+  on_some (counter_of p name s) refuse pure
 
 -- the arguments of counters(): a name, the text between the numbers, and a style (CSS 2.1, 12.2)
 unfoldable pub counters_arguments : Parser Part
@@ -103,14 +119,41 @@ own_arguments = do
   t ← peek
   if is_named kind.Ident t (codes "text") then (advance >> close >> pure part.Own) else (close >> pure part.Own)
 
--- target-counter() is of `content` alone, and content() of `string-set` alone
+-- which value of a running string is printed (css-gcpm-3, 1.1.2)
+unfoldable pub keywords : List (List ℕ × Keyword)
+keywords =
+    (codes "first", keyword.First) ∷ (codes "start", keyword.Start) ∷ (codes "last", keyword.Last) ∷
+    (codes "first-except", keyword.FirstExcept) ∷ []
+
+-- a comma and a keyword, or `first`
+unfoldable pub keyword_argument : Parser Keyword
+keyword_argument = do
+  t ← peek
+  if is_mark 44 t then (advance >> word_in keywords) else pure keyword.First
+
+-- the arguments of string(): a name, and a keyword (css-gcpm-3, 1.2)
+unfoldable pub running_arguments : Parser Part
+running_arguments = do
+  name ← ident
+  k ← keyword_argument
+  _ ← close
+  pure (part.Running name k)
+
+-- the functions that `content` and `string-set` both have
+unfoldable pub flow_arguments : ContentPlace → ContentFunction → Parser Part
+flow_arguments p function.Attr = attr_arguments
+flow_arguments p function.Counter = counter_arguments p
+flow_arguments p function.Counters = counters_arguments
+flow_arguments p _ = refuse
+
+-- target-counter() is of `content` alone, content() of `string-set` alone, and a margin box has string() and counter()
 unfoldable pub arguments : ContentPlace → ContentFunction → Parser Part
-arguments p function.Attr = attr_arguments
-arguments p function.Counter = counter_arguments
-arguments p function.Counters = counters_arguments
 arguments place.Content function.Target = target_arguments
 arguments place.StringSet function.Own = own_arguments
-arguments _ _ = refuse
+arguments place.MarginBox function.Running = running_arguments
+arguments place.MarginBox function.Counter = counter_arguments place.MarginBox
+arguments place.MarginBox _ = refuse
+arguments p f = flow_arguments p f
 
 -- what a part says that begins with this token
 unfoldable pub part_of : ContentPlace → Option Item → Parser Part
@@ -135,11 +178,11 @@ unfoldable pub content_list : ContentPlace → Parser (List Part)
 content_list p = first_and (one_part p) (many (next_part p))
 
 -- `normal`, `none`, or a list
-unfoldable pub content : Parser (Option (List Part))
-content = do
+unfoldable pub content : ContentPlace → Parser (Option (List Part))
+content p = do
   t ← peek
   if is_named kind.Ident t (codes "normal") || is_named kind.Ident t (codes "none") then (advance >> pure None) else
-      (content_list place.Content >>= (λ ps. pure (Some ps)))
+      (content_list p >>= (λ ps. pure (Some ps)))
 
 -- ---- counters
 

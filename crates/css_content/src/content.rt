@@ -1,12 +1,14 @@
-//! Lists of content (CSS 2.1, 12.2; css-gcpm-3, 1.1).
+//! Lists of content (CSS 2.1, 12.2; css-gcpm-3, 1.1 and 1.2; css-page-3, 7.1).
 
 ghost use Rattle.std.specs.Prelude.{◌≡◌, ◌≤◌, ◌<◌, length, option_map, IfOk};
 ghost use Rattle.css_tok.specs.Tokens.{item_in};
 ghost use Rattle.css_words.specs.Parser.{Reads};
 ghost use Rattle.css_words.specs.Table.{find_word};
+ghost use Rattle.css_content.specs.Basics.{word_in};
 ghost use Rattle.css_content.specs.Grammar as spec;
 
-use crate::words::num_style;
+use crate::words::{num_style, word_in};
+use bk_num::name::Name;
 use bk_num::values::NumStyle;
 use css_tok::kind::CssKind;
 use css_tok::tokens::CssToken;
@@ -18,7 +20,7 @@ use css_words::words::{
     close, expect, ident, is_mark, is_named, lower_ident, of_kind, slice_of, string, value,
 };
 use std::alloc::Global;
-use style::content::{Content, Link, Part};
+use style::content::{Content, Keyword, Link, Part};
 
 /// Where a list of content stands.
 #[derive(Clone, Copy, Debug, PartialEq, Eq)]
@@ -27,6 +29,8 @@ pub enum ContentPlace {
     Content,
     /// In `string-set`, where `content()` may stand.
     StringSet,
+    /// In `content` of a margin box, where strings, `string()` and counters of pages may stand.
+    MarginBox,
 }
 
 /// The functions of content.
@@ -37,6 +41,8 @@ pub enum ContentFunction {
     Counters,
     Target,
     Own,
+    /// `string()`.
+    Running,
 }
 
 #[tactic(auto, unfolding(crate::specs::Grammar::functions))]
@@ -50,6 +56,7 @@ fn function_of(name: &str) -> Option<ContentFunction>
             ("counters", ContentFunction::Counters),
             ("target-counter", ContentFunction::Target),
             ("content", ContentFunction::Own),
+            ("string", ContentFunction::Running),
         ],
         name,
     )
@@ -57,7 +64,7 @@ fn function_of(name: &str) -> Option<ContentFunction>
 
 /// Reads a comma and a style of numerals, or nothing, which is `decimal`.
 #[tactic(auto, unfolding(crate::specs::Grammar::style_argument))]
-pub fn style_argument(reader: &mut Reader<'_>) -> Result<NumStyle, Unread>
+fn style_argument(reader: &mut Reader<'_>) -> Result<NumStyle, Unread>
     ensures reads { Reads (λ x. x) (spec.style_argument reader.old) result reader.new }
     ensures within { length reader.new ≤ length reader.old }
 {
@@ -78,25 +85,55 @@ fn attr_arguments(alloc: Global, reader: &mut Reader<'_>) -> Result<Part, Unread
     Ok(Part::Attr(name))
 }
 
-/// Whether pages count by this name, so that the flow has no `counter()` of it.
-fn is_of_pages(name: &str) -> bool
-    ensures { result ≡ spec.is_of_pages name.now }
+/// A counter of pages by its name: the page's number, or how many pages there are.
+fn page_counter(name: &str, style: NumStyle) -> Option<Part>
+    ensures { result ≡ spec.page_counter name.now style }
 {
-    name == "page" || name == "pages"
+    if name == "page" {
+        Some(Part::Page(style))
+    } else if name == "pages" {
+        Some(Part::Pages(style))
+    } else {
+        None
+    }
+}
+
+/// A counter of the flow by its name, which none of those of pages has.
+fn flow_counter(name: Name, style: NumStyle) -> Option<Part>
+    ensures { result ≡ spec.flow_counter name style }
+{
+    match page_counter(name.as_str(), style) {
+        Some(_) => None,
+        None => Some(Part::Counter(name, style)),
+    }
+}
+
+/// What `counter()` prints by its name: in a margin box pages alone count, and in the flow all else.
+fn counter_of(place: ContentPlace, name: Name, style: NumStyle) -> Option<Part>
+    ensures { result ≡ spec.counter_of place name style }
+{
+    match place {
+        ContentPlace::Content | ContentPlace::StringSet => flow_counter(name, style),
+        ContentPlace::MarginBox => page_counter(name.as_str(), style),
+    }
 }
 
 #[tactic(auto, unfolding(crate::specs::Grammar::counter_arguments))]
-fn counter_arguments(alloc: Global, reader: &mut Reader<'_>) -> Result<Part, Unread>
-    ensures reads { Reads (λ x. x) (spec.counter_arguments reader.old) result reader.new }
+fn counter_arguments(
+    alloc: Global,
+    reader: &mut Reader<'_>,
+    place: ContentPlace,
+) -> Result<Part, Unread>
+    ensures reads { Reads (λ x. x) (spec.counter_arguments place reader.old) result reader.new }
     ensures within { length reader.new ≤ length reader.old }
 {
     let name = ident(alloc, reader)?;
     let style = style_argument(reader)?;
     close(reader)?;
-    if is_of_pages(name.as_str()) {
-        return Err(Unread::NoReading);
+    match counter_of(place, name, style) {
+        Some(part) => Ok(part),
+        None => Err(Unread::NoReading),
     }
-    Ok(Part::Counter(name, style))
 }
 
 #[tactic(auto, unfolding(crate::specs::Grammar::counters_arguments))]
@@ -184,6 +221,66 @@ fn own_arguments(reader: &mut Reader<'_>) -> Result<Part, Unread>
     Ok(Part::Own)
 }
 
+/// Reads which value of a string is printed.
+#[tactic(auto, unfolding(crate::specs::Grammar::keywords))]
+fn keyword(reader: &mut Reader<'_>) -> Result<Keyword, Unread>
+    ensures reads { Reads (λ x. x) (word_in spec.keywords reader.old) result reader.new }
+    ensures within { length reader.new ≤ length reader.old }
+{
+    word_in(
+        reader,
+        &[
+            ("first", Keyword::First),
+            ("start", Keyword::Start),
+            ("last", Keyword::Last),
+            ("first-except", Keyword::FirstExcept),
+        ],
+    )
+}
+
+/// Reads a comma and a keyword, or nothing, which is `first`.
+#[tactic(auto, unfolding(crate::specs::Grammar::keyword_argument))]
+fn keyword_argument(reader: &mut Reader<'_>) -> Result<Keyword, Unread>
+    ensures reads { Reads (λ x. x) (spec.keyword_argument reader.old) result reader.new }
+    ensures within { length reader.new ≤ length reader.old }
+{
+    if !is_mark(b',', reader.peek()) {
+        return Ok(Keyword::First);
+    }
+    reader.advance();
+    keyword(reader)
+}
+
+#[tactic(auto, unfolding(crate::specs::Grammar::running_arguments))]
+fn running_arguments(alloc: Global, reader: &mut Reader<'_>) -> Result<Part, Unread>
+    ensures reads { Reads (λ x. x) (spec.running_arguments reader.old) result reader.new }
+    ensures within { length reader.new ≤ length reader.old }
+{
+    let name = ident(alloc, reader)?;
+    let keyword = keyword_argument(reader)?;
+    close(reader)?;
+    Ok(Part::Running(name, keyword))
+}
+
+/// Reads the arguments of a function in the flow: those that `content` and `string-set` both have.
+#[tactic(auto, unfolding(crate::specs::Grammar::flow_arguments))]
+fn flow_arguments(
+    alloc: Global,
+    reader: &mut Reader<'_>,
+    place: ContentPlace,
+    function: ContentFunction,
+) -> Result<Part, Unread>
+    ensures reads { Reads (λ x. x) (spec.flow_arguments place function reader.old) result reader.new }
+    ensures within { length reader.new ≤ length reader.old }
+{
+    match function {
+        ContentFunction::Attr => attr_arguments(alloc, reader),
+        ContentFunction::Counter => counter_arguments(alloc, reader, place),
+        ContentFunction::Counters => counters_arguments(alloc, reader),
+        _ => Err(Unread::NoReading),
+    }
+}
+
 #[tactic(auto, unfolding(crate::specs::Grammar::arguments))]
 fn arguments(
     alloc: Global,
@@ -195,12 +292,14 @@ fn arguments(
     ensures within { length reader.new ≤ length reader.old }
 {
     match (place, function) {
-        (_, ContentFunction::Attr) => attr_arguments(alloc, reader),
-        (_, ContentFunction::Counter) => counter_arguments(alloc, reader),
-        (_, ContentFunction::Counters) => counters_arguments(alloc, reader),
         (ContentPlace::Content, ContentFunction::Target) => target_arguments(alloc, reader),
         (ContentPlace::StringSet, ContentFunction::Own) => own_arguments(reader),
-        (_, _) => Err(Unread::NoReading),
+        (ContentPlace::MarginBox, ContentFunction::Running) => running_arguments(alloc, reader),
+        (ContentPlace::MarginBox, ContentFunction::Counter) => {
+            counter_arguments(alloc, reader, place)
+        }
+        (ContentPlace::MarginBox, _) => Err(Unread::NoReading),
+        (_, _) => flow_arguments(alloc, reader, place, function),
     }
 }
 
@@ -279,10 +378,14 @@ pub fn content_list(
     Ok(Content::of(parts.into_vec()))
 }
 
-/// Reads a value of `content`: None for `normal` and `none`.
+/// Reads a value of `content`, of an element or of a margin box: None for `normal` and `none`.
 #[tactic(auto, unfolding(crate::specs::Grammar::content))]
-pub fn content(alloc: Global, reader: &mut Reader<'_>) -> Result<Option<Content>, Unread>
-    ensures reads { Reads (λ x. x) (spec.content reader.old) result reader.new }
+pub fn content(
+    alloc: Global,
+    reader: &mut Reader<'_>,
+    place: ContentPlace,
+) -> Result<Option<Content>, Unread>
+    ensures reads { Reads (λ x. x) (spec.content place reader.old) result reader.new }
     ensures within { length reader.new ≤ length reader.old }
 {
     let token = reader.peek();
@@ -290,5 +393,5 @@ pub fn content(alloc: Global, reader: &mut Reader<'_>) -> Result<Option<Content>
         reader.advance();
         return Ok(None);
     }
-    Ok(Some(content_list(alloc, reader, ContentPlace::Content)?))
+    Ok(Some(content_list(alloc, reader, place)?))
 }

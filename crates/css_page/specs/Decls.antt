@@ -18,8 +18,8 @@ use Rattle.css_page.specs.declared.values.PageLong.TheVariants as page
 use Rattle.css_page.specs.declared.values.PageDecl.{PageDecl}
 use Rattle.css_page.specs.declared.properties.PageContext.{PageContext}
 use Rattle.css_page.specs.declared.properties.PageContext.TheVariants as context
-use Rattle.css_page.specs.declared.properties.PageProperty.{PageProperty}
-use Rattle.css_page.specs.declared.properties.PageProperty.TheVariants as property
+use Rattle.css_page.specs.declared.properties.PageGrammar.{PageGrammar}
+use Rattle.css_page.specs.declared.properties.PageGrammar.TheVariants as grammar
 use Rattle.css_page.specs.declared.properties.OwnProperty.{OwnProperty}
 
 -- a declared value of an element as one of a page, where a page has it
@@ -58,10 +58,10 @@ abbrev pub read_other : OwnProperty → List ℕ → Option (List PageLong)
 read_other p value = alone_of (read_own p (kept skipped.CommentsAndSpaces (tokens_of value)))
 
 -- what a value of a property gives
-abbrev pub longs_by : Option PageProperty → List ℕ → List ℕ → Option (List PageLong)
+abbrev pub longs_by : Option PageGrammar → List ℕ → List ℕ → Option (List PageLong)
 longs_by None name value = None
-longs_by (Some property.Shared) name value = read_shared name value
-longs_by (Some (property.Own p)) name value = read_other p value
+longs_by (Some grammar.Shared) name value = read_shared name value
+longs_by (Some (grammar.Own p)) name value = read_other p value
 
 -- what a declaration gives: none where pages or margin boxes don't have the property, or its value has no reading
 abbrev pub longs_of : PageContext → Decl → Option (List PageLong)

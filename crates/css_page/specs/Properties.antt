@@ -8,10 +8,11 @@ use Rattle.css_words.specs.Words.{is_none}
 use Rattle.style.specs.declared.long.Given.{Given}
 use Rattle.style.specs.declared.long.Given.TheVariants as given
 use Rattle.css_content.specs.Basics.{word_in}
+use Rattle.css_content.specs.Grammar.{content}
+use Rattle.css_content.specs.declared.content.ContentPlace.TheVariants as place
 use Rattle.css_values.specs.Decls.{wide_of}
 use Rattle.css_values.specs.Values.{given_by}
 use Rattle.css_values.specs.declared.values.Wide.{Wide}
-use Rattle.css_page.specs.Contents.{content}
 use Rattle.css_page.specs.Sizes.{size}
 use Rattle.css_page.specs.declared.values.PageLong.{PageLong}
 use Rattle.css_page.specs.declared.values.PageLong.TheVariants as long
@@ -19,32 +20,32 @@ use Rattle.css_page.specs.declared.values.Upright.{Upright}
 use Rattle.css_page.specs.declared.values.Upright.TheVariants as upright
 use Rattle.css_page.specs.declared.properties.PageContext.{PageContext}
 use Rattle.css_page.specs.declared.properties.PageContext.TheVariants as context
-use Rattle.css_page.specs.declared.properties.PageProperty.{PageProperty}
-use Rattle.css_page.specs.declared.properties.PageProperty.TheVariants as property
+use Rattle.css_page.specs.declared.properties.PageGrammar.{PageGrammar}
+use Rattle.css_page.specs.declared.properties.PageGrammar.TheVariants as grammar
 use Rattle.css_page.specs.declared.properties.OwnProperty.{OwnProperty}
 use Rattle.css_page.specs.declared.properties.OwnProperty.TheVariants as own
 
 -- what a page takes
-unfoldable pub page_properties : List (List ℕ × PageProperty)
+unfoldable pub page_properties : List (List ℕ × PageGrammar)
 page_properties =
-    (codes "size", property.Own own.Size) ∷ (codes "margin", property.Shared) ∷
-    (codes "margin-top", property.Shared) ∷ (codes "margin-right", property.Shared) ∷
-    (codes "margin-bottom", property.Shared) ∷ (codes "margin-left", property.Shared) ∷
-    (codes "color", property.Shared) ∷ (codes "font-family", property.Shared) ∷
-    (codes "font-size", property.Shared) ∷ (codes "font-style", property.Shared) ∷
-    (codes "font-weight", property.Shared) ∷ (codes "line-height", property.Shared) ∷ []
+    (codes "size", grammar.Own own.Size) ∷ (codes "margin", grammar.Shared) ∷
+    (codes "margin-top", grammar.Shared) ∷ (codes "margin-right", grammar.Shared) ∷
+    (codes "margin-bottom", grammar.Shared) ∷ (codes "margin-left", grammar.Shared) ∷
+    (codes "color", grammar.Shared) ∷ (codes "font-family", grammar.Shared) ∷
+    (codes "font-size", grammar.Shared) ∷ (codes "font-style", grammar.Shared) ∷
+    (codes "font-weight", grammar.Shared) ∷ (codes "line-height", grammar.Shared) ∷ []
 
 -- what a margin box takes
-unfoldable pub box_properties : List (List ℕ × PageProperty)
+unfoldable pub box_properties : List (List ℕ × PageGrammar)
 box_properties =
-    (codes "content", property.Own own.Content) ∷ (codes "text-align", property.Own own.TextAlign) ∷
-    (codes "vertical-align", property.Own own.VerticalAlign) ∷ (codes "color", property.Shared) ∷
-    (codes "font-family", property.Shared) ∷ (codes "font-size", property.Shared) ∷
-    (codes "font-style", property.Shared) ∷ (codes "font-weight", property.Shared) ∷
-    (codes "line-height", property.Shared) ∷ []
+    (codes "content", grammar.Own own.Content) ∷ (codes "text-align", grammar.Own own.TextAlign) ∷
+    (codes "vertical-align", grammar.Own own.VerticalAlign) ∷ (codes "color", grammar.Shared) ∷
+    (codes "font-family", grammar.Shared) ∷ (codes "font-size", grammar.Shared) ∷
+    (codes "font-style", grammar.Shared) ∷ (codes "font-weight", grammar.Shared) ∷
+    (codes "line-height", grammar.Shared) ∷ []
 
 -- what a page or a margin box takes
-abbrev pub properties : PageContext → List (List ℕ × PageProperty)
+abbrev pub properties : PageContext → List (List ℕ × PageGrammar)
 properties context.Page = page_properties
 properties context.MarginBox = box_properties
 
@@ -63,7 +64,7 @@ as_long make p = p >>= (λ x. pure (make (given.Value x)))
 -- a value of each property of their own
 abbrev pub read_value : OwnProperty → Parser PageLong
 read_value own.Size = as_long long.Size size
-read_value own.Content = as_long long.Content content
+read_value own.Content = as_long long.Content (content place.MarginBox)
 read_value own.TextAlign = as_long long.TextAlign (word_in aligns)
 read_value own.VerticalAlign = as_long long.VerticalAlign (word_in uprights)
 

@@ -5,7 +5,7 @@ use Rattle.css_tok.specs.Tokens.{tokens_of}
 use Rattle.css_words.specs.Input.{kept}
 use Rattle.css_words.specs.Parser.{Parser, Outcome, ◌>>=◌, ◌>>◌, pure, refuse, peek, spaces}
 use Rattle.css_words.specs.Repeat.{after_mark, comma_list, many}
-use Rattle.css_words.specs.Words.{of_kind, is_none, is_mark, ident}
+use Rattle.css_words.specs.Words.{of_kind, is_none, is_mark, next_ident}
 use Rattle.css_words.specs.declared.reader.Skipped.TheVariants as skipped
 use Rattle.css_content.specs.Basics.{word_in}
 use Rattle.css_page.specs.declared.selectors.PageSelector.{PageSelector}
@@ -40,16 +40,10 @@ selector_of name ps = record {
   rights = count_of pseudo.Right ps;
 }
 
--- a name, if there is one
-unfoldable pub page_name : Parser (Option (List ℕ))
-page_name = do
-  t ← peek
-  if of_kind kind.Ident t then (ident >>= (λ name. pure (Some name))) else pure None
-
 -- a name, if there is one, and any number of pseudo-classes, each after a colon, with nothing between them
 unfoldable pub name_and_pseudos : Parser PageSelector
 name_and_pseudos = do
-  name ← page_name
+  name ← next_ident
   ps ← many (after_mark 58 (word_in pseudo_pages))
   _ ← spaces
   pure (selector_of name ps)

@@ -1,5 +1,5 @@
 -- Sizes of page boxes (css-page-3, `size`).
-use Rattle.std.specs.Prelude.{ℕ, if◌then◌else◌, List, [], ◌∷◌, codes, Option, Some, None, ℤ, pos}
+use Rattle.std.specs.Prelude.{ℕ, if◌then◌else◌, List, [], ◌∷◌, codes, Option, Some, None, unwrap_or, ℤ, pos}
 use Rattle.bk_num.specs.Limits.{page_height, page_width}
 use Rattle.bk_num.specs.Units.{clamped}
 use Rattle.css_tok.specs.declared.kind.CssKind.TheVariants as kind
@@ -9,7 +9,7 @@ use Rattle.style.specs.declared.values.Measure.{Measure}
 use Rattle.style.specs.declared.values.Measure.TheVariants as measure
 use Rattle.css_content.specs.Basics.{word_in}
 use Rattle.css_values.specs.Measures.{read_measure, lengths}
-use Rattle.css_values.specs.Sides.{optional, or_else}
+use Rattle.css_values.specs.Sides.{optional}
 use Rattle.css_page.specs.declared.sizes.PageSize.{PageSize}
 use Rattle.css_page.specs.declared.sizes.Orientation.{Orientation}
 use Rattle.css_page.specs.declared.sizes.Orientation.TheVariants as way
@@ -64,7 +64,7 @@ named = do
 
 -- one length is the width and the height
 abbrev pub size_by : Measure → Option Measure → PageSize
-size_by width height = record { width = width; height = or_else height width }
+size_by width height = record { width = width; height = unwrap_or height width }
 
 -- a size by one or two lengths, neither of them negative
 unfoldable pub measured : Parser PageSize

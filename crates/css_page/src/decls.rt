@@ -1,11 +1,11 @@
 //! The declarations of page rules and of margin boxes.
 
-ghost use Rattle.std.specs.Prelude.{◌≡◌, ◌++◌, option_to_list, map, IfOk, OnOk};
+ghost use Rattle.std.specs.Prelude.{◌≡◌, map, IfOk};
 ghost use Rattle.std.specs.List.{filter_map};
 ghost use Rattle.css_rules.specs.Decls.{decl_in};
 ghost use Rattle.css_page.specs.Decls as spec;
 
-use crate::properties::{OwnProperty, PageContext, PageProperty, property_of, read_own};
+use crate::properties::{OwnProperty, PageContext, PageGrammar, grammar_of, read_own};
 use crate::values::{PageDecl, PageLong};
 use bk_num::items::Items;
 use bk_num::name::NoMem;
@@ -15,16 +15,6 @@ use css_words::reader::{Reader, Skipped};
 use css_words::unread::Unread;
 use std::alloc::Global;
 use style::long::Long;
-
-/// Appends an item, if there is one.
-pub(crate) fn push_some<T: Drop>(items: &mut Items<T>, item: Option<T>) -> Result<(), NoMem>
-    ensures { OnOk result (items.new ≡ items.old ++ option_to_list item) }
-{
-    match item {
-        Some(item) => items.push(item),
-        None => Ok(()),
-    }
-}
 
 /// A declared value of an element as one of a page, where a page has it.
 fn page_long(long: Long) -> Option<PageLong>
@@ -94,9 +84,9 @@ fn read_longs(
 ) -> Result<Option<Items<PageLong>>, NoMem>
     ensures { IfOk result (λ longs. longs ≡ spec.longs_of context (decl_in slice.now)) }
 {
-    match property_of(context, slice.name) {
-        Some(PageProperty::Shared) => read_shared(alloc, slice.name, slice.value),
-        Some(PageProperty::Own(property)) => read_other(alloc, property, slice.value),
+    match grammar_of(context, slice.name) {
+        Some(PageGrammar::Shared) => read_shared(alloc, slice.name, slice.value),
+        Some(PageGrammar::Own(property)) => read_other(alloc, property, slice.value),
         None => Ok(None),
     }
 }
@@ -141,8 +131,9 @@ pub(crate) fn read_decls(
 {
     let mut decls = Items::new(alloc);
     for slice in slices {
-        let decl = read_one(alloc, context, slice)?;
-        push_some(&mut decls, decl)?;
+        if let Some(decl) = read_one(alloc, context, slice)? {
+            decls.push(decl)?;
+        }
     }
     Ok(decls)
 }

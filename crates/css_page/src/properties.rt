@@ -6,10 +6,10 @@ ghost use Rattle.css_words.specs.Table.{find_word};
 ghost use Rattle.css_content.specs.Basics.{word_in};
 ghost use Rattle.css_page.specs.Properties as spec;
 
-use crate::contents::content;
 use crate::sizes::size;
 use crate::values::{PageLong, Upright};
 use bk_num::values::Align;
+use css_content::content::{ContentPlace, content};
 use css_content::words::word_in;
 use css_values::decls::wide_of;
 use css_values::values::{Wide, given_by};
@@ -26,12 +26,12 @@ pub enum PageContext {
     MarginBox,
 }
 
-/// What a property's name stands for.
+/// Which grammar reads the values of a property.
 #[derive(Clone, Copy)]
-pub enum PageProperty {
-    /// A property that elements have too, with the same values.
+pub enum PageGrammar {
+    /// That of the property of the same name that elements have.
     Shared,
-    /// A property with values of its own.
+    /// One of its own.
     Own(OwnProperty),
 }
 
@@ -45,53 +45,53 @@ pub enum OwnProperty {
 }
 
 #[tactic(auto, unfolding(crate::specs::Properties::page_properties))]
-fn property_of_page(name: &str) -> Option<PageProperty>
+fn property_of_page(name: &str) -> Option<PageGrammar>
     ensures { result ≡ find_word spec.page_properties name.now }
 {
     find_word(
         &[
-            ("size", PageProperty::Own(OwnProperty::Size)),
-            ("margin", PageProperty::Shared),
-            ("margin-top", PageProperty::Shared),
-            ("margin-right", PageProperty::Shared),
-            ("margin-bottom", PageProperty::Shared),
-            ("margin-left", PageProperty::Shared),
-            ("color", PageProperty::Shared),
-            ("font-family", PageProperty::Shared),
-            ("font-size", PageProperty::Shared),
-            ("font-style", PageProperty::Shared),
-            ("font-weight", PageProperty::Shared),
-            ("line-height", PageProperty::Shared),
+            ("size", PageGrammar::Own(OwnProperty::Size)),
+            ("margin", PageGrammar::Shared),
+            ("margin-top", PageGrammar::Shared),
+            ("margin-right", PageGrammar::Shared),
+            ("margin-bottom", PageGrammar::Shared),
+            ("margin-left", PageGrammar::Shared),
+            ("color", PageGrammar::Shared),
+            ("font-family", PageGrammar::Shared),
+            ("font-size", PageGrammar::Shared),
+            ("font-style", PageGrammar::Shared),
+            ("font-weight", PageGrammar::Shared),
+            ("line-height", PageGrammar::Shared),
         ],
         name,
     )
 }
 
 #[tactic(auto, unfolding(crate::specs::Properties::box_properties))]
-fn property_of_box(name: &str) -> Option<PageProperty>
+fn property_of_box(name: &str) -> Option<PageGrammar>
     ensures { result ≡ find_word spec.box_properties name.now }
 {
     find_word(
         &[
-            ("content", PageProperty::Own(OwnProperty::Content)),
-            ("text-align", PageProperty::Own(OwnProperty::TextAlign)),
+            ("content", PageGrammar::Own(OwnProperty::Content)),
+            ("text-align", PageGrammar::Own(OwnProperty::TextAlign)),
             (
                 "vertical-align",
-                PageProperty::Own(OwnProperty::VerticalAlign),
+                PageGrammar::Own(OwnProperty::VerticalAlign),
             ),
-            ("color", PageProperty::Shared),
-            ("font-family", PageProperty::Shared),
-            ("font-size", PageProperty::Shared),
-            ("font-style", PageProperty::Shared),
-            ("font-weight", PageProperty::Shared),
-            ("line-height", PageProperty::Shared),
+            ("color", PageGrammar::Shared),
+            ("font-family", PageGrammar::Shared),
+            ("font-size", PageGrammar::Shared),
+            ("font-style", PageGrammar::Shared),
+            ("font-weight", PageGrammar::Shared),
+            ("line-height", PageGrammar::Shared),
         ],
         name,
     )
 }
 
-/// The property of a name, ASCII case aside, where pages or margin boxes have it.
-pub(crate) fn property_of(context: PageContext, name: &str) -> Option<PageProperty>
+/// The grammar of a property by its name, ASCII case aside, where pages or margin boxes have it.
+pub(crate) fn grammar_of(context: PageContext, name: &str) -> Option<PageGrammar>
     ensures { result ≡ find_word (spec.properties context) name.now }
 {
     match context {
@@ -150,7 +150,10 @@ fn read_value(
 {
     match property {
         OwnProperty::Size => Ok(PageLong::Size(Given::Value(size(reader)?))),
-        OwnProperty::Content => Ok(PageLong::Content(Given::Value(content(alloc, reader)?))),
+        OwnProperty::Content => {
+            let content = content(alloc, reader, ContentPlace::MarginBox)?;
+            Ok(PageLong::Content(Given::Value(content)))
+        }
         OwnProperty::TextAlign => Ok(PageLong::TextAlign(Given::Value(text_align(reader)?))),
         OwnProperty::VerticalAlign => {
             Ok(PageLong::VerticalAlign(Given::Value(vertical_align(reader)?)))

@@ -6,7 +6,7 @@ ghost use Rattle.css_rules.specs.Pages.{box_in, page_in};
 ghost use Rattle.css_words.specs.Table.{find_word};
 ghost use Rattle.css_page.specs.Rules as spec;
 
-use crate::decls::{push_some, read_decls};
+use crate::decls::read_decls;
 use crate::properties::PageContext;
 use crate::selectors::{PageSelector, read_selectors};
 use crate::values::PageDecl;
@@ -31,7 +31,7 @@ pub struct PageRule {
 
 /// The number of a margin box, ASCII case aside.
 #[tactic(auto, unfolding(crate::specs::Rules::box_numbers))]
-pub fn box_number(name: &str) -> Option<u8>
+fn box_number(name: &str) -> Option<u8>
     ensures { result ≡ find_word spec.box_numbers name.now }
 {
     find_word(
@@ -77,8 +77,9 @@ fn read_boxes(
 {
     let mut boxes = Items::new(alloc);
     for slice in slices {
-        let read = read_box(alloc, slice)?;
-        push_some(&mut boxes, read)?;
+        if let Some(read) = read_box(alloc, slice)? {
+            boxes.push(read)?;
+        }
     }
     Ok(boxes)
 }

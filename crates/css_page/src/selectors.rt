@@ -11,7 +11,7 @@ use css_tok::kind::CssKind;
 use css_words::lists::{AfterMark, ReadOne, read_comma_list, read_more};
 use css_words::reader::{Reader, Skipped};
 use css_words::unread::Unread;
-use css_words::words::{ident, is_mark, of_kind};
+use css_words::words::{is_mark, next_ident, of_kind};
 use std::alloc::Global;
 
 /// A pseudo-class of pages.
@@ -102,24 +102,13 @@ fn selector_of(name: Option<Name>, pseudos: &[PseudoPage]) -> PageSelector
     }
 }
 
-#[tactic(auto, unfolding(crate::specs::Selectors::page_name))]
-fn page_name(alloc: Global, reader: &mut Reader<'_>) -> Result<Option<Name>, Unread>
-    ensures reads { Reads (λ x. x) (spec.page_name reader.old) result reader.new }
-    ensures within { length reader.new ≤ length reader.old }
-{
-    if !of_kind(CssKind::Ident, reader.peek()) {
-        return Ok(None);
-    }
-    Ok(Some(ident(alloc, reader)?))
-}
-
 /// Reads a name, if there is one, and pseudo-classes.
 #[tactic(auto, unfolding(crate::specs::Selectors::name_and_pseudos), using(css_words::proofs::RepeatLemmas::no_prefix))]
 fn name_and_pseudos(alloc: Global, reader: &mut Reader<'_>) -> Result<PageSelector, Unread>
     ensures reads { Reads (λ x. x) (spec.name_and_pseudos reader.old) result reader.new }
     ensures within { length reader.new ≤ length reader.old }
 {
-    let name = page_name(alloc, reader)?;
+    let name = next_ident(alloc, reader)?;
     let colon = AfterMark {
         mark: b':',
         value: &PseudoName,

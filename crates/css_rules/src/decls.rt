@@ -82,7 +82,7 @@ fn gap_before(tokens: &[CssToken<'_>], at: usize) -> bool
 
 /// How many of the first tokens are left without the white space and comments at their end.
 #[tactic(auto, unfolding(crate::specs::Decls::gapless_len))]
-pub fn gapless_len(tokens: &[CssToken<'_>], len: usize) -> usize
+fn gapless_len(tokens: &[CssToken<'_>], len: usize) -> usize
     requires { len ≤ length tokens.now }
     ensures value { result ≡ spec.gapless_len (items_in tokens.now) len }
     ensures within { result ≤ len }

@@ -6,3 +6,4 @@ pub mod Value
 pub mod Marks
 pub mod Numbers
 pub mod Readings
+pub mod Words

@@ -4,7 +4,7 @@ use Rattle.bk_num.specs.Units.{clamped}
 use Rattle.css_tok.specs.declared.kind.CssKind.TheVariants as kind
 use Rattle.css_words.specs.Parser.{Parser, ◌>>=◌, ◌>>◌, pure, refuse, on_some, peek, advance}
 use Rattle.css_words.specs.Repeat.{comma_list, many}
-use Rattle.css_words.specs.Words.{of_kind, is_named, ident, string}
+use Rattle.css_words.specs.Words.{of_kind, is_named, ident, next_ident, string}
 use Rattle.style.specs.Initial.{normal_height}
 use Rattle.style.specs.declared.values.Measure.TheVariants as measure
 use Rattle.style.specs.declared.values.FontSize.{FontSize}
@@ -25,12 +25,6 @@ use Rattle.css_values.specs.declared.fonts.SizeWord.TheVariants as word
 unfoldable pub spaced : List (List ℕ) → List ℕ
 spaced [] = []
 spaced (w ∷ ws) = (32 ∷ w) ++ spaced ws
-
--- an Ident, if one comes
-unfoldable pub next_ident : Parser (Option (List ℕ))
-next_ident = do
-  t ← peek
-  if of_kind kind.Ident t then (ident >>= (λ w. pure (Some w))) else pure None
 
 -- Idents joined by one space
 unfoldable pub words : Parser (List ℕ)

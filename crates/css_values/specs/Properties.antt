@@ -1,5 +1,6 @@
 -- The properties by their names (CSS 2.1, appendix F; css-gcpm-3; css-break-3; css-text-3).
-use Rattle.std.specs.Prelude.{ℕ, List, [], ◌∷◌, codes, Option, Some, None, option_map}
+use Rattle.std.specs.Prelude.{ℕ, List, [], ◌∷◌, codes, Option, option_map}
+use Rattle.std.specs.Option.{option_or}
 use Rattle.bk_num.specs.declared.sides.BoxSide.TheVariants as side
 use Rattle.css_words.specs.Table.{find_word}
 use Rattle.style.specs.declared.longhand.Longhand.{Longhand}
@@ -64,14 +65,9 @@ page_breaks =
     (codes "page-break-before", property.PageBreakBefore) ∷ (codes "page-break-after", property.PageBreakAfter) ∷
     (codes "page-break-inside", property.PageBreakInside) ∷ []
 
--- the first that is there
-abbrev pub first_of : {A : Type 0} → Option A → Option A → Option A
-first_of None other = other
-first_of (Some x) other = Some x
-
 -- the property of a name
 unfoldable pub property_of : List ℕ → Option Property
 property_of name =
-    first_of (option_map (λ h. property.One h) (find_word side_hands name))
-    (first_of (option_map (λ h. property.One h) (find_word lone_hands name))
-    (first_of (option_map (λ s. property.Several s) (find_word shorthands name)) (find_word page_breaks name)))
+    option_or (option_map (λ h. property.One h) (find_word side_hands name))
+    (option_or (option_map (λ h. property.One h) (find_word lone_hands name))
+    (option_or (option_map (λ s. property.Several s) (find_word shorthands name)) (find_word page_breaks name)))

@@ -1,5 +1,5 @@
 -- Values of what a box has on each side, one to four of them (CSS 2.1, 8.3 to 8.5).
-use Rattle.std.specs.Prelude.{if◌then◌else◌, Option, Some, None}
+use Rattle.std.specs.Prelude.{if◌then◌else◌, Option, Some, None, unwrap_or}
 use Rattle.bk_num.specs.declared.sides.BoxSide.{BoxSide}
 use Rattle.bk_num.specs.declared.sides.BoxSide.TheVariants as side
 use Rattle.bk_num.specs.declared.sides.Sides.{Sides}
@@ -48,14 +48,9 @@ optional p = do
   t ← peek
   if is_none t then pure None else (p >>= (λ x. pure (Some x)))
 
--- a value that is there, or else another
-abbrev pub or_else : {A : Type 0} → Option A → A → A
-or_else None other = other
-or_else (Some x) other = x
-
 -- the second value is the first's where there is none, the third the first's, and the fourth the second's
 abbrev pub sides_of : {A : Type 0} → A → Option A → Option A → Option A → Sides A
-sides_of a b c d = record { top = a; right = or_else b a; bottom = or_else c a; left = or_else d (or_else b a) }
+sides_of a b c d = record { top = a; right = unwrap_or b a; bottom = unwrap_or c a; left = unwrap_or d (unwrap_or b a) }
 
 -- one to four values, for top, right, bottom and left (CSS 2.1, 8.3)
 unfoldable pub four : {A : Type 0} → Parser A → Parser (Sides A)

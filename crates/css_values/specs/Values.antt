@@ -12,6 +12,7 @@ use Rattle.style.specs.declared.long.Long.TheVariants as long
 use Rattle.style.specs.declared.long.SideLong.TheVariants as on
 use Rattle.css_content.specs.Basics.{word_in}
 use Rattle.css_content.specs.Grammar.{content, counter_list, string_sets}
+use Rattle.css_content.specs.declared.content.ContentPlace.TheVariants as place
 use Rattle.css_content.specs.Numerals.{styles}
 use Rattle.css_values.specs.Words.{displays, floats, slopes, aligns, spaces, wraps, breaks, inside_breaks}
 use Rattle.css_values.specs.Measures.{read_measure, widths, indents}
@@ -53,7 +54,7 @@ read_value hand.TextIndent = as_long long.TextIndent (read_measure indents)
 read_value hand.WhiteSpace = as_long long.WhiteSpace (word_in spaces)
 read_value hand.OverflowWrap = as_long long.OverflowWrap (word_in wraps)
 read_value hand.ListStyleType = as_long long.ListStyleType (word_in styles)
-read_value hand.Content = as_long long.Content content
+read_value hand.Content = as_long long.Content (content place.Content)
 read_value hand.CounterReset = as_long long.CounterReset (counter_list (pos 0))
 read_value hand.CounterIncrement = as_long long.CounterIncrement (counter_list (pos 1))
 read_value hand.StringSet = as_long long.StringSet string_sets

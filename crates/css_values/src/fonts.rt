@@ -15,7 +15,7 @@ use css_tok::kind::CssKind;
 use css_words::lists::{ReadNext, ReadOne, read_comma_list, read_more};
 use css_words::reader::Reader;
 use css_words::unread::Unread;
-use css_words::words::{ident, is_named, of_kind, string, value};
+use css_words::words::{ident, is_named, next_ident, of_kind, string};
 use std::alloc::Global;
 use style::initial::{normal_height, normal_weight};
 use style::lists::Families;
@@ -36,18 +36,12 @@ struct NextIdent;
 impl ReadNext for NextIdent {
     type Item = Name;
 
-    ghost use Rattle.css_values.specs.Fonts.{next_ident};
+    ghost use Rattle.css_words.specs.Words.{next_ident};
 
     ghost parser = { λ _. next_ident };
 
-    #[tactic(auto, unfolding(crate::specs::Fonts::next_ident, css_words::specs::Words::ident))]
     fn next(&self, alloc: Global, reader: &mut Reader<'_>) -> Result<Option<Name>, Unread> {
-        let token = reader.peek();
-        if token.is_none() || !of_kind(CssKind::Ident, token) {
-            return Ok(None);
-        }
-        reader.advance();
-        Ok(Some(value(alloc, token)?))
+        next_ident(alloc, reader)
     }
 }
 

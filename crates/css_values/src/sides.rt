@@ -76,25 +76,21 @@ fn optional_value(
     Ok(Some(side_value(alloc, reader, kind, BoxSide::Top)?))
 }
 
-fn or_else<T: Copy>(value: Option<T>, other: T) -> T
-    ensures { result ≡ spec.or_else value other }
-{
-    match value {
-        Some(value) => value,
-        None => other,
-    }
-}
-
 /// The values of the four sides from one to four.
-fn sides_of<T: Copy>(first: T, second: Option<T>, third: Option<T>, fourth: Option<T>) -> Sides<T>
+fn sides_of<T: Copy + Drop>(
+    first: T,
+    second: Option<T>,
+    third: Option<T>,
+    fourth: Option<T>,
+) -> Sides<T>
     ensures { result ≡ spec.sides_of first second third fourth }
 {
-    let right = or_else(second, first);
+    let right = second.unwrap_or(first);
     Sides {
         top: first,
         right,
-        bottom: or_else(third, first),
-        left: or_else(fourth, right),
+        bottom: third.unwrap_or(first),
+        left: fourth.unwrap_or(right),
     }
 }
 

@@ -13,7 +13,7 @@ use crate::keywords::{
 use crate::measures::{indents, read_measure, widths};
 use crate::sides::{SideKind, side_value};
 use bk_num::sides::BoxSide;
-use css_content::content::content;
+use css_content::content::{ContentPlace, content};
 use css_content::counters::counter_list;
 use css_content::strings::string_sets;
 use css_content::words::num_style;
@@ -104,7 +104,7 @@ fn read_list(alloc: Global, reader: &mut Reader<'_>, hand: Longhand) -> Result<L
 {
     match hand {
         Longhand::FontFamily => given!(FontFamily, families(alloc, reader)),
-        Longhand::Content => given!(Content, content(alloc, reader)),
+        Longhand::Content => given!(Content, content(alloc, reader, ContentPlace::Content)),
         Longhand::CounterReset => given!(CounterReset, counter_list(alloc, reader, 0)),
         Longhand::CounterIncrement => given!(CounterIncrement, counter_list(alloc, reader, 1)),
         Longhand::StringSet => given!(StringSet, string_sets(alloc, reader)),

@@ -61,6 +61,12 @@ ident = do
   t ← peek
   if of_kind kind.Ident t then (advance >> pure (value t)) else refuse
 
+-- an Ident, if one comes
+unfoldable pub next_ident : Parser (Option (List ℕ))
+next_ident = do
+  t ← peek
+  if of_kind kind.Ident t then (advance >> pure (Some (value t))) else pure None
+
 -- an Ident in lower case
 unfoldable pub lower_ident : Parser (List ℕ)
 lower_ident = do

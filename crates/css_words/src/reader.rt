@@ -6,7 +6,6 @@ ghost use Rattle.css_tok.specs.Tokens.{item_in, tokens_of};
 ghost use Rattle.css_words.specs.Ahead.{before, NoneEnds};
 ghost use Rattle.css_words.specs.Input as spec;
 
-use css_tok::kind::CssKind;
 use css_tok::tokens::{CssToken, CssTokens};
 use std::marker::Model;
 
@@ -17,12 +16,12 @@ pub enum Skipped {
     CommentsAndSpaces,
 }
 
-fn is_skipped(skipped: Skipped, kind: CssKind) -> bool
-    ensures { result ≡ spec.is_skipped skipped kind }
+fn is_skipped(skipped: Skipped, token: &CssToken<'_>) -> bool
+    ensures { result ≡ spec.is_skipped skipped token.now.kind }
 {
     match skipped {
-        Skipped::Comments => matches!(kind, CssKind::Comment),
-        Skipped::CommentsAndSpaces => matches!(kind, CssKind::Comment | CssKind::Space),
+        Skipped::Comments => token.is_comment(),
+        Skipped::CommentsAndSpaces => token.is_gap(),
     }
 }
 
@@ -33,7 +32,7 @@ fn next_kept<'a>(tokens: &mut CssTokens<'a>, skipped: Skipped) -> Option<CssToke
     ensures end { NoneEnds result (spec.kept skipped (tokens_of tokens.new.rest.now)) }
 {
     while let Some(token) = tokens.next() {
-        if !is_skipped(skipped, token.kind) {
+        if !is_skipped(skipped, &token) {
             return Some(token);
         }
     }
@@ -118,7 +117,7 @@ fn is_space(token: Option<CssToken<'_>>) -> bool
     ensures { result ≡ spec.is_space (option_map item_in token.entry) }
 {
     match token {
-        Some(token) => matches!(token.kind, CssKind::Space),
+        Some(token) => token.is_space(),
         None => false,
     }
 }

@@ -1,6 +1,6 @@
 //! Tests on the next token, and words.
 
-ghost use Rattle.std.specs.Prelude.{◌≡◌, ◌≤◌, ◌<◌, length, option_map};
+ghost use Rattle.std.specs.Prelude.{◌≡◌, ◌≤◌, ◌<◌, length, option_map, IfOk, IfSome};
 ghost use Rattle.std.specs.Str.{str_to_ascii_lowercase};
 ghost use Rattle.css_tok.specs.Tokens.{item_in};
 ghost use Rattle.css_words.specs.Parser.{Reads, Owns};
@@ -89,7 +89,7 @@ pub fn value(alloc: Global, token: Option<CssToken<'_>>) -> Result<Name, Unread>
 }
 
 /// A name in lower case.
-pub fn lowered(alloc: Global, name: &Name) -> Result<Name, Unread>
+fn lowered(alloc: Global, name: &Name) -> Result<Name, Unread>
     ensures { Owns (str_to_ascii_lowercase name.now) result }
 {
     let mut text = String::from_str(alloc, name.as_str())?;
@@ -109,6 +109,21 @@ pub fn ident(alloc: Global, reader: &mut Reader<'_>) -> Result<Name, Unread>
     }
     reader.advance();
     value(alloc, token)
+}
+
+/// Reads an Ident, if one comes; None where none does.
+#[tactic(auto, unfolding(crate::specs::Words::next_ident))]
+pub fn next_ident(alloc: Global, reader: &mut Reader<'_>) -> Result<Option<Name>, Unread>
+    ensures reads { Reads (λ x. x) (spec.next_ident reader.old) result reader.new }
+    ensures within { length reader.new ≤ length reader.old }
+    ensures taken { IfOk result (λ o. IfSome o (λ _. length reader.new < length reader.old)) }
+{
+    let token = reader.peek();
+    if token.is_none() || !of_kind(CssKind::Ident, token) {
+        return Ok(None);
+    }
+    reader.advance();
+    Ok(Some(value(alloc, token)?))
 }
 
 /// Reads an Ident, and puts it into lower case.

@@ -4,11 +4,14 @@ use Rattle.std.specs.Prelude.{slice_get, slice_set, codes, IfSome}
 use Rattle.std.proofs.lemmas.Option.{same_Some}
 use Rattle.bk_num.proofs.ListLemmas.{bytes_same, get-push, prefix_len-map, take-next}
 use Rattle.std.specs.List.{Contains, list_all, list_any, slice_split}
+use Rattle.std.specs.Option.{option_to_list}
 use Rattle.std.specs.Str.{bytes_eq}
 use Rattle.std.proofs.lemmas.Bool.{and_parts, cases_eq, or_cases, ltb-true, ltb-false}
 use Rattle.std.proofs.lemmas.List.{take_more, length-map, map-append, get_or-set_same, get_or-set_other}
 use Rattle.std.proofs.lemmas.List.Elements.{Contains-push_cases, Contains-append_left, Contains-append_right, Contains-push}
 use Rattle.std.proofs.lemmas.List.Folds.{list_all_at}
+use Rattle.css_tok.specs.Lengths.{is_blank}
+use Rattle.css_tok.specs.Words.{words_of}
 use Rattle.dom.specs.Nodes.{name_at, attribute_at}
 use Rattle.selectors.specs.declared.types.Test.{Test}
 use Rattle.selectors.specs.declared.types.Test.TheVariants as test
@@ -17,8 +20,8 @@ use Rattle.selectors.specs.declared.types.Compound.{Compound}
 use Rattle.selectors.specs.Selectors.{SelectorView}
 use Rattle.selectors.specs.Fits.{fits_compound, fits_plain, passes_test, value_passes, has_type}
 use Rattle.selectors.specs.Match.{Tree, Matches, Reaches, fits, fits_part}
-use Rattle.match_table.proofs.WordLemmas.{word-among-parts, word-some, contains-filter, words-same}
-use Rattle.match_table.specs.Index.{words_at, words_in, words_of, separates, IsWordNoted, listed, IsKeyBy, by_id, by_class, by_type, IsKey, last_part, word_of, number_of, rarer, IsRarest, KeepsWords, HasWord, HaveWords, HasKeys, HaveKeys, IsNumberIn, IsNumberFor, IsKeyNumber, IsNoted, AreNoted, Keeps}
+use Rattle.match_table.proofs.WordLemmas.{word-among-parts, word-some, contains-filter}
+use Rattle.match_table.specs.Index.{words_at, words_in, IsWordNoted, IsKeyBy, by_id, by_class, by_type, IsKey, last_part, word_of, number_of, rarer, IsRarest, KeepsWords, HasWord, HaveWords, HasKeys, HaveKeys, IsNumberIn, IsNumberFor, IsKeyNumber, IsNoted, AreNoted, Keeps}
 
 -- ---- noting the words of a node
 
@@ -63,14 +66,14 @@ word-equal v (Some x) e = ap (λ z. Some z) (bytes_same x v e)
 word-among : (v : List ℕ) (o : Option (List ℕ)) → value_passes by.Word v o ≡ true → Contains (words_in o) v
 unfolding words_of
 word-among v None e = cc
-word-among v (Some x) e = contains-filter (λ w. not (length w == 0)) (slice_split separates x) v (word-some v x e) (subst (λ z. Contains z v) (sym (words-same x)) (word-among-parts v x e))
+word-among v (Some x) e = contains-filter (λ w. not (length w == 0)) (slice_split is_blank x) v (word-some v x e) (word-among-parts v x e)
 
 type-named : (v : List ℕ) (o : Option (List ℕ)) → has_type (Some v) o ≡ true → o ≡ Some v
 type-named v None e = cc
 type-named v (Some x) e = ap (λ z. Some z) (sym (bytes_same v x e))
 
-listed-has : (o : Option (List ℕ)) (v : List ℕ) → o ≡ Some v → Contains (listed o) v
-listed-has o v e = subst (λ z. Contains (listed z) v) (sym e) (Contains-push [] v)
+listed-has : (o : Option (List ℕ)) (v : List ℕ) → o ≡ Some v → Contains (option_to_list o) v
+listed-has o v e = subst (λ z. Contains (option_to_list z) v) (sym e) (Contains-push [] v)
 
 id-test : (dom : Tree) (n : ℕ) (w : List ℕ) → passes_test dom n (test.Id w) ≡ true → attribute_at dom n (codes "id") ≡ Some w
 unfolding passes_test
@@ -88,15 +91,15 @@ key-word : (dom : Tree) (n : ℕ) (c : Compound) (w : List ℕ) → fits_compoun
 unfolding words_at
 key-word dom n c w f (by_id has) =
     let t = all-pass (passes_test dom n) c.plain.tests (test.Id w) (plain-parts dom n c (plain-has dom n c f)).1 has in
-    Contains-append_right (words_in (attribute_at dom n (codes "class")) ++ listed (name_at dom n)) (listed (attribute_at dom n (codes "id"))) w (listed-has _ w (id-test dom n w t))
+    Contains-append_right (words_in (attribute_at dom n (codes "class")) ++ option_to_list (name_at dom n)) (option_to_list (attribute_at dom n (codes "id"))) w (listed-has _ w (id-test dom n w t))
 key-word dom n c w f (by_class has) =
     let t = all-pass (passes_test dom n) c.plain.tests (test.Class w) (plain-parts dom n c (plain-has dom n c f)).1 has in
-    Contains-append_left (words_in (attribute_at dom n (codes "class")) ++ listed (name_at dom n)) (listed (attribute_at dom n (codes "id"))) w
-    (Contains-append_left (words_in (attribute_at dom n (codes "class"))) (listed (name_at dom n)) w (class-test dom n w t))
+    Contains-append_left (words_in (attribute_at dom n (codes "class")) ++ option_to_list (name_at dom n)) (option_to_list (attribute_at dom n (codes "id"))) w
+    (Contains-append_left (words_in (attribute_at dom n (codes "class"))) (option_to_list (name_at dom n)) w (class-test dom n w t))
 key-word dom n c w f (by_type is) =
     let t = type-named w (name_at dom n) (subst (λ z. has_type z (name_at dom n) ≡ true) is (plain-parts dom n c (plain-has dom n c f)).0) in
-    Contains-append_left (words_in (attribute_at dom n (codes "class")) ++ listed (name_at dom n)) (listed (attribute_at dom n (codes "id"))) w
-    (Contains-append_right (words_in (attribute_at dom n (codes "class"))) (listed (name_at dom n)) w (listed-has _ w t))
+    Contains-append_left (words_in (attribute_at dom n (codes "class")) ++ option_to_list (name_at dom n)) (option_to_list (attribute_at dom n (codes "id"))) w
+    (Contains-append_right (words_in (attribute_at dom n (codes "class"))) (option_to_list (name_at dom n)) w (listed-has _ w t))
 
 reaches-fits : (dom : Tree) (s : SelectorView) (k n : ℕ) → Reaches dom s k n → fits dom s k n ≡ true
 reaches-fits dom s zero n r = r

@@ -1,28 +1,15 @@
 -- The index of nodes by their words, in which selectors find the nodes that they may match.
-use Rattle.std.specs.Prelude.{◌≡◌, ◌<◌, ◌≤◌, nat_lt, if◌then◌else◌, ℕ, List, [], ◌∷◌, ◌++◌, Option, Some, None, get_or, position, slice_get, length, codes, filter, not, ◌==◌, Bool}
-use Rattle.std.specs.List.{Contains, slice_split}
-use Rattle.std.specs.Option.{option_and_then}
+use Rattle.std.specs.Prelude.{◌≡◌, ◌<◌, ◌≤◌, nat_lt, if◌then◌else◌, ℕ, List, [], ◌++◌, Option, Some, None, get_or, position, slice_get, length, codes}
+use Rattle.std.specs.List.{Contains}
+use Rattle.std.specs.Option.{option_and_then, option_to_list}
 use Rattle.std.specs.Str.{bytes_eq}
 use Rattle.dom.specs.Nodes.{name_at, attribute_at}
 use Rattle.selectors.specs.Match.{Tree}
 use Rattle.selectors.specs.Selectors.{SelectorView}
-use Rattle.css_tok.specs.Lengths.{is_blank}
+use Rattle.css_tok.specs.Words.{words_of}
 use Rattle.selectors.specs.declared.types.Test.{Test}
 use Rattle.selectors.specs.declared.types.Test.TheVariants as test
 use Rattle.selectors.specs.declared.types.Compound.{Compound}
-
--- white space
-unfoldable pub separates : ℕ → Bool
-separates b = is_blank b
-
--- the words of a text, separated by white space (HTML: set of space-separated tokens)
-unfoldable pub words_of : List ℕ → List (List ℕ)
-words_of x = filter (λ w. not (length w == 0)) (slice_split separates x)
-
--- a text as a list of words, if it is there
-abbrev pub listed : Option (List ℕ) → List (List ℕ)
-listed None = []
-listed (Some w) = w ∷ []
 
 -- the words of a text, if it is there
 abbrev pub words_in : Option (List ℕ) → List (List ℕ)
@@ -32,8 +19,8 @@ words_in (Some x) = words_of x
 -- the words that a node can be found by: its classes, its type and its id
 unfoldable pub words_at : Tree → ℕ → List (List ℕ)
 words_at dom n =
-    (words_in (attribute_at dom n (codes "class")) ++ listed (name_at dom n)) ++
-    listed (attribute_at dom n (codes "id"))
+    (words_in (attribute_at dom n (codes "class")) ++ option_to_list (name_at dom n)) ++
+    option_to_list (attribute_at dom n (codes "id"))
 
 -- a word that each node has which fits a compound: an id, a class or the type that it asks for
 pub data IsKeyBy (c : Compound) (w : List ℕ) : Type 0 where

@@ -3,14 +3,15 @@
 ghost use Rattle.std.specs.Prelude.{◌≡◌, ◌<◌, [], Some, get_or, length, map, option_map, position, ℕ, IfOk, IfSome, OnOk};
 ghost use Rattle.std.specs.List.{Contains};
 ghost use Rattle.std.specs.Str.{bytes_eq};
+ghost use Rattle.css_tok.specs.Words.{words_of};
 ghost use Rattle.match_table.specs.Index as spec;
 
 use bk_num::ids::NodeId;
 use bk_num::items::Items;
 use bk_num::name::NoMem;
+use css_tok::lengths::is_blank;
 use dom::Dom;
 use indexmap::IndexSet;
-use selectors::fits::is_blank;
 use selectors::types::{Compound, Selector, Test};
 use std::alloc::{AllocError, Global};
 use std::marker::Model;
@@ -240,19 +241,12 @@ fn words_in<'t>(alloc: Global, text: Option<&'t str>) -> Result<Vec<&'t [u8]>, N
     }
 }
 
-#[tactic(auto, unfolding(crate::specs::Index::separates))]
-fn separates(b: u8) -> bool
-    ensures { result ≡ spec.separates b }
-{
-    is_blank(b)
-}
-
 /// The words of a text, separated by white space.
-#[tactic(auto, unfolding(crate::specs::Index::words_of))]
+#[tactic(auto, unfolding(css_tok::specs::Words::words_of))]
 fn split_words<'t>(alloc: Global, text: &'t [u8]) -> Result<Vec<&'t [u8]>, AllocError>
-    ensures { IfOk result (λ v. map (λ w. w.now) v.items ≡ spec.words_of text.entry.now) }
+    ensures { IfOk result (λ v. map (λ w. w.now) v.items ≡ words_of text.entry.now) }
 {
-    text.split(|b| separates(*b))
+    text.split(|b| is_blank(*b))
         .filter(|w| !w.is_empty())
         .collect(alloc)
 }

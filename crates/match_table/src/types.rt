@@ -76,7 +76,7 @@ fn first_places(alloc: Global, dom: &Dom) -> Result<Vec<TypePlace>, NoMem>
 }
 
 /// For each node whether it is the first of its type among its siblings, and whether the last.
-pub(crate) fn type_places(alloc: Global, dom: &Dom) -> Result<Vec<TypePlace>, NoMem>
+fn type_places(alloc: Global, dom: &Dom) -> Result<Vec<TypePlace>, NoMem>
     ensures count { IfOk result (λ v. length v.items ≡ length dom.now) }
     ensures places { IfOk result (λ v. AreTypePlaces dom.now v.items) }
 {

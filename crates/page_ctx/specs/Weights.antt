@@ -1,7 +1,8 @@
 -- What decides between two declarations for a page (css-page-3, 3.3 and 4; CSS 2.1, 6.4).
 use Rattle.std.specs.Prelude.{◌≡◌, ℕ, ◌+◌, Bool, true, false, List, [], ◌∷◌, Option, None, Some, slice_get, if◌then◌else◌}
+use Rattle.std.specs.Int.{from_bool}
 use Rattle.std.specs.List.{fold}
-use Rattle.style.specs.Ranking.{rank, outranks}
+use Rattle.style.specs.Ranking.{outranks}
 use Rattle.css_page.specs.declared.selectors.PageSelector.{PageSelector}
 use Rattle.page_ctx.specs.Selectors.{takes}
 use Rattle.page_ctx.specs.declared.classes.PageClasses.{PageClasses}
@@ -9,7 +10,7 @@ use Rattle.page_ctx.specs.declared.weight.PageWeight.{PageWeight}
 
 -- importance, and then the specificity: a name; how many of `:first` and `:blank`; how many of `:left` and `:right`
 abbrev pub ranks_of : PageWeight → List ℕ
-ranks_of w = rank w.important ∷ rank w.named ∷ w.pages ∷ w.sides ∷ []
+ranks_of w = from_bool w.important ∷ from_bool w.named ∷ w.pages ∷ w.sides ∷ []
 
 -- what comes first decides first
 abbrev pub is_above : PageWeight → PageWeight → Bool

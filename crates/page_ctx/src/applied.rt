@@ -74,7 +74,7 @@ fn push_longs<'s>(
 }
 
 /// Appends what declarations give.
-pub(crate) fn push_decls<'s>(
+fn push_decls<'s>(
     declared: &mut Vec<PageCandidate<'s>>,
     weight: PageWeight,
     decls: &'s [PageDecl],

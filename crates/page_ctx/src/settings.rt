@@ -14,7 +14,7 @@ use bk_num::values::Color;
 use computed_values::fonts::{chosen_height, chosen_size, chosen_weight};
 use computed_values::given::chosen;
 use css_page::values::PageLong;
-use style::initial::{medium_size, normal_height, normal_weight};
+use style::initial::{INITIAL_COLOR, medium_size, normal_height, normal_weight};
 use style::long::Given;
 use style::values::LineHeight;
 
@@ -75,17 +75,10 @@ fn color_by(parent: Color, found: Option<&PageLong>) -> Color
     ensures { result ≡ spec.color_by parent (option_map (λ l. l.now) found.entry) }
 {
     match found {
-        Some(PageLong::Color(given)) => chosen(given, parent, BLACK),
+        Some(PageLong::Color(given)) => chosen(given, parent, INITIAL_COLOR),
         _ => parent,
     }
 }
-
-/// The initial colour.
-const BLACK: Color = Color {
-    red: 0,
-    green: 0,
-    blue: 0,
-};
 
 /// How texts are set by what is declared for them, below a parent. `initial` are the initial families.
 pub(crate) fn setting_by<'s>(
@@ -119,7 +112,7 @@ fn initial_setting<'s>(initial: &'s [Name]) -> PageSetting<'s>
         weight: normal_weight(),
         size: medium_size(),
         line_height: LineHeight::Number(normal_height()),
-        color: BLACK,
+        color: INITIAL_COLOR,
     }
 }
 

@@ -2,13 +2,14 @@
 use Rattle.std.specs.Prelude.{ℕ, zero, suc, Bool, true, false, not, ◌&&◌, ◌||◌, if◌then◌else◌, ◌==◌}
 use Rattle.std.specs.Prelude.{List, [], ◌∷◌, ◌++◌, length, codes, Option, Some, None, option_map}
 use Rattle.std.specs.List.{flat_map}
+use Rattle.std.specs.Option.{option_or}
 use Rattle.bk_num.specs.declared.values.Pseudo.{Pseudo}
 use Rattle.bk_num.specs.declared.values.Pseudo.TheVariants as pseudo
 use Rattle.css_tok.specs.declared.kind.CssKind.TheVariants as kind
 use Rattle.css_tok.specs.Tokens.{Item, tokens_of}
 use Rattle.css_words.specs.Input.{kept}
 use Rattle.css_words.specs.Parser.{Outcome, Parser, ◌>>=◌, ◌>>◌, pure, refuse, on_some, peek, second, advance, spaces}
-use Rattle.css_words.specs.Repeat.{first_and, many}
+use Rattle.css_words.specs.Repeat.{comma_list, many}
 use Rattle.css_words.specs.Words.{of_kind, is_mark, is_named, value, ident, lower_ident, expect}
 use Rattle.css_words.specs.declared.reader.Skipped.TheVariants as skipped
 use Rattle.selectors.specs.AnPlusB.{an_plus_b}
@@ -101,14 +102,9 @@ other_class t =
     else (if is_word t (codes "empty") then Some test.Empty
     else (if is_word t (codes "link") then Some test.Link else None)))
 
--- the first of two that is there
-abbrev pub or_else : Option Test → Option Test → Option Test
-or_else None b = b
-or_else (Some a) b = Some a
-
 -- a pseudo-class without an argument
 unfoldable pub simple_of : Option Item → Option Test
-simple_of t = or_else (place_class t) (other_class t)
+simple_of t = option_or (place_class t) (other_class t)
 
 -- `:nth-child( ` an+b ` )`
 unfoldable pub nth : Parser Test
@@ -320,15 +316,9 @@ selector = do
   c ← compound
   rest_from 16 (c ∷ []) []
 
--- the selector after a comma, or none where no comma comes
-unfoldable pub next_selector : Parser (Option SelectorView)
-next_selector = do
-  t ← peek
-  if is_mark 44 t then (advance >> (selector >>= (λ s. pure (Some s)))) else pure None
-
 -- selectors with commas between them; nothing follows, since a selector ends at a comma or at the end
-unfoldable pub selectors : Parser (List SelectorView)
-selectors = first_and selector (many next_selector)
+abbrev pub selectors : Parser (List SelectorView)
+selectors = comma_list selector
 
 -- what was read, without what is left
 abbrev pub read_of : Outcome (List SelectorView) → Option (List SelectorView)

@@ -1,5 +1,6 @@
 -- How specific a selector is (Selectors 3, 9).
 use Rattle.std.specs.Prelude.{ℕ, ◌+◌, Bool, true, false, not, List, [], ◌∷◌, is_some, count_by, min}
+use Rattle.std.specs.Int.{from_bool}
 use Rattle.bk_num.specs.declared.values.Pseudo.{Pseudo}
 use Rattle.bk_num.specs.declared.values.Pseudo.TheVariants as pseudo
 use Rattle.selectors.specs.declared.types.Test.{Test}
@@ -19,16 +20,11 @@ is_id _ = false
 abbrev pub is_other : Test → Bool
 is_other t = not (is_id t)
 
--- 1 for what is there
-abbrev pub one_if : Bool → ℕ
-one_if true = 1
-one_if false = 0
-
 -- ids; classes, attributes and pseudo-classes; types
 abbrev pub in_plain : Count → Plain → ℕ
 in_plain count.Ids p = count_by is_id p.tests
 in_plain count.Others p = count_by is_other p.tests
-in_plain count.Types p = one_if (is_some p.name)
+in_plain count.Types p = from_bool (is_some p.name)
 
 -- how many of a kind stand in the arguments of `:not`
 abbrev pub in_plains : Count → List Plain → ℕ
@@ -58,5 +54,5 @@ abbrev pub specificity_of : SelectorView → ℕ × ℕ × ℕ
 specificity_of s = (
   held (in_parts count.Ids s.parts),
   held (in_parts count.Others s.parts),
-  held (in_parts count.Types s.parts + one_if (is_pseudo s.pseudo)),
+  held (in_parts count.Types s.parts + from_bool (is_pseudo s.pseudo)),
 )

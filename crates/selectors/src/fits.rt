@@ -13,20 +13,9 @@ use crate::types::{AttrTest, Compound, Plain, Test};
 use crate::walk::{has_content, is_element, parent};
 use bk_num::ids::NodeId;
 use bk_num::name::Name;
+use css_tok::lengths::{byte, is_blank};
 use dom::Dom;
 use memchr::memmem;
-
-pub fn is_blank(b: u8) -> bool
-    ensures { result ≡ is_blank b }
-{
-    b == b' ' || b == b'\t' || b == b'\n' || b == 12 || b == b'\r'
-}
-
-pub(crate) fn byte(text: &[u8], at: usize) -> u8
-    ensures { result ≡ slice_index text.now at }
-{
-    if at < text.len() { text[at] } else { 0 }
-}
 
 fn has_blank(value: &[u8]) -> bool
     ensures { result ≡ list_any is_blank value.now }

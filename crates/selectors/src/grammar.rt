@@ -3,18 +3,17 @@
 ghost use Rattle.std.specs.Prelude.{◌≡◌, ◌∷◌, ◌+◌, ◌≤◌, ◌<◌, [], length, option_map, IfOk, IfSome, IfNone};
 ghost use Rattle.css_tok.specs.Tokens.{item_in};
 ghost use Rattle.css_words.specs.Parser.{Reads, Owns};
-ghost use Rattle.css_words.specs.Repeat.{many, with_prefix};
 ghost use Rattle.selectors.specs.Grammar as spec;
 ghost use Rattle.selectors.specs.Specificity.{is_pseudo};
 
 use crate::short::Few;
 use crate::simple::{all_tests, is_function, next_test};
 use crate::types::{Compound, Join, Plain, Selector, SelectorList, Test};
-use bk_num::items::Items;
 use bk_num::name::{Name, NoMem};
 use bk_num::values::Pseudo;
 use css_tok::kind::CssKind;
 use css_tok::tokens::CssToken;
+use css_words::lists::{ReadOne, read_comma_list};
 use css_words::reader::{Reader, Skipped};
 use css_words::unread::Unread;
 use css_words::words::{expect, is_mark, is_named, lower_ident, of_kind};
@@ -370,46 +369,20 @@ fn selector(alloc: Global, reader: &mut Reader<'_>) -> Result<Selector, Unread>
     rest(alloc, reader, first)
 }
 
-/// The selector after a comma; None where no comma comes.
-#[tactic(auto, unfolding(crate::specs::Grammar::next_selector, css_words::specs::Words::is_mark))]
-fn next_selector(alloc: Global, reader: &mut Reader<'_>) -> Result<Option<Selector>, Unread>
-    ensures reads { Reads (λ x. x) (spec.next_selector reader.old) result reader.new }
-    ensures within { length reader.new ≤ length reader.old }
-    ensures taken { IfOk result (λ o. IfSome o (λ _. length reader.new < length reader.old)) }
-{
-    let token = reader.peek();
-    if token.is_none() || !is_mark(b',', token) {
-        return Ok(None);
-    }
-    reader.advance();
-    Ok(Some(selector(alloc, reader)?))
-}
+/// A selector of a list.
+#[derive(Drop)]
+struct ListedSelector;
 
-/// Reads the selectors that follow a first one.
-#[tactic(auto, using(css_words::proofs::RepeatLemmas::many_turns))]
-fn more_selectors(
-    alloc: Global,
-    reader: &mut Reader<'_>,
-    first: Selector,
-) -> Result<Items<Selector>, Unread>
-    ensures { Reads (λ x. x) (with_prefix (first ∷ []) (many spec.next_selector reader.old)) result reader.new }
-{
-    let mut found = Items::new(alloc);
-    found.push(first)?;
-    'selectors: loop {
-        match next_selector(alloc, reader)? {
-            Some(next) => found.push(next)?,
-            None => return Ok(found),
-        }
-    }
-}
+impl ReadOne for ListedSelector {
+    type Item = Selector;
 
-#[tactic(auto, unfolding(crate::specs::Grammar::selectors))]
-fn selectors(alloc: Global, reader: &mut Reader<'_>) -> Result<Items<Selector>, Unread>
-    ensures { Reads (λ x. x) (spec.selectors reader.old) result reader.new }
-{
-    let first = selector(alloc, reader)?;
-    more_selectors(alloc, reader, first)
+    ghost use Rattle.selectors.specs.Grammar.{selector};
+
+    ghost parser = { λ _. selector };
+
+    fn read(&self, alloc: Global, reader: &mut Reader<'_>) -> Result<Selector, Unread> {
+        selector(alloc, reader)
+    }
 }
 
 /// Reads a list of selectors (Selectors 3, 10.1); None exactly where it has no reading. One selector
@@ -418,7 +391,7 @@ pub fn read_selectors(alloc: Global, text: &str) -> Result<Option<SelectorList>,
     ensures { IfOk result (λ o. option_map (λ l. l.items) o ≡ spec.selectors_in text.now) }
 {
     let mut reader = Reader::new(text, Skipped::Comments);
-    match selectors(alloc, &mut reader) {
+    match read_comma_list(alloc, &mut reader, &ListedSelector) {
         Ok(items) => Ok(Some(SelectorList { items })),
         Err(Unread::NoReading) => Ok(None),
         Err(Unread::NoMemory) => Err(NoMem),

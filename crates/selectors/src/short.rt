@@ -1,6 +1,6 @@
 //! Lists that most often have no value, or one.
 
-ghost use Rattle.std.specs.Prelude.{◌≡◌, ◌++◌, ◌∷◌, [], OnOk, IfOk};
+ghost use Rattle.std.specs.Prelude.{◌≡◌, ◌++◌, ◌∷◌, [], OnErr, OnOk, IfOk};
 
 use bk_num::name::NoMem;
 use std::alloc::Global;
@@ -42,19 +42,21 @@ impl<T> Few<T> {
 }
 
 impl<T: Drop> Few<T> {
-    /// Adds a value at the end.
+    /// Adds a value at the end. After a refusal the list is as before.
     pub fn push(&mut self, alloc: Global, item: T) -> Result<(), NoMem>
-        ensures { OnOk result (self.new ≡ self.old ++ item ∷ []) }
+        ensures ok { OnOk result (self.new ≡ self.old ++ item ∷ []) }
+        ensures err { OnErr result (self.new ≡ self.old) }
     {
         match &mut self.items {
-            Some(items) => {
-                items.push(item)?;
-            }
+            Some(items) => match items.push(item) {
+                Ok(_) => Ok(()),
+                Err(_) => Err(NoMem),
+            },
             None => {
                 self.items = Some(boxed(alloc, item)?);
+                Ok(())
             }
         }
-        Ok(())
     }
 }
 

@@ -156,10 +156,7 @@ fn other_class(token: Option<CssToken<'_>>) -> Option<Test>
 fn simple_of(token: Option<CssToken<'_>>) -> Option<Test>
     ensures { result ≡ spec.simple_of (option_map item_in token.entry) }
 {
-    match place_class(token) {
-        Some(test) => Some(test),
-        None => other_class(token),
-    }
+    place_class(token).or(other_class(token))
 }
 
 #[tactic(auto, unfolding(crate::specs::Grammar::nth))]

@@ -54,20 +54,13 @@ fn others(tests: &[Test]) -> usize
     tests.iter().filter(|test| !is_id(test)).count()
 }
 
-fn one_if(test: bool) -> u32
-    ensures value { result ≡ spec.one_if test }
-    ensures few { result ≤ 1 }
-{
-    if test { 1 } else { 0 }
-}
-
 fn in_plain(count: Count, plain: &Plain) -> u32
     ensures { result ≡ spec.held (spec.in_plain count plain.now) }
 {
     match count {
         Count::Ids => held(ids(plain.tests.as_slice())),
         Count::Others => held(others(plain.tests.as_slice())),
-        Count::Types => one_if(plain.name.is_some()),
+        Count::Types => held(usize::from(plain.name.is_some())),
     }
 }
 
@@ -120,7 +113,7 @@ pub fn specificity(s: &Selector) -> (u32, u32, u32)
     let others = in_parts(Count::Others, s.parts());
     let types = plus(
         in_parts(Count::Types, s.parts()),
-        one_if(is_pseudo(s.pseudo)),
+        u32::from(is_pseudo(s.pseudo)),
     );
     (ids, others, types)
 }

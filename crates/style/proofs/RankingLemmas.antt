@@ -4,10 +4,11 @@ use Rattle.std.specs.Cmp.Lexicographic.{slice_cmp}
 use Rattle.std.proofs.lemmas.Cmp.{nat_list_cmp_total}
 use Rattle.std.proofs.lemmas.Map.Text.{is_eq-slice_cmp}
 use Rattle.std.proofs.lemmas.Slice.Eq.{bytes_eq-Decides}
+use Rattle.std.specs.Int.{from_bool}
 use Rattle.std.specs.Ordering.{nat_cmp, is_gt, is_eq, ordering_reverse}
 use Rattle.std.specs.declared.cmp.Ordering.{Ordering}
 use Rattle.std.specs.declared.cmp.Ordering.TheVariants.{Less, Equal, Greater}
-use Rattle.style.specs.Ranking.{rank, outranks}
+use Rattle.style.specs.Ranking.{outranks}
 
 -- what wins over another doesn't lose to it, and nothing wins over itself
 pub above-not : (a b : List ℕ) → outranks a b ≡ true → outranks b a ≡ false
@@ -76,7 +77,7 @@ same-ranks a b h g = (bytes_eq-Decides a b).0 (sym (is_eq-slice_cmp a b) ∙ ap 
     by o Equal e h g = e
     by o Greater e h g = cc
 
-pub same-rank : (s t : Bool) → rank s ≡ rank t → s ≡ t
+pub same-rank : (s t : Bool) → from_bool s ≡ from_bool t → s ≡ t
 same-rank true true e = refl
 same-rank false false e = refl
 same-rank true false e = absurd (omega (arith, e))

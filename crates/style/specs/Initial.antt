@@ -1,6 +1,21 @@
 -- Initial values that more than one rule names (CSS 2.1, appendix F).
 use Rattle.std.specs.Prelude.{ℕ, ℤ, pos}
 use Rattle.bk_num.specs.Numbers.{Number}
+use Rattle.bk_num.specs.declared.values.Color.{Color}
+use Rattle.style.specs.declared.values.BorderStyle.{BorderStyle}
+use Rattle.style.specs.declared.values.BorderStyle.TheVariants as border
+
+-- the initial style of a border: `none` (CSS 2.1, 8.5.3)
+abbrev pub initial_border : BorderStyle
+initial_border = border.Off
+
+-- the initial colour: black (CSS 2.1, 14.1, leaves it open)
+abbrev pub initial_color : Color
+initial_color = record { red = 0; green = 0; blue = 0 }
+
+-- the initial number of widows and of orphans (CSS 2.1, 13.3.2)
+abbrev pub initial_lines : ℕ
+initial_lines = 2
 
 -- the weight of a font that is `normal` (CSS 2.1, 15.6)
 abbrev pub normal_weight : ℕ

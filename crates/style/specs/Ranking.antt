@@ -1,11 +1,7 @@
 -- How declarations of one property are ranked (CSS 2.1, 6.4.1).
-use Rattle.std.specs.Prelude.{ℕ, Bool, List, if◌then◌else◌}
+use Rattle.std.specs.Prelude.{ℕ, Bool, List}
 use Rattle.std.specs.Cmp.Lexicographic.{slice_cmp}
 use Rattle.std.specs.Ordering.{nat_cmp, is_gt}
-
--- the rank of what holds or doesn't: 1 where it holds
-abbrev pub rank : Bool → ℕ
-rank b = if b then 1 else 0
 
 -- a declaration wins over another by their ranks: the first in which they differ decides, and the greater one wins
 abbrev pub outranks : List ℕ → List ℕ → Bool

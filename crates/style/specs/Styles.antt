@@ -10,17 +10,12 @@ use Rattle.bk_num.specs.declared.values.BreakAt.TheVariants as break
 use Rattle.bk_num.specs.declared.values.NumStyle.TheVariants as numeral
 use Rattle.bk_num.specs.declared.values.WhiteSpace.TheVariants as space
 use Rattle.style.specs.declared.values.Display.TheVariants as display
-use Rattle.style.specs.declared.values.BorderStyle.TheVariants as border
 use Rattle.style.specs.declared.values.LineHeight.TheVariants as height
 use Rattle.style.specs.declared.longhand.Longhand.{Longhand}
 use Rattle.style.specs.declared.longhand.Longhand.TheVariants as longhand
 use Rattle.style.specs.declared.style.Style.{Style}
-use Rattle.style.specs.Initial.{normal_height, normal_weight}
+use Rattle.style.specs.Initial.{initial_border, initial_color, initial_lines, normal_height, normal_weight}
 use Rattle.style.specs.Longhands.{is_inherited}
-
--- the initial color (CSS 2.1, 14.1, leaves it open)
-abbrev pub black : Color
-black = record { red = 0; green = 0; blue = 0 }
 
 -- no length
 abbrev pub zero_len : Len
@@ -43,10 +38,10 @@ initial_with families color = record {
   border_right_width = pos 0;
   border_bottom_width = pos 0;
   border_left_width = pos 0;
-  border_top_style = border.Off;
-  border_right_style = border.Off;
-  border_bottom_style = border.Off;
-  border_left_style = border.Off;
+  border_top_style = initial_border;
+  border_right_style = initial_border;
+  border_bottom_style = initial_border;
+  border_left_style = initial_border;
   border_top_color = color;
   border_right_color = color;
   border_bottom_color = color;
@@ -71,14 +66,14 @@ initial_with families color = record {
   break_before = break.Auto;
   break_after = break.Auto;
   break_inside = false;
-  widows = 2;
-  orphans = 2;
+  widows = initial_lines;
+  orphans = initial_lines;
   page = record { 0 = 0 };
 }
 
 -- the initial style
 abbrev pub initial_style : Style
-initial_style = initial_with (codes "serif" ∷ []) black
+initial_style = initial_with (codes "serif" ∷ []) initial_color
 
 -- what an element without a declaration of a longhand has
 abbrev pub passed : {T : Type 0} → Longhand → T → T → T

@@ -2,10 +2,13 @@
 
 ghost use Rattle.std.specs.Prelude.{◌≡◌, pos, IfOk};
 ghost use Rattle.style.specs.Sides as sides;
-ghost use Rattle.style.specs.Styles.{black, child_style, initial_style, initial_with, zero_len};
+ghost use Rattle.style.specs.Styles.{child_style, initial_style, initial_with, zero_len};
 
 use crate::content::Content;
-use crate::initial::{medium_size, normal_height, normal_weight};
+use crate::initial::{
+    INITIAL_ALIGN, INITIAL_BORDER, INITIAL_BREAK, INITIAL_COLOR, INITIAL_DISPLAY, INITIAL_LINES,
+    INITIAL_MARKER, INITIAL_SPACE, medium_size, normal_height, normal_weight,
+};
 use crate::lists::{CounterList, Families, StringSets};
 use crate::values::{BorderStyle, Display, LineHeight};
 use bk_num::ids::NameId;
@@ -73,12 +76,7 @@ impl Style {
     pub fn initial(alloc: Global) -> Result<Style, NoMem>
         ensures { IfOk result (λ style. style ≡ initial_style) }
     {
-        let black = Color {
-            red: 0,
-            green: 0,
-            blue: 0,
-        };
-        Ok(initial_with(alloc, Families::serif(alloc)?, black))
+        Ok(initial_with(alloc, Families::serif(alloc)?, INITIAL_COLOR))
     }
 
     /// The style of an element without declarations below one with this style: what is inherited comes from the parent,
@@ -115,7 +113,7 @@ impl Style {
     }
 
     /// Sets the margins.
-    pub fn set_margins(&mut self, margins: Sides<Len>)
+    fn set_margins(&mut self, margins: Sides<Len>)
         ensures { self.new ≡ sides.with_margins margins self.old }
     {
         self.margin_top = margins.top;
@@ -146,7 +144,7 @@ impl Style {
     }
 
     /// Sets the paddings.
-    pub fn set_paddings(&mut self, paddings: Sides<Len>)
+    fn set_paddings(&mut self, paddings: Sides<Len>)
         ensures { self.new ≡ sides.with_paddings paddings self.old }
     {
         self.padding_top = paddings.top;
@@ -254,7 +252,7 @@ fn initial_with(alloc: Global, families: Families, color: Color) -> Style
     ensures { result ≡ initial_with families color }
 {
     Style {
-        display: Display::Inline,
+        display: INITIAL_DISPLAY,
         float: false,
         margin_top: zero_len(),
         margin_right: zero_len(),
@@ -268,10 +266,10 @@ fn initial_with(alloc: Global, families: Families, color: Color) -> Style
         border_right_width: no_px(),
         border_bottom_width: no_px(),
         border_left_width: no_px(),
-        border_top_style: BorderStyle::Off,
-        border_right_style: BorderStyle::Off,
-        border_bottom_style: BorderStyle::Off,
-        border_left_style: BorderStyle::Off,
+        border_top_style: INITIAL_BORDER,
+        border_right_style: INITIAL_BORDER,
+        border_bottom_style: INITIAL_BORDER,
+        border_left_style: INITIAL_BORDER,
         border_top_color: color,
         border_right_color: color,
         border_bottom_color: color,
@@ -284,20 +282,20 @@ fn initial_with(alloc: Global, families: Families, color: Color) -> Style
         font_style: false,
         font_weight: normal_weight(),
         line_height: LineHeight::Number(normal_height()),
-        text_align: Align::Left,
+        text_align: INITIAL_ALIGN,
         text_indent: zero_len(),
-        white_space: WhiteSpace::Normal,
+        white_space: INITIAL_SPACE,
         overflow_wrap: false,
-        list_style_type: NumStyle::Disc,
+        list_style_type: INITIAL_MARKER,
         content: None,
         counter_reset: CounterList::new(alloc),
         counter_increment: CounterList::new(alloc),
         string_set: StringSets::new(alloc),
-        break_before: BreakAt::Auto,
-        break_after: BreakAt::Auto,
+        break_before: INITIAL_BREAK,
+        break_after: INITIAL_BREAK,
         break_inside: false,
-        widows: 2,
-        orphans: 2,
+        widows: INITIAL_LINES,
+        orphans: INITIAL_LINES,
         page: NameId(0),
     }
 }

@@ -6,8 +6,8 @@ use Rattle.computed.proofs.walk.add_all.Given as goal
 
 abbrev pub invariant-loop-index : goal.invariant-loop-index
 invariant-loop-index l = record {
-  numbered : l.names ≡ names_of l.winners l.styles;
-  nodes : AreNodes l.names l.dom l.winners l.styles;
+  numbered : l.names ≡ names_of l.winners.winners l.styles;
+  nodes : AreNodes l.names l.dom l.winners.winners l.styles;
   count : length l.styles ≡ l.index;
   firsts : AreFirsts l.styles l.alike;
   noted : length l.alike ≡ l.index;

@@ -8,7 +8,9 @@ invariant_of-self-2 c =
     sound-push c.push_number.result c.self.inside.shared.items c.push_shared.new.all.items _ c.self.inside.numbers.items c.push_number.new.numbers.items c.in_ok-number.number c.in_ok-number.ensures.ok c.in_ok-number.ensures.number first c.self.invariant c.push_number.ensures.ok c.push_number.ensures.err
 
 pub returns-clause-ok : goal.returns-clause-ok
-returns-clause-ok c = rw (← c.self.view_is) (view-push c.push_number.result c.self.inside.shared.items c.push_shared.new.all.items _ c.self.inside.numbers.items c.push_number.new.numbers.items c.in_ok-number.number c.in_ok-number.ensures.ok c.in_ok-number.ensures.number c.self.invariant c.push_number.ensures.ok)
+returns-clause-ok c =
+    let first : c.in-Ok.node ≡ length c.self.inside.numbers.items = omega (arith, c.in-Ok.ensures, c.len.ensures) in
+    rw (← c.self.view_is) (view-push c.push_number.result c.self.inside.shared.items c.push_shared.new.all.items _ c.self.inside.numbers.items c.push_number.new.numbers.items c.in_ok-number.number c.in_ok-number.ensures.ok c.in_ok-number.ensures.number first c.self.invariant c.push_number.ensures.ok)
 
 pub returns-clause-err : goal.returns-clause-err
 returns-clause-err c = rw (← c.self.view_is) (view-err c.push_number.result c.self.inside.shared.items c.push_shared.new.all.items _ c.self.inside.numbers.items c.push_number.new.numbers.items c.in_ok-number.ensures.ok c.self.invariant c.push_number.ensures.err)
