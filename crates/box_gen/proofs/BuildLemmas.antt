@@ -1,10 +1,14 @@
 -- What holds of a whole flow, from what is built of its trees.
-use Rattle.std.proofs.Common.{◌≡◌, ◌∙◌, ◌<◌, ◌≤◌, ◌+◌, List, None, length, map, ap, subst, arith}
+use Rattle.std.proofs.Common.{◌≡◌, ◌∙◌, ◌<◌, ◌≤◌, ◌+◌, ◌++◌, List, None, length, map, ap, ap₂, sym, subst, arith}
 use Rattle.std.specs.List.{All, sum_by}
 use Rattle.std.proofs.lemmas.List.{length-map}
 use Rattle.std.proofs.lemmas.List.Elements.{All-weaker}
 use Rattle.bk_num.specs.Limits.{most_entries, most_events, most_text_bytes}
+use Rattle.boxes.specs.declared.flow.Assign.{Assign}
+use Rattle.boxes.specs.declared.flow.Flow.{Flow}
 use Rattle.boxes.specs.declared.flow.Note.{Note}
+use Rattle.boxes.specs.declared.flow.Reset.{Reset}
+use Rattle.boxes.specs.declared.flow.Start.{Start}
 use Rattle.boxes.specs.declared.place.Position.{Position}
 use Rattle.boxes.specs.Tree.{IsTree, IsWhole, Tree, depth_of}
 use Rattle.dom.specs.Nodes.{IsTree as IsDom}
@@ -12,7 +16,7 @@ use Rattle.metrics.specs.Face.{FontFace}
 use Rattle.box_gen.specs.declared.put.Site.{Site}
 use Rattle.box_gen.specs.Bodies.{Noted, Walks, all_walked, noted, walks}
 use Rattle.box_gen.specs.Faces.{AreFaced}
-use Rattle.box_gen.specs.Flow.{Built, bodies_of, built_of, calls_of, flow_of}
+use Rattle.box_gen.specs.Flow.{Built, bodies_of, built_of, calls_of, flow_of, note_starts, notes_by, own_starts, resets_of, strings_of}
 use Rattle.box_gen.specs.Notes.{IsGoodBody, bytes_in, events_in}
 use Rattle.box_gen.specs.Sites.{built_in, leaf_bytes}
 use Rattle.box_gen.specs.Sources.{AreInRange}
@@ -117,3 +121,20 @@ calls-each src site sites calls b m e =
     let s = ap (λ (b : Built). length (calls_of src b.starts)) b in
     let l = ap (λ (l : List Position). length l) e in
     omega (arith, n, d, k, s, l)
+
+flow_in : Source → Built → List Built → Flow
+flow_in src b bodies = record {
+  main = b.tree;
+  notes = notes_by (calls_of src b.starts) bodies;
+  starts = own_starts src b.starts ++ note_starts 0 bodies;
+  strings = strings_of src (own_starts src b.starts);
+  resets = resets_of src (own_starts src b.starts);
+}
+
+-- the flow from its parts
+pub finished : (src : Source) (site : Site) (sites : List Site) (notes : List Note) (starts : List Start) (strings : List Assign) (resets : List Reset) → built_of src ≡ built_in site → map built_in sites ≡ bodies_of src →
+    notes ≡ notes_by (calls_of src site.starts.items) (map built_in sites) → starts ≡ own_starts src site.starts.items ++ note_starts 0 (map built_in sites) →
+    strings ≡ strings_of src (own_starts src site.starts.items) → resets ≡ resets_of src (own_starts src site.starts.items) →
+    ◌≡◌ {A = Flow} (record { main = site.tree; notes = notes; starts = starts; strings = strings; resets = resets }) (flow_of src)
+unfolding flow_in
+finished src site sites notes starts strings resets b m n s t r = rw (n, s, t, r) (ap₂ (flow_in src) (sym b) m)

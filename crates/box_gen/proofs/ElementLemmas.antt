@@ -1,7 +1,7 @@
 -- The elements of a main tree begin in tree order, and as many note elements are called as there are bodies.
-use Rattle.std.proofs.Common.{◌≡◌, ◌∙◌, ℕ, suc, ◌+◌, ◌==◌, Bool, true, false, cond, not, List, [], ◌∷◌, ◌++◌, append-nil, append_assoc, Option, None, Some, filter, length, map, refl, sym, ap, arith, length-append}
+use Rattle.std.proofs.Common.{◌≡◌, ◌∙◌, ℕ, suc, ◌+◌, ◌==◌, Bool, true, false, cond, not, List, [], ◌∷◌, ◌++◌, append-nil, append_assoc, Option, None, Some, filter, length, map, refl, sym, ap, arith}
 use Rattle.std.specs.Prelude.{slice_get}
-use Rattle.std.proofs.lemmas.List.{map-append}
+use Rattle.std.proofs.lemmas.List.{length-map, map-append}
 use Rattle.bk_num.specs.declared.values.Pseudo.{Pseudo}
 use Rattle.bk_num.specs.declared.values.Pseudo.TheVariants as pseudo
 use Rattle.boxes.specs.declared.flow.Start.{Start}
@@ -16,6 +16,7 @@ use Rattle.box_gen.specs.declared.inline.InlineItem.TheVariants as item
 use Rattle.box_gen.specs.Flow.{Built, bodies_in, bodies_of, built_of, calls_of, first_items, generated_by, generated_items, last_items, node_bodies, nothing, put_by, represented_items, starts_by, text_item, with_run}
 use Rattle.box_gen.specs.Gather.{Gathered, adds, begun, called, ended, make}
 use Rattle.box_gen.specs.Leaves.{leaf_style_of}
+use Rattle.box_gen.specs.Notes.{NoteElement, node_notes, note_built, note_elements, note_places, notes_in}
 use Rattle.box_gen.specs.Props.{anonymous_props}
 use Rattle.box_gen.specs.Represented.{represented_text}
 use Rattle.box_gen.specs.Runs.{marks_in, printed_in, starts_from, starts_of, text_of}
@@ -175,42 +176,73 @@ noted-append src (x ∷ xs) ys = by (is_note_element src x) (noted-append src xs
     by true e = ap (λ (l : List ℕ). x ∷ l) e
     by false e = e
 
-noted-bodies : (src : Source) (f : Forest) → length (noted_in src (elements_in src f)) ≡ length (bodies_in src f)
-unfolding elements_in bodies_in noted_in
-noted-bodies src none = refl
-noted-bodies src (node n kids more) =
+-- the note elements among those that begin outside notes are those that are shown
+noted-are : (src : Source) (f : Forest) → noted_in src (elements_in src f) ≡ map (λ (e : NoteElement). e.number) (notes_in src f)
+unfolding elements_in notes_in noted_in
+noted-are src none = refl
+noted-are src (node n kids more) =
     let here : List ℕ = node_elements n (role_of src n) (elements_in src kids) in
-    let a = ap (λ (l : List ℕ). length l) (noted-append src here (elements_in src more)) in
-    let b = length-append (noted_in src here) (noted_in src (elements_in src more)) in
-    let c = length-append (node_bodies src n (role_of src n) kids (bodies_in src kids)) (bodies_in src more) in
-    let d = by (role_of src n) (role-floats src n) (noted-bodies src kids) in
-    let e = noted-bodies src more in
-    omega (arith, a, b, c, d, e)
+    let own : List NoteElement = node_notes n (role_of src n) kids (notes_in src kids) in
+    noted-append src here (elements_in src more)
+    ∙ ap (λ (l : List ℕ). l ++ noted_in src (elements_in src more)) (by (role_of src n) (role-floats src n) (noted-are src kids))
+    ∙ ap (λ (l : List ℕ). map (λ (e : NoteElement). e.number) own ++ l) (noted-are src more)
+    ∙ sym (map-append (λ (e : NoteElement). e.number) own (notes_in src more))
   where
-    passes : (b : Bool) (xs : List ℕ) → b ≡ false → length (cond b (n ∷ xs) xs) ≡ length xs
+    passes : (b : Bool) (xs : List ℕ) → b ≡ false → cond b (n ∷ xs) xs ≡ xs
     passes true xs e = cc
     passes false xs e = refl
 
-    takes : (b : Bool) → b ≡ true → length (cond b (n ∷ []) []) ≡ 1
+    takes : (b : Bool) → b ≡ true → cond b (n ∷ []) [] ≡ n ∷ []
     takes true e = refl
     takes false e = cc
 
-    by : (r : Role) → IsFloat (is_note_element src n) r → length (noted_in src (elements_in src kids)) ≡ length (bodies_in src kids) → length (noted_in src (node_elements n r (elements_in src kids))) ≡ length (node_bodies src n r kids (bodies_in src kids))
+    by : (r : Role) → IsFloat (is_note_element src n) r → noted_in src (elements_in src kids) ≡ map (λ (e : NoteElement). e.number) (notes_in src kids) → noted_in src (node_elements n r (elements_in src kids)) ≡ map (λ (e : NoteElement). e.number) (node_notes n r kids (notes_in src kids))
     by hidden f k = refl
     by (text t) f k = refl
     by (inline u) f k = passes (is_note_element src n) (noted_in src (elements_in src kids)) f ∙ k
     by (block u) f k = passes (is_note_element src n) (noted_in src (elements_in src kids)) f ∙ k
     by (note u) f k = takes (is_note_element src n) f
 
-calls-noted : (src : Source) (starts : List Start) → length (calls_of src starts) ≡ length (noted_in src (nodes_in starts))
+places-noted : (src : Source) (starts : List Start) → nodes_in (filter (λ a. is_note_element src a.node.0) starts) ≡ noted_in src (nodes_in starts)
 unfolding noted_in
-calls-noted src [] = refl
-calls-noted src (a ∷ starts) = by (is_note_element src a.node.0) (calls-noted src starts)
+places-noted src [] = refl
+places-noted src (a ∷ starts) = by (is_note_element src a.node.0) (places-noted src starts)
   where
-    by : (b : Bool) → length (calls_of src starts) ≡ length (noted_in src (nodes_in starts)) → length (map (λ (x : Start). x.at) (cond b (a ∷ filter (λ x. is_note_element src x.node.0) starts) (filter (λ x. is_note_element src x.node.0) starts))) ≡ length (cond b (a.node.0 ∷ noted_in src (nodes_in starts)) (noted_in src (nodes_in starts)))
-    by true e = ap suc e
+    by : (b : Bool) → nodes_in (filter (λ x. is_note_element src x.node.0) starts) ≡ noted_in src (nodes_in starts) → nodes_in (cond b (a ∷ filter (λ x. is_note_element src x.node.0) starts) (filter (λ x. is_note_element src x.node.0) starts)) ≡ cond b (a.node.0 ∷ noted_in src (nodes_in starts)) (noted_in src (nodes_in starts))
+    by true e = ap (λ (l : List ℕ). a.node.0 ∷ l) e
     by false e = e
+
+-- the note elements that begin in a main tree are those that are shown
+pub places-are : (src : Source) → nodes_in (note_places src) ≡ map (λ (e : NoteElement). e.number) (note_elements src)
+places-are src = places-noted src (built_of src).starts ∙ ap (λ (l : List ℕ). noted_in src l) (main-elements src) ∙ noted-are src (forest_of src.nodes)
+
+bodies-in : (src : Source) (f : Forest) → bodies_in src f ≡ map (note_built src) (notes_in src f)
+unfolding bodies_in notes_in
+bodies-in src none = refl
+bodies-in src (node n kids more) =
+    let own : List NoteElement = node_notes n (role_of src n) kids (notes_in src kids) in
+    ap (λ (l : List Built). l ++ bodies_in src more) (by (role_of src n) (bodies-in src kids))
+    ∙ ap (λ (l : List Built). map (note_built src) own ++ l) (bodies-in src more)
+    ∙ sym (map-append (note_built src) own (notes_in src more))
+  where
+    by : (r : Role) → bodies_in src kids ≡ map (note_built src) (notes_in src kids) → node_bodies src n r kids (bodies_in src kids) ≡ map (note_built src) (node_notes n r kids (notes_in src kids))
+    by hidden e = refl
+    by (text t) e = refl
+    by (inline u) e = e
+    by (block u) e = e
+    by (note u) e = refl
+
+-- what the note elements that are shown build
+pub bodies-are : (src : Source) → bodies_of src ≡ map (note_built src) (note_elements src)
+bodies-are src = bodies-in src (forest_of src.nodes)
 
 -- each call has its body
 pub calls-bodies : (src : Source) → length (calls_of src (built_of src).starts) ≡ length (bodies_of src)
-calls-bodies src = calls-noted src (built_of src).starts ∙ ap (λ (l : List ℕ). length (noted_in src l)) (main-elements src) ∙ noted-bodies src (forest_of src.nodes)
+calls-bodies src =
+    let a = length-map (note_places src) (λ (x : Start). x.at) in
+    let b = length-map (note_places src) (λ (x : Start). x.node.0) in
+    let c = ap (λ (l : List ℕ). length l) (places-are src) in
+    let d = length-map (note_elements src) (λ (e : NoteElement). e.number) in
+    let e = ap (λ (l : List Built). length l) (bodies-are src) in
+    let f = length-map (note_elements src) (note_built src) in
+    omega (arith, a, b, c, d, e, f)

@@ -24,4 +24,5 @@ pub mod NoteSums
 pub mod RoomLemmas
 pub mod PlaceLemmas
 pub mod StartLemmas
+pub mod EventSums
 pub mod BuildLemmas

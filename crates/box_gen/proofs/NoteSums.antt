@@ -1,4 +1,4 @@
--- The sizes of notes, added up.
+-- Which notes there are, and their sizes, added up.
 use Rattle.std.proofs.Common.{◌≡◌, ◌∙◌, ℕ, ◌+◌, ◌<◌, ◌≤◌, List, [], ◌∷◌, length, map, refl, sym, ap, arith}
 use Rattle.std.specs.List.{All, sum_by}
 use Rattle.std.proofs.lemmas.List.Elements.{All-nil, All-cons, All-head, All-tail}
@@ -7,8 +7,11 @@ use Rattle.boxes.specs.declared.flow.Note.{Note}
 use Rattle.boxes.specs.declared.place.Position.{Position}
 use Rattle.boxes.specs.Tree.{Tree}
 use Rattle.box_gen.specs.declared.put.Site.{Site}
-use Rattle.box_gen.specs.Flow.{Built, notes_by}
+use Rattle.box_gen.specs.Flow.{Built, bodies_of, built_of, calls_of, flow_of, notes_by}
+use Rattle.box_gen.specs.Notes.{AreNotesOf, NoteElement, note_built, note_elements, note_tree}
 use Rattle.box_gen.specs.Sites.{built_in}
+use Rattle.box_gen.specs.Trees.{Source}
+use Rattle.box_gen.proofs.ElementLemmas.{bodies-are, calls-bodies, places-are}
 
 abbrev one_note : Position → Built → Note
 one_note c b = record { call = c; body = b.tree }
@@ -54,3 +57,30 @@ pub notes-few : (calls : List Position) (bodies : List Built) → length (notes_
 notes-few [] bodies = omega arith
 notes-few (c ∷ calls) [] = omega arith
 notes-few (c ∷ calls) (b ∷ bodies) = let r = notes-few calls bodies in omega (arith, r)
+
+-- ---- which notes there are
+
+-- the notes of calls that have a body each are called there
+notes-calls : (calls : List Position) (bodies : List Built) → length calls ≡ length bodies → map (λ (n : Note). n.call) (notes_by calls bodies) ≡ calls
+notes-calls [] [] e = refl
+notes-calls [] (b ∷ bodies) e = absurd (omega (arith, e))
+notes-calls (c ∷ calls) [] e = absurd (omega (arith, e))
+notes-calls (c ∷ calls) (b ∷ bodies) e = ap (λ (l : List Position). c ∷ l) (notes-calls calls bodies (omega (arith, e)))
+
+-- and have those bodies
+notes-trees : (calls : List Position) (bodies : List Built) → length calls ≡ length bodies → map (λ (n : Note). n.body) (notes_by calls bodies) ≡ map (λ (b : Built). b.tree) bodies
+notes-trees [] [] e = refl
+notes-trees [] (b ∷ bodies) e = absurd (omega (arith, e))
+notes-trees (c ∷ calls) [] e = absurd (omega (arith, e))
+notes-trees (c ∷ calls) (b ∷ bodies) e = ap (λ (l : List Tree). b.tree ∷ l) (notes-trees calls bodies (omega (arith, e)))
+
+trees-of : (src : Source) (es : List NoteElement) → map (λ (b : Built). b.tree) (map (note_built src) es) ≡ map (note_tree src) es
+trees-of src [] = refl
+trees-of src (e ∷ es) = ap (λ (l : List Tree). note_tree src e ∷ l) (trees-of src es)
+
+pub notes-are : (src : Source) → AreNotesOf src (flow_of src).notes
+notes-are src = record {
+  elements = places-are src;
+  calls = notes-calls (calls_of src (built_of src).starts) (bodies_of src) (calls-bodies src);
+  bodies = notes-trees (calls_of src (built_of src).starts) (bodies_of src) (calls-bodies src) ∙ ap (λ (l : List Built). map (λ (b : Built). b.tree) l) (bodies-are src) ∙ trees-of src (note_elements src);
+}

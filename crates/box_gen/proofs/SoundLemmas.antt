@@ -30,7 +30,8 @@ use Rattle.box_gen.specs.declared.text_style.TextStyle.{TextStyle}
 use Rattle.box_gen.specs.Flow.{Built, built_of, nothing, without, with_run, put_by, leads_of, first_items, last_items, generated_by, generated_items, leads_by, represented_items, styled, text_item}
 use Rattle.box_gen.specs.Gather.{Gathered, make, adds, begun, called, ended}
 use Rattle.box_gen.specs.Leaves.{leaf_by, leaf_style_of}
-use Rattle.box_gen.specs.Markers.{has_marker, lead_by, marker_text}
+use Rattle.counters.specs.Markers.{has_marker}
+use Rattle.box_gen.specs.Markers.{lead_by, marker_text}
 use Rattle.box_gen.specs.Props.{anonymous_props}
 use Rattle.box_gen.specs.Represented.{represented_text}
 use Rattle.box_gen.specs.Runs.{AreGoodTexts, marks_in, spans_of, styles_in, text_of}

@@ -13,6 +13,7 @@ use Rattle.boxes.specs.declared.leaf.Lead.{Lead}
 use Rattle.boxes.specs.declared.place.Position.{Position}
 use Rattle.boxes.specs.declared.props.BoxProps.{BoxProps}
 use Rattle.boxes.specs.Tree.{Tree, no_tree, with_box, with_leaf, with_close, innermost_of}
+use Rattle.counters.specs.Markers.{has_marker}
 use Rattle.inline_text.specs.declared.space.TextPart.{TextPart}
 use Rattle.style.specs.declared.style.Style.{Style}
 use Rattle.style.specs.Nodes.{style_at}
@@ -22,7 +23,7 @@ use Rattle.box_gen.specs.declared.inline.InlineItem.TheVariants as item
 use Rattle.box_gen.specs.declared.inline.InlineStart.{InlineStart}
 use Rattle.box_gen.specs.declared.leaf.LeafStyle.{LeafStyle}
 use Rattle.box_gen.specs.Leaves.{leaf_by, leaf_style_of}
-use Rattle.box_gen.specs.Markers.{has_marker, lead_by, marker_text}
+use Rattle.box_gen.specs.Markers.{lead_by, marker_text}
 use Rattle.box_gen.specs.Represented.{represented_text}
 use Rattle.box_gen.specs.Props.{anonymous_props, props_of}
 use Rattle.box_gen.specs.Runs.{spans_of, starts_of, text_of}

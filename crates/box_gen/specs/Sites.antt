@@ -34,6 +34,11 @@ pub record IsWithinRoom (site : Site) : Type 0 where
   pub events : length site.tree.events ≤ site.room.events
   pub most : site.room.events ≤ most_events
 
+-- a tree has room for the events of a step, of which there are four at most
+pub record HasRoom (site : Site) : Type 0 where
+  pub few : length site.tree.events < 7999990
+  pub left : length site.tree.events + 10 < site.room.events
+
 -- a run may be put into a tree, in an anonymous box or not: it has room for more events, a box or a leaf may stand
 -- there, and the markers that wait are those of open boxes and of no negative size
 pub record TakesRun (wrap : Bool) (site : Site) : Type 0 where

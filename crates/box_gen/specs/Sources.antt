@@ -1,10 +1,10 @@
 -- What a flow is made from, as the arguments have it.
-use Rattle.std.specs.Prelude.{◌≡◌, ◌≤ℤ◌, ◌&&◌, not, ℕ, pos, IsTrue, List, Some, slice_get}
+use Rattle.std.specs.Prelude.{◌≡◌, ◌≤ℤ◌, ◌&&◌, not, ℕ, pos, IsTrue, List, Some, slice_get, ℤ}
 use Rattle.bk_num.specs.declared.values.Pseudo.{Pseudo}
 use Rattle.bk_num.specs.declared.values.Pseudo.TheVariants as pseudo
 use Rattle.boxes.specs.Contents.{IsNotAuto, IsNotNegative}
 use Rattle.computed_values.specs.Values as values
-use Rattle.counters.specs.At.{Kept}
+use Rattle.counters.specs.At.{counter_values}
 use Rattle.dom.specs.Nodes.{Node}
 use Rattle.gen_text.specs.declared.generated.NodeTexts.{NodeTexts}
 use Rattle.gen_text.specs.Generated.{assigned_strings, generated_text}
@@ -20,12 +20,13 @@ use Rattle.box_gen.specs.Trees.{Source}
 
 -- ---- the source
 
--- nodes with their styles, counters and generated texts, set in some faces
-abbrev pub source_of : List Node → List NodeStyles → Kept → List FontFace → List NodeTexts → Source
-source_of nodes styles counters faces texts = record {
+-- nodes with their styles, the values of counters at places, and generated texts, set in some faces
+abbrev pub source_of :
+    List Node → List NodeStyles → (ℕ → Pseudo → List ℕ → List ℤ) → List FontFace → List NodeTexts → Source
+source_of nodes styles values faces texts = record {
   nodes = nodes;
   styles = styles;
-  items = λ n. list_values counters n;
+  items = λ n. list_values values n;
   face = λ s. face_of faces s;
   generated = λ n p. generated_text texts n p;
   is_note = λ n. is_note_in (slice_get styles n);
@@ -34,7 +35,7 @@ source_of nodes styles counters faces texts = record {
 
 -- what a flow is made from, and in a note what is in the note
 abbrev pub source_in : FlowInput → Source
-source_in i = record (source_of i.dom.now i.styles.now i.counters.now i.faces.now i.texts.now) {
+source_in i = record (source_of i.dom.now i.styles.now (counter_values i.counters.now) i.faces.now i.texts.now) {
   is_note = λ n. not i.in_note && is_note_in (slice_get i.styles.now n);
 }
 

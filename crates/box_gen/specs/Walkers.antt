@@ -44,6 +44,16 @@ bodies_bytes bodies = sum_by (λ b. leaf_bytes b.tree.leaves) bodies
 abbrev pub all_bytes : Walks → ℕ
 all_bytes v = (leaf_bytes v.main.gathered.built.tree.leaves + body_bytes v.notes.body) + bodies_bytes v.notes.bodies
 
+-- the events of a tree that is there
+abbrev pub body_events : Option Walk → ℕ
+body_events None = 0
+body_events (Some b) = length b.gathered.built.tree.events
+
+-- the events of the main tree and of all bodies
+abbrev pub all_events : Walks → ℕ
+all_events v = (length v.main.gathered.built.tree.events + body_events v.notes.body) +
+    sum_by (λ b. length b.tree.events) v.notes.bodies
+
 -- the bytes of the body that a step in a note ends, or goes on with
 abbrev pub body_bytes_after : Source → Option ℕ → Walk → Step → ℕ
 body_bytes_after src over b s =

@@ -20,11 +20,12 @@ ghost use Rattle.box_gen.specs.Flow.{
   resets_at,
   starts_in_note,
 };
+ghost use Rattle.counters.specs.At.{counter_values};
 ghost use Rattle.page_seq.specs.Numbers.{IsSmallReset};
 ghost use Rattle.page_seq.specs.Places.{NeverFall};
 ghost use Rattle.style.specs.Nodes.{style_at};
 ghost use Rattle.box_gen.specs.Faces.{AreFaced};
-ghost use Rattle.box_gen.specs.Notes.{IsGoodBody, bytes_in, events_in};
+ghost use Rattle.box_gen.specs.Notes.{AreNotesOf, IsGoodBody, bytes_in, events_in};
 ghost use Rattle.box_gen.specs.Sites.{built_in};
 ghost use Rattle.box_gen.specs.Sources.{AreInRange, IsInput, IsRootShown, source_in, source_of};
 
@@ -335,11 +336,13 @@ pub fn build(
 ) -> Result<Flow, BuildErr>
     requires { AreInRange styles.now }
     ensures flow { IfOk result (λ flow. flow ≡
-        flow_of (source_of dom.now styles.now counters.now faces.now texts.now)) }
+        flow_of (source_of dom.now styles.now (counter_values counters.now) faces.now texts.now)) }
     ensures whole { IsRootShown styles.now → IfOk result (λ flow. IsWhole flow.main.events) }
     ensures depth { IfOk result (λ flow. depth_of flow.main.events ≤ most_open) }
     ensures faced { IfOk result (λ flow. AreFaced faces.now flow.main.leaves) }
     ensures bodies { IfOk result (λ flow. All (IsGoodBody faces.now) flow.notes) }
+    ensures notes { IfOk result (λ flow.
+        AreNotesOf (source_of dom.now styles.now (counter_values counters.now) faces.now texts.now) flow.notes) }
     ensures calls { IfOk result (λ flow. NeverFall (map (λ n. n.call) flow.notes)) }
     ensures few { IfOk result (λ flow. bytes_in flow ≤ most_text_bytes) }
     ensures events { IfOk result (λ flow. events_in flow ≤ most_events) }
@@ -347,8 +350,8 @@ pub fn build(
     ensures strings { IfOk result (λ flow. NeverFall (map (λ a. a.at) flow.strings)) }
     ensures resets { IfOk result (λ flow. NeverFall (map (λ r. r.at) flow.resets)) }
     ensures small { IfOk result (λ flow. All IsSmallReset flow.resets) }
-    ensures cause { IfErr result (λ e. e ≡ BuildErr.Text →
-        most_text_bytes < bytes_in (flow_of (source_of dom.now styles.now counters.now faces.now texts.now))) }
+    ensures cause { IfErr result (λ e. e ≡ BuildErr.Text → most_text_bytes <
+        bytes_in (flow_of (source_of dom.now styles.now (counter_values counters.now) faces.now texts.now))) }
 {
     prove!(dom.len() > 0);
     prove!(faces.len() > 0);

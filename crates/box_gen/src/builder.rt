@@ -11,7 +11,7 @@ ghost use Rattle.box_gen.specs.Flow.{closed, leads_of, opened};
 ghost use Rattle.box_gen.specs.declared.inline.InlineItem.TheVariants as item;
 ghost use Rattle.box_gen.specs.Gather.{adds, begun, ended, make};
 ghost use Rattle.box_gen.specs.Kinds.{HasRange, IsKindOf, role_in};
-ghost use Rattle.box_gen.specs.Sites.{IsWithinRoom, built_in, leaf_bytes};
+ghost use Rattle.box_gen.specs.Sites.{HasRoom, IsWithinRoom, built_in, leaf_bytes};
 ghost use Rattle.box_gen.specs.Sources.{IsInput, IsInRange, source_in};
 ghost use Rattle.box_gen.specs.Steps.{CanBegin, CanEnd, CanEnterNode, CanLeaveNode, CanStep, styles_of, walk_in};
 ghost use Rattle.box_gen.specs.Walk as walk;
@@ -19,15 +19,16 @@ ghost use Rattle.box_gen.specs.Walk.{after_step, enter_node, leave_node};
 
 use crate::inline::{BuildErr, InlineItem};
 use crate::input::{FlowInput, NodeKind, kind_of, style_around, style_of};
-use crate::marker::{has_marker, lead_of, marker_text};
+use crate::marker::{lead_of, marker_text};
 use crate::pieces::{push_call, push_first, push_last, push_text};
 use crate::props::props_of;
-use crate::put::{Site, TreeRoom, has_room, put_run, start_at};
+use crate::put::{Site, TreeRoom, put_run, start_at};
 use crate::text_style::text_style;
 use bk_num::ids::NodeId;
 use bk_num::name::NoMem;
 use boxes::leaf::Lead;
 use boxes::tree::BoxTree;
+use counters::marker::has_marker;
 use dom::Step;
 use std::alloc::Global;
 use style::style::Style;
@@ -107,7 +108,10 @@ fn push_lead(
         None => Ok(()),
         Some(text) => {
             let look = text_style(input.faces, style, style.white_space);
-            pending.push(lead_of(text, &look, owner)?)?;
+            let Some(lead) = lead_of(text, &look, owner) else {
+                return Err(NoMem);
+            };
+            pending.push(lead)?;
             Ok(())
         }
     }
@@ -209,6 +213,7 @@ fn enter_block<'a>(
     requires node { node.0 < length input.now.dom.now }
     requires range { IsInRange style.now }
     requires within { IsWithinRoom builder.old.site }
+    requires room { HasRoom builder.old.site }
     requires can { CanBegin (source_in input.now)
         (walk.innermost (styles_of input.now.styles.now builder.old.blocks.items))
         (make (built_in builder.old.site) builder.old.run.items) }
@@ -225,9 +230,6 @@ fn enter_block<'a>(
         (walk.innermost (styles_of input.now.styles.now builder.old.blocks.items)) node.0 style.now
         (make (built_in builder.old.site) builder.old.run.items)).built.tree.leaves) }
 {
-    if !has_room(&builder.site) {
-        return Err(BuildErr::NoMemory);
-    }
     let around = innermost(input, &builder.blocks);
     let items = std::mem::replace(&mut builder.run, Vec::new(alloc));
     put_run(alloc, input.faces, around, true, &mut builder.site, items)?;
@@ -253,6 +255,7 @@ pub(crate) fn leave_block<'a>(
 ) -> Result<(), BuildErr>
     requires range { IsInRange style.now }
     requires within { IsWithinRoom builder.old.site }
+    requires room { HasRoom builder.old.site }
     requires can { CanEnd (source_in input.now) style.now
         (adds (spec.last_items (source_in input.now) node.0) (make (built_in builder.old.site) builder.old.run.items)) }
     ensures gathered { OnOk result (make (built_in builder.new.site) builder.new.run.items ≡
@@ -268,9 +271,6 @@ pub(crate) fn leave_block<'a>(
         (adds (spec.last_items (source_in input.now) node.0)
         (make (built_in builder.old.site) builder.old.run.items))).built.tree.leaves) }
 {
-    if !has_room(&builder.site) {
-        return Err(BuildErr::NoMemory);
-    }
     let Ok(()) = push_last(input, node, &mut builder.run) else {
         return Err(BuildErr::NoMemory);
     };
@@ -296,6 +296,7 @@ fn enter<'a>(
     requires kind { IsKindOf input.now node.0 kind }
     requires shown { builder.old.unshown ≡ None }
     requires within { IsWithinRoom builder.old.site }
+    requires room { HasRoom builder.old.site }
     requires can { CanEnterNode (source_in input.now) (role_in kind) (walk_in input.now.styles.now builder.old) }
     ensures walk { OnOk result (walk_in input.now.styles.now builder.new ≡
         enter_node (source_in input.now) node.0 (role_in kind.entry) (walk_in input.now.styles.now builder.old)) }
@@ -340,6 +341,7 @@ fn leave<'a>(
     requires range { HasRange kind }
     requires shown { builder.old.unshown ≡ None }
     requires within { IsWithinRoom builder.old.site }
+    requires room { HasRoom builder.old.site }
     requires can { CanLeaveNode (source_in input.now) node.0 (role_in kind) (walk_in input.now.styles.now builder.old) }
     ensures walk { OnOk result (walk_in input.now.styles.now builder.new ≡
         leave_node (source_in input.now) node.0 (role_in kind.entry) (walk_in input.now.styles.now builder.old)) }
@@ -374,6 +376,7 @@ pub(crate) fn pass<'a>(
     requires input { IsInput input.now }
     requires node { node_of step < length input.now.dom.now }
     requires within { IsWithinRoom builder.old.site }
+    requires room { HasRoom builder.old.site }
     requires can { CanStep (source_in input.now) (walk_in input.now.styles.now builder.old) step }
     ensures walk { OnOk result (walk_in input.now.styles.now builder.new ≡
         after_step (source_in input.now) (walk_in input.now.styles.now builder.old) step) }

@@ -3,6 +3,7 @@
 use crate::text_style::TextStyle;
 use bk_num::ids::NodeId;
 use inline_text::part::BorrowedPart;
+use thiserror::Error;
 
 /// A text where it stands in the document, how its white space is treated, and how it is set.
 #[derive(Drop)]
@@ -33,8 +34,10 @@ pub struct InlineStart {
 }
 
 /// The answers of the building of a flow but its result: the leaves have more than 33,554,432 bytes, or want of memory.
-#[derive(Clone, Copy, Debug, PartialEq, Eq)]
+#[derive(Clone, Copy, Debug, PartialEq, Eq, Error)]
 pub enum BuildErr {
+    #[error("too much text")]
     Text,
+    #[error("no memory")]
     NoMemory,
 }

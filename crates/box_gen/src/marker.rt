@@ -1,8 +1,9 @@
 //! The markers of list items (CSS 2.1, 12.5).
 
-ghost use Rattle.std.specs.Prelude.{◌≡◌, IfOk, string_bytes};
+ghost use Rattle.std.specs.Prelude.{◌≡◌, ◌<◌, ◌^◌, IfOk, SomeIff, length, string_bytes};
+ghost use Rattle.counters.specs.At.{counter_values};
 ghost use Rattle.box_gen.specs.Markers as spec;
-ghost use Rattle.box_gen.specs.Markers.{lead_by, list_values, number_text};
+ghost use Rattle.box_gen.specs.Markers.{bullet_text, lead_by, list_values, number_text};
 
 use crate::text_style::{TextStyle, span_by};
 use bk_num::ids::NodeId;
@@ -10,19 +11,10 @@ use bk_num::name::{Name, NoMem};
 use bk_num::values::{NumStyle, Pseudo};
 use boxes::leaf::Lead;
 use counters::at::CounterAt;
+use counters::numeral::bullet;
 use gen_text::parts::print_counter;
 use gen_text::table::print_text;
 use std::alloc::Global;
-use style::style::Style;
-use style::values::Display;
-
-/// Whether an element, the root or another one, has a marker: a list item that doesn't float to the notes, and isn't
-/// the root, which is a block.
-pub fn has_marker(root: bool, style: &Style) -> bool
-    ensures { result ≡ spec.has_marker root style.now }
-{
-    !root && style.display == Display::ListItem && !style.float
-}
 
 /// The number of a list item in a style, with a full stop and a space.
 fn number_text(
@@ -31,7 +23,8 @@ fn number_text(
     node: NodeId,
     style: NumStyle,
 ) -> Result<String, NoMem>
-    ensures { IfOk result (λ text. string_bytes text ≡ number_text style (list_values counters.now node.0)) }
+    ensures { IfOk result (λ text. string_bytes text ≡
+        number_text style (list_values (counter_values counters.now) node.0)) }
 {
     let mut text = String::new(alloc);
     print_counter(
@@ -54,10 +47,14 @@ fn named(text: String) -> Option<Name>
     Some(Name::from_string(text))
 }
 
-fn bullet(alloc: Global, text: &str) -> Result<Option<Name>, NoMem>
-    ensures { IfOk result (λ name. name ≡ spec.some_text text.now) }
+/// A bullet and a space.
+fn bullet_text(alloc: Global, style: NumStyle) -> Result<String, NoMem>
+    ensures { IfOk result (λ text. string_bytes text ≡ bullet_text style) }
 {
-    Ok(Some(Name::new(alloc, text)?))
+    let mut text = String::new(alloc);
+    print_text(bullet(style), &mut text)?;
+    print_text(" ", &mut text)?;
+    Ok(text)
 }
 
 /// The text of a list item's marker: its number with a full stop and a space, a bullet and a space, or none.
@@ -67,25 +64,24 @@ pub fn marker_text(
     node: NodeId,
     style: NumStyle,
 ) -> Result<Option<Name>, NoMem>
-    ensures { IfOk result (λ text. text ≡ spec.marker_text style (list_values counters.now node.0)) }
+    ensures { IfOk result (λ text. text ≡ spec.marker_text style (list_values (counter_values counters.now) node.0)) }
 {
     match style {
         NumStyle::Nothing => Ok(None),
-        NumStyle::Disc => bullet(alloc, "• "),
-        NumStyle::Circle => bullet(alloc, "◦ "),
-        NumStyle::Square => bullet(alloc, "▪ "),
+        NumStyle::Disc | NumStyle::Circle | NumStyle::Square => {
+            Ok(named(bullet_text(alloc, style)?))
+        }
         _ => Ok(named(number_text(alloc, counters, node, style)?)),
     }
 }
 
-/// A marker in a style, which hangs before the first line of the item whose box has the number `owner`.
-pub fn lead_of(text: Name, style: &TextStyle, owner: u32) -> Result<Lead, NoMem>
-    ensures { IfOk result (λ lead. lead ≡ lead_by text style.now owner) }
+/// A marker in a style, which hangs before the first line of the item whose box has the number `owner`; None exactly
+/// where its text has 2^32 bytes or more.
+pub fn lead_of(text: Name, style: &TextStyle, owner: u32) -> Option<Lead>
+    ensures { SomeIff result (length text < 2 ^ 32) (lead_by text style.now owner) }
 {
-    let Ok(len) = u32::try_from(text.as_str().len()) else {
-        return Err(NoMem);
-    };
-    Ok(Lead {
+    let len = u32::try_from(text.as_str().len()).ok()?;
+    Some(Lead {
         span: span_by(style, 0, len),
         text,
         owner,

@@ -29,20 +29,20 @@ ghost use Rattle.box_gen.specs.Bodies as bodies;
 ghost use Rattle.box_gen.specs.Bodies.{CanInNote, CanNotes, after_both, note_begun, note_ended, noted, notes_after, outside};
 ghost use Rattle.box_gen.specs.Flow.{bodies_of, built_of, last_items, note_root};
 ghost use Rattle.box_gen.specs.Gather.{adds};
-ghost use Rattle.box_gen.specs.Sites.{IsWithinRoom, built_in, leaf_bytes};
+ghost use Rattle.box_gen.specs.Sites.{HasRoom, IsWithinRoom, built_in, leaf_bytes};
 ghost use Rattle.box_gen.specs.Sources.{IsInput, IsInRange, source_in};
 ghost use Rattle.box_gen.specs.Steps.{CanEnd, CanStep, walk_in};
 ghost use Rattle.box_gen.specs.Trees.{in_note};
 ghost use Rattle.box_gen.specs.Walk as walk;
 ghost use Rattle.box_gen.specs.Walk.{after_step};
-ghost use Rattle.box_gen.specs.Walkers.{AreShared, IsBody, AreSoundWalks, all_bytes, bodies_bytes, body_bytes_after, body_in, over_in, walks_in};
+ghost use Rattle.box_gen.specs.Walkers.{AreShared, IsBody, AreSoundWalks, all_bytes, all_events, bodies_bytes, body_bytes_after, body_in, over_in, walks_in};
 
 use crate::builder::{FlowBuilder, innermost, leave_block, new_builder, new_site, pass};
 use crate::inline::BuildErr;
 use crate::input::{FlowInput, NodeKind, kind_of, within_note};
 use crate::pieces::push_note_first;
 use crate::props::props_of;
-use crate::put::{Site, TreeRoom, has_room, start_at};
+use crate::put::{Site, TreeRoom, start_at};
 use bk_num::ids::NodeId;
 use bk_num::limits::{MOST_EVENTS, MOST_TEXT_BYTES};
 use bk_num::name::NoMem;
@@ -118,7 +118,7 @@ fn note_builder<'a>(
     })
 }
 
-/// Begins a note, where the main tree leaves room.
+/// Begins a note in the room that the main tree leaves.
 fn begin_note<'a>(
     alloc: Global,
     input: &FlowInput<'a>,
@@ -131,6 +131,7 @@ fn begin_note<'a>(
     requires own { style_at input.now.styles.now node.0 pseudo.Element ≡ Some style.now }
     requires range { IsInRange style.now }
     requires within { IsWithinRoom main.now }
+    requires room { length main.now.tree.events < main.now.room.events }
     ensures walk { IfOk result (λ b. walk_in input.now.styles.now b ≡
         note_begun (in_note (source_in input.now)) node.0 style.now) }
     ensures within { IfOk result (λ b. IsWithinRoom b.site) }
@@ -138,9 +139,6 @@ fn begin_note<'a>(
     ensures events { IfOk result (λ b. b.site.room.events + length main.now.tree.events ≡ main.now.room.events) }
     ensures cause { IfErr result (λ e. e ≡ BuildErr.NoMemory) }
 {
-    if !has_room(main) {
-        return Err(BuildErr::NoMemory);
-    }
     let room = room_after(main);
     match note_builder(alloc, &within_note(input), node, style, room) {
         Ok(body) => Ok(body),
@@ -158,6 +156,7 @@ fn pass_outside<'a>(
     requires input { IsInput input.now }
     requires node { node_of step < length input.now.dom.now }
     requires within { IsWithinRoom main.old.site }
+    requires room { HasRoom main.old.site }
     requires can { CanStep (source_in input.now) (walk_in input.now.styles.now main.old) step }
     ensures walk { OnOk result (walk_in input.now.styles.now main.new ≡
         after_step (source_in input.now) (walk_in input.now.styles.now main.old) step) }
@@ -200,6 +199,7 @@ fn end_note<'a>(
 ) -> Result<Site, BuildErr>
     requires input { IsInput input.now }
     requires within { IsWithinRoom body.site }
+    requires room { HasRoom body.site }
     requires can { CanEnd (in_note (source_in input.now)) (walk.innermost (walk_in input.now.styles.now body).blocks)
         (adds (last_items
         (in_note (source_in input.now)) node.0) (walk_in input.now.styles.now body).gathered) }
@@ -258,6 +258,7 @@ fn end_inside<'a>(
     requires input { IsInput input.now }
     requires shared { AreShared main.old.site bodies.old.items }
     requires body { IsBody main.old body }
+    requires room { HasRoom body.site }
     requires can { CanInNote (in_note (source_in input.now)) (walk_in input.now.styles.now body) step true }
     ensures main { OnOk result (walk_in input.now.styles.now main.new ≡
         walk.walk (walk_in input.now.styles.now main.old).gathered
@@ -286,6 +287,7 @@ fn pass_body<'a>(
     requires input { IsInput input.now }
     requires node { node_of step < length input.now.dom.now }
     requires within { IsWithinRoom body.old.site }
+    requires room { HasRoom body.old.site }
     requires can { CanInNote (in_note (source_in input.now)) (walk_in input.now.styles.now body.old) step false }
     ensures walk { OnOk result (walk_in input.now.styles.now body.new ≡
         after_step (in_note (source_in input.now)) (walk_in input.now.styles.now body.old) step) }
@@ -311,6 +313,7 @@ fn pass_inside<'a>(
     requires node { node_of step < length input.now.dom.now }
     requires shared { AreShared main.old.site bodies.old.items }
     requires body { IsBody main.old body }
+    requires room { HasRoom body.site }
     requires can { CanNotes (source_in input.now) (over_in main.old) (Some (walk_in input.now.styles.now body)) step }
     ensures main { OnOk result (walk_in input.now.styles.now main.new ≡
         after_step (source_in input.now) (walk_in input.now.styles.now main.old) step) }
@@ -345,6 +348,7 @@ fn pass_all<'a>(
     requires can { CanStep (source_in input.now) (walk_in input.now.styles.now walker.old.main) step }
     requires notes { CanNotes (source_in input.now) (over_in walker.old.main)
         (body_in input.now.styles.now walker.old.body) step }
+    requires room { all_events (walks_in input.now.styles.now walker.old) + 10 < most_events }
     ensures walks { OnOk result (walks_in input.now.styles.now walker.new ≡
         after_both (source_in input.now) (walks_in input.now.styles.now walker.old) step) }
     ensures sound { OnOk result (AreSoundWalks walker.new) }

@@ -11,7 +11,7 @@ ghost use Rattle.box_gen.specs.Flow.{put, shut, starts_by};
 ghost use Rattle.box_gen.specs.Leaves.{IsGoodRun, leaf_style_of};
 ghost use Rattle.box_gen.specs.Props as props;
 ghost use Rattle.box_gen.specs.Runs.{AreGoodTexts};
-ghost use Rattle.box_gen.specs.Sites.{IsCounted, IsWithinRoom, TakesRun, built_in, leaf_bytes, with_any, with_text};
+ghost use Rattle.box_gen.specs.Sites.{IsCounted, TakesRun, built_in, leaf_bytes, with_any, with_text};
 ghost use Rattle.box_gen.specs.Sources.{IsInRange};
 
 use crate::inline::{BuildErr, InlineItem, InlineStart};
@@ -45,16 +45,6 @@ pub(crate) struct Site {
     pub(crate) pending: Vec<Lead>,
     pub(crate) bytes: u32,
     pub(crate) room: TreeRoom,
-}
-
-/// Whether a step may add its events, of which there are four at most. It always may: a document of 400,000 nodes
-/// has fewer than 800,000 steps.
-pub(crate) fn has_room(site: &Site) -> bool
-    requires { IsWithinRoom site.now }
-    ensures few { IsTrue result → length site.now.tree.events < 7999990 }
-    ensures room { IsTrue result → length site.now.tree.events + 10 < site.now.room.events }
-{
-    site.tree.count() + 10 < site.room.events
 }
 
 /// Where an element begins.

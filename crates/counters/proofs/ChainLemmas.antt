@@ -1,13 +1,14 @@
 -- chains of marks
 use Rattle.std.proofs.Common.{◌≡◌, ℕ, zero, suc, ◌+◌, ◌<◌, ◌≤◌, Bool, true, false, cond, List, [], ◌∷◌, ◌++◌, Option, None, Some, length, slice_get, refl, sym, ◌∙◌, ap, subst, arith, get_or, leb, length-append, ◌⊎◌, inl, inr}
-use Rattle.std.specs.Prelude.{nat_le, filter, map, fold, take, IfSome, ℤ, ◌+ℤ◌, ◌^◌}
+use Rattle.std.specs.Prelude.{nat_le, filter, map, fold, take, IfSome, ℤ, ◌+ℤ◌, ◌^◌, FitsSigned}
+use Rattle.std.specs.Int.{w64}
 use Rattle.std.proofs.lemmas.Option.{slice_get_within}
 use Rattle.std.specs.List.Sorted.{IsPartitionPoint, IsNonDecreasingBy}
 use Rattle.std.proofs.lemmas.Option.{slice_get-get_or}
 use Rattle.counters.specs.declared.scopes.ScopeMark.{ScopeMark}
 use Rattle.counters.specs.declared.scopes.CounterEvent.{CounterEvent}
 use Rattle.counters.specs.declared.scopes.Act.TheVariants as act
-use Rattle.counters.specs.Chains.{chain, link, all_of, front, beyond, AreFalling, last_of, pair, past, with_added, after_event, held_after, IsMarked, IsNext, AreMarks}
+use Rattle.counters.specs.Chains.{chain, link, all_of, front, beyond, AreFalling, last_of, pair, past, with_added, after_event, held_after, innermost_of, IsMarked, IsNext, IsPastLong, AreMarks}
 use Rattle.counters.proofs.Heights.{height}
 use Rattle.bk_num.proofs.ListLemmas.{get-keep, get-push, get-end, slice_get_at}
 
@@ -152,6 +153,13 @@ next-first marks e n r m k f is c = rw is (record {
   held = rw (k, chain-none marks (length marks)) (sym (ap (with_added e.end n) (sym (past-map e.at (all_of marks (last_of (length marks)))) ∙ ap (map pair) (sym c ∙ front-empty (all_of marks r) f))));
   falls = λ j h. cc;
 })
+
+-- a value that 64 bits don't hold
+pub added-past : (marks : List ScopeMark) → AreFalling marks → (e : CounterEvent) (n : ℤ) (r : Option ℕ) (before : ScopeMark) → e.act ≡ act.Add n → front (all_of marks r) ≡ Some before → all_of marks r ≡ beyond e.at (all_of marks (last_of (length marks))) → (FitsSigned w64 (before.value +ℤ n) → ⊥) → IsPastLong marks e
+added-past marks falls e n r before k f c h = subst (λ (v : ℤ). FitsSigned w64 v → ⊥) (sym is) h
+  where
+    is : innermost_of (after_event (map pair (all_of marks (last_of (length marks)))) e) ≡ before.value +ℤ n
+    is = rw k (ap (λ (l : List (ℕ × ℤ)). innermost_of (with_added e.end n l)) (sym (past-map e.at (all_of marks (last_of (length marks)))) ∙ ap (map pair) (sym c ∙ front-step marks falls r before f)))
 
 -- ---- one more mark
 

@@ -111,7 +111,7 @@ abbrev pub AreNumbered : List Scope → Type 0
 AreNumbered [] = Unit {0}
 AreNumbered (s ∷ l) = (s.id ≡ length l) × AreNumbered l
 
-numbered-below : (l : List Scope) (n : ℕ) → length l ≤ n → AreNumbered l → Each (λ t. t.id < n) l
+pub numbered-below : (l : List Scope) (n : ℕ) → length l ≤ n → AreNumbered l → Each (λ t. t.id < n) l
 numbered-below [] n low h = tt
 numbered-below (s ∷ l) n low h = let e = h.0 in (omega arith, numbered-below l n (omega arith) h.1)
 
@@ -127,7 +127,7 @@ holding-fall k l h = pairs-filter (λ s t. t.id < s.id) (reaches k) (live l) (li
 
 -- ---- increments
 
-none-of : (inc : List (ℕ × ℤ)) (id : ℕ) → Each (λ i. i.0 < id) inc → total id inc ≡ pos 0
+pub none-of : (inc : List (ℕ × ℤ)) (id : ℕ) → Each (λ i. i.0 < id) inc → total id inc ≡ pos 0
 none-of [] id h = refl
 none-of (i ∷ inc) id h = let l = h.0 in rw (none-of inc id h.1, ne_eqb i.0 id (omega arith)) refl
 
@@ -136,7 +136,7 @@ others : (inc : List (ℕ × ℤ)) (id : ℕ) (n : ℤ) (l : List Scope) → Eac
 others inc id n [] h = refl
 others inc id n (t ∷ l) h = let g = h.0 in rw (ne_eqb id t.id (omega arith), +ℤ_idr (total t.id inc), others inc id n l h.1) refl
 
-own : (inc : List (ℕ × ℤ)) (s : Scope) (n : ℤ) → value_of inc s +ℤ n ≡ value_of ((s.id, n) ∷ inc) s
+pub own : (inc : List (ℕ × ℤ)) (s : Scope) (n : ℤ) → value_of inc s +ℤ n ≡ value_of ((s.id, n) ∷ inc) s
 own inc s n = rw (eq-eqb s.id s.id refl) (+ℤ_assoc s.number (total s.id inc) n)
 
 -- ---- one event more
@@ -162,10 +162,10 @@ new-holds scopes at end n low nest = let t : nat_lt at end ≡ true = grind (ari
 new-rises : (scopes : List Scope) (end : ℕ) (n : ℤ) → Rises (holding end scopes) → Rises (new_scope scopes end n ∷ holding end scopes)
 new-rises scopes end n h = (each-map (λ x. reaches end x ≡ true) (λ t. end < t.end) (holding end scopes) (λ t g. grind (arith, nat_tests)) (filter-holds (reaches end) (live scopes)), h)
 
-below-more : (inc : List (ℕ × ℤ)) (n : ℕ) → Each (λ i. i.0 < n) inc → Each (λ i. i.0 < suc n) inc
+pub below-more : (inc : List (ℕ × ℤ)) (n : ℕ) → Each (λ i. i.0 < n) inc → Each (λ i. i.0 < suc n) inc
 below-more inc n h = each-map (λ i. i.0 < n) (λ i. i.0 < suc n) inc (λ i g. omega arith) h
 
-share-reset : (l : List Scope) (n : ℤ) → share l (act.Reset n) ≡ []
+pub share-reset : (l : List Scope) (n : ℤ) → share l (act.Reset n) ≡ []
 share-reset [] n = refl
 share-reset (s ∷ l) n = refl
 
@@ -181,10 +181,10 @@ after-reset h at held e n k low short nest is =
       below = below-more h.increments (length h.scopes) is.below;
     })
 
-event-is : (h : History) (e : CounterEvent) (n : ℤ) (scopes held : List Scope) → e.act ≡ act.Add n → opened h.scopes e ≡ scopes → holding e.at scopes ≡ held → with_event h e ≡ record { scopes = scopes; increments = share held (act.Add n) ++ h.increments }
+pub event-is : (h : History) (e : CounterEvent) (n : ℤ) (scopes held : List Scope) → e.act ≡ act.Add n → opened h.scopes e ≡ scopes → holding e.at scopes ≡ held → with_event h e ≡ record { scopes = scopes; increments = share held (act.Add n) ++ h.increments }
 event-is h e n scopes held k o g = ap (λ (l : List Scope). record { scopes = l; increments = share (holding e.at l) e.act ++ h.increments }) o ∙ ap (λ (l : List Scope). record { scopes = scopes; increments = share l e.act ++ h.increments }) g ∙ ap (λ (a : Act). record { scopes = scopes; increments = share held a ++ h.increments }) k
 
-opened-is : (h : History) (e : CounterEvent) (n : ℤ) (held : List Scope) → e.act ≡ act.Add n → holding e.at h.scopes ≡ held → opened h.scopes e ≡ implied h.scopes e.end held
+pub opened-is : (h : History) (e : CounterEvent) (n : ℤ) (held : List Scope) → e.act ≡ act.Add n → holding e.at h.scopes ≡ held → opened h.scopes e ≡ implied h.scopes e.end held
 opened-is h e n held k g = ap (opened_by h.scopes e.at e.end) k ∙ ap (implied h.scopes e.end) g
 
 added-first : (h : History) (at : ℕ) (held : List (ℕ × ℤ)) (e : CounterEvent) (n : ℤ) → e.act ≡ act.Add n → holding e.at h.scopes ≡ [] → at ≤ e.at → e.at < e.end → Each (Nests e.at e.end) h.scopes → Holds h at held → Holds (with_event h e) e.at (after_event held e)

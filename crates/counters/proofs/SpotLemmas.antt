@@ -5,7 +5,7 @@ use Rattle.std.specs.List.{position, prefix_len}
 use Rattle.std.proofs.lemmas.Bool.{eq-eqb}
 use Rattle.std.proofs.lemmas.Map.Views.{exact_unsigned_eq}
 use Rattle.std.proofs.lemmas.Bool.Decides.{nat_tests}
-use Rattle.dom.specs.Nodes.{Node}
+use Rattle.dom.specs.Nodes.{Node, IsTree}
 use Rattle.dom.specs.Walk.{node_of, steps_of}
 use Rattle.dom.specs.declared.walk.Step.{Step}
 use Rattle.dom.specs.declared.walk.Step.TheVariants.{Enter, Leave}
@@ -13,6 +13,7 @@ use Rattle.counters.specs.declared.at.Spot.{Spot}
 use Rattle.counters.specs.At.{AreSmall, IsSmall}
 use Rattle.counters.specs.Document.{enters, leaves, into, out_of}
 use Rattle.counters.specs.Gather.{AreSpots, spot_at, stepped, or_else}
+use Rattle.counters.proofs.StepCounts.{steps-few}
 
 -- the first place where a test passes, element by element
 abbrev pub first : {A : Type 0} → (A → Bool) → List A → Option ℕ
@@ -115,6 +116,16 @@ pub record Passed (nodes : List Node) (rest : List Step) (number : ℕ) (kept : 
   pub few : number < 2 ^ 28
   pub spots : AreSpots done kept
   pub len : length kept ≡ length nodes
+
+-- there is room for the number of another step
+pub passed-few : (nodes : List Node) (s : Step) (before rest : List Step) (number : ℕ) (spots : List Spot) → IsTree nodes → before ≡ s ∷ rest → Passed nodes before number spots → number + 1 < 2 ^ 28
+passed-few nodes s before rest number spots t e p =
+    let few = steps-few nodes t in
+    let most = t.few in
+    let all = ap length (p.all ∙ ap (λ (r : List Step). p.done ++ r) e) in
+    let sum = length-append p.done (s ∷ rest) in
+    let count = p.count in
+    omega (arith, few, most, all, sum, count)
 
 length-set : {A : Type 0} (xs : List A) (i : ℕ) (y : A) → length (slice_set xs i y) ≡ length xs
 length-set [] i y = refl

@@ -1,5 +1,6 @@
 -- What is kept of a counter: a mark for each event, with the way to the scopes outside.
-use Rattle.std.specs.Prelude.{◌≡◌, ℕ, zero, suc, ◌<◌, nat_le, if◌then◌else◌, List, [], ◌∷◌, Option, None, Some, map, reverse, length, slice_get, filter, take, fold, ◌+◌, ◌^◌, ℤ, ◌+ℤ◌}
+use Rattle.std.specs.Prelude.{◌≡◌, ℕ, zero, suc, ◌<◌, nat_le, if◌then◌else◌, List, [], ◌∷◌, Option, None, Some, map, reverse, length, slice_get, filter, take, fold, ◌+◌, ◌^◌, ℤ, pos, ◌+ℤ◌, FitsSigned}
+use Rattle.std.specs.Int.{w64}
 use Rattle.std.specs.List.Sorted.{IsNonDecreasingBy}
 use Rattle.counters.specs.Scopes.{or_zero, AreNested, values_by}
 use Rattle.counters.specs.declared.scopes.ScopeMark.{ScopeMark}
@@ -71,6 +72,11 @@ after_act at end held (act.Add n) = with_added end n (past at held)
 abbrev pub after_event : List (ℕ × ℤ) → CounterEvent → List (ℕ × ℤ)
 after_event held e = after_act e.at e.end held e.act
 
+-- the value of the innermost scope
+abbrev pub innermost_of : List (ℕ × ℤ) → ℤ
+innermost_of [] = pos 0
+innermost_of (p ∷ more) = p.1
+
 -- the same after events from the first on
 abbrev pub held_after : List CounterEvent → List (ℕ × ℤ)
 held_after events = fold after_event [] events
@@ -94,6 +100,11 @@ pub record IsNext (marks : List ScopeMark) (e : CounterEvent) (m : ScopeMark) : 
   pub at : m.at ≡ e.at
   pub held : map pair (m ∷ all_of marks m.outer) ≡ after_event (map pair (all_of marks (last_of (length marks)))) e
   pub falls : (j : ℕ) → m.outer ≡ Some j → j < length marks
+
+-- the value that an event gives to the innermost scope is no number of 64 bits
+abbrev pub IsPastLong : List ScopeMark → CounterEvent → Type 0
+IsPastLong marks e =
+    FitsSigned w64 (innermost_of (after_event (map pair (all_of marks (last_of (length marks)))) e)) → ⊥
 
 -- each mark's outer one is an earlier one
 abbrev pub AreFalling : List ScopeMark → Type 0

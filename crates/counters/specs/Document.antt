@@ -1,11 +1,9 @@
 -- What a document does to its counters (CSS 2.1, 12.4 and 12.4.1; css-gcpm-3 on notes and named strings).
-use Rattle.std.specs.Prelude.{ℕ, ◌+◌, ◌*◌, Bool, true, false, not, ◌&&◌, ◌==◌, if◌then◌else◌, List, [], ◌∷◌, ◌++◌, Option, None, Some, map, filter, length, slice_get, codes, ℤ, pos}
+use Rattle.std.specs.Prelude.{ℕ, ◌+◌, ◌*◌, Bool, false, not, ◌&&◌, ◌==◌, if◌then◌else◌, List, [], ◌∷◌, ◌++◌, Option, None, Some, map, filter, length, slice_get, codes, ℤ, pos}
 use Rattle.std.specs.Str.{bytes_eq}
 use Rattle.std.specs.List.{position, flat_map}
 use Rattle.bk_num.specs.declared.values.Pseudo.{Pseudo}
 use Rattle.bk_num.specs.declared.values.Pseudo.TheVariants as pseudo
-use Rattle.bk_num.specs.declared.values.NumStyle.{NumStyle}
-use Rattle.bk_num.specs.declared.values.NumStyle.TheVariants as numeral
 use Rattle.dom.specs.Nodes.{Node, parents_of, parent_at, IsTree}
 use Rattle.dom.specs.Walk.{steps_of}
 use Rattle.dom.specs.declared.walk.Step.{Step}
@@ -13,14 +11,14 @@ use Rattle.dom.specs.declared.walk.Step.TheVariants.{Enter, Leave}
 use Rattle.style.specs.declared.content.Part.{Part}
 use Rattle.style.specs.declared.content.Part.TheVariants as part
 use Rattle.style.specs.declared.style.Style.{Style}
-use Rattle.style.specs.declared.values.Display.{Display}
-use Rattle.style.specs.declared.values.Display.TheVariants as display
 use Rattle.style.specs.Nodes.{NodeStyles, style_in}
 use Rattle.counters.specs.declared.scopes.Act.{Act}
 use Rattle.counters.specs.declared.scopes.Act.TheVariants as act
 use Rattle.counters.specs.declared.scopes.CounterEvent.{CounterEvent}
 use Rattle.counters.specs.Scopes.{AreNested, values_by}
 use Rattle.counters.specs.At.{place_number}
+use Rattle.counters.specs.Markers.{has_marker}
+use Rattle.counters.specs.Numerals.{is_numeral}
 
 -- ---- what a place does: names of counters with resets and increments
 
@@ -57,32 +55,10 @@ abbrev pub uses_in_some : Option (List Part) → List (List ℕ × Act)
 uses_in_some None = []
 uses_in_some (Some content) = uses_in content
 
--- a list item
-abbrev pub is_list_item : Display → Bool
-is_list_item display.ListItem = true
-is_list_item display.Inline = false
-is_list_item display.Block = false
-is_list_item display.Hidden = false
-
--- whether a marker of this type is a number
-abbrev pub is_numeral : NumStyle → Bool
-is_numeral numeral.Decimal = true
-is_numeral numeral.LeadingZero = true
-is_numeral numeral.LowerRoman = true
-is_numeral numeral.UpperRoman = true
-is_numeral numeral.LowerAlpha = true
-is_numeral numeral.UpperAlpha = true
-is_numeral numeral.Disc = false
-is_numeral numeral.Circle = false
-is_numeral numeral.Square = false
-is_numeral numeral.Nothing = false
-
--- a list item whose marker is a number uses `list-item`; the root is a block, and an element that floats to the notes
--- has no marker
+-- an element whose marker is a number uses `list-item`
 abbrev pub marker_use : Bool → Style → List (List ℕ × Act)
 marker_use root s =
-    if not root && (is_list_item s.display && (not s.float && is_numeral s.list_style_type))
-    then use_of (codes "list-item") else []
+    if has_marker root s && is_numeral s.list_style_type then use_of (codes "list-item") else []
 
 -- the root begins the notes' counter, and each note counts itself
 abbrev pub note_start : Bool → List (List ℕ × Act)

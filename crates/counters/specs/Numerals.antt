@@ -1,5 +1,5 @@
 -- How the number of a counter is printed (CSS 2.1, 12.4.2).
-use Rattle.std.specs.Prelude.{◌≡◌, ℕ, zero, suc, ◌+◌, ◌*◌, ◌-◌, ◌/◌, ◌%◌, ◌<◌, ◌≤◌, Bool, false, ◌&&◌, ◌||◌, nat_le, nat_lt, ◌==◌, if◌then◌else◌, List, [], ◌∷◌, ◌++◌, fold, All, ℤ, pos, negsuc, neg_ℤ, ◌+ℤ◌, unsigned_abs, get_or}
+use Rattle.std.specs.Prelude.{◌≡◌, ℕ, zero, suc, ◌+◌, ◌*◌, ◌-◌, ◌/◌, ◌%◌, ◌<◌, ◌≤◌, Bool, true, false, ◌&&◌, ◌||◌, nat_le, nat_lt, ◌==◌, if◌then◌else◌, List, [], ◌∷◌, ◌++◌, fold, All, ℤ, pos, negsuc, neg_ℤ, ◌+ℤ◌, unsigned_abs, get_or}
 use Rattle.std.specs.Fmt.{signed_decimal}
 use Rattle.std.specs.Int.{is_positive}
 use Rattle.bk_num.specs.declared.values.NumStyle.{NumStyle}
@@ -58,6 +58,32 @@ in_roman r n = if is_among n 1 3999 then roman r (unsigned_abs n) else signed_de
 abbrev pub in_letters : ℕ → ℤ → List ℕ
 in_letters first n = if is_positive n then letters first (unsigned_abs n) else signed_decimal n
 
+-- whether a style prints numbers, and not a bullet or nothing
+abbrev pub is_numeral : NumStyle → Bool
+is_numeral style.Decimal = true
+is_numeral style.LeadingZero = true
+is_numeral style.LowerRoman = true
+is_numeral style.UpperRoman = true
+is_numeral style.LowerAlpha = true
+is_numeral style.UpperAlpha = true
+is_numeral style.Disc = false
+is_numeral style.Circle = false
+is_numeral style.Square = false
+is_numeral style.Nothing = false
+
+-- what a style that prints no numbers prints in their place: U+2022, U+25E6 or U+25AA, or nothing
+abbrev pub bullet_of : NumStyle → List ℕ
+bullet_of style.Decimal = []
+bullet_of style.LeadingZero = []
+bullet_of style.LowerRoman = []
+bullet_of style.UpperRoman = []
+bullet_of style.LowerAlpha = []
+bullet_of style.UpperAlpha = []
+bullet_of style.Disc = 226 ∷ 128 ∷ 162 ∷ []
+bullet_of style.Circle = 226 ∷ 151 ∷ 166 ∷ []
+bullet_of style.Square = 226 ∷ 150 ∷ 170 ∷ []
+bullet_of style.Nothing = []
+
 -- the text of a number in a style; outside the style's range, its decimal digits
 abbrev pub numeral_of : NumStyle → ℤ → List ℕ
 numeral_of style.Decimal n = signed_decimal n
@@ -66,10 +92,10 @@ numeral_of style.LowerRoman n = in_roman lower_roman n
 numeral_of style.UpperRoman n = in_roman upper_roman n
 numeral_of style.LowerAlpha n = in_letters 97 n
 numeral_of style.UpperAlpha n = in_letters 65 n
-numeral_of style.Disc n = 226 ∷ 128 ∷ 162 ∷ []
-numeral_of style.Circle n = 226 ∷ 151 ∷ 166 ∷ []
-numeral_of style.Square n = 226 ∷ 150 ∷ 170 ∷ []
-numeral_of style.Nothing n = []
+numeral_of style.Disc n = bullet_of style.Disc
+numeral_of style.Circle n = bullet_of style.Circle
+numeral_of style.Square n = bullet_of style.Square
+numeral_of style.Nothing n = bullet_of style.Nothing
 
 -- what a roman letter stands for
 abbrev pub roman_letter : ℕ → ℕ

@@ -1,21 +1,24 @@
 //! What an element or a pseudo-element does to counters (CSS 2.1, 12.4), written down as events.
 
-ghost use Rattle.std.specs.Prelude.{◌≡◌, ◌==◌, ◌&&◌, not, if◌then◌else◌, codes, ◌++◌, ◌∷◌, [], OnOk};
+ghost use Rattle.std.specs.Prelude.{◌≡◌, ◌==◌, ◌&&◌, if◌then◌else◌, codes, ◌++◌, ◌∷◌, [], OnOk};
 ghost use Rattle.std.specs.List.{flat_map};
 ghost use Rattle.counters.specs.Gather.{placed};
-ghost use Rattle.counters.specs.Document.{by_element, by_generated, changes_at, named, note_count, note_start, increments_in, is_list_item, is_numeral, resets_in, use_of, uses_by, uses_in};
+ghost use Rattle.counters.specs.Document.{by_element, by_generated, changes_at, named, note_count, note_start, increments_in, resets_in, use_of, uses_by, uses_in};
+ghost use Rattle.counters.specs.Markers.{has_marker};
+ghost use Rattle.counters.specs.Numerals.{is_numeral};
 ghost use Rattle.counters.specs.declared.scopes.Act.TheVariants as act;
 
+use crate::marker::has_marker;
+use crate::numeral::is_numeral;
 use crate::scopes::{Act, CounterEvent};
 use bk_num::ids::NodeId;
 use bk_num::name::{Name, NoMem};
-use bk_num::values::{NumStyle, Pseudo};
+use bk_num::values::Pseudo;
 use std::alloc::Global;
 use style::content::{Content, Part};
 use style::lists::{CounterList, StringSets};
 use style::style::Style;
 use style::styles::Styles;
-use style::values::Display;
 
 /// A place's number, and where scopes end that begin at it.
 #[derive(Clone, Copy)]
@@ -111,29 +114,10 @@ fn push_string_uses(
     Ok(())
 }
 
-fn is_list_item(display: Display) -> bool
-    ensures { result ≡ is_list_item display }
-{
-    match display {
-        Display::ListItem => true,
-        Display::Inline | Display::Block | Display::Hidden => false,
-    }
-}
-
-fn is_numeral(style: NumStyle) -> bool
-    ensures { result ≡ is_numeral style }
-{
-    match style {
-        NumStyle::Disc | NumStyle::Circle | NumStyle::Square | NumStyle::Nothing => false,
-        _ => true,
-    }
-}
-
 fn has_numeral(root: bool, style: &Style) -> bool
-    ensures { result ≡ (not root && (is_list_item style.now.display &&
-        (not style.now.float && is_numeral style.now.list_style_type))) }
+    ensures { result ≡ (has_marker root style.now && is_numeral style.now.list_style_type) }
 {
-    !root && is_list_item(style.display) && !style.float && is_numeral(style.list_style_type)
+    has_marker(root, style) && is_numeral(style.list_style_type)
 }
 
 fn push_marker_use(

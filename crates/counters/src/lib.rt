@@ -5,6 +5,7 @@ pub mod at;
 mod events;
 pub mod gather;
 pub mod laws;
+pub mod marker;
 pub mod number;
 pub mod numeral;
 pub mod scopes;

@@ -1,6 +1,6 @@
 //! The counters of a whole document (CSS 2.1, 12.4).
 
-ghost use Rattle.std.specs.Prelude.{◌≡◌, ℕ, List, IfOk};
+ghost use Rattle.std.specs.Prelude.{◌≡◌, ◌^◌, ℕ, List, IfOk, length, nat_lt};
 ghost use Rattle.std.specs.List.Sorted.{IsNonDecreasingBy};
 ghost use Rattle.bk_num.specs.declared.values.Pseudo.{Pseudo};
 ghost use Rattle.counters.specs.At.{counter_values};
@@ -22,13 +22,20 @@ use style::styles::Styles;
 /// Marks have numbers of 32 bits.
 const MOST_EVENTS: usize = 4294967295;
 
+/// Whether so many events have marks with numbers of 32 bits.
+fn are_few(events: &[CounterEvent]) -> bool
+    ensures { result ≡ nat_lt (length events.now) (2 ^ 32) }
+{
+    events.len() <= MOST_EVENTS
+}
+
 /// The marks of one counter.
 fn marks_of(alloc: Global, events: &[CounterEvent]) -> Result<Items<ScopeMark>, NoMem>
     requires { IsNonDecreasingBy (λ e. e.at) events.now }
     ensures marks { IfOk result (λ v. AreMarks v) }
     ensures marked { IfOk result (λ v. AreMarked events.now v) }
 {
-    if events.len() > MOST_EVENTS {
+    if !are_few(events) {
         return Err(NoMem);
     }
     Ok(Items::of(mark_all(alloc, events)?))
@@ -51,7 +58,8 @@ fn all_marks(alloc: Global, lists: &[Items<CounterEvent>]) -> Result<Vec<Items<S
 ///
 /// # Errors
 ///
-/// `NoMem`, which also stands for a value that 64 bits don't hold.
+/// `NoMem`, which also stands for a value that 64 bits don't hold, and for more than 4,294,967,295 changes of one
+/// counter.
 pub fn number_all(alloc: Global, dom: &Dom, styles: &Styles) -> Result<CounterAt, NoMem>
     ensures { IfOk result (λ c. (n : ℕ) (p : Pseudo) (x : List ℕ) →
         counter_values c n p x ≡ values_of dom.now styles.now n p x) }

@@ -2,7 +2,7 @@
 
 ghost use Rattle.std.specs.Prelude.{◌≡◌, ◌+◌, ◌<◌, ◌≤◌, ◌++◌, [], IfOk, OnOk, OnErr, string_bytes};
 ghost use Rattle.std.specs.Fmt.{signed_decimal};
-ghost use Rattle.counters.specs.Numerals.{is_among, letters, roman, roman_digit, numeral_of, with_zero, in_roman, in_letters, IsLonger};
+ghost use Rattle.counters.specs.Numerals.{bullet_of, is_among, is_numeral, letters, roman, roman_digit, numeral_of, with_zero, in_roman, in_letters, IsLonger};
 
 use bk_num::name::NoMem;
 use bk_num::values::NumStyle;
@@ -40,6 +40,28 @@ const UPPER_ROMAN: RomanLetters = RomanLetters {
     d: b'D',
     m: b'M',
 };
+
+/// Whether a style prints numbers, and not a bullet or nothing.
+pub fn is_numeral(style: NumStyle) -> bool
+    ensures { result ≡ is_numeral style }
+{
+    match style {
+        NumStyle::Disc | NumStyle::Circle | NumStyle::Square | NumStyle::Nothing => false,
+        _ => true,
+    }
+}
+
+/// What a style prints in place of a number, nothing where it prints numbers (CSS 2.1, 12.4.2).
+pub fn bullet(style: NumStyle) -> &'static str
+    ensures { result.now ≡ bullet_of style }
+{
+    match style {
+        NumStyle::Disc => "•",
+        NumStyle::Circle => "◦",
+        NumStyle::Square => "▪",
+        _ => "",
+    }
+}
 
 /// Appends a number in a style; outside the style's range it is printed as decimal.
 ///
@@ -86,10 +108,9 @@ fn push(n: i64, style: NumStyle, into: &mut Vec<u8>) -> Result<(), AllocError>
         NumStyle::UpperRoman => push_roman(n, UPPER_ROMAN, into),
         NumStyle::LowerAlpha => push_letters(n, b'a', into),
         NumStyle::UpperAlpha => push_letters(n, b'A', into),
-        NumStyle::Disc => push_bytes(&[226, 128, 162], into),
-        NumStyle::Circle => push_bytes(&[226, 151, 166], into),
-        NumStyle::Square => push_bytes(&[226, 150, 170], into),
-        NumStyle::Nothing => push_bytes(&[], into),
+        NumStyle::Disc | NumStyle::Circle | NumStyle::Square | NumStyle::Nothing => {
+            push_bytes(bullet(style).as_bytes(), into)
+        }
     }
 }
 

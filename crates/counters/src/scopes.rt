@@ -1,7 +1,7 @@
 //! The scopes of one counter (CSS 2.1, 12.4.1), event by event.
 
-ghost use Rattle.std.specs.Prelude.{◌≡◌, ℕ, ◌<◌, ◌≤◌, ◌^◌, IfSome, Option, Some, None, IfOk, length, map, slice_get};
-ghost use Rattle.counters.specs.Chains.{AreFalling, AreMarks, IsNext, AreMarked, all_of, chain, beyond, front, kept_values, last_of, seen_to};
+ghost use Rattle.std.specs.Prelude.{◌≡◌, ℕ, ◌<◌, ◌≤◌, ◌^◌, IfNone, IfSome, Option, Some, None, IfOk, length, map, slice_get};
+ghost use Rattle.counters.specs.Chains.{AreFalling, AreMarks, IsNext, IsPastLong, AreMarked, all_of, chain, beyond, front, kept_values, last_of, seen_to};
 ghost use Rattle.std.specs.List.Sorted.{IsNonDecreasingBy};
 
 use bk_num::name::NoMem;
@@ -122,17 +122,18 @@ fn front(marks: &[ScopeMark], head: Option<u32>) -> Option<ScopeMark>
     }
 }
 
-/// The mark after an event.
-fn next_mark(marks: &[ScopeMark], event: &CounterEvent) -> Result<ScopeMark, NoMem>
+/// The mark after an event, and None exactly where its value is past 64 bits.
+fn next_mark(marks: &[ScopeMark], event: &CounterEvent) -> Option<ScopeMark>
     requires few { length marks.now < 2 ^ 32 }
     requires falling { AreFalling marks.now }
-    ensures { IfOk result (λ m. IsNext marks.now event.now m) }
+    ensures some { IfSome result (λ m. IsNext marks.now event.now m) }
+    ensures none { IfNone result (IsPastLong marks.now event.now) }
 {
     let last = last_of(marks.len());
     match event.act {
         Act::Reset(number) => {
             let outer = reaching(marks, last, event.end);
-            Ok(ScopeMark {
+            Some(ScopeMark {
                 at: event.at,
                 end: event.end,
                 value: number,
@@ -141,17 +142,15 @@ fn next_mark(marks: &[ScopeMark], event: &CounterEvent) -> Result<ScopeMark, NoM
         }
         Act::Add(add) => {
             let Some(mark) = front(marks, reaching(marks, last, event.at)) else {
-                return Ok(ScopeMark {
+                return Some(ScopeMark {
                     at: event.at,
                     end: event.end,
                     value: add,
                     outer: None,
                 });
             };
-            let Some(value) = mark.value.checked_add(add) else {
-                return Err(NoMem);
-            };
-            Ok(ScopeMark {
+            let value = mark.value.checked_add(add)?;
+            Some(ScopeMark {
                 at: event.at,
                 end: mark.end,
                 value,
@@ -165,7 +164,7 @@ fn next_mark(marks: &[ScopeMark], event: &CounterEvent) -> Result<ScopeMark, NoM
 ///
 /// # Errors
 ///
-/// `NoMem`.
+/// `NoMem`, which also stands for a value that 64 bits don't hold.
 pub fn mark_all(alloc: Global, events: &[CounterEvent]) -> Result<Vec<ScopeMark>, NoMem>
     requires few { length events.now < 2 ^ 32 }
     requires sorted { IsNonDecreasingBy (λ e. e.at) events.now }
@@ -174,7 +173,9 @@ pub fn mark_all(alloc: Global, events: &[CounterEvent]) -> Result<Vec<ScopeMark>
 {
     let mut marks = Vec::new(alloc);
     for event in events {
-        let mark = next_mark(&marks, event)?;
+        let Some(mark) = next_mark(&marks, event) else {
+            return Err(NoMem);
+        };
         marks.push(mark)?;
     }
     Ok(marks)

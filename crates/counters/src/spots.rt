@@ -11,9 +11,6 @@ use bk_num::name::NoMem;
 use dom::{Dom, Step, Walk};
 use std::alloc::Global;
 
-/// Places are numbered four a step, in 32 bits.
-const MOST_STEPS: u32 = 268435455;
-
 /// So many spots without steps.
 fn empty_spots(alloc: Global, count: u32) -> Result<Vec<Spot>, NoMem>
     ensures none { IfOk result (λ v. AreSpots [] v.items) }
@@ -54,7 +51,8 @@ fn node_of(step: Step) -> usize
     }
 }
 
-/// The first steps into each node and out of it, and how many steps there are.
+/// The first steps into each node and out of it, and how many steps there are: two a node at most, so that places,
+/// which are numbered four a step, have numbers of 32 bits.
 ///
 /// # Errors
 ///
@@ -70,9 +68,6 @@ pub fn spots_of(alloc: Global, dom: &Dom) -> Result<(Vec<Spot>, u32), NoMem>
     let mut walk = Walk::new(dom);
     let mut count = 0;
     while let Some(step) = walk.next() {
-        if count >= MOST_STEPS {
-            return Err(NoMem);
-        }
         let node = node_of(step);
         spots[node] = stepped(spots[node], count, step);
         count += 1;

@@ -2,6 +2,8 @@
 use Rattle.std.specs.Prelude.{ℕ, ◌-◌, ◌==◌, ◌&&◌, ◌||◌, Bool, false, not, if◌then◌else◌, List, [], ◌∷◌, ◌++◌, Option, None, Some, slice_get}
 use Rattle.std.specs.Char.{encode_utf8}
 use Rattle.std.specs.List.{flat_map, list_all, join_with_byte}
+use Rattle.css_tok.specs.Lengths.{is_blank}
+use Rattle.css_tok.specs.Words.{words_of}
 use Rattle.dom.specs.Nodes.{Node, parents_of, parent_at, first_child_of, next_of, depth_at, is_element_at, text_at}
 use Rattle.dom.specs.Order.{way}
 use Rattle.dom.specs.Walk.{children_of}
@@ -14,24 +16,6 @@ use Rattle.gen_text.specs.declared.own.Ending.TheVariants as ending
 use Rattle.gen_text.specs.Parts.{attribute_text}
 
 -- ---- white space
-
--- tab, line feed, form feed, carriage return, space (HTML, "ASCII whitespace")
-abbrev pub is_white : ℕ → Bool
-is_white b = b == 9 || (b == 10 || (b == 12 || (b == 13 || b == 32)))
-
--- a word, where it has characters
-abbrev pub if_some : List ℕ → List (List ℕ)
-if_some [] = []
-if_some (b ∷ bs) = (b ∷ bs) ∷ []
-
--- the words of a text that goes on from the beginning of a word
-abbrev pub words_after : List ℕ → List ℕ → List (List ℕ)
-words_after word [] = if_some word
-words_after word (b ∷ bs) = if is_white b then if_some word ++ words_after [] bs else words_after (word ++ b ∷ []) bs
-
--- the words of a text: its runs of characters between white space
-abbrev pub words_of : List ℕ → List (List ℕ)
-words_of text = words_after [] text
 
 -- a text with each run of white space as one space, trimmed: its words, with a space between
 abbrev pub trimmed : List ℕ → List ℕ
@@ -83,15 +67,15 @@ lead ending.Space = 32 ∷ []
 
 -- what a byte adds to the words of a text, and how the text then ends
 abbrev pub added_by : Ending → ℕ → List ℕ
-added_by t b = if is_white b then [] else lead t ++ b ∷ []
+added_by t b = if is_blank b then [] else lead t ++ b ∷ []
 
 -- how a text ends, once a byte has come
 abbrev pub ending_by : Ending → ℕ → Ending
-ending_by t b = if is_white b then spaced t else ending.Word
+ending_by t b = if is_blank b then spaced t else ending.Word
 
 -- what a character adds, which is all of its bytes or none
 abbrev pub added_by_char : Ending → ℕ → List ℕ
-added_by_char t c = if is_white c then [] else lead t ++ encode_utf8 c
+added_by_char t c = if is_blank c then [] else lead t ++ encode_utf8 c
 
 -- what more of a text adds, and how the text then ends
 abbrev pub added : Ending → List ℕ → List ℕ

@@ -1,14 +1,16 @@
 //! An element's own text, which `content()` prints (css-gcpm-3, "string-set").
 
 ghost use Rattle.std.specs.Prelude.{◌≡◌, ◌<◌, ◌++◌, IfOk, OnOk, OnErr, length, option_map, string_bytes};
+ghost use Rattle.css_tok.specs.Lengths.{is_blank};
 ghost use Rattle.dom.specs.Nodes.{parent_at, parents_of};
 ghost use Rattle.dom.specs.Walk.{node_of};
-ghost use Rattle.gen_text.specs.Own.{added, added_by_char, ending_after, ending_by, goes_out, is_left_out, is_white, own_text, spaced, step_after, step_beyond, step_inside, step_out, text_of_step};
+ghost use Rattle.gen_text.specs.Own.{added, added_by_char, ending_after, ending_by, goes_out, is_left_out, own_text, spaced, step_after, step_beyond, step_inside, step_out, text_of_step};
 ghost use Rattle.gen_text.specs.Parts.{attribute_text};
 
 use crate::table::print_text;
 use bk_num::ids::NodeId;
 use bk_num::name::NoMem;
+use css_tok::lengths::is_blank;
 use dom::{Dom, Step};
 use std::alloc::Global;
 use style::styles::Styles;
@@ -113,11 +115,12 @@ fn push_char(c: char, ending: &mut Ending, into: &mut String) -> Result<(), NoMe
     Ok(())
 }
 
-/// Whether a character is white space (HTML, "ASCII whitespace").
+/// Whether a character is white space (CSS 2.1, 4.1.1; HTML, "ASCII whitespace").
+#[tactic(auto, using(crate::proofs::WordLemmas::blank_high))]
 fn is_white(c: char) -> bool
-    ensures { result ≡ is_white c }
+    ensures { result ≡ is_blank c }
 {
-    matches!(c, '\t' | '\n' | '\u{c}' | '\r' | ' ')
+    c.is_ascii() && is_blank(c as u8)
 }
 
 impl Ending {

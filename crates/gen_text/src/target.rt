@@ -40,8 +40,8 @@ fn of_address(dom: &Dom, styles: &Styles, address: &str) -> Option<NodeId>
     }
 }
 
-/// What comes after a leading `#`.
-fn id_of(address: &str) -> Option<&str>
+/// The id that an address names: what comes after its leading `#`, and None exactly where it has none.
+pub fn id_of(address: &str) -> Option<&str>
     ensures { option_map (λ s. s.now) result ≡ id_of address.now }
 {
     address.strip_prefix("#")

@@ -9,12 +9,21 @@ use Rattle.box_gen.specs.Sites.{built_in, leaf_bytes}
 use Rattle.box_gen.specs.Sources.{source_in}
 use Rattle.box_gen.specs.Steps.{walk_in}
 use Rattle.box_gen.specs.Walkers.{IsBody, all_bytes, body_in}
+use Rattle.box_gen.proofs.EventSums.{body-room, main-room}
 use Rattle.box_gen.proofs.NoteSums.{sites-sum}
 use Rattle.box_gen.proofs.RoomLemmas.{inside-cause}
 use Rattle.box_gen.proofs.notes.pass_all.Goals as goal
 
 pub pass_inside-requires-clause-body : goal.pass_inside-requires-clause-body
 pass_inside-requires-clause-body c = c.requires.sound.body c.in-Some.inside (sym c.in-Some.ensures.value)
+
+pub pass_outside-requires-clause-room : goal.pass_outside-requires-clause-room
+pass_outside-requires-clause-room c = main-room c.args.input.now.styles.now c.args.walker.now c.requires.sound c.requires.room
+
+pub pass_inside-requires-clause-room : goal.pass_inside-requires-clause-room
+pass_inside-requires-clause-room c =
+    let b : FlowBuilder = c.in-Some.inside in
+    body-room c.args.input.now.styles.now c.args.walker.now b (sym c.in-Some.ensures.value) (c.requires.sound.body b (sym c.in-Some.ensures.value)) c.requires.sound c.requires.room
 
 pub returns-in_err-body-in-Some-clause-cause : goal.returns-in_err-body-in-Some-clause-cause
 returns-in_err-body-in-Some-clause-cause c =

@@ -12,8 +12,8 @@ turn events i d marks seen next m l h s n e = rw e (marked-step events i marks (
 
 pub loop-event-preserved : goal.loop-event-preserved
 loop-event-preserved c =
-    let items : c.push.new.self.items ≡ c.loop-event.marks.items ++ c.in_ok-mark.mark ∷ [] = grind (arith, common_steps) in
-    turn c.args.events.now c.loop-event.event-index _ c.loop-event.marks.items c.deref.result.now c.push.new.self.items c.in_ok-mark.mark (omega arith) c.loop-event.invariant c.deref.ensures.value c.in_ok-mark.ensures items
+    let items : c.push.new.self.items ≡ c.loop-event.marks.items ++ c.in-Some.mark ∷ [] = grind (arith, common_steps) in
+    turn c.args.events.now c.loop-event.event-index _ c.loop-event.marks.items c.deref.result.now c.push.new.self.items c.in-Some.mark (omega arith) c.loop-event.invariant c.deref.ensures.value c.in-Some.ensures.some items
 
 pub returns-clause-marks : goal.returns-clause-marks
 returns-clause-marks c = marks-sorted c.args.events.now c.loop-event.event-index c.loop-event.marks.items (omega arith) c.requires.few c.requires.sorted c.loop-event.invariant
