@@ -3,12 +3,14 @@
 ghost use Rattle.std.specs.Prelude.{IfOk, All, ◌≤◌};
 ghost use Rattle.boxes.specs.Frames.{IsGoodFrame};
 ghost use Rattle.boxes.specs.Tree.{Holds};
+ghost use Rattle.fragment.specs.Misses.{NoLaterFits};
 ghost use Rattle.note_list.specs.Conditions.{AreCarried, CanBePaged, IsAtSolid};
 ghost use Rattle.page_list.specs.Cuts.{IsFlowCut};
 ghost use Rattle.page_list.specs.Inside.{AreInside};
 ghost use Rattle.page_list.specs.Pages.{AreNear};
 
 use crate::cut_solids::{cut_end, cut_solids};
+use crate::laws::no_later_point_fits;
 use crate::page_notes::PageNotes;
 use crate::prefix::prefix;
 use bk_num::name::NoMem;
@@ -24,7 +26,7 @@ use std::sync::ledger::Ledger;
 
 /// The cut of the next page of a flow, whose page has a frame and has to place what is carried to it: where it ends, at
 /// which level, what it places, with tops within 2^60 units and heights from 0 to 2^32, and what it carries on. At
-/// levels 0 to 2 each solid ends inside the frame, above the notes.
+/// levels 0 to 2 each solid ends inside the frame, above the notes. No later point of the page fits once one misses.
 pub fn next_cut<L: Ledger>(
     alloc: Global,
     flow: &Flow,
@@ -44,7 +46,9 @@ pub fn next_cut<L: Ledger>(
     ensures stands { IfOk result (λ cut. All (IsAtSolid flow.now.notes) cut.carried) }
     ensures near { IfOk result (λ cut. AreNear cut.solids cut.notes) }
     ensures inside { IfOk result (λ cut. cut.level ≤ 2 → AreInside frame.height cut.notes cut.solids) }
+    ensures misses { NoLaterFits faces.now flow.now frame from carried.now }
 {
+    no_later_point_fits();
     let mut notes = PageNotes::start(alloc, flow, faces, from.at, carried, frame, steps)?;
     let called = notes.called;
     let room = PageRoom {

@@ -2,6 +2,7 @@
 
 ghost use Rattle.std.specs.Prelude.{◌≡◌, ℕ, ◌+◌, ◌<◌, ◌≤◌, All, length, true, false, IfOk, IfErr};
 ghost use Rattle.bk_num.specs.Limits.{most_pages};
+ghost use Rattle.fragment.specs.Misses.{NoPageFitsLater};
 ghost use Rattle.fragment.specs.Runs.{EndsFlow};
 ghost use Rattle.note_list.specs.Conditions.{CanBePaged};
 ghost use Rattle.page_list.specs.Bounds.{HasText, HasTexts, HaveTexts, most_pages_of};
@@ -11,6 +12,7 @@ ghost use Rattle.page_list.specs.Noted.{BeginInTime, HoldsNotes};
 ghost use Rattle.page_list.specs.Pages.{AddsBlanks, HaveNearTops, IsPaged, LeavesSome, blank_of, flow_page_of, meets_at, notes_page_of};
 ghost use Rattle.page_list.specs.Parted.{HoldsBreaks};
 
+use crate::laws::no_later_point_fits;
 use crate::next_cut::next_cut;
 use crate::next_notes::next_notes;
 use bk_num::ids::NameId;
@@ -33,11 +35,15 @@ use page_list::laws::{
 use seams::seam::seam;
 use std::alloc::Global;
 use std::sync::ledger::Ledger;
+use thiserror::Error;
 
-/// Why there are no pages: 100,000 of them leave something unplaced, or want of memory.
-#[derive(Clone, Copy, Debug, PartialEq, Eq)]
+/// Why there are no pages.
+#[derive(Clone, Copy, Debug, PartialEq, Eq, Error)]
 pub enum PageErr {
+    /// 100,000 pages leave something unplaced.
+    #[error("too many pages")]
     Pages,
+    #[error("no memory")]
     NoMemory,
 }
 
@@ -338,8 +344,9 @@ fn pages_of<Fr: Frames, L: Ledger>(
 
 /// The pages of a flow with its notes, each ended by its best cut, with blank pages where a side is asked, and pages of
 /// notes after its end. Each edge stands once and in order, and the lines part the text of each leaf in order, in the
-/// main tree and, note after note, in the notes; no note begins before its call. Tops are within 2^60 units, and
-/// heights from 0 to 2^32. `Pages` comes exactly where 100,000 pages leave something unplaced.
+/// main tree and, note after note, in the notes; no note begins before its call. On no page a later point fits once one
+/// misses. Tops are within 2^60 units, and heights from 0 to 2^32. `Pages` comes exactly where 100,000 pages leave
+/// something unplaced.
 pub fn paginate<Fr: Frames, L: Ledger>(
     alloc: Global,
     flow: &Flow,
@@ -354,6 +361,7 @@ pub fn paginate<Fr: Frames, L: Ledger>(
     ensures begins { IfOk result (λ list. BeginInTime flow.now list.pages) }
     ensures breaks { IfOk result (λ list. HoldsBreaks flow.now.main (Fr.view frames.now) list.pages) }
     ensures inside { IfOk result (λ list. EndInside list.pages) }
+    ensures misses { NoPageFitsLater faces.now flow.now }
     ensures bound { IfOk result (λ list.
         length list.pages ≤ most_pages_of (Fr.is_free frames.now) (Fr.bound frames.now) flow.now) }
     ensures tops { IfOk result (λ list. HaveNearTops list.pages) }
@@ -366,6 +374,7 @@ pub fn paginate<Fr: Frames, L: Ledger>(
     notes_begin_in_time();
     breaks_hold();
     pages_end_inside();
+    no_later_point_fits();
     pages_are_few();
     has_texts(flow);
     pages_of(alloc, flow, faces, frames, steps)

@@ -159,7 +159,7 @@ module _ (faces : List FontFace) (leaf : Leaf) (span : Span) (from : ℕ) (room 
         let g : some ≡ leaf.graphemes = some_is ∙ rw a refl in
         none_there some at to next' up' nexts' less below' h (rw g e.named)
 
-    pub filled_by : (g : Found) → AreFound (FitsIn faces leaf from room) (IsOrdinary leaf.text leaf.places from) (IsEmergency leaf from) from to g → get_or leaf.text (to - 1) 0 ≢ 10 → to < length leaf.text → pos 0 ≤ℤ r'.total → r'.total ≤ℤ pos (134217728 * to) → IsFilled faces leaf from room to r' g
+    pub filled_by : (g : Found) → AreFound (FitsIn faces leaf from room) (IsOrdinary leaf.text leaf.places from) (IsEmergency leaf from) from to g → get_or leaf.text (to - 1) 0 ≢ 10 → to < length leaf.text → pos 0 ≤ℤ r'.total → r'.total ≤ℤ pos (2 ^ 27 * to) → IsFilled faces leaf from room to r' g
     filled_by g found n more least most = record {
       low = let b = begins in omega arith;
       more = more;
@@ -213,7 +213,7 @@ pub record Stretch (faces : List FontFace) (leaf : Leaf) (span : Span) (from : �
   pub quiet : (k : ℕ) → at ≤ k → k + 1 < to → get_or leaf.text k 0 ≢ 10
   pub r_is : r' ≡ passed_to (byte_width (pen_of faces span) leaf.text) leaf.text at (to - at) r
   pub least : pos 0 ≤ℤ r'.total
-  pub most : r'.total ≤ℤ pos (134217728 * to)
+  pub most : r'.total ≤ℤ pos (2 ^ 27 * to)
   pub some_is : some ≡ cond (span.wrap && span.anywhere) leaf.graphemes []
   pub up : IsStrictlyIncreasing leaf.places
   pub up' : IsStrictlyIncreasing some

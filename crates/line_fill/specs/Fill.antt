@@ -1,5 +1,5 @@
 -- What is known of a line while it is filled.
-use Rattle.std.specs.Prelude.{◌≡◌, ◌≢◌, ℕ, zero, suc, ◌+◌, ◌-◌, ◌*◌, ◌<◌, ◌≤◌, ℤ, pos, ◌≤ℤ◌, ◌+ℤ◌, List, slice_index, length, ◌==◌, ◌||◌, ◌&&◌, not, ◌⊎◌, Bool, Some, if◌then◌else◌}
+use Rattle.std.specs.Prelude.{◌≡◌, ◌≢◌, ℕ, zero, suc, ◌+◌, ◌-◌, ◌*◌, ◌^◌, ◌<◌, ◌≤◌, ℤ, pos, ◌≤ℤ◌, ◌+ℤ◌, List, slice_index, length, ◌==◌, ◌||◌, ◌&&◌, not, ◌⊎◌, Bool, Some, if◌then◌else◌}
 use Rattle.metrics.specs.Face.{FontFace}
 use Rattle.metrics.specs.Widths.{sum_from}
 use Rattle.std.specs.Str.{IsCharBoundary}
@@ -67,7 +67,7 @@ pub record IsFilled (faces : List FontFace) (leaf : Leaf) (from : ℕ) (room : �
   pub more : at < length leaf.text
   pub widths : AreWidths (unit_at faces leaf) leaf.text from at r
   pub not_negative : pos 0 ≤ℤ r.total
-  pub small : r.total ≤ℤ pos (134217728 * at)
+  pub small : r.total ≤ℤ pos (2 ^ 27 * at)
   pub same_stop : stop_of leaf.text from ≡ stop_of leaf.text at
   pub found : AreFound (FitsIn faces leaf from room) (IsOrdinary leaf.text leaf.places from)
       (IsEmergency leaf from) from at f

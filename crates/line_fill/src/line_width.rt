@@ -57,7 +57,7 @@ pub(crate) fn pass_stretch(
     requires within { end ≤ length text.now }
     requires few { length text.now < 2 ^ 32 }
     requires low { pos 0 ≤ℤ line_width.total }
-    requires high { line_width.total ≤ℤ pos (134217728 * at) }
+    requires high { line_width.total ≤ℤ pos (2 ^ 27 * at) }
     ensures goes { at < result.to }
     ensures within { result.to ≤ end }
     ensures quiet { (k : ℕ) → at ≤ k → k + 1 < result.to → slice_index text.now k ≢ 10 }
@@ -65,7 +65,7 @@ pub(crate) fn pass_stretch(
     ensures line_width { result.line_width ≡ passed_to (byte_width pen.now text.now) text.now at
         (result.to - at) line_width }
     ensures low { pos 0 ≤ℤ result.line_width.total }
-    ensures high { result.line_width.total ≤ℤ pos (134217728 * result.to) }
+    ensures high { result.line_width.total ≤ℤ pos (2 ^ 27 * result.to) }
 {
     let bytes = text.as_bytes();
     let mut line_width = line_width;

@@ -1,5 +1,5 @@
 -- The sums of a line with one byte more.
-use Rattle.std.proofs.Common.{◌≡◌, ◌∙◌, ℕ, suc, ◌+◌, ◌-◌, ◌≤◌, Bool, List, refl, ap, ap₂, sym, arith, Some, true, false}
+use Rattle.std.proofs.Common.{◌≡◌, ◌∙◌, ℕ, suc, ◌+◌, ◌-◌, ◌^◌, ◌≤◌, Bool, List, refl, ap, ap₂, sym, arith, Some, true, false}
 use Rattle.metrics.specs.Face.{FontFace}
 use Rattle.boxes.specs.declared.leaf.Leaf.{Leaf}
 use Rattle.boxes.specs.declared.leaf.Span.{Span}
@@ -24,7 +24,7 @@ sum_step unit from at low =
     let f : from + (at - from) ≡ at = omega arith in
     ap (sum_from unit from) e ∙ ap (λ (k : ℕ). sum_from unit from (at - from) + unit k) f
 
-pub sums_step : (faces : List FontFace) (leaf : Leaf) (s : Span) (end from at width : ℕ) (free : Bool) (before after : Sums) → from ≤ at → AreSums faces leaf end from at before → span_at leaf.spans at ≡ Some s → width ≡ byte_width (pen_of faces s) leaf.text at → width ≤ 134217728 → free ≡ is_free leaf.text end at →
+pub sums_step : (faces : List FontFace) (leaf : Leaf) (s : Span) (end from at width : ℕ) (free : Bool) (before after : Sums) → from ≤ at → AreSums faces leaf end from at before → span_at leaf.spans at ≡ Some s → width ≡ byte_width (pen_of faces s) leaf.text at → width ≤ 2 ^ 27 → free ≡ is_free leaf.text end at →
     after.width ≡ before.width + width → after.passed ≡ before.passed + one free → AreSums faces leaf end from (at + 1) after
 sums_step faces leaf s end from at width free before after low sums here unit most shared w p =
     let e : at + 1 - from ≡ suc (at - from) = omega arith in

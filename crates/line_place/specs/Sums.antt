@@ -24,7 +24,7 @@ count_free text end from n = sum_from (λ k. one (is_free text end k)) from n
 pub record AreSums (faces : List FontFace) (leaf : Leaf) (end from at : ℕ) (s : Sums) : Type 0 where
   pub width : s.width ≡ sum_from (unit_at faces leaf) from (at - from)
   pub passed : s.passed ≡ count_free leaf.text end from (at - from)
-  pub wide : s.width ≤ 134217728 * (at - from)
+  pub wide : s.width ≤ 2 ^ 27 * (at - from)
   pub few : s.passed ≤ at - from
 
 -- a piece stands in the span that it names

@@ -1,3 +1,4 @@
+pub mod AreaLemmas
 pub mod BeginLemmas
 pub mod BodyLemmas
 pub mod CallLemmas

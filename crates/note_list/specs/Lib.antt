@@ -1,3 +1,4 @@
+pub mod Areas
 pub mod Calls
 pub mod Conditions
 pub mod Left

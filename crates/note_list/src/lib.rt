@@ -3,6 +3,7 @@
 
 pub mod calls;
 pub mod carried;
+pub mod laws;
 mod left;
 pub mod list;
 mod place;

@@ -109,13 +109,6 @@ impl NoteList {
         Ok(())
     }
 
-    /// How many of the carried solids have to stand on the page.
-    pub fn own(&self) -> usize
-        ensures { result ≡ self.now.own }
-    {
-        self.own
-    }
-
     /// The area of the carried solids that have to stand on the page, in units of 1/64 px.
     pub fn own_area(&self) -> i64
         requires ready { IsReady self.now }

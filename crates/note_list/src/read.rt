@@ -1,6 +1,7 @@
 //! How the list of a page's notes is read.
 
-ghost use Rattle.std.specs.Prelude.{◌≡◌, ◌<ℤ◌, ◌++◌, ◌∷◌, [], ◌&&◌, ℤ, List, true, false, Some, is_some, length, slice_get, OnOk};
+ghost use Rattle.std.specs.Prelude.{◌≡◌, ◌<◌, ◌≤◌, ◌<ℤ◌, ◌≤ℤ◌, ◌++◌, ◌∷◌, [], ◌&&◌, ℤ, List, true, false, Some, is_some, length, slice_get, OnOk};
+ghost use Rattle.bk_num.specs.Limits.{most_entries};
 ghost use Rattle.boxes.specs.Frames.{IsGoodFrame};
 ghost use Rattle.boxes.specs.Tree.{Holds};
 ghost use Rattle.boxes.specs.declared.flow.Note.{Note};
@@ -47,8 +48,10 @@ fn needed_with(needed: i64, area: i64, begins: bool) -> i64
     if begins { area } else { needed }
 }
 
+/// Whether an area is higher than a height.
 fn is_above(area: i64, height: i64) -> bool
-    ensures { result ≡ true → height <ℤ area }
+    ensures above { result ≡ true → height <ℤ area }
+    ensures within { result ≡ false → area ≤ℤ height }
 {
     area > height
 }
@@ -85,6 +88,14 @@ impl NoteList {
         }
     }
 
+    /// Whether no solid more may be added: a list has at most 2^26.
+    fn is_full(&self) -> bool
+        ensures full { result ≡ true → most_entries ≤ length self.now.solids.items }
+        ensures room { result ≡ false → length self.now.solids.items < most_entries }
+    {
+        self.solids.len() >= MOST_ENTRIES as usize
+    }
+
     /// Adds a solid, and tells whether the area of all is above a height then.
     fn add(&mut self, solid: NotedSolid, height: i64) -> Result<(), NoMem>
         requires ready { IsReady self.old }
@@ -96,7 +107,7 @@ impl NoteList {
         ensures begun { OnOk result (self.new.begun ≡ self.old.begun) }
         ensures own { OnOk result (self.new.own ≡ self.old.own) }
     {
-        if self.solids.len() >= MOST_ENTRIES as usize {
+        if self.is_full() {
             return Err(NoMem);
         }
         self.reach.place_note(&solid.row);

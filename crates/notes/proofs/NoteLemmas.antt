@@ -1,10 +1,12 @@
 -- Areas of notes: they never fall, and are those of a list's prefix.
-use Rattle.std.proofs.Common.{◌≡◌, ◌<◌, ◌≤◌, ◌+◌, ◌-◌, ◌==◌, ℕ, zero, suc, ℤ, pos, ◌≤ℤ◌, ◌+ℤ◌, Bool, true, false, cond, List, [], ◌∷◌, ◌++◌, Option, Some, length, max, slice_get, refl, sym, ap, ◌∙◌, subst, arith, ◌⊎◌, ⊎_elim, inl, inr, ◌^◌, ◌*◌, neg_ℤ, add-one}
+use Rattle.std.proofs.Common.{◌≡◌, ◌<◌, ◌≤◌, ◌+◌, ◌-◌, ℕ, zero, suc, ℤ, pos, ◌≤ℤ◌, ◌+ℤ◌, Bool, true, false, cond, List, [], ◌∷◌, ◌++◌, Option, Some, length, max, slice_get, refl, sym, ap, ◌∙◌, subst, arith, ◌⊎◌, ⊎_elim, inl, inr, ◌^◌, ◌*◌, neg_ℤ, add-one}
 use Rattle.std.specs.Int.{int_max}
 use Rattle.std.proofs.lemmas.Bool.{cases_lt, ne_eqb}
 use Rattle.std.proofs.lemmas.Int.{ints, clamps}
 use Rattle.notes.specs.declared.solid.NoteSolid.{NoteSolid}
-use Rattle.notes.specs.Notes.{IsSmallNote, IsPlaced, IsCarryCount, note_gap, note_height, note_bottom, note_extent, area_of, last_begin, must_of, AreaNeverFalls, MustNeverFalls, NeedNeverFalls}
+use Rattle.bk_num.specs.Limits.{separator}
+use Rattle.boxes.specs.declared.page.Placed.{Placed}
+use Rattle.notes.specs.Notes.{IsSmallNote, IsPlaced, IsCarryCount, note_gap, note_height, note_bottom, note_extent, area_height, area_of, placed_bottom, last_begin, must_of, AreaNeverFalls, MustNeverFalls, NeedNeverFalls}
 
 extent_low : (list : List NoteSolid) (n : ℕ) → pos 0 ≤ℤ note_extent list n
 extent_low list zero = omega (arith, ints)
@@ -17,8 +19,16 @@ extent_more list m (suc k) =
     let low = extent_more list m k in
     subst (λ (i : ℕ). note_extent list m ≤ℤ note_extent list i) (sym n) (omega (arith, ints, clamps))
 
+-- below the separator's room solids reach as far as they do alone
+area_below : (list : List NoteSolid) (n : ℕ) → area_height (λ k. separator +ℤ note_bottom list (suc k)) n ≡ pos 512 +ℤ note_extent list n
+area_below list zero = omega (arith, ints)
+area_below list (suc n) = let rest = area_below list n in omega (arith, ints, clamps)
+
+pub area_is : (list : List NoteSolid) (n : ℕ) → 0 < n → area_of list n ≡ area_height (λ k. separator +ℤ note_bottom list (suc k)) n
+area_is list n some = ap (λ (b : Bool). cond b (pos 0) (area_height (λ k. separator +ℤ note_bottom list (suc k)) n)) (ne_eqb n 0 (λ e. omega arith))
+
 pub area_suc : (list : List NoteSolid) (n : ℕ) → area_of list (suc n) ≡ pos 512 +ℤ note_extent list (suc n)
-area_suc list n = ap (λ (b : Bool). cond b (pos 0) (pos 512 +ℤ note_extent list (suc n))) (ne_eqb (suc n) 0 (λ e. omega arith))
+area_suc list n = area_is list (suc n) (omega arith) ∙ area_below list (suc n)
 
 pub area_some : (list : List NoteSolid) (n : ℕ) → 0 < n → area_of list n ≡ pos 512 +ℤ note_extent list n
 area_some list zero h = absurd (omega arith)
@@ -52,7 +62,8 @@ extent_prefix list more (suc n) low =
     ap (λ (z : ℤ). int_max z (note_bottom (list ++ more) (suc n))) (extent_prefix list more n (omega arith)) ∙ ap (λ (z : ℤ). int_max (note_extent list n) z) (bottom_prefix list more (suc n) low)
 
 pub area_prefix : (list more : List NoteSolid) (n : ℕ) → n ≤ length list → area_of (list ++ more) n ≡ area_of list n
-area_prefix list more n low = ap (λ (z : ℤ). cond (n == 0) (pos 0) (pos 512 +ℤ z)) (extent_prefix list more n low)
+area_prefix list more zero low = refl
+area_prefix list more (suc n) low = area_suc (list ++ more) n ∙ ap (λ (z : ℤ). pos 512 +ℤ z) (extent_prefix list more (suc n) low) ∙ sym (area_suc list n)
 
 -- the last note that begins
 begin_more : (n : ℕ) (list more : List NoteSolid) → last_begin n list ≤ last_begin n (list ++ more)
@@ -147,6 +158,10 @@ reach_step list at s bottom extent bottom' extent' r there small b e =
       least = omega (arith, ints, clamps);
       most = omega (arith, ints, clamps);
     }
+
+-- the area of the first solids that are placed, and that of one more
+pub placed_step : (notes : List (ℕ × Placed)) (at : ℕ) (height height' : ℤ) → height ≡ area_height (λ k. placed_bottom (slice_get notes k)) at → height' ≡ int_max height (placed_bottom (slice_get notes at)) → height' ≡ area_height (λ k. placed_bottom (slice_get notes k)) (at + 1)
+placed_step notes at height height' is next = next ∙ ap (λ (z : ℤ). int_max z (placed_bottom (slice_get notes at))) is ∙ ap (area_height (λ k. placed_bottom (slice_get notes k))) (sym (add-one at))
 
 -- the last note that begins among those that are left, with what was found before
 pub begins_step : (n last : ℕ) (s : NoteSolid) (list : List NoteSolid) → s.begins ≡ true → max last (last_begin n (s ∷ list)) ≡ max (max last (suc n)) (last_begin (suc n) list)

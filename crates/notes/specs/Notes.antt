@@ -1,9 +1,10 @@
 -- The notes of a page: how many of their solids stand on it (css-gcpm-3, 2: footnotes).
-use Rattle.std.specs.Prelude.{◌≡◌, ℕ, zero, suc, ℤ, pos, ◌^◌, ◌<◌, ◌≤◌, ◌≤ℤ◌, ◌+ℤ◌, List, [], ◌∷◌, ◌++◌, Option, Some, None, ◌==◌, length, slice_get, max, if◌then◌else◌}
-use Rattle.std.specs.Int.{int_max}
+use Rattle.std.specs.Prelude.{◌≡◌, ℕ, suc, ℤ, pos, ◌^◌, ◌<◌, ◌≤◌, ◌≤ℤ◌, ◌+ℤ◌, List, [], ◌∷◌, ◌++◌, Option, Some, None, ◌==◌, length, slice_get, max, if◌then◌else◌}
 use Rattle.bk_num.specs.Limits.{separator}
 use Rattle.bk_num.specs.Numbers.{IsWithin}
+use Rattle.boxes.specs.declared.page.Placed.{Placed}
 use Rattle.notes.specs.declared.solid.NoteSolid.{NoteSolid}
+use Rattle.notes.specs.Stacked.{bottom_of, extent_of, greatest_of}
 
 -- gaps and heights keep their bounds, and no height is negative
 pub record IsSmallNote (s : NoteSolid) : Type 0 where
@@ -21,19 +22,32 @@ abbrev pub note_height : Option NoteSolid → ℤ
 note_height None = pos 0
 note_height (Some s) = s.height
 
--- the bottom of the nth solid: the sum of the first n gaps and heights
+-- the bottom of the nth solid of a list
 abbrev pub note_bottom : List NoteSolid → ℕ → ℤ
-note_bottom list zero = pos 0
-note_bottom list (suc n) = (note_bottom list n +ℤ note_gap (slice_get list n)) +ℤ note_height (slice_get list n)
+note_bottom list n = bottom_of (λ k. note_gap (slice_get list k)) (λ k. note_height (slice_get list k)) n
 
--- the greatest bottom, at least 0, of the first n solids
+-- the greatest bottom, at least 0, of the first n solids of a list
 abbrev pub note_extent : List NoteSolid → ℕ → ℤ
-note_extent list zero = pos 0
-note_extent list (suc n) = int_max (note_extent list n) (note_bottom list (suc n))
+note_extent list n = extent_of (λ k. note_gap (slice_get list k)) (λ k. note_height (slice_get list k)) n
 
--- the room that the first n solids take, with the separator above them
+-- the height of a note area by the bottoms of its n solids, from its top: it begins with the separator's room, and
+-- reaches to the greatest bottom
+abbrev pub area_height : (ℕ → ℤ) → ℕ → ℤ
+area_height bottom n = greatest_of separator bottom n
+
+-- the room that the first n solids of a list take: none without solids, else the area in which they stand below the
+-- separator's room
 abbrev pub area_of : List NoteSolid → ℕ → ℤ
-area_of list n = if n == 0 then pos 0 else separator +ℤ note_extent list n
+area_of list n = if n == 0 then pos 0 else area_height (λ k. separator +ℤ note_bottom list (suc k)) n
+
+-- the bottom of a solid that is placed in a note area, from its top; 0 where none is
+abbrev pub placed_bottom : Option (ℕ × Placed) → ℤ
+placed_bottom None = pos 0
+placed_bottom (Some n) = n.1.top +ℤ n.1.height
+
+-- the height of the note area in which some solids are placed
+abbrev pub placed_height : List (ℕ × Placed) → ℤ
+placed_height notes = area_height (λ k. placed_bottom (slice_get notes k)) (length notes)
 
 -- how many of the carried solids a page of this height places at least: 0 where nothing is carried, else the greatest
 -- number whose area is at most half the height, at least 1

@@ -18,16 +18,12 @@ area-area-requires-clause-low c = reach_low c.args.self.now c.args.solid _ _ c.r
 
 pub area-area-requires-clause-high : goal.area-area-requires-clause-high
 area-area-requires-clause-high c =
-    let count = c.len.ensures in
-    let ok = c.args.self.now.solids.ok.0 in
-    let less = c.if-len.false in
+    let less = c.is_full.ensures.room c.if-is_full.false in
     reach_high c.args.self.now c.args.solid _ _ c.requires.ready c.requires.small (omega arith) c.place_note-self.ensures.bottom c.place_note-self.ensures.extent
 
 pub returns-clause-ready : goal.returns-clause-ready
 returns-clause-ready c =
-    let count = c.len.ensures in
-    let ok = c.args.self.now.solids.ok.0 in
-    let less = c.if-len.false in
+    let less = c.is_full.ensures.room c.if-is_full.false in
     let low = c.area-area.ensures.low in
     let high = c.area-area.ensures.high in
     let area : SFits w64 c.area-area.result = omega (arith, ints) in
@@ -47,6 +43,6 @@ returns-clause-over c = λ e.
     let high = c.area-area.ensures.high in
     let area : SFits w64 c.area-area.result = omega (arith, ints) in
     let height : SFits w64 c.args.height = c.ranges.height in
-    let above : c.args.height <ℤ c.area-area.result = simp to_z-of_z at (c.is_above-self.ensures e) in
+    let above : c.args.height <ℤ c.area-area.result = simp to_z-of_z at (c.is_above-self.ensures.above e) in
     let all = area_next c.args.self.now c.args.solid c.push.new.self.items _ _ c.requires.ready c.in_ok-push.ensures.items c.place_note-self.ensures.bottom c.place_note-self.ensures.extent in
     subst (λ z. c.args.height <ℤ z) (c.area-area.ensures.area ∙ all) above
