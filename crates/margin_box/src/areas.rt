@@ -1,6 +1,6 @@
 //! Where the margin boxes of a page stand.
 
-ghost use Rattle.std.specs.Prelude.{◌≡◌, ◌-ℤ◌, IfSome};
+ghost use Rattle.std.specs.Prelude.{◌≡◌, ◌-ℤ◌, MatchOption};
 ghost use Rattle.margin_box.specs.Areas as spec;
 
 use boxes::table::PageCell;
@@ -48,9 +48,9 @@ fn areas_by(cell: &PageCell, right: i64, bottom: i64) -> [Area; MARGIN_BOXES]
 }
 
 /// The areas of the margin boxes of a page, from its top left corner clockwise as they are listed, in units from the
-/// page's top left (css-page-3, page-margin boxes). None where one begins past 64 bits.
+/// page's top left (css-page-3, page-margin boxes). None exactly where one begins past 64 bits.
 pub fn areas_of(cell: &PageCell) -> Option<[Area; MARGIN_BOXES]>
-    ensures { IfSome result (λ areas. areas ≡ spec.areas_of cell.now) }
+    ensures { MatchOption result (¬ (spec.BeginInRange cell.now)) (λ areas. areas ≡ spec.areas_of cell.now) }
 {
     let right = cell.width.checked_sub(cell.right)?;
     let bottom = cell.height.checked_sub(cell.bottom)?;

@@ -1,6 +1,6 @@
 //! The items of the margin boxes of a page.
 
-ghost use Rattle.std.specs.Prelude.{◌≡◌, ◌<◌, ◌≤ℤ◌, ◌++◌, pos, length, option_map, string_bytes, All, IfOk, OnOk, IfSome};
+ghost use Rattle.std.specs.Prelude.{◌≡◌, ◌<◌, ◌≤ℤ◌, ◌++◌, pos, length, option_map, string_bytes, All, IfOk, OnOk, IfSome, SomeIff};
 ghost use Rattle.page_ctx.specs.Margins.{style_in};
 ghost use Rattle.margin_box.specs.Conditions.{CanShowMargins};
 ghost use Rattle.margin_box.specs.Margins as spec;
@@ -58,10 +58,11 @@ fn strut_of(faces: &Faces, style: &MarginStyle<'_>) -> Span
     }
 }
 
-/// Where a text stands in its box, and how it is painted. None where its place is past 64 bits.
+/// Where a text stands in its box, and how it is painted. None exactly where its place is past 64 bits.
 fn placed_in(faces: &Faces, area: &Area, style: &MarginStyle<'_>, text: &str) -> Option<TextPlace>
     requires { pos 0 ≤ℤ style.now.size }
-    ensures style { IfSome result (λ s. s ≡ spec.placed_in faces.now area.now (style_in style.now) text.now) }
+    ensures style { SomeIff result (spec.IsPlaceInRange faces.now area.now (style_in style.now) text.now)
+        (spec.placed_in faces.now area.now (style_in style.now) text.now) }
     ensures face { IfSome result (λ s. s.face.0 < length faces.now) }
 {
     let strut = strut_of(faces, style);

@@ -1,7 +1,8 @@
 //! Where the one line of a margin box stands in it.
 
-ghost use Rattle.std.specs.Prelude.{◌≡◌, IfSome};
+ghost use Rattle.std.specs.Prelude.{◌≡◌, SomeIff};
 ghost use Rattle.margin_box.specs.Placing as spec;
+ghost use Rattle.margin_box.specs.Placing.{BeginsInRange};
 
 use bk_num::values::Align;
 use css_page::values::Upright;
@@ -25,9 +26,9 @@ fn slack_before(along: Along, slack: i64) -> i64
     }
 }
 
-/// Where what has a size begins in a room that begins at a place. None where it is past 64 bits.
+/// Where what has a size begins in a room that begins at a place. None exactly where it or the slack is past 64 bits.
 pub fn begin_in(along: Along, at: i64, room: i64, size: i64) -> Option<i64>
-    ensures { IfSome result (λ begin. begin ≡ spec.begin_in along at room size) }
+    ensures { SomeIff result (BeginsInRange along at room size) (spec.begin_in along at room size) }
 {
     let slack = room.checked_sub(size)?;
     at.checked_add(slack_before(along, slack))

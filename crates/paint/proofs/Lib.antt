@@ -4,6 +4,7 @@ pub mod NoteLemmas
 pub mod OpenLemmas
 pub mod PageLemmas
 pub mod PartLemmas
+pub mod PrintLemmas
 pub mod ReachLemmas
 pub mod RectLemmas
 pub mod SolidLemmas

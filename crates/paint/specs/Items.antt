@@ -1,5 +1,7 @@
 -- The items of a solid on a page, with their places in units from the page's top left.
-use Rattle.std.specs.Prelude.{ℕ, ℤ, pos, ◌+ℤ◌, ◌-ℤ◌, List, [], ◌∷◌, ◌++◌, map, length, Bool, true, false, Option, Some, None, ◌==◌, slice_get, slice_index_or, slice_range, if◌then◌else◌}
+use Rattle.std.specs.Prelude.{◌<◌, ◌≤◌, FitsSigned, ℕ, ℤ, pos, ◌+ℤ◌, ◌-ℤ◌, List, [], ◌∷◌, ◌++◌, map, length, Bool, true, false, Option, Some, None, ◌==◌, slice_get, slice_index_or, slice_range, if◌then◌else◌}
+use Rattle.std.specs.Int.{w64}
+use Rattle.std.specs.Str.{IsCharBoundary}
 use Rattle.metrics.specs.Face.{FontFace}
 use Rattle.boxes.specs.Lines.{LineView}
 use Rattle.boxes.specs.Tree.{Tree, open_before, rest_of}
@@ -12,12 +14,13 @@ use Rattle.boxes.specs.declared.place.Event.{Event}
 use Rattle.boxes.specs.declared.place.Event.TheVariants.{Opens, Closes, Leaf}
 use Rattle.boxes.specs.declared.props.BoxProps.{BoxProps}
 use Rattle.metrics.specs.Widths.{text_width}
+use Rattle.line_fill.specs.LineEnd.{IsLine}
 use Rattle.line_fill.specs.Widths.{is_hyphened, pen_of}
 use Rattle.line_place.specs.Extents.{extent_of}
 use Rattle.line_place.specs.Placing.{runs_of}
 use Rattle.line_place.specs.declared.place.Run.{Run}
 use Rattle.paint.specs.Areas.{area_of, style_of}
-use Rattle.paint.specs.Opens.{content_along, border_in, boxes_from}
+use Rattle.paint.specs.Opens.{IsWide, content_along, border_in, boxes_from}
 use Rattle.boxes.specs.declared.span.Content.{Content}
 use Rattle.paint.specs.declared.item.SolidOrigin.{SolidOrigin}
 use Rattle.paint.specs.Views.{area_item, edge_item, hyphen_item, text_item}
@@ -26,17 +29,36 @@ use Rattle.paint.specs.Views.{area_item, edge_item, hyphen_item, text_item}
 abbrev pub span_of : LeafData → ℕ → Span
 span_of leaf n = slice_index_or leaf.spans n leaf.strut
 
+-- a part of a text begins and ends at characters
+pub record IsPartOf (text : List ℕ) (from to : ℕ) : Type 0 where
+  pub order : from ≤ to
+  pub begins : IsCharBoundary text from
+  pub ends : IsCharBoundary text to
+
 -- a run of a line whose content begins at a left, on a baseline
 unfoldable pub run_item : List FontFace → LeafData → ℤ → ℤ → Run → Item
 run_item faces leaf left y r = if r.hyphen then hyphen_item faces (style_of (left +ℤ r.x) y (span_of leaf r.span))
     else text_item faces (style_of (left +ℤ r.x) y (span_of leaf r.span)) (slice_range leaf.text r.from r.to)
 
+-- where the content of a marker's item begins, the item being one of some open boxes
+abbrev pub lead_right : Tree → SolidOrigin → List ℕ → Lead → ℤ
+lead_right t o boxes lead = o.left +ℤ (content_along t o.width (boxes_from lead.owner boxes)).left
+
+-- where the marker begins: its right edge stands there
+abbrev pub lead_left : List FontFace → Tree → SolidOrigin → List ℕ → Lead → ℤ
+lead_left faces t o boxes lead =
+    lead_right t o boxes lead -ℤ pos (text_width (pen_of faces lead.span) lead.text)
+
+-- its right edge and its left one are within 64 bits
+pub record IsLeadInRange (faces : List FontFace) (t : Tree) (o : SolidOrigin) (boxes : List ℕ) (lead : Lead) : Type 0
+  where
+    pub right : FitsSigned w64 (lead_right t o boxes lead)
+    pub left : FitsSigned w64 (lead_left faces t o boxes lead)
+
 -- a marker: its right edge stands at the left of its item's content (CSS 2.1, 12.5.1: outside), the item being one of
 -- some open boxes; spaces at its end count in its width
 unfoldable pub lead_item : List FontFace → Tree → SolidOrigin → List ℕ → ℤ → Lead → Item
-lead_item faces t o boxes y lead = text_item faces (style_of
-    ((o.left +ℤ (content_along t o.width (boxes_from lead.owner boxes)).left) -ℤ pos
-    (text_width (pen_of faces lead.span) lead.text)) y lead.span) lead.text
+lead_item faces t o boxes y lead = text_item faces (style_of (lead_left faces t o boxes lead) y lead.span) lead.text
 
 -- the line of a leaf from an offset to another
 abbrev pub line_between : LeafData → ℕ → ℕ → LineView
@@ -45,6 +67,13 @@ line_between leaf from to = record { from = from; to = to; hyphen = is_hyphened 
 -- the line of a leaf that a placed solid is: it ends inside its leaf or with it
 abbrev pub line_of : LeafData → Placed → LineView
 line_of leaf s = line_between leaf s.at.offset (if s.end.event == s.at.event then s.end.offset else length leaf.text)
+
+-- a solid is a line of a leaf in a content: it begins at a character, and ends where the line that begins there does
+pub record IsLineOf (faces : List FontFace) (leaf : LeafData) (s : Placed) (content : Content) : Type 0 where
+  pub wide : IsWide content
+  pub before : s.at.offset < length leaf.text
+  pub begins : IsCharBoundary leaf.text s.at.offset
+  pub fills : IsLine faces leaf s.at.offset content.width (line_of leaf s)
 
 -- the markers of a leaf's first line, and the runs of a line, the hyphen among them, where the content begins at a left
 abbrev pub words_items : List FontFace → Tree → SolidOrigin → List ℕ → LeafData → LineView → Content → ℤ → List Item

@@ -7,5 +7,6 @@ pub mod Items
 pub mod Opens
 pub mod Pages
 pub mod Parts
+pub mod Printed
 pub mod Rects
 pub mod Views

@@ -1,5 +1,5 @@
 -- The boxes that are open at a place of a tree, with the places of their contents and border boxes (CSS 2.1, 10.3.3).
-use Rattle.std.specs.Prelude.{◌≡◌, ◌^◌, ◌≤ℤ◌, pos, ℕ, ℤ, ◌+ℤ◌, List, [], ◌∷◌, ◌++◌, ◌==◌, if◌then◌else◌}
+use Rattle.std.specs.Prelude.{◌≡◌, ◌^◌, ◌≤ℤ◌, pos, neg_ℤ, ℕ, ℤ, ◌+ℤ◌, List, [], ◌∷◌, ◌++◌, ◌==◌, if◌then◌else◌}
 use Rattle.boxes.specs.declared.props.BoxProps.{BoxProps}
 use Rattle.boxes.specs.Spans.{frame_at, left_in_block, span_along, width_in_block}
 use Rattle.boxes.specs.Tree.{Tree, open_before}
@@ -24,6 +24,11 @@ content_along t measure boxes = content_of (span_along t.boxes measure boxes)
 pub record IsWide (c : Content) : Type 0 where
   pub low : pos 0 ≤ℤ c.width
   pub high : c.width ≤ℤ pos (2 ^ 40)
+
+-- a containing block begins within 2^60 units of the frame's left
+pub record IsNear (c : Content) : Type 0 where
+  pub low : neg_ℤ (pos (2 ^ 60)) ≤ℤ c.left
+  pub high : c.left ≤ℤ pos (2 ^ 60)
 
 -- some boxes that are open one in another, the outermost first
 abbrev pub opens_of : Tree → ℤ → List ℕ → List OpenBox

@@ -1,6 +1,5 @@
 -- The items of a page, in the order of the listing.
 use Rattle.std.specs.Prelude.{ℕ, ℤ, pos, ◌+ℤ◌, ◌-ℤ◌, List, [], ◌∷◌, ◌++◌, Option, None, Some, ◌==◌, length, slice_get, if◌then◌else◌}
-use Rattle.std.specs.Int.{int_max}
 use Rattle.std.specs.List.{flat_map, range_with_len}
 use Rattle.bk_num.specs.Units.{floor_div}
 use Rattle.bk_num.specs.declared.values.Color.{Color}
@@ -16,6 +15,7 @@ use Rattle.boxes.specs.declared.page.Placed.{Placed}
 use Rattle.boxes.specs.declared.place.Event.{Event}
 use Rattle.boxes.specs.declared.place.Event.TheVariants.{Opens, Closes, Leaf}
 use Rattle.boxes.specs.declared.props.BoxProps.{BoxProps}
+use Rattle.notes.specs.Notes.{placed_height}
 use Rattle.paint.specs.Fragments.{is_lower, is_upper, reach_by, stands_in}
 use Rattle.paint.specs.Items.{for_some, solid_items}
 use Rattle.paint.specs.Opens.{content_along}
@@ -50,15 +50,9 @@ tree_items faces t o solids = rects_of t o solids ++ flat_map (solid_items faces
 abbrev pub flow_origin : Frame → SolidOrigin
 flow_origin f = record { left = f.left; top = f.top; width = f.width }
 
--- the height of the note area: it begins with the separator's room, and reaches to the greatest bottom of its
--- solids
-abbrev pub area_height : List (ℕ × Placed) → ℤ
-area_height [] = separator
-area_height ((n, s) ∷ notes) = int_max (s.top +ℤ s.height) (area_height notes)
-
 -- the note area stands at the frame's foot, and the notes' solids count from its top
 abbrev pub area_origin : Frame → List (ℕ × Placed) → SolidOrigin
-area_origin f notes = record { left = f.left; top = (f.top +ℤ f.height) -ℤ area_height notes; width = f.width }
+area_origin f notes = record { left = f.left; top = (f.top +ℤ f.height) -ℤ placed_height notes; width = f.width }
 
 -- the colour of the separator
 abbrev pub black : Color

@@ -1,6 +1,7 @@
 //! How far solids reach down a page.
 
-ghost use Rattle.std.specs.Prelude.{◌≡◌, IfSome};
+ghost use Rattle.std.specs.Prelude.{◌≡◌, SomeIff, FitsSigned, ◌+ℤ◌};
+ghost use Rattle.std.specs.Int.{w64};
 ghost use Rattle.paint.specs.Fragments.{extent_of, join};
 
 use crate::item::sum;
@@ -27,9 +28,9 @@ pub(crate) fn join(a: Option<VerticalExtent>, b: Option<VerticalExtent>) -> Opti
     }
 }
 
-/// The extent of a solid. None where it is past 64 bits.
+/// The extent of a solid. None exactly where its bottom is past 64 bits.
 pub(crate) fn extent_of(s: &Placed) -> Option<VerticalExtent>
-    ensures { IfSome result (λ e. e ≡ extent_of s.now) }
+    ensures { SomeIff result (FitsSigned w64 (s.now.top +ℤ s.now.height)) (extent_of s.now) }
 {
     Some(VerticalExtent {
         top: s.top,

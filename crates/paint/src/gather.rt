@@ -1,6 +1,6 @@
 //! Goes along a page's solids and writes down the boxes in which they stand.
 
-ghost use Rattle.std.specs.Prelude.{◌≡◌, ◌+◌, ◌<◌, ◌≤◌, ◌-◌, ◌^◌, Some, length, take, All, IfOk, OnOk};
+ghost use Rattle.std.specs.Prelude.{◌≡◌, ◌+◌, ◌<◌, ◌≤◌, ◌-◌, ◌^◌, Some, length, take, All, IfOk, MatchBool, OnOk};
 ghost use Rattle.std.specs.List.{flat_map};
 ghost use Rattle.std.specs.Option.{ForSome};
 ghost use Rattle.bk_num.specs.Limits.{most_open};
@@ -11,6 +11,7 @@ ghost use Rattle.paint.specs.Parts.{AddsSolid, AreGathered, HaveNone, IsAt, IsGr
 use crate::extent::extent_of;
 use crate::item::SolidOrigin;
 use crate::parts::{Fragment, Reached, extend, merge, open_part};
+use crate::walk::has_event;
 use bk_num::limits::MOST_OPEN;
 use bk_num::name::NoMem;
 use boxes::page::Placed;
@@ -163,6 +164,13 @@ fn end_at(event: Event, at: u32) -> u32
     }
 }
 
+/// Whether an event stands no earlier than the one before which one stands.
+fn is_ahead(reached: Reached, to: u32) -> bool
+    ensures { MatchBool result (reached.event ≤ to) (to < reached.event) }
+{
+    reached.event <= to
+}
+
 /// Goes on to a solid, and writes it down. None of this where it isn't one of the tree's, or stands before the event.
 fn add_solid(
     parts: &mut Vec<Fragment>,
@@ -176,8 +184,10 @@ fn add_solid(
     ensures within { IfOk result (λ now. now.event ≤ length tree.now.events) }
     ensures solid { OnOk result (AddsSolid tree.now.events solid.now parts.old.items parts.new.items) }
 {
+    // an event's number is below its tree's count
+    let _count = tree.count();
     let at = solid.at.event;
-    if at >= tree.count() {
+    if !has_event(tree, at) {
         return Err(NoMem);
     }
     let event = tree.event(at);
@@ -185,7 +195,7 @@ fn add_solid(
     let Some(extent) = extent_of(solid) else {
         return Err(NoMem);
     };
-    if to < reached.event {
+    if !is_ahead(reached, to) {
         return Err(NoMem);
     }
     let inner = pass_to(parts, tree, reached, to, origin)?;
@@ -213,10 +223,7 @@ fn gather(
     requires depth { depth_of tree.now.events ≤ most_open }
     ensures { IfOk result (λ v. AreGathered tree.now origin.now.width solids.now v.items) }
 {
-    let first = first_event(solids);
-    if first > tree.count() {
-        return Err(NoMem);
-    }
+    let first = first_event(solids).min(tree.count());
     let mut parts = Vec::new(alloc);
     let mut reached = begin(&mut parts, tree, first, origin)?;
     for solid in solids {

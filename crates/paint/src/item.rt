@@ -1,7 +1,8 @@
 //! Items of a page with borrowed texts.
 
-ghost use Rattle.std.specs.Prelude.{◌≡◌, IfSome, ◌+ℤ◌, ◌-ℤ◌};
-ghost use Rattle.paint.specs.Areas.{area_of, style_of};
+ghost use Rattle.std.specs.Prelude.{◌≡◌, SomeIff, FitsSigned, ◌+ℤ◌, ◌-ℤ◌};
+ghost use Rattle.std.specs.Int.{w64};
+ghost use Rattle.paint.specs.Areas.{BeginsInRange, area_of, style_of};
 
 use bk_num::ids::FaceId;
 use bk_num::px::Px;
@@ -50,16 +51,16 @@ pub struct SolidOrigin {
     pub width: i64,
 }
 
-/// A sum of units. None where it is past 64 bits, which no page within the limits reaches.
+/// A sum of units. None exactly where it is past 64 bits, which no page within the limits reaches.
 pub(crate) fn sum(a: i64, b: i64) -> Option<i64>
-    ensures { IfSome result (λ s. s ≡ a +ℤ b) }
+    ensures { SomeIff result (FitsSigned w64 (a +ℤ b)) (a +ℤ b) }
 {
     a.checked_add(b)
 }
 
-/// A difference of units. None where it is past 64 bits.
+/// A difference of units. None exactly where it is past 64 bits.
 pub(crate) fn difference(a: i64, b: i64) -> Option<i64>
-    ensures { IfSome result (λ d. d ≡ a -ℤ b) }
+    ensures { SomeIff result (FitsSigned w64 (a -ℤ b)) (a -ℤ b) }
 {
     a.checked_sub(b)
 }
@@ -77,9 +78,10 @@ pub(crate) fn style_at(span: &Span, x: i64, y: i64) -> TextPlace
     }
 }
 
-/// The area of a solid whose content or border box has a left and a width. None where it is past 64 bits.
+/// The area of a solid whose content or border box has a left and a width. None exactly where it begins past 64 bits.
 pub(crate) fn area_at(origin: &SolidOrigin, content: &Content, s: &Placed) -> Option<Area>
-    ensures { IfSome result (λ area. area ≡ area_of origin.now content.now s.now) }
+    ensures { SomeIff result (BeginsInRange (area_of origin.now content.now s.now))
+        (area_of origin.now content.now s.now) }
 {
     Some(Area {
         x: sum(origin.left, content.left)?,

@@ -1,11 +1,11 @@
 //! Items of markers.
 
-ghost use Rattle.std.specs.Prelude.{◌≡◌, ◌<◌, ◌≤◌, ◌∷◌, [], ◌^◌, pos, ◌≤ℤ◌, map, length, All, OnOk, IfSome, ◌+ℤ◌, ◌-ℤ◌};
+ghost use Rattle.std.specs.Prelude.{◌≡◌, ◌<◌, ◌≤◌, ◌∷◌, [], ◌^◌, pos, ◌≤ℤ◌, map, length, All, OnOk, SomeIff};
 ghost use Rattle.boxes.specs.Contents.{IsGoodSpan};
 ghost use Rattle.boxes.specs.Tree.{open_before};
 ghost use Rattle.metrics.specs.Widths.{text_width};
 ghost use Rattle.line_fill.specs.Widths.{pen_of};
-ghost use Rattle.paint.specs.Items.{lead_item};
+ghost use Rattle.paint.specs.Items.{IsLeadInRange, lead_item, lead_left};
 ghost use Rattle.paint.specs.Opens.{AreOpen, open_left};
 ghost use Rattle.paint.specs.Views.{Adds, HaveItemFaces};
 
@@ -39,14 +39,16 @@ fn left_in(canvas: &Canvas<'_>, opens: &[OpenBox], at: u32, owner: u32) -> i64
     left_of(opens, owner)
 }
 
-/// Where a marker of the leaf at an event begins, in units from the page's left. None where it is past 64 bits.
+/// Where a marker of the leaf at an event begins, in units from the page's left. None exactly where it or its right
+/// edge is past 64 bits.
 fn lead_left(canvas: &Canvas<'_>, opens: &[OpenBox], at: u32, lead: &Lead) -> Option<i64>
     requires opens { AreOpen canvas.now.tree.now canvas.now.origin at opens.now }
     requires face { lead.now.span.face.0 < length canvas.now.faces.now }
     requires size { pos 0 ≤ℤ lead.now.span.size }
-    ensures { IfSome result
-        (λ x. x ≡ (canvas.now.origin.left +ℤ open_left canvas.now.tree.now canvas.now.origin at lead.now.owner) -ℤ pos
-        (text_width (pen_of canvas.now.faces.now lead.now.span) lead.now.text)) }
+    ensures { SomeIff result (IsLeadInRange canvas.now.faces.now canvas.now.tree.now canvas.now.origin
+        (open_before canvas.now.tree.now.events at) lead.now)
+        (lead_left canvas.now.faces.now canvas.now.tree.now canvas.now.origin
+        (open_before canvas.now.tree.now.events at) lead.now) }
 {
     let right = sum(canvas.origin.left, left_in(canvas, opens, at, lead.owner))?;
     let width = lead_width(canvas.faces, lead) as i64;

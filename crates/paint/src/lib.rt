@@ -5,6 +5,7 @@ mod edges;
 pub mod extent;
 mod gather;
 pub mod item;
+pub mod laws;
 mod leads;
 mod lines;
 mod note_area;

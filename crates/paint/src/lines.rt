@@ -1,13 +1,15 @@
 //! Items of lines.
 
-ghost use Rattle.std.specs.Prelude.{◌≡◌, ◌+◌, ◌≤◌, ◌∷◌, [], ◌+ℤ◌, ◌==◌, if◌then◌else◌, map, length, OnOk, IfSome, IsSome};
+ghost use Rattle.std.specs.Prelude.{◌≡◌, ◌+◌, ◌≤◌, ◌∷◌, [], ◌+ℤ◌, ◌==◌, if◌then◌else◌, map, length, MatchBool, MatchOption, OnOk, IfSome, IsSome, SomeIff, FitsSigned, ◌<◌};
+ghost use Rattle.std.specs.Int.{w64};
+ghost use Rattle.std.specs.Str.{IsCharBoundary};
 ghost use Rattle.boxes.specs.Contents.{IsGoodLeaf};
 ghost use Rattle.boxes.specs.Tree.{open_before};
 ghost use Rattle.line_place.specs.Conditions.{IsInLeaf};
 ghost use Rattle.line_place.specs.Extents.{extent_of};
 ghost use Rattle.paint.specs.Areas.{area_of};
 ghost use Rattle.paint.specs.Conditions.{IsFaced};
-ghost use Rattle.paint.specs.Items.{lead_item, line_items, line_of, words_items};
+ghost use Rattle.paint.specs.Items.{IsLineOf, lead_item, line_items, line_of, words_items};
 ghost use Rattle.paint.specs.Opens.{AreOpen, IsWide};
 ghost use Rattle.paint.specs.Views.{Adds, HaveItemFaces, area_item};
 
@@ -107,13 +109,15 @@ fn push_words<'a>(
     Ok(())
 }
 
-/// The baseline of a line of a leaf, in units from the page's top.
+/// The baseline of a line of a leaf, in units from the page's top. None exactly where it or the line's top is past 64
+/// bits.
 fn baseline_of(canvas: &Canvas<'_>, s: &Placed, leaf: &Leaf, line: Line) -> Option<i64>
     requires good { IsGoodLeaf leaf.now }
     requires faced { IsFaced canvas.now.faces.now leaf.now }
     requires line { IsInLeaf leaf.now line }
-    ensures { IfSome result (λ y. y ≡ (canvas.now.origin.top +ℤ s.now.top) +ℤ
-        (extent_of canvas.now.faces.now leaf.now line.from line.to).baseline) }
+    ensures { SomeIff result (FitsSigned w64 (canvas.now.origin.top +ℤ s.now.top) × FitsSigned w64
+        ((canvas.now.origin.top +ℤ s.now.top) +ℤ (extent_of canvas.now.faces.now leaf.now line.from line.to).baseline))
+        ((canvas.now.origin.top +ℤ s.now.top) +ℤ (extent_of canvas.now.faces.now leaf.now line.from line.to).baseline) }
 {
     let top = sum(canvas.origin.top, s.top)?;
     sum(top, line_height(canvas.faces, leaf, line).baseline)
@@ -130,8 +134,16 @@ fn end_in(leaf: &Leaf, s: &Placed) -> usize
     }
 }
 
-/// The line of a leaf that a solid is, filled in the content of its block. None where the leaf has no such line there.
-/// It takes at most a step.
+/// Whether a character of a text begins at an offset.
+fn has_character(text: &str, at: u32) -> bool
+    ensures { MatchBool result ((at < length text.now) × IsCharBoundary text.now at)
+        (¬ ((at < length text.now) × IsCharBoundary text.now at)) }
+{
+    (at as usize) < text.len() && text.is_char_boundary(at as usize)
+}
+
+/// The line of a leaf that a solid is, filled in the content of its block. None exactly where the solid is no line of
+/// it. It takes at most a step.
 fn line_at<L: Ledger>(
     faces: &Faces,
     leaf: &Leaf,
@@ -141,14 +153,14 @@ fn line_at<L: Ledger>(
 ) -> Option<Line>
     requires good { IsGoodLeaf leaf.now }
     requires faced { IsFaced faces.now leaf.now }
-    ensures line { IfSome result (λ line. line ≡ line_of leaf.now s.now) }
+    ensures line { MatchOption result (¬ (IsLineOf faces.now leaf.now s.now content.now))
+        (λ line. line ≡ line_of leaf.now s.now) }
     ensures inside { IfSome result (λ line. IsInLeaf leaf.now line) }
     ensures wide { IsSome result → IsWide content.now }
     ensures steps { steps.new ≤ steps.old + 1 }
 {
-    let text = leaf.text.as_str();
     let from = s.at.offset;
-    if !is_wide(content) || from as usize >= text.len() || !text.is_char_boundary(from as usize) {
+    if !is_wide(content) || !has_character(leaf.text.as_str(), from) {
         return None;
     }
     let line = next_line(faces, leaf, from, content.width, steps);

@@ -1,13 +1,12 @@
 //! Items of the note area of a page.
 
-ghost use Rattle.std.specs.Prelude.{◌≡◌, ◌+◌, ◌≤◌, ◌∷◌, [], OnOk, IfSome, Some, ◌+ℤ◌, length, slice_get, option_map};
-ghost use Rattle.std.specs.Int.{int_max};
+ghost use Rattle.std.specs.Prelude.{◌≡◌, ◌+◌, ◌≤◌, ◌∷◌, [], OnOk, IfSome, Some, length, slice_get, option_map};
 ghost use Rattle.std.specs.List.{flat_map, range_with_len};
 ghost use Rattle.boxes.specs.declared.flow.Note.{Note};
 ghost use Rattle.paint.specs.Conditions.{CanNotesBePainted};
 ghost use Rattle.paint.specs.Groups.{GoesOn};
 ghost use Rattle.paint.specs.Items.{for_some};
-ghost use Rattle.paint.specs.Pages.{area_height, area_items, area_origin, note_items, separator_area, separator_at, tree_items};
+ghost use Rattle.paint.specs.Pages.{area_items, area_origin, note_items, separator_area, separator_at, tree_items};
 ghost use Rattle.paint.specs.Views.{Adds, HaveItemFaces, items_in};
 
 use crate::item::{Area, Canvas, ItemRef, SolidOrigin, sum};
@@ -21,6 +20,7 @@ use boxes::flow::Note;
 use boxes::frames::Frame;
 use boxes::page::{Placed, PlacedNote};
 use metrics::Faces;
+use notes::area::placed_height;
 use std::alloc::Global;
 use std::sync::ledger::Ledger;
 
@@ -30,32 +30,12 @@ const BLACK: Color = Color {
     blue: 0,
 };
 
-/// A height that reaches at least to the bottom of a solid. None where that is past 64 bits.
-fn height_with(solid: &Placed, height: i64) -> Option<i64>
-    ensures { IfSome result (λ h. h ≡ int_max (solid.now.top +ℤ solid.now.height) height) }
-{
-    Some(sum(solid.top, solid.height)?.max(height))
-}
-
-/// The height of a note area. None where it is past 64 bits.
-fn area_height(notes: &[PlacedNote]) -> Option<i64>
-    ensures { IfSome result (λ height. height ≡ area_height notes.now) }
-{
-    let mut height = SEPARATOR;
-    let mut at = notes.len();
-    while at > 0 {
-        at -= 1;
-        height = height_with(&notes[at].1, height)?;
-    }
-    Some(height)
-}
-
 /// What the places of a page's note solids count from. None where it is past 64 bits.
 fn area_origin(frame: &Frame, notes: &[PlacedNote]) -> Option<SolidOrigin>
     ensures { IfSome result (λ origin. origin ≡ area_origin frame.now notes.now) }
 {
     let bottom = sum(frame.top, frame.height)?;
-    let top = bottom.checked_sub(area_height(notes)?)?;
+    let top = bottom.checked_sub(placed_height(notes)?)?;
     Some(SolidOrigin {
         left: frame.left,
         top,

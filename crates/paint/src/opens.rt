@@ -1,10 +1,11 @@
 //! Boxes that are open one in another, with the places of their contents.
 
-ghost use Rattle.std.specs.Prelude.{◌≡◌, ◌==◌, ℕ, ℤ, List, IfSome, IsTrue, pos, neg_ℤ, ◌≤ℤ◌, ◌^◌};
+ghost use Rattle.std.specs.Prelude.{◌≡◌, ◌==◌, ℕ, ℤ, List, MatchBool, SomeIff, FitsSigned, pos, ◌≤ℤ◌, ◌^◌};
+ghost use Rattle.std.specs.Int.{w64};
 ghost use Rattle.boxes.specs.Contents.{IsGoodBox};
 ghost use Rattle.boxes.specs.Spans.{span_in};
 ghost use Rattle.boxes.specs.Tree.{Tree, rest_of};
-ghost use Rattle.paint.specs.Opens.{IsWide, border_in, border_width, boxes_from, content_along, content_of, opens_of, pair_of};
+ghost use Rattle.paint.specs.Opens.{IsNear, IsWide, border_in, border_width, boxes_from, content_along, content_of, opens_of, pair_of};
 
 use crate::item::{SolidOrigin, sum};
 use boxes::props::BoxProps;
@@ -25,23 +26,24 @@ const FARTHEST: i64 = 1 << 60;
 
 /// Whether a containing block is from 0 to 2^40 units wide.
 pub(crate) fn is_wide(content: &Content) -> bool
-    ensures { IsTrue result → IsWide content.now }
+    ensures { MatchBool result (IsWide content.now) (¬ (IsWide content.now)) }
 {
     content.width >= 0 && content.width <= WIDEST
 }
 
 /// Whether a containing block begins at most 2^60 units to the left or the right.
 fn is_near(content: &Content) -> bool
-    ensures low { IsTrue result → neg_ℤ (pos (2 ^ 60)) ≤ℤ content.now.left }
-    ensures high { IsTrue result → content.now.left ≤ℤ pos (2 ^ 60) }
+    ensures { MatchBool result (IsNear content.now) (¬ (IsNear content.now)) }
 {
     content.left >= -FARTHEST && content.left <= FARTHEST
 }
 
-/// The content of a box in that of the box around it. None where that one is past 2^60 units or wider than 2^40.
+/// The content of a box in that of the box around it. None exactly where that one begins past 2^60 units or isn't from
+/// 0 to 2^40 units wide.
 pub(crate) fn checked_content(props: &BoxProps, outer: &Content) -> Option<Content>
     requires good { IsGoodBox props.now }
-    ensures { IfSome result (λ c. c ≡ content_of (span_in props.now (pair_of outer.now))) }
+    ensures { SomeIff result (IsWide outer.now × IsNear outer.now)
+        (content_of (span_in props.now (pair_of outer.now))) }
 {
     if is_wide(outer) && is_near(outer) {
         Some(content_in(props, *outer))
@@ -60,11 +62,13 @@ fn border_width(props: &BoxProps, width: i64) -> i64
     content_width_in(props, width) + (frame_units(props, 3, width) + frame_units(props, 1, width))
 }
 
-/// The border box of a box in the content of the box around it. None where it is past 64 bits.
+/// The border box of a box in the content of the box around it. None exactly where that one isn't from 0 to 2^40 units
+/// wide, or the border box begins past 64 bits.
 #[tactic(auto, unfolding(crate::specs::Opens::border_in))]
 pub(crate) fn checked_border(props: &BoxProps, outer: &Content) -> Option<Content>
     requires good { IsGoodBox props.now }
-    ensures { IfSome result (λ c. c ≡ border_in props.now outer.now) }
+    ensures { SomeIff result (IsWide outer.now × FitsSigned w64 (border_in props.now outer.now).left)
+        (border_in props.now outer.now) }
 {
     if !is_wide(outer) {
         return None;

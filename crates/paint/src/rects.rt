@@ -1,6 +1,7 @@
 //! Items of backgrounds and borders.
 
-ghost use Rattle.std.specs.Prelude.{◌≡◌, ◌<◌, ◌∷◌, [], length, All, OnOk, IfOk, IfSome, Some, ◌+ℤ◌, ◌-ℤ◌, slice_get};
+ghost use Rattle.std.specs.Prelude.{◌≡◌, ◌<◌, ◌∷◌, [], length, All, OnOk, OkIff, IfOk, SomeIff, Some, FitsSigned, ◌+ℤ◌, ◌-ℤ◌, slice_get};
+ghost use Rattle.std.specs.Int.{w64};
 ghost use Rattle.std.specs.List.{flat_map};
 ghost use Rattle.boxes.specs.Contents.{IsGoodBox};
 ghost use Rattle.boxes.specs.Spans.{units_at};
@@ -8,7 +9,7 @@ ghost use Rattle.paint.specs.Conditions.{CanBePainted};
 ghost use Rattle.paint.specs.Opens as spec;
 ghost use Rattle.paint.specs.Pages.{rects_of};
 ghost use Rattle.paint.specs.Parts.{part_rects};
-ghost use Rattle.paint.specs.Rects.{background_rects, border_rects, box_rects, edge_rects, fragment_area, left_area, lower_top, right_area, side_rects, upper_top};
+ghost use Rattle.paint.specs.Rects.{FitsFragment, FitsLower, FitsUpper, background_rects, border_rects, box_rects, edge_rects, fragment_area, left_area, lower_top, right_area, side_rects, upper_top};
 ghost use Rattle.paint.specs.Views.{Adds, HaveItemFaces, rect_item};
 
 use crate::extent::VerticalExtent;
@@ -139,9 +140,10 @@ fn left_area(area: Area, width: i64) -> Area
     }
 }
 
-/// The area of a right border of a fragment. None where it is past 64 bits.
+/// The area of a right border of a fragment. None exactly where its left or its right is past 64 bits.
 fn right_area(area: Area, width: i64) -> Option<Area>
-    ensures { IfSome result (λ a. a ≡ right_area area width) }
+    ensures { SomeIff result (FitsSigned w64 (area.x +ℤ area.w) × FitsSigned w64 (right_area area width).x)
+        (right_area area width) }
 {
     let right = sum(area.x, area.w)?;
     Some(Area {
@@ -205,9 +207,10 @@ fn push_sides<'a>(
     Ok(())
 }
 
-/// The area of a fragment of a box. None where it is past 64 bits.
+/// The area of a fragment of a box. None exactly where it is past 64 bits.
 fn fragment_area(origin: &SolidOrigin, border: &Content, extent: VerticalExtent) -> Option<Area>
-    ensures { IfSome result (λ a. a ≡ fragment_area origin.now border.now extent) }
+    ensures { SomeIff result (FitsFragment (fragment_area origin.now border.now extent))
+        (fragment_area origin.now border.now extent) }
 {
     Some(Area {
         x: sum(origin.left, border.left)?,
@@ -217,9 +220,9 @@ fn fragment_area(origin: &SolidOrigin, border: &Content, extent: VerticalExtent)
     })
 }
 
-/// The top of an upper border, if its edge stands on the page.
+/// The top of an upper border, if its edge stands on the page. Refused exactly where it is past 64 bits.
 fn upper_top(origin: &SolidOrigin, upper: Option<VerticalExtent>) -> Result<Option<i64>, NoMem>
-    ensures { IfOk result (λ y. y ≡ upper_top origin.now upper) }
+    ensures { OkIff result (FitsUpper origin.now upper) (upper_top origin.now upper) }
 {
     match upper {
         None => Ok(None),
@@ -230,21 +233,24 @@ fn upper_top(origin: &SolidOrigin, upper: Option<VerticalExtent>) -> Result<Opti
     }
 }
 
-/// Where a lower border begins, which ends at the bottom of its edge. None where it is past 64 bits.
+/// Where a lower border begins, which ends at the bottom of its edge. None exactly where it or the bottom is past 64
+/// bits.
 fn top_above(origin: &SolidOrigin, width: i64, edge: VerticalExtent) -> Option<i64>
-    ensures { IfSome result (λ y. y ≡ (origin.now.top +ℤ edge.bottom) -ℤ width) }
+    ensures { SomeIff result (FitsSigned w64 (origin.now.top +ℤ edge.bottom) × FitsSigned w64
+        ((origin.now.top +ℤ edge.bottom) -ℤ width)) ((origin.now.top +ℤ edge.bottom) -ℤ width) }
 {
     let bottom = sum(origin.top, edge.bottom)?;
     difference(bottom, width)
 }
 
-/// The top of a lower border, if its edge stands on the page.
+/// The top of a lower border, if its edge stands on the page. Refused exactly where it or the edge's bottom is past 64
+/// bits.
 fn lower_top(
     origin: &SolidOrigin,
     width: i64,
     lower: Option<VerticalExtent>,
 ) -> Result<Option<i64>, NoMem>
-    ensures { IfOk result (λ y. y ≡ lower_top origin.now width lower) }
+    ensures { OkIff result (FitsLower origin.now width lower) (lower_top origin.now width lower) }
 {
     match lower {
         None => Ok(None),
@@ -278,7 +284,8 @@ fn sides_of(
     })
 }
 
-/// The area of a part of a box that reaches so far. None where it is past 64 bits.
+/// The area of a part of a box that reaches so far. None exactly where the content around isn't from 0 to 2^40 units
+/// wide, or the area is past 64 bits.
 fn area_of_part(
     origin: &SolidOrigin,
     props: &BoxProps,
@@ -286,7 +293,9 @@ fn area_of_part(
     extent: VerticalExtent,
 ) -> Option<Area>
     requires { IsGoodBox props.now }
-    ensures { IfSome result (λ a. a ≡ fragment_area origin.now (spec.border_in props.now around.now) extent) }
+    ensures { SomeIff result (spec.IsWide around.now × FitsSigned w64 (spec.border_in props.now around.now).left ×
+        FitsFragment (fragment_area origin.now (spec.border_in props.now around.now) extent))
+        (fragment_area origin.now (spec.border_in props.now around.now) extent) }
 {
     let border = checked_border(props, around)?;
     fragment_area(origin, &border, extent)

@@ -1,9 +1,10 @@
 //! Items of the runs of a line.
 
-ghost use Rattle.std.specs.Prelude.{◌≡◌, ◌<◌, ◌∷◌, [], map, length, OnOk, IfSome, slice_range, ◌+ℤ◌};
+ghost use Rattle.std.specs.Prelude.{◌≡◌, ◌<◌, ◌∷◌, [], map, length, OnOk, IfSome, MatchOption, FitsSigned, slice_range, ◌+ℤ◌};
+ghost use Rattle.std.specs.Int.{w64};
 ghost use Rattle.line_place.specs.Conditions.{HasFaces};
 ghost use Rattle.paint.specs.Areas.{style_of};
-ghost use Rattle.paint.specs.Items.{run_item, span_of};
+ghost use Rattle.paint.specs.Items.{IsPartOf, run_item, span_of};
 ghost use Rattle.paint.specs.Views.{Adds, HaveItemFaces, hyphen_item, text_item};
 
 use crate::item::{Canvas, ItemRef, TextPlace, style_at, sum};
@@ -12,9 +13,9 @@ use boxes::leaf::Leaf;
 use line_place::place::Run;
 use metrics::Faces;
 
-/// A part of a text. None where it doesn't begin and end at characters, as each run does.
+/// A part of a text. None exactly where it doesn't begin and end at characters, as each run does.
 fn part_of(text: &str, from: u32, to: u32) -> Option<&str>
-    ensures { IfSome result (λ part. part.now ≡ slice_range text.now from to) }
+    ensures { MatchOption result (¬ (IsPartOf text.now from to)) (λ part. part.now ≡ slice_range text.now from to) }
 {
     let (from, to) = (from as usize, to as usize);
     if from <= to && text.is_char_boundary(from) && text.is_char_boundary(to) {
@@ -65,7 +66,8 @@ fn push_text<'a>(
     Ok(())
 }
 
-/// The style of a run of a line whose content begins at a left, on a baseline. None where its left is past 64 bits.
+/// The style of a run of a line whose content begins at a left, on a baseline. None exactly where its span isn't one of
+/// the leaf's, or its left is past 64 bits.
 fn style_of_run(
     faces: &Faces,
     leaf: &Leaf,
@@ -74,8 +76,9 @@ fn style_of_run(
     run: &Run,
 ) -> Option<TextPlace>
     requires { HasFaces faces.now leaf.now }
-    ensures style { IfSome result (λ style. style ≡ style_of (left +ℤ run.now.x) baseline
-        (span_of leaf.now run.now.span)) }
+    ensures style { MatchOption result
+        (¬ ((run.now.span < length leaf.now.spans) × FitsSigned w64 (left +ℤ run.now.x)))
+        (λ style. style ≡ style_of (left +ℤ run.now.x) baseline (span_of leaf.now run.now.span)) }
     ensures face { IfSome result (λ style. style.face.0 < length faces.now) }
 {
     // named by the clauses alone

@@ -12,7 +12,7 @@ use crate::edges::push_edge;
 use crate::item::{Canvas, ItemRef};
 use crate::lines::push_line;
 use crate::opens::{OpenBox, innermost, outer};
-use crate::walk::go_to;
+use crate::walk::{go_to, has_event};
 use bk_num::name::NoMem;
 use bk_num::steps::Steps;
 use boxes::page::Placed;
@@ -81,7 +81,7 @@ pub(crate) fn push_next<'a, L: Ledger>(
     ensures opens { OnOk result (AreOpen canvas.now.tree.now canvas.now.origin s.now.at.event opens.new.items) }
     ensures steps { steps.new ≤ steps.old + 1 }
 {
-    if s.at.event >= canvas.tree.count() {
+    if !has_event(canvas.tree, s.at.event) {
         return Err(NoMem);
     }
     go_to(opens, canvas.tree, reached, s.at.event, &canvas.origin)?;

@@ -13,4 +13,4 @@ returns-clause-at c =
 pub returns-clause-solid : goal.returns-clause-solid
 returns-clause-solid c =
     adds_solid c.args.tree.now c.args.origin.now.width c.args.solid.now c.args.parts.now.items c.pass_to.new.parts.items c.extend.new.parts.items c.end_at-to.result c.in_ok-inner.inner c.event-event.result c.in-Some.extent
-    c.in_ok-inner.ensures.grown c.end_at-to.ensures c.in_ok-inner.ensures.at c.event-event.ensures c.in-Some.ensures c.extend.ensures
+    c.in_ok-inner.ensures.grown c.end_at-to.ensures c.in_ok-inner.ensures.at c.event-event.ensures c.in-Some.ensures.1 c.extend.ensures

@@ -5,7 +5,7 @@ use Rattle.paint.proofs.gather.gather.Goals as goal
 pub loop-solid-init : goal.loop-solid-init
 loop-solid-init c = record {
   at = c.in_ok-reached.ensures.at;
-  within = (let e = c.in_ok-reached.ensures.event in let f = c.if-first-count.false in let n = c.count.ensures.count in omega arith);
+  within = (let e = c.in_ok-reached.ensures.event in let m = c.min-first.ensures in let n = c.count.ensures.count in omega (arith, m));
   have = solids_none c.args.tree.now.events c.begin.new.parts.items c.in_ok-reached.ensures.none;
 }
 
