@@ -1,6 +1,5 @@
 -- What passes a buffer on its way to a sink, one piece after another.
 use Rattle.std.proofs.Common.{◌≡◌, ◌∙◌, ℕ, zero, suc, ◌+◌, ◌<◌, ◌≤◌, min, List, [], ◌∷◌, ◌++◌, take, drop, get_or, length, arith, subst, sym, append-nil, append_assoc, refl, ap, Option, Some, None, OnOk, Result, Ok, Err}
-use Rattle.std.proofs.Math.Seq.{take-suc}
 use Rattle.std.proofs.lemmas.List.{take-append-le, take_min}
 use Rattle.std.specs.List.{flat_map}
 use Rattle.std.specs.Io.KnownBytes.{Appends}
@@ -142,10 +141,3 @@ read_passes f a b c w v u xs i x low is p q = next_passes f a b c w v u xs i x l
 pub read_fails : {X : Type 0} (f : X → List ℕ) (a b c : Option (List ℕ)) (w v : List ℕ) (xs : List X) (i : ℕ) (x : X) → i < length xs → x ≡ get_or xs i x →
     Passes a w b v (flat_map f (take i xs)) → TakesPrefix b v c (f x) → TakesPrefix a w c (flat_map f xs)
 read_fails f a b c w v xs i x low is p q = next_fails f a b c w v xs i x low p (subst (λ z. TakesPrefix b v c (f z)) is q)
-
--- one more byte that stands as it is
-pub next_stands : (f : ℕ → List ℕ) (xs : List ℕ) (i d : ℕ) → i < length xs → flat_map f (take i xs) ≡ take i xs → f (get_or xs i d) ≡ get_or xs i d ∷ [] → flat_map f (take (i + 1) xs) ≡ take (i + 1) xs
-next_stands f xs i d low before here =
-    let next : suc i ≡ i + 1 = omega arith in
-    subst (λ (n : ℕ). flat_map f (take n xs) ≡ take n xs) next
-    (sym (flat_step f xs i d low) ∙ ap (λ (z : List ℕ). z ++ f (get_or xs i d)) before ∙ ap (λ (z : List ℕ). take i xs ++ z) here ∙ sym (take-suc xs i d low))

@@ -1,9 +1,11 @@
 -- Records by their fields.
-use Rattle.std.proofs.Common.{◌≡◌, ◌∙◌, ℕ, ℤ, pos, Bool, List, [], ◌∷◌, ◌++◌, Bor, codes, map, append-nil, append_assoc, refl, sym, ap}
+use Rattle.std.proofs.Common.{◌≡◌, ◌∙◌, ℕ, ℤ, pos, Bool, true, List, [], ◌∷◌, ◌++◌, Bor, codes, map, append-nil, append_assoc, arith, refl, sym, ap}
 use Rattle.std.specs.Fmt.{signed_decimal}
-use Rattle.std.specs.List.{flat_map}
+use Rattle.std.specs.List.{flat_map, list_all}
+use Rattle.bk_io.specs.Escapes.{is_control, shown_byte}
+use Rattle.bk_io.proofs.Escaping.{all_stand}
 use Rattle.bk_num.specs.declared.values.Color.{Color}
-use Rattle.listing.specs.Records.{area_fields, book_record, edge_name, edge_record, escape, face_field, field, hyphen_record, item_record, kind_name, line_record, page_record, quoted, rect_record, side_name, string_field, style_name, text_record, word}
+use Rattle.listing.specs.Records.{area_fields, book_record, edge_name, edge_record, escape, face_field, field, hyphen_record, item_record, kind_name, line_record, page_record, quoted, rect_record, side_name, stands, string_field, style_name, text_record, word}
 use Rattle.listing.specs.declared.fields.FaceLabel.{FaceLabel}
 use Rattle.listing.specs.declared.records.PageHead.{PageHead}
 use Rattle.margin_box.specs.declared.items.MarginText.{MarginText}
@@ -17,6 +19,15 @@ use Rattle.listing.specs.Fields.{field_bytes, record_bytes}
 use Rattle.listing.specs.Pages.{page_records}
 use Rattle.listing.specs.declared.fields.Field.{Field}
 use Rattle.listing.specs.declared.fields.Field.TheVariants as kind
+
+-- a byte that stands as it is
+escape_same : (b : ℕ) → stands b ≡ true → escape b ≡ b ∷ []
+unfolding stands escape is_control shown_byte
+escape_same b h = grind (arith)
+
+-- a string whose bytes all stand as they are
+pub string_same : (bs : List ℕ) → list_all stands bs ≡ true → flat_map escape bs ≡ bs
+string_same bs h = all_stand escape stands escape_same bs h
 
 pub string-is : (text : List ℕ) → codes " \"" ++ flat_map escape text ++ codes "\"" ≡ string_field text
 unfolding string_field quoted

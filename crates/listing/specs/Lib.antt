@@ -1,5 +1,4 @@
 pub mod Buffers
-pub mod Escapes
 pub mod Fields
 pub mod Pages
 pub mod Printed

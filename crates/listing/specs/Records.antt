@@ -1,5 +1,5 @@
 -- The bytes of a listing's records: each is one line, its fields parted by one space, its numbers in decimal.
-use Rattle.std.specs.Prelude.{ℕ, Bool, List, [], ◌∷◌, ◌++◌, ◌==◌, ◌||◌, if◌then◌else◌, codes, ℤ, pos}
+use Rattle.std.specs.Prelude.{ℕ, Bool, not, List, [], ◌∷◌, ◌++◌, ◌==◌, ◌||◌, if◌then◌else◌, codes, ℤ, pos}
 use Rattle.std.specs.Fmt.{signed_decimal}
 use Rattle.std.specs.List.{flat_map}
 use Rattle.bk_num.specs.declared.values.Color.{Color}
@@ -9,11 +9,15 @@ use Rattle.boxes.specs.declared.item.Item.{Item}
 use Rattle.boxes.specs.declared.item.Item.TheVariants as item
 use Rattle.boxes.specs.declared.frames.PageKind.{PageKind}
 use Rattle.boxes.specs.declared.frames.PageKind.TheVariants as kind
-use Rattle.listing.specs.Escapes.{hex_pair, shown_byte}
+use Rattle.bk_io.specs.Escapes.{hex_pair, is_control, shown_byte}
 
 -- a byte of a string: `"` and `\` have a `\` before them, controls are shown, and others stand as they are
 unfoldable pub escape : ℕ → List ℕ
 escape b = if b == 34 || b == 92 then 92 ∷ b ∷ [] else shown_byte b
+
+-- whether a byte of a string stands as it is
+unfoldable pub stands : ℕ → Bool
+stands b = not (b == 34 || b == 92 || is_control b)
 
 -- a string in its quotes
 unfoldable pub quoted : List ℕ → List ℕ

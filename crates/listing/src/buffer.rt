@@ -72,6 +72,7 @@ impl Buffer {
         requires { len ≤ 4096 }
         ensures bytes { Gives (S.taken sink.old) self.old (S.taken sink.new) self.new [] result }
         ensures room { OnOk result (length self.new + len ≤ 4096) }
+        ensures same { length self.old + len ≤ 4096 → (self.new ≡ self.old) × (sink.new ≡ sink.old) }
         ensures cause { HasCause (S.faults sink.old) (S.faults sink.new) result }
     {
         if self.room() < len {
@@ -84,6 +85,7 @@ impl Buffer {
     fn add_short<S: Sink>(&mut self, sink: &mut S, piece: &[u8]) -> Result<(), Failed>
         requires { length piece.now ≤ 4096 }
         ensures bytes { Gives (S.taken sink.old) self.old (S.taken sink.new) self.new piece.now result }
+        ensures waits { length self.old + length piece.now ≤ 4096 → sink.new ≡ sink.old }
         ensures cause { HasCause (S.faults sink.old) (S.faults sink.new) result }
     {
         self.make_room(sink, piece.len())?;
@@ -108,6 +110,7 @@ impl Buffer {
     /// `Failed` where a put failed. Then a prefix of what waited and these bytes was put.
     pub(crate) fn add<S: Sink>(&mut self, sink: &mut S, piece: &[u8]) -> Result<(), Failed>
         ensures bytes { Gives (S.taken sink.old) self.old (S.taken sink.new) self.new piece.now result }
+        ensures waits { length self.old + length piece.now ≤ 4096 → sink.new ≡ sink.old }
         ensures cause { HasCause (S.faults sink.old) (S.faults sink.new) result }
     {
         if piece.len() > ROOM {

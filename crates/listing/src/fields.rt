@@ -1,14 +1,14 @@
 //! Fields of records, and records of fields.
 
-ghost use Rattle.std.specs.Prelude.{◌≡◌, ◌∷◌, [], true};
-ghost use Rattle.std.specs.List.{flat_map};
+ghost use Rattle.std.specs.Prelude.{◌≡◌};
+ghost use Rattle.std.specs.List.{flat_map, list_all};
 ghost use Rattle.bk_io.specs.Sink.{HasCause};
 ghost use Rattle.listing.specs.Buffers.{Gives};
 ghost use Rattle.listing.specs.Fields.{field_bytes, record_bytes};
-ghost use Rattle.listing.specs.Records.{color_field, escape, face_field, field, string_field, style_name, word};
+ghost use Rattle.listing.specs.Records.{color_field, escape, face_field, field, stands, string_field, style_name, word};
 
 use crate::buffer::Buffer;
-use crate::escape::{hex_digit, shown_byte, stands};
+use bk_io::escape::{hex_digit, is_control, shown_byte};
 use bk_io::sink::{Failed, Sink};
 use bk_num::values::Color;
 use itoa::Buffer as Digits;
@@ -44,11 +44,11 @@ fn add_texts<S: Sink>(buffer: &mut Buffer, sink: &mut S, texts: &[&str]) -> Resu
 }
 
 /// Whether a byte of a string stands as it is.
-#[tactic(auto, unfolding(crate::specs::Records::escape))]
-fn is_plain(b: u8) -> bool
-    ensures { result ≡ true → escape b ≡ b ∷ [] }
+#[tactic(auto, unfolding(crate::specs::Records::stands))]
+fn stands(b: u8) -> bool
+    ensures { result ≡ stands b }
 {
-    b != b'"' && b != b'\\' && stands(b)
+    !(b == b'"' || b == b'\\' || is_control(b))
 }
 
 /// Adds a byte of a string.
@@ -77,14 +77,9 @@ fn add_all_escaped<S: Sink>(buffer: &mut Buffer, sink: &mut S, text: &str) -> Re
 
 /// Whether each byte of a string stands as it is.
 fn all_stand(text: &str) -> bool
-    ensures { result ≡ true → flat_map escape text.now ≡ text.now }
+    ensures { result ≡ list_all stands text.now }
 {
-    for b in text.as_bytes() {
-        if !is_plain(*b) {
-            return false;
-        }
-    }
-    true
+    text.as_bytes().iter().all(|b| stands(*b))
 }
 
 /// Adds the bytes of a string, at once where each stands as it is, as in most texts.
@@ -119,7 +114,7 @@ fn style_name(italic: bool) -> &'static str
 }
 
 /// A space and a colour.
-#[tactic(auto, unfolding(crate::specs::Records::color_field, crate::specs::Escapes::hex_pair))]
+#[tactic(auto, unfolding(crate::specs::Records::color_field, bk_io::specs::Escapes::hex_pair))]
 fn color_bytes(color: Color) -> [u8; 8]
     ensures { result ≡ color_field color }
 {

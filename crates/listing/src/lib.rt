@@ -2,7 +2,6 @@
 #![tactic(auto)]
 
 mod buffer;
-pub mod escape;
 mod fields;
 pub mod pages;
 pub mod print;

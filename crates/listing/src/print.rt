@@ -15,11 +15,14 @@ use bk_num::steps::Steps;
 use metrics::Faces;
 use std::alloc::Global;
 use std::sync::ledger::Ledger;
+use thiserror::Error;
 
 /// Why a page list isn't printed: a put failed, or memory ran out before the first put.
-#[derive(Clone, Copy, Debug, PartialEq, Eq)]
+#[derive(Clone, Copy, Debug, PartialEq, Eq, Error)]
 pub enum PrintErr {
+    #[error("cannot write")]
     Failed,
+    #[error("no memory")]
     NoMemory,
 }
 
