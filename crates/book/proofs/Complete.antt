@@ -5,14 +5,15 @@ use Rattle.bk_io.specs.Shelf.{Told, absent}
 use Rattle.bk_io.specs.Causes.{Rose}
 use Rattle.sheets.specs.Readings.{SheetOf}
 use Rattle.book.specs.Expect.{Expect, free, refused, given, ◌>>=◌}
-use Rattle.book.specs.Request.{Task, files, chapters, name_of, asked}
+use Rattle.named_files.specs.Names.{name_of}
+use Rattle.book.specs.Request.{Task, files, chapters, asked}
 use Rattle.words.specs.Asked.{FormatWords}
 use Rattle.book.specs.Document.{Texts, Document, document_of}
 use Rattle.book.specs.Run.{text_of, sheets_from, texts_for, texts_named, expected, Writes, Meets, HasReadCause, IsFaultOf, IsComplete, IsDoneOrUnsettled}
 use Rattle.book.specs.declared.outcome.Outcome.{Outcome}
 use Rattle.book.specs.declared.outcome.Outcome.TheVariants as out
-use Rattle.book.specs.declared.outcome.FileOf.{FileOf}
-use Rattle.book.specs.declared.outcome.FileOf.TheVariants as file
+use Rattle.named_files.specs.declared.file.FileOf.{FileOf}
+use Rattle.named_files.specs.declared.file.FileOf.TheVariants as file
 use Rattle.book.specs.declared.outcome.LimitOf.TheVariants as limit
 
 -- no document comes of a refusal, and none through steps of which a later one refuses

@@ -1,9 +1,11 @@
 -- A book keeps what the laws of page lists promise.
-use Rattle.std.proofs.Common.{ℕ, List}
+use Rattle.std.proofs.Common.{ℕ, List, get_or}
 use Rattle.boxes.specs.declared.flow.Flow.{Flow}
 use Rattle.boxes.specs.declared.page.Page.{Page}
 use Rattle.gen_text.specs.declared.table.Entry.{Entry}
 use Rattle.note_list.specs.Conditions.{CanBePaged}
+use Rattle.book.proofs.TextLemmas.{prints_main}
+use Rattle.paint.proofs.PrintLemmas.{pages-print-their-text}
 use Rattle.passes.specs.Passes.{End, EndsIn, IsLast, settled, unsettled, long, many, settles, differs, too_long, too_many}
 use Rattle.passes.specs.Work.{Work}
 use Rattle.book.specs.Keeps.{Keeps}
@@ -23,6 +25,8 @@ last_keeps laws w limit k table _ (settles flow pages pass) = λ can. record {
   paged = pass.paged;
   inside = laws.inside w.faces flow w.frames pages can pass.paged;
   begins = laws.begins w.faces flow w.frames pages can pass.paged;
+  texts = λ k d low. pages-print-their-text w.faces flow (get_or pages k d) (record { main = can.main.is; notes = λ n e less. (can.notes n e less).is });
+  text = prints_main w.faces flow pages can.main.is (laws.main w.faces flow w.frames pages can pass.paged).all;
   printed = pass.flow_is;
   shown = pass.shown;
 }

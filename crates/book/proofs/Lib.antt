@@ -3,11 +3,14 @@ pub mod BoxLemmas
 pub mod Complete
 pub mod Conditions
 pub mod Documents
+pub mod FileLemmas
 pub mod KeepLemmas
+pub mod OneAnswer
 pub mod OneBook
 pub mod PassLemmas
-pub mod PutLemmas
 pub mod Ranges
 pub mod Samples
 pub mod Stopping
 pub mod Tables
+pub mod TextLemmas
+pub mod WordLemmas

@@ -1,4 +1,4 @@
--- A document has one book.
+-- The passes over a document end in one way, and it has one book.
 use Rattle.std.proofs.Common.{◌≡◌, ◌∙◌, ℕ, List, [], ◌∷◌, length, refl, sym, ap, subst}
 use Rattle.std.specs.List.{AllZip}
 use Rattle.boxes.specs.declared.flow.Flow.{Flow}
@@ -22,7 +22,7 @@ use Rattle.book.specs.Answer.{output_of, print_of}
 use Rattle.book.specs.Document.{Document}
 use Rattle.book.specs.Flow.{AreStylesBy, IsWorkOf, texts_of, work_by}
 use Rattle.listing.specs.Printed.{Print}
-use Rattle.book.specs.Laws.{HasOneBook}
+use Rattle.book.specs.Laws.{HasOneBook, HasOneEnd}
 
 -- what two lists are paired with is one list, where each is paired with one
 pairs_one : {A B : Type 0} (P : A → B → Type 0) → ((x : A) (y z : B) → P x y → P x z → y ≡ z) → (xs : List A) (ys zs : List B) → AllZip P xs ys → AllZip P xs zs → ys ≡ zs
@@ -85,6 +85,12 @@ module _ (reading : HaveOneReading) (styles : StylesAreOne) (one_targets : Targe
       let targets : x.targets ≡ y.targets = one_targets d.nodes y.rows x.targets y.targets (subst (λ (rs : List NodeStyles). AreTargets d.nodes rs x.targets) rows x.are) y.are in
       let work : work_by d rules names x.rows x.targets ≡ work_by d others more y.rows y.targets = λ i. work_by d (list i) (same.0 i) (rows i) (targets i) in
       x.is ∙ work ∙ sym y.is
+
+  pub one_end_of : HasOneEnd
+  one_end_of d a b tree x y =
+      let work = one_work d x.rules y.rules x.names y.names x.work y.work tree x.of y.of in
+      let nodes : IsTree y.work.nodes = subst (λ (w : Work). IsTree w.nodes) (sym y.of.is) tree in
+      one_end y.work d.passes a b nodes (subst (λ (w : Work). EndsIn w d.passes a) work x.ends) y.ends
 
   pub one_book : HasOneBook
   one_book d b c tree x y =

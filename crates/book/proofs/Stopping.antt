@@ -1,13 +1,9 @@
 -- How a run stops at a file, and goes on after one.
-use Rattle.std.proofs.Common.{◌≡◌, ◌≢◌, ap, ◌⊎◌, ℕ, suc, ◌+◌, ◌<◌, ◌≤◌, List, [], ◌∷◌, ◌++◌, append_assoc, drop, get_or, length, map, nat_lt, option_map, slice_get, true, false, cond, inl, inr, refl, sym, ◌∙◌, arith, subst, Option, None, Some, Result, Ok, Err, Bool}
-use Rattle.std.proofs.Math.Seq.{drop-cons}
-use Rattle.std.proofs.lemmas.List.{append-nil, drop_all}
-use Rattle.std.proofs.lemmas.Option.{slice_get-map, slice_get_read}
+use Rattle.std.proofs.Common.{◌≡◌, ◌≢◌, ap, ◌⊎◌, ℕ, suc, ◌+◌, ◌≤◌, List, [], ◌∷◌, length, nat_lt, true, false, cond, inl, inr, refl, sym, arith, subst, Option, None, Some, Result, Ok, Err, Bool}
 use Rattle.std.specs.List.{list_any}
 use Rattle.std.specs.Io.KnownBytes.{Keeps}
 use Rattle.std.specs.Str.{is_utf8}
 use Rattle.bk_num.specs.Limits.{most_file_bytes, most_sheets}
-use Rattle.bk_io.proofs.Reading.{Rose-since}
 use Rattle.bk_io.specs.Shelf.{Told, untold, absent, holds}
 use Rattle.book.specs.Expect.{Expect, free, refused, given, IsGiven, IsRefused, IsRefusedUnlessMemory, ◌>>=◌}
 use Rattle.metrics.specs.Text.{faces_of}
@@ -20,13 +16,14 @@ use Rattle.html_tree.specs.Tree.{tree_of}
 use Rattle.sheets.specs.Sheets.{author_texts, element_sheets}
 use Rattle.sheets.specs.Readings.{SheetOf}
 use Rattle.sheets.specs.Sources.{has_many_rules}
-use Rattle.book.specs.Request.{Task, files, chapters, name_of}
+use Rattle.named_files.specs.Names.{file_stage}
+use Rattle.book.specs.Request.{Task, files, chapters}
 use Rattle.words.specs.Asked.{FormatWords}
 use Rattle.book.specs.Document.{Texts, Document, document_of, faces_expected, nodes_expected, sheets_expected}
-use Rattle.book.specs.Run.{text_of, StopsAt, Stops, Ends, ComesBefore, IsReadBefore, IsUnforeseen, Meets, PutsOnlyABook, Writes, document_for, file_stage, sheets_from, texts_for, texts_named, HasFileCause, HasReadCause, HasCauseAt, HasSheetCause, HasTaskCause, HasWordsCause, IsOfBook, IsOfFiles, IsOfTexts, IsOfWords}
+use Rattle.book.specs.Run.{text_of, StopsAt, Stops, Ends, ComesBefore, IsReadBefore, IsUnforeseen, Meets, PutsOnlyABook, Writes, document_for, sheets_from, texts_for, texts_named, HasFileCause, HasReadCause, HasTaskCause, HasWordsCause, IsOfBook, IsOfFiles, IsOfTexts, IsOfWords}
 use Rattle.book.specs.declared.document.Output.TheVariants as output
-use Rattle.book.specs.declared.outcome.FileOf.{FileOf}
-use Rattle.book.specs.declared.outcome.FileOf.TheVariants as file
+use Rattle.named_files.specs.declared.file.FileOf.{FileOf}
+use Rattle.named_files.specs.declared.file.FileOf.TheVariants as file
 use Rattle.book.specs.declared.outcome.Outcome.{Outcome}
 use Rattle.book.specs.declared.outcome.Outcome.TheVariants as out
 
@@ -48,7 +45,7 @@ after_refused free o f r = tt
 after_refused (refused p) o f r = inl r
 after_refused (given y) o f r = absurd r
 
-later_bind : {A B : Type 0} (f : FileOf) (e : Expect A) (k : A → Expect B) → Later f e → ((x : A) → Later f (k x)) → Later f (e >>= k)
+pub later_bind : {A B : Type 0} (f : FileOf) (e : Expect A) (k : A → Expect B) → Later f e → ((x : A) → Later f (k x)) → Later f (e >>= k)
 later_bind f free k l h = tt
 later_bind f (refused p) k l h = l
 later_bind f (given x) k l h = h x
@@ -57,7 +54,7 @@ later_cond : {A : Type 0} (f : FileOf) (b : Bool) (x y : Expect A) → Later f x
 later_cond f true x y h k = h
 later_cond f false x y h k = k
 
-later_text : (f g : FileOf) (told : Told) → file_stage f ≤ file_stage g → Later f (text_of g told)
+pub later_text : (f g : FileOf) (told : Told) → file_stage f ≤ file_stage g → Later f (text_of g told)
 later_text f g untold h = tt
 later_text f g absent h = h
 later_text f g (holds bytes) h = later_cond f (nat_lt most_file_bytes (length bytes)) _ _ h (later_cond f (is_utf8 bytes) _ _ tt h)
@@ -81,7 +78,7 @@ later_book reading f t =
     later_bind f _ _ (later_nodes f (tree_of t.html)) (λ nodes.
     later_bind f _ _ (later_sheets f reading (author_texts (element_sheets nodes) t.sheets)) (λ few. tt)))
 
-later_names : (f : FileOf) (told : List ℕ → Told) (k : ℕ) (names : List (List ℕ)) → file_stage f ≤ 2 + k → Later f (sheets_from k told names)
+pub later_names : (f : FileOf) (told : List ℕ → Told) (k : ℕ) (names : List (List ℕ)) → file_stage f ≤ 2 + k → Later f (sheets_from k told names)
 later_names f told k [] h = tt
 later_names f told k (name ∷ names) h = later_bind f _ _ (later_text f (file.Sheet k) (told name) h) (λ text.
     later_bind f _ _ (later_names f told (suc k) names (omega arith)) (λ texts. tt))
@@ -94,13 +91,13 @@ stops_unforeseen f free o l u = tt
 stops_unforeseen f (refused p) o l u = inr (unforeseen_before f p o l u)
 stops_unforeseen f (given x) o l u = elim u [ inl e ↦ rw e tt | inr e ↦ rw e tt ]
 
-stops_at : {B : Type 0} (f : FileOf) (e : Expect (List ℕ)) (o : Outcome) (k : List ℕ → Expect B) → Later f e → ((x : List ℕ) → Later f (k x)) → StopsAt f e o → Stops (e >>= k) o
+pub stops_at : {B : Type 0} (f : FileOf) (e : Expect (List ℕ)) (o : Outcome) (k : List ℕ → Expect B) → Later f e → ((x : List ℕ) → Later f (k x)) → StopsAt f e o → Stops (e >>= k) o
 stops_at f free o k l h s = tt
 stops_at f (refused p) o k l h s = elim s [ inl e ↦ inl e | inr u ↦ inr (unforeseen_before f p o l u) ]
 stops_at f (given x) o k l h s = elim s [ inl e ↦ absurd e | inr u ↦ stops_unforeseen f (k x) o (h x) u ]
 
 -- what stops a step that others follow stops the whole
-stops_in : {A B : Type 0} (e : Expect A) (k : A → Expect B) (o : Outcome) → ((x : A) → IsUnforeseen o → Stops (k x) o) → Stops e o → Stops (e >>= k) o
+pub stops_in : {A B : Type 0} (e : Expect A) (k : A → Expect B) (o : Outcome) → ((x : A) → IsUnforeseen o → Stops (k x) o) → Stops e o → Stops (e >>= k) o
 stops_in free k o h s = tt
 stops_in (refused p) k o h s = s
 stops_in (given x) k o h s = h x s
@@ -127,98 +124,7 @@ texts_given told names m h ss given_m given_h given_s =
     after_given (text_of file.Html (told names.html)) h _ (λ e. IsGiven e (record { passes = names.passes; output = output.Listing; metrics = m; html = h; sheets = ss })) tt given_h (
     after_given (sheets_from 1 told names.sheets) ss _ (λ e. IsGiven e (record { passes = names.passes; output = output.Listing; metrics = m; html = h; sheets = ss })) tt given_s refl))
 
--- ---- one sheet after another
-
--- what is expected of all sheets comes of these texts and of what is expected of the rest
-abbrev pub Leads : Expect (List (List ℕ)) → List (List ℕ) → Expect (List (List ℕ)) → Type 0
-Leads whole texts rest = (whole ≡ free) ⊎ (whole ≡ (rest >>= λ more. given (texts ++ more)))
-
-pub leads_first : (whole : Expect (List (List ℕ))) → Leads whole [] whole
-leads_first free = inl refl
-leads_first (refused p) = inr refl
-leads_first (given x) = inr refl
-
-leads_given : (whole : Expect (List (List ℕ))) (texts : List (List ℕ)) (text : List ℕ) (rest : Expect (List (List ℕ))) → whole ≡ ((rest >>= λ more. given (text ∷ more)) >>= λ more. given (texts ++ more)) → Leads whole (texts ++ text ∷ []) rest
-leads_given whole texts text free h = inl h
-leads_given whole texts text (refused p) h = inr h
-leads_given whole texts text (given more) h = inr (h ∙ ap given (sym (append_assoc texts (text ∷ []) more)))
-
-leads_by : (whole : Expect (List (List ℕ))) (texts : List (List ℕ)) (text : List ℕ) (e : Expect (List ℕ)) (rest : Expect (List (List ℕ))) → IsGiven e text → Leads whole texts (e >>= λ t. rest >>= λ more. given (t ∷ more)) → Leads whole (texts ++ text ∷ []) rest
-leads_by whole texts text free rest g (inl h) = inl h
-leads_by whole texts text free rest g (inr h) = inl h
-leads_by whole texts text (refused p) rest g h = absurd g
-leads_by whole texts text (given t) rest g (inl h) = inl h
-leads_by whole texts text (given t) rest g (inr h) = leads_given whole texts text rest (h ∙ ap (λ (z : List ℕ). (rest >>= λ more. given (z ∷ more)) >>= λ more. given (texts ++ more)) (sym g))
-
-leads_halt : (whole : Expect (List (List ℕ))) (texts : List (List ℕ)) (rest : Expect (List (List ℕ))) (o : Outcome) → Leads whole texts rest → Stops rest o → Stops whole o
-leads_halt whole texts rest o (inl h) s = subst (λ (e : Expect (List (List ℕ))). Stops e o) (sym h) tt
-leads_halt whole texts rest o (inr h) s = subst (λ (e : Expect (List (List ℕ))). Stops e o) (sym h) (stops_in rest _ o (λ x u. u) s)
-
-memory_stops : {A : Type 0} (e : Expect A) → Stops e out.NoMemory
-memory_stops free = tt
-memory_stops (refused p) = inr tt
-memory_stops (given x) = tt
-
-pub leads_memory : (whole : Expect (List (List ℕ))) → Stops whole out.NoMemory
-leads_memory whole = memory_stops whole
-
-module _ {A : Type 0} (told : List ℕ → Told) (name : A → List ℕ) (xs : List A) (i : ℕ) (x : A) (less : i < length xs) (is : x ≡ get_or xs i x) where
-  names_next : map name (drop i xs) ≡ name x ∷ map name (drop (i + 1) xs)
-  names_next =
-      let next : suc i ≡ i + 1 = omega arith in
-      ap (map name) (drop-cons xs i x less ∙ ap (λ (y : A). y ∷ drop (suc i) xs) (sym is) ∙ ap (λ (j : ℕ). x ∷ drop j xs) next)
-
-  pub name_is : slice_get (map name xs) i ≡ Some (name x)
-  name_is = slice_get-map name xs i ∙ ap (option_map name) (slice_get_read xs (length xs) i x refl less is)
-
-  rest_is : (k : ℕ) → sheets_from k told (map name (drop i xs)) ≡ (text_of (file.Sheet k) (told (name x)) >>= λ text. sheets_from (suc k) told (map name (drop (i + 1) xs)) >>= λ texts. given (text ∷ texts))
-  rest_is k = ap (sheets_from k told) names_next
-
-  pub leads_next : (whole : Expect (List (List ℕ))) (texts : List (List ℕ)) (k : ℕ) (text : List ℕ) → IsGiven (text_of (file.Sheet k) (told (name x))) text → Leads whole texts (sheets_from k told (map name (drop i xs))) → Leads whole (texts ++ text ∷ []) (sheets_from (suc k) told (map name (drop (i + 1) xs)))
-  leads_next whole texts k text g h = leads_by whole texts text (text_of (file.Sheet k) (told (name x))) (sheets_from (suc k) told (map name (drop (i + 1) xs))) g (subst (Leads whole texts) (rest_is k) h)
-
-  pub leads_stop : (whole : Expect (List (List ℕ))) (texts : List (List ℕ)) (k : ℕ) (o : Outcome) → StopsAt (file.Sheet k) (text_of (file.Sheet k) (told (name x))) o → Leads whole texts (sheets_from k told (map name (drop i xs))) → Stops whole o
-  leads_stop whole texts k o s h = leads_halt whole texts (sheets_from k told (map name (drop i xs))) o h (subst (λ (e : Expect (List (List ℕ))). Stops e o) (sym (rest_is k))
-      (stops_at (file.Sheet k) _ o _ (later_text (file.Sheet k) (file.Sheet k) (told (name x)) (omega arith)) (λ text.
-      later_bind (file.Sheet k) _ _ (later_names (file.Sheet k) told (suc k) (map name (drop (i + 1) xs)) (omega arith)) (λ texts. tt)) s))
-
-pub leads_end : {A : Type 0} (told : List ℕ → Told) (name : A → List ℕ) (xs : List A) (i k : ℕ) (whole : Expect (List (List ℕ))) (texts : List (List ℕ)) → length xs ≤ i → Leads whole texts (sheets_from k told (map name (drop i xs))) → IsGiven whole texts
-leads_end told name xs i k whole texts h (inl e) = subst (λ (w : Expect (List (List ℕ))). IsGiven w texts) (sym e) tt
-leads_end {A} told name xs i k whole texts h (inr e) =
-    let none : drop i xs ≡ [] = drop_all i xs h in
-    subst (λ (w : Expect (List (List ℕ))). IsGiven w texts) (sym (e ∙ ap (λ (ys : List A). sheets_from k told (map name ys) >>= λ more. given (texts ++ more)) none)) (sym (append-nil texts))
-
 -- ---- causes
-
--- a cause of later calls is one of all
-pub cause_since : (f : FileOf) (told : Told) (name : List ℕ) (before mid now : ℕ) (last : Option (List ℕ)) (o : Outcome) → before ≤ mid → HasCauseAt f told name mid now last o → HasCauseAt f told name before now last o
-cause_since f told name before mid now last (out.ReadFault g) l h = (h.0, elim h.1 [ inl a ↦ inl a | inr r ↦ inr (Rose-since before mid now l r.0, r.1) ])
-cause_since f told name before mid now last (out.NotRead k) l h = h
-cause_since f told name before mid now last (out.Done pages passes) l h = h
-cause_since f told name before mid now last out.WriteFault l h = h
-cause_since f told name before mid now last (out.TooLarge k) l h = tt
-cause_since f told name before mid now last (out.NotUtf8 k at) l h = tt
-cause_since f told name before mid now last (out.BadMetrics line why) l h = tt
-cause_since f told name before mid now last (out.NotSettled target one other) l h = tt
-cause_since f told name before mid now last (out.Limit what) l h = tt
-cause_since f told name before mid now last out.NoMemory l h = tt
-
--- a cause at a file that is named is one of the files
-pub file_cause : (names : FormatWords) (f : FileOf) (name : List ℕ) (told : List ℕ → Told) (before mid now : ℕ) (last : Option (List ℕ)) (o : Outcome) → name_of names f ≡ Some name → before ≤ mid → HasCauseAt f (told name) name mid now last o → IsOfFiles names told before now last o
-file_cause names f name told before mid now last (out.ReadFault k) m l h =
-    rw (h.0, m) (elim h.1 [ inl a ↦ inl a | inr r ↦ inr (Rose-since before mid now l r.0, r.1) ])
-file_cause names f name told before mid now last (out.NotRead k) m l h = absurd h
-file_cause names f name told before mid now last (out.Done pages passes) m l h = absurd h
-file_cause names f name told before mid now last out.WriteFault m l h = absurd h
-file_cause names f name told before mid now last (out.TooLarge k) m l h = tt
-file_cause names f name told before mid now last (out.NotUtf8 k at) m l h = tt
-file_cause names f name told before mid now last (out.BadMetrics line why) m l h = tt
-file_cause names f name told before mid now last (out.NotSettled target one other) m l h = tt
-file_cause names f name told before mid now last (out.Limit what) m l h = tt
-file_cause names f name told before mid now last out.NoMemory m l h = tt
-
-pub sheet_cause : (names : FormatWords) (told : List ℕ → Told) (before mid now : ℕ) (last : Option (List ℕ)) (o : Outcome) → before ≤ mid → HasSheetCause names.sheets told mid now last o → IsOfFiles names told before now last o
-sheet_cause names told before mid now last o l h = file_cause names (file.Sheet (suc h.place)) h.name told before mid now last o h.is l h.cause
 
 -- what stops the reads of files, or comes after them, has a cause
 pub reading_cause : (names : FormatWords) (told : List ℕ → Told) (before now : ℕ) (last : Option (List ℕ)) (o : Outcome) → IsOfFiles names told before now last o → HasFileCause names told before now last o

@@ -4,7 +4,7 @@ use Rattle.bk_io.specs.Texts.{unmarked}
 use Rattle.sheets.specs.Files.{file_texts}
 use Rattle.book.specs.Document.{Texts}
 use Rattle.book.specs.declared.document.Output.TheVariants as output
-use Rattle.book.specs.declared.files.FileTexts.{FileTexts}
+use Rattle.named_files.specs.declared.read.FileTexts.{FileTexts}
 
 -- the texts of a book that is to be listed
 abbrev pub listed_texts : ℕ → FileTexts → Texts

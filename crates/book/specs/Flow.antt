@@ -7,7 +7,7 @@ use Rattle.cascade.specs.declared.sheet.ReadSheet.{ReadSheet}
 use Rattle.computed.specs.Document.{AreDocumentStyles}
 use Rattle.counters.specs.Document.{values_of}
 use Rattle.css_page.specs.declared.rules.PageRule.{PageRule}
-use Rattle.gen_text.specs.References.{AreTargets}
+use Rattle.gen_text.specs.References.{AreTargets, IsNamed}
 use Rattle.page_ctx.specs.Selectors.{classes_of}
 use Rattle.page_ctx.specs.Tables.{page_cell, text_of}
 use Rattle.passes.specs.Passes.{End, EndsIn}
@@ -51,6 +51,11 @@ work_by d rules names rows targets = record {
   frames = page_frames rules names;
   targets = targets;
 }
+
+-- a document without page references: none leads to an element, whatever its styles are (css-gcpm-3, target-counter)
+abbrev pub HasNoReferences : Document → Type 0
+HasNoReferences d = (names : List (List ℕ)) (rows : List NodeStyles) (target : ℕ) → AreStylesBy d names rows →
+    ¬ (IsNamed d.nodes rows target)
 
 -- the work that a document gives: its rules, its styles and what is laid out with them
 pub record IsWorkOf (d : Document) (rules : List PageRule) (names : List (List ℕ)) (w : Work) : Type 0 where

@@ -1,5 +1,6 @@
 -- What a book keeps of its document: the promise of this program, clause by clause.
 use Rattle.std.specs.Prelude.{◌≡◌, List}
+use Rattle.std.specs.List.{All}
 use Rattle.boxes.specs.declared.flow.Flow.{Flow}
 use Rattle.boxes.specs.declared.page.Page.{Page}
 use Rattle.gen_text.specs.declared.table.Entry.{Entry}
@@ -8,6 +9,7 @@ use Rattle.page_list.specs.Laws.{HoldsMain}
 use Rattle.page_list.specs.Noted.{BeginInTime, HoldsNotes}
 use Rattle.page_list.specs.Pages.{IsPaged}
 use Rattle.page_list.specs.Parted.{HoldsBreaks}
+use Rattle.paint.specs.Printed.{PrintsItsText, PrintsMainText}
 use Rattle.passes.specs.Work.{IsFlowUnder, Work}
 use Rattle.refs.specs.Tables.{table_of}
 use Rattle.book.specs.Answer.{Book, IsBookOf}
@@ -27,6 +29,10 @@ pub record Keeps (w : Work) (flow : Flow) (pages : List Page) (table : List Entr
   pub inside : EndInside pages
   -- no note begins on a page before its call's
   pub begins : BeginInTime flow pages
+  -- each page prints the text of its lines and of no other, and over all pages the text of the main tree's leaves is
+  -- printed once and in order, each leaf's markers before it
+  pub texts : All (PrintsItsText w.faces flow) pages
+  pub text : PrintsMainText w.faces flow pages
   -- the texts of the flow print the numbers of a table, and it is the table that these very pages show
   pub printed : IsFlowUnder w table flow
   pub shown : table ≡ table_of flow pages w.targets

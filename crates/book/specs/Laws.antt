@@ -1,9 +1,20 @@
--- Laws of books.
-use Rattle.std.specs.Prelude.{◌≡◌}
+-- Laws of books and of answers.
+use Rattle.std.specs.Prelude.{◌≡◌, ℕ, List, Option, length}
+use Rattle.bk_io.specs.Shelf.{Told}
+use Rattle.boxes.specs.declared.flow.Flow.{Flow}
+use Rattle.boxes.specs.declared.page.Page.{Page}
 use Rattle.dom.specs.Nodes.{IsTree}
+use Rattle.gen_text.specs.declared.table.Entry.{Entry}
 use Rattle.page_list.specs.Laws.{BreaksHold, MainStandsOnce, NotesBeginInTime, NotesStandOnce, PagesEndInside}
-use Rattle.book.specs.Document.{Document}
+use Rattle.passes.specs.Passes.{End, settled, unsettled, long, many}
 use Rattle.book.specs.Answer.{Book, IsBookOf}
+use Rattle.book.specs.Document.{Document}
+use Rattle.book.specs.Expect.{given}
+use Rattle.book.specs.Flow.{HasEnd}
+use Rattle.book.specs.Run.{Answers, IsExpected, IsUnforeseen}
+use Rattle.book.specs.declared.outcome.LimitOf.TheVariants as limit
+use Rattle.book.specs.declared.outcome.Outcome.{Outcome}
+use Rattle.book.specs.declared.outcome.Outcome.TheVariants as out
 
 -- what holds of all page lists
 pub record PageLaws : Type 0 where
@@ -13,6 +24,54 @@ pub record PageLaws : Type 0 where
   pub inside : PagesEndInside
   pub begins : NotesBeginInTime
 
--- a document has one book
+-- ---- a document whose nodes are a tree
+
+-- the passes over it end in one way
+abbrev pub HasOneEnd : Type 0
+HasOneEnd = (d : Document) (a b : End) → IsTree d.nodes → HasEnd d a → HasEnd d b → a ≡ b
+
+-- it has one book
 abbrev pub HasOneBook : Type 0
 HasOneBook = (d : Document) (b c : Book) → IsTree d.nodes → IsBookOf d b → IsBookOf d c → b ≡ c
+
+-- ---- a document that is expected of words over a shelf
+
+-- its nodes are a tree
+abbrev pub ExpectedIsTree : Type 0
+ExpectedIsTree = (ws : List (List ℕ)) (told : List ℕ → Told) (d : Document) → IsExpected ws told (given d) →
+    IsTree d.nodes
+
+-- one end of the passes is expected of words over a shelf
+abbrev pub OneEndIsExpected : Type 0
+OneEndIsExpected = (ws : List (List ℕ)) (told : List ℕ → Told) (d e : Document) (a b : End) →
+    IsExpected ws told (given d) → IsExpected ws told (given e) → HasEnd d a → HasEnd e b → a ≡ b
+
+-- and one book
+abbrev pub OneBookIsExpected : Type 0
+OneBookIsExpected = (ws : List (List ℕ)) (told : List ℕ → Told) (d e : Document) (b c : Book) →
+    IsExpected ws told (given d) → IsExpected ws told (given e) → IsBookOf d b → IsBookOf e c → b ≡ c
+
+-- ---- the answer by the end of the passes
+
+-- passes settle in so many, with so many pages
+pub record SettlesWith (end : End) (pages passes : ℕ) : Type 0 where
+  pub flow : Flow
+  pub list : List Page
+  pub table : List Entry
+  pub is : end ≡ settled passes flow list table
+  pub count : pages ≡ length list
+
+-- the answer where passes end so: they settle, and Done tells it, or the book can't be written; a reference doesn't
+-- settle; a limit is passed; or no input explains the answer
+abbrev pub IsAnswerAt : End → Outcome → Type 0
+IsAnswerAt end (out.Done pages passes) = SettlesWith end pages passes
+IsAnswerAt end out.WriteFault = (pages : ℕ) × (passes : ℕ) × SettlesWith end pages passes
+IsAnswerAt end (out.NotSettled target before after) = end ≡ unsettled target before after
+IsAnswerAt end (out.Limit limit.Text) = end ≡ long
+IsAnswerAt end (out.Limit limit.Pages) = end ≡ many
+IsAnswerAt end o = IsUnforeseen o
+
+-- the end of the passes over the document that is expected decides the answer of a run
+abbrev pub AnswersFollowEnds : Type 0
+AnswersFollowEnds = (ws : List (List ℕ)) (told : List ℕ → Told) (old new : Option (List ℕ)) (d : Document) (end : End)
+    (o : Outcome) → IsExpected ws told (given d) → HasEnd d end → Answers ws told old new o → IsAnswerAt end o

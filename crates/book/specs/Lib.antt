@@ -9,5 +9,6 @@ pub mod Keeps
 pub mod Laid
 pub mod Laws
 pub mod Message
+pub mod Refusals
 pub mod Request
 pub mod Run

@@ -2,26 +2,20 @@
 use Rattle.std.specs.Prelude.{ℕ, List, [], ◌∷◌, codes, pos}
 use Rattle.std.specs.Fmt.{signed_decimal}
 use Rattle.std.specs.List.{flat_map}
-use Rattle.listing.specs.Escapes.{shown_byte}
+use Rattle.bk_io.specs.Escapes.{shown_byte}
+use Rattle.bk_num.specs.Limits.{most_file_bytes}
 use Rattle.metrics.specs.declared.fault.MetricsWhy.{MetricsWhy}
 use Rattle.metrics.specs.declared.fault.MetricsWhy.TheVariants as why
 use Rattle.book.specs.declared.outcome.Outcome.{Outcome}
 use Rattle.book.specs.declared.outcome.Outcome.TheVariants as out
-use Rattle.book.specs.declared.outcome.FileOf.{FileOf}
-use Rattle.book.specs.declared.outcome.FileOf.TheVariants as file
 use Rattle.book.specs.declared.outcome.LimitOf.{LimitOf}
 use Rattle.book.specs.declared.outcome.LimitOf.TheVariants as limit
+use Rattle.named_files.specs.Names.{file_words}
 use Rattle.words.specs.declared.fault.WordsFault.TheVariants as words
 
 -- a number in decimal digits
 unfoldable pub decimal : ℕ → List ℕ
 decimal n = signed_decimal (pos n)
-
--- the word for a file, and the number of a sheet
-unfoldable pub file_words : FileOf → List ℕ × List ℕ
-file_words file.Metrics = (codes "metrics", [])
-file_words file.Html = (codes "html", [])
-file_words (file.Sheet n) = (codes "sheet ", decimal n)
 
 -- the word for what is wrong in a metrics text
 unfoldable pub why_text : MetricsWhy → List ℕ
@@ -56,7 +50,8 @@ texts_of (out.NotRead kind) =
     codes "bookfmt: usage: bookfmt format [--passes N] METRICS HTML [CSS ...] or bookfmt sample N\n" ∷ []
 texts_of (out.ReadFault f) = codes "bookfmt: cannot read " ∷ (file_words f).0 ∷ (file_words f).1 ∷ codes "\n" ∷ []
 texts_of (out.TooLarge f) =
-    codes "bookfmt: " ∷ (file_words f).0 ∷ (file_words f).1 ∷ codes " has more than 16777216 bytes\n" ∷ []
+    codes "bookfmt: " ∷ (file_words f).0 ∷ (file_words f).1 ∷ codes " has more than " ∷ decimal most_file_bytes
+    ∷ codes " bytes\n" ∷ []
 texts_of (out.NotUtf8 f at) =
     codes "bookfmt: " ∷ (file_words f).0 ∷ (file_words f).1 ∷ codes " is not UTF-8 at " ∷ decimal at ∷ codes "\n" ∷ []
 texts_of (out.BadMetrics line reason) =

@@ -1,25 +1,16 @@
 -- What the words of the command line ask for.
-use Rattle.std.specs.Prelude.{ℕ, zero, suc, Option, Some, None, List, slice_get}
+use Rattle.std.specs.Prelude.{ℕ, List}
 use Rattle.words.specs.Asked.{Asked, FormatWords, asked as asked_of, format, format_view, sample, refused as not_read}
 use Rattle.words.specs.declared.request.Request.{Request}
 use Rattle.words.specs.declared.request.Request.TheVariants as request
 use Rattle.book.specs.Expect.{Expect, refused, given}
 use Rattle.book.specs.declared.outcome.Outcome.TheVariants as out
-use Rattle.book.specs.declared.outcome.FileOf.{FileOf}
-use Rattle.book.specs.declared.outcome.FileOf.TheVariants as file
 
 -- what the program does: it lists the book of files that are named, or tells the counts of a sample book of so many
 -- chapters
 pub data Task : Type 0 where
   files : FormatWords → Task
   chapters : ℕ → Task
-
--- the name that the words give a file; none for a sheet that they don't name
-abbrev pub name_of : FormatWords → FileOf → Option (List ℕ)
-name_of names file.Metrics = Some names.metrics
-name_of names file.Html = Some names.html
-name_of names (file.Sheet zero) = None
-name_of names (file.Sheet (suc place)) = slice_get names.sheets place
 
 -- the task that is asked for, or the fault of the words
 abbrev pub task_asked : Asked → Expect Task

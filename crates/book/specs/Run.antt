@@ -1,5 +1,5 @@
 -- What the words and the files ask for, and what a run answers.
-use Rattle.std.specs.Prelude.{◌≡◌, ℕ, suc, ◌+◌, ◌≤◌, List, [], ◌∷◌, length, slice_get, take, nat_lt, if◌then◌else◌, Option, None, Some, ◌⊎◌}
+use Rattle.std.specs.Prelude.{◌≡◌, ℕ, suc, ◌≤◌, List, [], ◌∷◌, length, take, nat_lt, if◌then◌else◌, Option, None, Some, ◌⊎◌}
 use Rattle.std.specs.Io.KnownBytes.{Appends, Keeps}
 use Rattle.std.specs.Str.{is_utf8}
 use Rattle.std.specs.Str.Lossy.{utf8_valid_len}
@@ -12,17 +12,18 @@ use Rattle.sheets.specs.Readings.{SheetOf, AreReadings}
 use Rattle.sample.specs.Html.{html_of}
 use Rattle.sample.specs.Texts.{css_text, metrics_text}
 use Rattle.book.specs.Expect.{Expect, free, refused, given, ◌>>=◌, IsRefused}
-use Rattle.book.specs.Request.{Task, files, chapters, name_of, asked}
+use Rattle.named_files.specs.Names.{file_stage, name_of}
+use Rattle.book.specs.Request.{Task, files, chapters, asked}
 use Rattle.words.specs.Asked.{FormatWords}
 use Rattle.book.specs.Document.{Texts, Document, document_of}
 use Rattle.book.specs.Answer.{Book}
-use Rattle.book.specs.Flow.{HasEnd}
+use Rattle.book.specs.Flow.{HasEnd, HasNoReferences}
 use Rattle.book.specs.Keeps.{IsWholeBook}
 use Rattle.book.specs.declared.document.Output.TheVariants as output
 use Rattle.book.specs.declared.outcome.Outcome.{Outcome}
 use Rattle.book.specs.declared.outcome.Outcome.TheVariants as out
-use Rattle.book.specs.declared.outcome.FileOf.{FileOf}
-use Rattle.book.specs.declared.outcome.FileOf.TheVariants as file
+use Rattle.named_files.specs.declared.file.FileOf.{FileOf}
+use Rattle.named_files.specs.declared.file.FileOf.TheVariants as file
 use Rattle.book.specs.declared.outcome.LimitOf.{LimitOf}
 use Rattle.book.specs.declared.outcome.LimitOf.TheVariants as limit
 
@@ -90,12 +91,6 @@ pub record IsExpected (ws : List (List ℕ)) (told : List ℕ → Told) (e : Exp
 abbrev pub OneIsExpected : Type 0
 OneIsExpected = (ws : List (List ℕ)) (told : List ℕ → Told) (d e : Expect Document) → IsExpected ws told d →
     IsExpected ws told e → d ≡ e
-
--- the order of the files
-abbrev pub file_stage : FileOf → ℕ
-file_stage file.Metrics = 1
-file_stage file.Html = 2
-file_stage (file.Sheet n) = 2 + n
 
 -- a file is read before this refusal comes
 abbrev pub IsReadBefore : FileOf → Outcome → Type 0
@@ -183,22 +178,6 @@ HasReadCause task told before now last o = Unit {0}
 abbrev pub StopsAt : FileOf → Expect (List ℕ) → Outcome → Type 0
 StopsAt f e o = IsRefused e o ⊎ ((o ≡ out.ReadFault f) ⊎ (o ≡ out.NoMemory))
 
--- what stops the read of a file is no put, and a read fault only of this file, with its cause
-abbrev pub HasCauseAt : FileOf → Told → List ℕ → ℕ → ℕ → Option (List ℕ) → Outcome → Type 0
-HasCauseAt f told name before now last (out.ReadFault g) = (g ≡ f) × Faulted told name before now last
-HasCauseAt f told name before now last (out.NotRead k) = ⊥
-HasCauseAt f told name before now last (out.Done pages passes) = ⊥
-HasCauseAt f told name before now last out.WriteFault = ⊥
-HasCauseAt f told name before now last o = Unit {0}
-
--- what stops the reads of sheets is of one that is named
-pub record HasSheetCause (names : List (List ℕ)) (told : List ℕ → Told) (before now : ℕ) (last : Option (List ℕ))
-    (o : Outcome) : Type 0 where
-  pub place : ℕ
-  pub name : List ℕ
-  pub is : slice_get names place ≡ Some name
-  pub cause : HasCauseAt (file.Sheet (suc place)) (told name) name before now last o
-
 -- what stops the reads of files is of one that is named, and no put
 abbrev pub IsOfFiles : FormatWords → (List ℕ → Told) → ℕ → ℕ → Option (List ℕ) → Outcome → Type 0
 IsOfFiles names told before now last (out.ReadFault f) = IsFaultOf (name_of names f) told before now last
@@ -275,3 +254,13 @@ IsComplete e shelf_rose out_rose o = Unit {0}
 abbrev pub Completes : List (List ℕ) → (List ℕ → Told) → Type 0 → Type 0 → Outcome → Type 0
 Completes ws told shelf_rose out_rose o =
     (e : Expect Document) × IsExpected ws told e × IsComplete e shelf_rose out_rose o
+
+-- the answer tells one pass where it tells any, and not that page references don't settle
+abbrev pub IsOfOnePass : Outcome → Type 0
+IsOfOnePass (out.Done pages passes) = passes ≡ 1
+IsOfOnePass (out.NotSettled target before after) = ⊥
+IsOfOnePass o = Unit {0}
+
+-- over a document without page references the first pass is the last
+abbrev pub SettlesAtOnce : List (List ℕ) → (List ℕ → Told) → Outcome → Type 0
+SettlesAtOnce ws told o = (d : Document) → IsExpected ws told (given d) → HasNoReferences d → IsOfOnePass o

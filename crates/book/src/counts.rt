@@ -5,7 +5,7 @@ ghost use Rattle.bk_io.specs.Sink.{AppendsAllOrPrefix, HasCause};
 ghost use Rattle.bk_num.specs.Limits.{most_pages};
 ghost use Rattle.book.specs.Counts.{counts_line, is_line, lines_of, lines_on};
 
-use crate::message::put_texts;
+use bk_io::put_all::put_texts;
 use bk_io::sink::{Failed, Sink};
 use boxes::page::{Page, SolidKind};
 use itoa::Buffer;

@@ -5,6 +5,7 @@ mod boxed;
 mod counts;
 pub mod document;
 mod files;
+pub mod laws;
 mod lay_out;
 pub mod message;
 pub mod outcome;

@@ -4,42 +4,21 @@ ghost use Rattle.std.specs.Prelude.{◌≡◌, ◌∷◌, [], codes};
 ghost use Rattle.std.specs.Fmt.{signed_decimal};
 ghost use Rattle.std.specs.List.{flat_map};
 ghost use Rattle.bk_io.specs.Sink.{AppendsAllOrPrefix, HasCause};
-ghost use Rattle.book.specs.Message.{message, shown_target, texts_of, file_words, why_text, limit_text, decimal};
+ghost use Rattle.named_files.specs.Names.{file_words};
+ghost use Rattle.book.specs.Message.{message, shown_target, texts_of, why_text, limit_text, decimal};
 
-use crate::outcome::{FileOf, LimitOf, Outcome};
+use crate::outcome::{LimitOf, Outcome};
 use crate::target::put_target;
-use bk_io::put_all::put_all;
+use bk_io::put_all::{put_all, put_texts};
 use bk_io::sink::{Failed, Sink};
+use bk_num::limits::MOST_FILE_BYTES;
 use itoa::Buffer;
 use metrics::MetricsWhy;
+use named_files::{FileOf, file_words};
 
 /// How the program is called.
 const USAGE: &str =
     "bookfmt: usage: bookfmt format [--passes N] METRICS HTML [CSS ...] or bookfmt sample N\n";
-
-/// Puts some texts one after the other.
-pub(crate) fn put_texts<E: Sink>(sink: &mut E, texts: &[&str]) -> Result<(), Failed>
-    ensures bytes { AppendsAllOrPrefix (E.taken sink.old) (E.taken sink.new) (flat_map (λ t. t.now) texts.now) result }
-    ensures cause { HasCause (E.faults sink.old) (E.faults sink.new) result }
-{
-    for text in texts {
-        put_all(sink, text.as_bytes())?;
-    }
-    Ok(())
-}
-
-/// The word for a file, and the number of a sheet.
-#[tactic(auto, unfolding(crate::specs::Message::file_words, crate::specs::Message::decimal))]
-fn file_words(file: FileOf, buffer: &mut Buffer) -> (&'static str, &str)
-    ensures word { result.0.now ≡ (file_words file).0 }
-    ensures number { result.1.now ≡ (file_words file).1 }
-{
-    match file {
-        FileOf::Metrics => ("metrics", ""),
-        FileOf::Html => ("html", ""),
-        FileOf::Sheet(number) => ("sheet ", buffer.format(number)),
-    }
-}
 
 #[tactic(auto, unfolding(crate::specs::Message::why_text))]
 fn why_text(why: MetricsWhy) -> &'static str
@@ -80,41 +59,44 @@ fn put_limit_line<E: Sink>(err: &mut E, what: LimitOf) -> Result<(), Failed>
     put_texts(err, &["bookfmt: limit: ", limit_text(what), "\n"])
 }
 
-/// Puts a line that tells of a file.
-fn put_file_line<E: Sink>(
-    err: &mut E,
-    before: &'static str,
-    file: FileOf,
-    after: &'static str,
-) -> Result<(), Failed>
+/// Puts the line that tells which file can't be read.
+fn put_unread_line<E: Sink>(err: &mut E, file: FileOf) -> Result<(), Failed>
     ensures bytes { AppendsAllOrPrefix (E.taken err.old) (E.taken err.new)
-        (flat_map (λ t. t) (before.now ∷ (file_words file).0 ∷ (file_words file).1 ∷ after.now ∷ [])) result }
+        (flat_map (λ t. t) (codes "bookfmt: cannot read " ∷ (file_words file).0 ∷ (file_words file).1 ∷ codes "\n"
+        ∷ [])) result }
     ensures cause { HasCause (E.faults err.old) (E.faults err.new) result }
 {
     let mut buffer = Buffer::new();
     let (word, number) = file_words(file, &mut buffer);
-    put_texts(err, &[before, word, number, after])
+    put_texts(err, &["bookfmt: cannot read ", word, number, "\n"])
 }
 
-/// Puts a line that tells of a place in a file.
+/// Puts a line that tells of a file and of a number of its bytes.
 #[tactic(auto, unfolding(crate::specs::Message::decimal))]
-fn put_place_line<E: Sink>(
+fn put_bytes_line<E: Sink>(
     err: &mut E,
-    before: &'static str,
     file: FileOf,
-    between: &'static str,
-    at: u64,
+    before: &'static str,
+    count: u64,
+    after: &'static str,
 ) -> Result<(), Failed>
     ensures bytes { AppendsAllOrPrefix (E.taken err.old) (E.taken err.new)
-        (flat_map (λ t. t) (before.now ∷ (file_words file).0 ∷ (file_words file).1 ∷ between.now ∷ decimal at
-        ∷ codes "\n" ∷ [])) result }
+        (flat_map (λ t. t) (codes "bookfmt: " ∷ (file_words file).0 ∷ (file_words file).1 ∷ before.now
+        ∷ decimal count ∷ after.now ∷ [])) result }
     ensures cause { HasCause (E.faults err.old) (E.faults err.new) result }
 {
     let (mut first, mut second) = (Buffer::new(), Buffer::new());
     let (word, number) = file_words(file, &mut first);
     put_texts(
         err,
-        &[before, word, number, between, second.format(at), "\n"],
+        &[
+            "bookfmt: ",
+            word,
+            number,
+            before,
+            second.format(count),
+            after,
+        ],
     )
 }
 
@@ -206,20 +188,17 @@ pub fn put_message<E: Sink>(err: &mut E, outcome: &Outcome) -> Result<(), Failed
     match outcome {
         Outcome::Done { pages, passes } => put_pages_line(err, *pages, *passes),
         Outcome::NotRead { .. } => put_texts(err, &[USAGE]),
-        Outcome::ReadFault { file } => put_file_line(err, "bookfmt: cannot read ", *file, "\n"),
-        Outcome::TooLarge { file } => put_file_line(
+        Outcome::ReadFault { file } => put_unread_line(err, *file),
+        Outcome::TooLarge { file } => put_bytes_line(
             err,
-            "bookfmt: ",
             *file,
-            " has more than 16777216 bytes\n",
+            " has more than ",
+            MOST_FILE_BYTES,
+            " bytes\n",
         ),
-        Outcome::NotUtf8 { file, at } => put_place_line(
-            err,
-            "bookfmt: ",
-            *file,
-            " is not UTF-8 at ",
-            *at,
-        ),
+        Outcome::NotUtf8 { file, at } => {
+            put_bytes_line(err, *file, " is not UTF-8 at ", *at, "\n")
+        }
         Outcome::BadMetrics { line, why } => put_metrics_line(err, *line, *why),
         Outcome::NotSettled {
             target,

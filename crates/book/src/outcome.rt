@@ -3,8 +3,12 @@
 ghost use Rattle.std.specs.Prelude.{◌≡◌};
 ghost use Rattle.book.specs.Message.{status_of};
 
+use bk_io::read_text::TextErr;
 use bk_num::name::Name;
 use metrics::MetricsWhy;
+use named_files::FileFault;
+pub use named_files::FileOf;
+use words::WordsErr;
 pub use words::WordsFault;
 
 /// What a run answers.
@@ -66,12 +70,35 @@ pub enum LimitOf {
     Pages,
 }
 
-/// One of the files that the words name. Sheets are numbered from 1.
-#[derive(Clone, Copy, Debug, PartialEq, Eq)]
-pub enum FileOf {
-    Metrics,
-    Html,
-    Sheet(u64),
+impl From<WordsErr> for Outcome {
+    ghost use Rattle.std.specs.Prelude.{◌≡◌};
+    ghost use Rattle.book.specs.Refusals.{words_refusal};
+
+    ghost from_gives = { λ e o. o ≡ words_refusal e };
+
+    fn from(e: WordsErr) -> Outcome {
+        match e {
+            WordsErr::Fault(kind) => Outcome::NotRead { kind },
+            WordsErr::NoMemory => Outcome::NoMemory,
+        }
+    }
+}
+
+impl From<FileFault> for Outcome {
+    ghost use Rattle.std.specs.Prelude.{◌≡◌};
+    ghost use Rattle.book.specs.Refusals.{file_refusal};
+
+    ghost from_gives = { λ e o. o ≡ file_refusal e.file e.why };
+
+    fn from(e: FileFault) -> Outcome {
+        let file = e.file;
+        match e.why {
+            TextErr::Failed => Outcome::ReadFault { file },
+            TextErr::TooLarge => Outcome::TooLarge { file },
+            TextErr::NotUtf8 { at } => Outcome::NotUtf8 { file, at },
+            TextErr::NoMemory => Outcome::NoMemory,
+        }
+    }
 }
 
 impl Outcome {

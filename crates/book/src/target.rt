@@ -2,11 +2,11 @@
 
 ghost use Rattle.bk_io.specs.Sink.{AppendsAllOrPrefix, HasCause};
 ghost use Rattle.book.specs.Message.{shown_target};
-ghost use Rattle.listing.specs.Escapes.{shown_byte};
+ghost use Rattle.bk_io.specs.Escapes.{shown_byte};
 
+use bk_io::escape::{has_no_control, shown_byte};
 use bk_io::put_all::put_all;
 use bk_io::sink::{Failed, Sink};
-use listing::escape::{has_no_control, shown_byte};
 
 /// Puts a byte of a target.
 fn put_byte<E: Sink>(err: &mut E, b: u8) -> Result<(), Failed>

@@ -1,7 +1,7 @@
 //! The program as a function of a runtime: hands its words, the real files and the standard streams to `run`, and
 //! ends with the answer's status.
 
-ghost use Rattle.std.specs.Prelude.{◌≡◌, ◌<◌, drop};
+ghost use Rattle.std.specs.Prelude.{◌≡◌, ◌<◌};
 ghost use Rattle.book.specs.Message.{message};
 ghost use Rattle.book.specs.Run.{PutsLine};
 ghost use Rattle.book.specs.declared.outcome.Outcome.{Outcome};
@@ -13,37 +13,21 @@ use bk_io::sink::Sink;
 use bk_io::std_sink::StdSink;
 use bk_num::steps::Steps;
 use book::message::put_message;
-use book::outcome::{Outcome, WordsFault};
+use book::outcome::Outcome;
 use book::run::run;
 use std::alloc::Global;
-use std::env::{self, Env};
-use std::io::ErrorKind;
+use std::env::Env;
 use std::marker::Brand;
 use std::process::ExitCode;
 use std::sync::ledger::{Blank, Ledger};
+use words::program_words;
 
 /// The words of the command line after the program's name, or the answer where they can't be had.
-fn words(alloc: Global, rt: &(impl Env + AllocGlobal)) -> Result<Vec<String>, Outcome> {
-    match env::args(rt) {
-        Ok(args) => match args.collect(alloc) {
-            Ok(words) => Ok(after_name(words)),
-            Err(_) => Err(Outcome::NoMemory),
-        },
-        Err(e) if e.kind() == ErrorKind::OutOfMemory => Err(Outcome::NoMemory),
-        Err(_) => Err(Outcome::NotRead {
-            kind: WordsFault::Refused,
-        }),
+fn asked_words(alloc: Global, rt: &(impl Env + AllocGlobal)) -> Result<Vec<String>, Outcome> {
+    match program_words(alloc, rt) {
+        Ok(words) => Ok(words),
+        Err(e) => Err(Outcome::from(e)),
     }
-}
-
-/// The words after the first one, which is the program's name.
-fn after_name(mut words: Vec<String>) -> Vec<String>
-    ensures { result.items ≡ drop 1 words.items }
-{
-    if !words.is_empty() {
-        let _name = words.remove(0);
-    }
-    words
 }
 
 /// Answers the words, and puts the line of the answer on `err`.
@@ -55,7 +39,10 @@ fn answer<F: Shelf, O: Sink, E: Sink, L: Ledger>(
     err: &mut E,
     steps: &mut Steps<L>,
 ) -> Outcome
-    ensures answer { IsAnswer words (F.told shelf.old) (O.taken out.old) (O.taken out.new) result }
+    ensures answer { IsAnswer words
+        (record { told = F.told shelf.old; before = F.faults shelf.old; now = F.faults shelf.new; last = F.last_fault shelf.new })
+        (record { old = O.taken out.old; new = O.taken out.new; before = O.faults out.old; now = O.faults out.new })
+        result }
     ensures line { PutsLine (E.taken err.old) (E.taken err.new) (E.faults err.old) (E.faults err.new) (message result) }
 {
     match words {
@@ -68,7 +55,7 @@ fn answer<F: Shelf, O: Sink, E: Sink, L: Ledger>(
 }
 
 /// Answers the words with a counter of its own, and gives the status that the program ends with: that of what `run`
-/// answers to these words, whose line was put on `err`.
+/// answers to these words, with all that it says of its answer, whose line was put on `err`.
 fn end<F: Shelf, O: Sink, E: Sink, L: Ledger>(
     alloc: Global,
     words: Result<Vec<String>, Outcome>,
@@ -80,7 +67,10 @@ fn end<F: Shelf, O: Sink, E: Sink, L: Ledger>(
     requires name { token.name ≡ L.name }
     requires parts { token.parts ≡ L.parts }
     requires some { 0 < L.parts }
-    ensures { (answer : Outcome) × IsAnswer words (F.told shelf.old) (O.taken out.old) (O.taken out.new) answer
+    ensures { (answer : Outcome) × IsAnswer words
+        (record { told = F.told shelf.old; before = F.faults shelf.old; now = F.faults shelf.new; last = F.last_fault shelf.new })
+        (record { old = O.taken out.old; new = O.taken out.new; before = O.faults out.old; now = O.faults out.new })
+        answer
         × EndsWith answer (E.taken err.old) (E.taken err.new) (E.faults err.old) (E.faults err.new) result }
 {
     let mut steps = Steps::<L>::zero(token);
@@ -94,6 +84,6 @@ pub(crate) fn program(rt: &HostRuntime) -> ExitCode {
     let mut shelf = DirShelf::new(alloc, rt);
     let mut out = StdSink::new(rt.stdout());
     let mut err = StdSink::new(rt.stderr());
-    let words = words(alloc, rt);
+    let words = asked_words(alloc, rt);
     end::<_, _, _, Brand>(alloc, words, &mut shelf, &mut out, &mut err, Blank::new(1))
 }

@@ -7,11 +7,15 @@ returns-in-NotRead-clause-bytes g c = rw c.in-NotRead.is c.put_texts.ensures.byt
 
 pub returns-in-ReadFault-clause-bytes : goal.returns-in-ReadFault-clause-bytes
 unfolding texts_of
-returns-in-ReadFault-clause-bytes g c = rw c.in-ReadFault.is c.put_file_line.ensures.bytes
+returns-in-ReadFault-clause-bytes g c = rw c.in-ReadFault.is c.put_unread_line.ensures.bytes
+
+pub returns-in-TooLarge-clause-bytes : goal.returns-in-TooLarge-clause-bytes
+unfolding texts_of
+returns-in-TooLarge-clause-bytes g c = rw c.in-TooLarge.is c.put_bytes_line.ensures.bytes
 
 pub returns-in-NotUtf8-clause-bytes : goal.returns-in-NotUtf8-clause-bytes
 unfolding texts_of
-returns-in-NotUtf8-clause-bytes g c = rw c.in-NotUtf8.is c.put_place_line.ensures.bytes
+returns-in-NotUtf8-clause-bytes g c = rw c.in-NotUtf8.is c.put_bytes_line-in-NotUtf8.ensures.bytes
 
 pub returns-in-WriteFault-clause-bytes : goal.returns-in-WriteFault-clause-bytes
 unfolding texts_of

@@ -4,7 +4,7 @@ use Rattle.std.specs.Fmt.{signed_decimal}
 use Rattle.std.specs.List.{flat_map}
 use Rattle.std.proofs.lemmas.Result.{err_from_is_err_and}
 use Rattle.book.specs.Message.{shown_target}
-use Rattle.book.proofs.PutLemmas.{put_after, put_first_in_part}
+use Rattle.bk_io.proofs.Putting.{put_after, put_first_in_part}
 use Rattle.book.proofs.message.put_reference_line.Goals as goal
 
 pub returns-in_err-put_all-clause-bytes : goal.returns-in_err-put_all-clause-bytes

@@ -4,8 +4,8 @@ use Rattle.std.specs.Io.KnownBytes.{Appends}
 use Rattle.std.proofs.lemmas.List.{take_all}
 use Rattle.std.proofs.lemmas.Result.{err_from_is_err_and}
 use Rattle.bk_io.specs.Sink.{AppendsAllOrPrefix}
-use Rattle.listing.specs.Escapes.{shown_byte}
-use Rattle.book.proofs.PutLemmas.{put_in_part}
+use Rattle.bk_io.specs.Escapes.{shown_byte}
+use Rattle.bk_io.proofs.Putting.{put_in_part}
 use Rattle.book.proofs.target.put_bytes.Goals as goal
 
 pub returns-in_err-put_byte-clause-bytes : goal.returns-in_err-put_byte-clause-bytes

@@ -1,7 +1,7 @@
 use Rattle.std.proofs.Common.{◌≤◌, take}
 use Rattle.std.specs.List.{flat_map}
 use Rattle.std.specs.Io.KnownBytes.{Appends}
-use Rattle.listing.specs.Escapes.{shown_byte}
+use Rattle.bk_io.specs.Escapes.{shown_byte}
 use Rattle.book.proofs.target.put_bytes.Given as goal
 
 abbrev pub invariant-loop-b : goal.invariant-loop-b

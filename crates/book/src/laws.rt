@@ -1,0 +1,52 @@
+//! Laws of what is expected of words over a shelf: that it is one, and that it decides the answer. Each function
+//! carries laws, and changes nothing.
+
+ghost use Rattle.book.specs.Laws.{AnswersFollowEnds, ExpectedIsTree, HasOneBook, HasOneEnd, OneBookIsExpected, OneEndIsExpected};
+ghost use Rattle.book.specs.Run.{OneIsExpected};
+
+use computed::laws::styles_are_one;
+use css_rules::sheet::one_reading;
+use gen_text::laws::targets_are_one;
+use html_tree::laws::texts_are_trees;
+use passes::laws::one_end;
+use sheets::laws::page_rules_are_one;
+
+/// One thing is expected of words over a shelf.
+pub fn one_is_expected()
+    ensures { OneIsExpected }
+{
+    one_reading();
+}
+
+/// The passes over a document whose nodes are a tree end in one way, and it has one book.
+pub fn one_book()
+    ensures end { HasOneEnd }
+    ensures book { HasOneBook }
+{
+    one_reading();
+    styles_are_one();
+    targets_are_one();
+    page_rules_are_one();
+    one_end();
+}
+
+/// The nodes of a document that is expected of words over a shelf are a tree. So one end of the passes is expected, and
+/// one book.
+pub fn one_book_is_expected()
+    ensures tree { ExpectedIsTree }
+    ensures end { OneEndIsExpected }
+    ensures book { OneBookIsExpected }
+{
+    one_is_expected();
+    one_book();
+    texts_are_trees();
+}
+
+/// How the passes over the document that is expected end decides the answer of a run, want of memory and the faults of
+/// shelf and sink aside. So NotSettled and the limits of text and of pages come exactly where the passes end so.
+pub fn answers_follow_ends()
+    ensures { AnswersFollowEnds }
+{
+    one_is_expected();
+    one_book_is_expected();
+}
