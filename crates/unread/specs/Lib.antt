@@ -1,3 +1,4 @@
+pub mod Causes
 pub mod Report
 pub mod Run
 pub mod Status

@@ -1,10 +1,10 @@
 -- The lines of a report: one for each thing that is found, in the order of the sheets and of their texts, and then
 -- those of the document.
-use Rattle.std.specs.Prelude.{ℕ, zero, suc, ◌+◌, ◌/◌, ◌%◌, not, ◌||◌, if◌then◌else◌, ◌==◌, nat_lt, List, [], ◌∷◌, ◌++◌, take, map, codes, pos, slice_index, unwrap_or}
+use Rattle.std.specs.Prelude.{ℕ, zero, suc, ◌+◌, not, if◌then◌else◌, ◌==◌, List, [], ◌∷◌, ◌++◌, take, map, codes, pos, slice_index, unwrap_or}
 use Rattle.css_tok.specs.Lengths.{is_blank}
-use Rattle.std.specs.Char.{digit_char}
 use Rattle.std.specs.Fmt.{signed_decimal}
 use Rattle.std.specs.List.{flat_map, prefix_len}
+use Rattle.bk_io.specs.Escapes.{shown_byte}
 use Rattle.dom.specs.Nodes.{Node, attribute_at}
 use Rattle.metrics.specs.Face.{FontFace}
 use Rattle.sheets.specs.Sheets.{element_sheets}
@@ -18,12 +18,6 @@ use Rattle.unread_list.specs.declared.elements.Idle.TheVariants as idle
 abbrev pub decimal : ℕ → List ℕ
 decimal n = signed_decimal (pos n)
 
--- a byte as a line shows it: a control character is `\x` and two digits, so that a text can't command a terminal;
--- others stand as they are
-unfoldable pub shown_byte : ℕ → List ℕ
-shown_byte b =
-    if nat_lt b 32 || b == 127 then 92 ∷ 120 ∷ digit_char (b / 16) ∷ digit_char (b % 16) ∷ [] else b ∷ []
-
 -- how long a text is up to its first line feed, which is 10
 abbrev pub line_len : List ℕ → ℕ
 line_len text = prefix_len (λ b. not (b == 10)) text
@@ -33,7 +27,8 @@ unfoldable pub trimmed_len : List ℕ → ℕ → ℕ
 trimmed_len bs zero = 0
 trimmed_len bs (suc n) = if is_blank (slice_index bs n) then trimmed_len bs n else suc n
 
--- what a line shows of a text: its first line, without the white space at its end
+-- what a line shows of a text: its first line, without the white space at its end, its controls so that a text can't
+-- command a terminal
 abbrev pub shown : List ℕ → List ℕ
 shown text = flat_map shown_byte (take (trimmed_len text (line_len text)) text)
 

@@ -2,7 +2,6 @@
 #![tactic(auto)]
 
 mod command;
-mod files;
 mod message;
 mod outcome;
 mod report;

@@ -3,13 +3,9 @@
 ghost use Rattle.std.specs.Prelude.{◌≡◌};
 ghost use Rattle.unread.specs.Status.{status_of};
 
-/// One of the files that the words name. Sheets are numbered from 1.
-#[derive(Clone, Copy)]
-pub enum FileOf {
-    Metrics,
-    Html,
-    Sheet(u64),
-}
+use bk_io::read_text::TextErr;
+use named_files::{FileFault, FileOf};
+use words::{WordsErr, WordsFault};
 
 /// What a run comes to.
 #[derive(Clone, Copy)]
@@ -36,6 +32,37 @@ pub enum Outcome {
     CannotWrite,
     /// Memory ran out.
     NoMemory,
+}
+
+impl From<WordsErr> for Outcome {
+    ghost use Rattle.std.specs.Prelude.{◌≡◌};
+    ghost use Rattle.unread.specs.Causes.{words_refusal};
+
+    ghost from_gives = { λ e o. o ≡ words_refusal e };
+
+    fn from(e: WordsErr) -> Outcome {
+        match e {
+            WordsErr::Fault(WordsFault::Help) => Outcome::Help,
+            WordsErr::Fault(_) => Outcome::Usage,
+            WordsErr::NoMemory => Outcome::NoMemory,
+        }
+    }
+}
+
+impl From<FileFault> for Outcome {
+    ghost use Rattle.std.specs.Prelude.{◌≡◌};
+    ghost use Rattle.unread.specs.Causes.{file_refusal};
+
+    ghost from_gives = { λ e o. o ≡ file_refusal e.file e.why };
+
+    fn from(e: FileFault) -> Outcome {
+        match e.why {
+            TextErr::Failed => Outcome::CannotRead(e.file),
+            TextErr::TooLarge => Outcome::TooLarge(e.file),
+            TextErr::NotUtf8 { .. } => Outcome::NotUtf8(e.file),
+            TextErr::NoMemory => Outcome::NoMemory,
+        }
+    }
 }
 
 impl Outcome {

@@ -1,10 +1,11 @@
 //! Texts of a report.
 
-ghost use Rattle.std.specs.Prelude.{◌≡◌, ◌<◌, ◌≤◌, ◌++◌, ◌==◌, not, length, OnOk};
-ghost use Rattle.std.specs.Char.{digit_char};
+ghost use Rattle.std.specs.Prelude.{◌≡◌, ◌≤◌, ◌++◌, ◌==◌, not, length, OnOk};
 ghost use Rattle.std.specs.List.{flat_map};
+ghost use Rattle.bk_io.specs.Escapes.{shown_byte};
 ghost use Rattle.unread.specs.Report as spec;
 
+use bk_io::escape::shown_byte;
 use bk_num::name::NoMem;
 use css_tok::lengths::is_blank;
 use itoa::Buffer;
@@ -22,26 +23,6 @@ pub(crate) fn push_number(out: &mut Vec<u8>, number: u64) -> Result<(), NoMem>
 {
     let mut buffer = Buffer::new();
     push(out, buffer.format(number))
-}
-
-/// A hexadecimal digit in lower case.
-fn hex_digit(n: u8) -> u8
-    requires { n < 16 }
-    ensures { result ≡ digit_char n }
-{
-    if n < 10 { b'0' + n } else { b'a' + (n - 10) }
-}
-
-/// Appends a byte of a text as a line shows it.
-#[tactic(auto, unfolding(crate::specs::Report::shown_byte))]
-fn push_byte(out: &mut Vec<u8>, b: u8) -> Result<(), NoMem>
-    ensures { OnOk result (out.new.items ≡ out.old.items ++ spec.shown_byte b) }
-{
-    if b < 32 || b == 127 {
-        Ok(out.extend_from_slice(&[b'\\', b'x', hex_digit(b / 16), hex_digit(b % 16)])?)
-    } else {
-        Ok(out.extend_from_slice(&[b])?)
-    }
 }
 
 /// How long the first line of a text is.
@@ -72,10 +53,10 @@ fn trimmed_len(text: &[u8], len: usize) -> usize
 
 /// Appends bytes as a line shows them.
 fn push_bytes(out: &mut Vec<u8>, bytes: &[u8]) -> Result<(), NoMem>
-    ensures { OnOk result (out.new.items ≡ out.old.items ++ flat_map spec.shown_byte bytes.now) }
+    ensures { OnOk result (out.new.items ≡ out.old.items ++ flat_map shown_byte bytes.now) }
 {
     for b in bytes {
-        push_byte(out, *b)?;
+        out.extend_from_slice(shown_byte(*b).as_slice())?;
     }
     Ok(())
 }

@@ -1,5 +1,5 @@
 -- Families that declarations name, and those among them without a face (CSS 2.1, 15.3 and 15.5).
-use Rattle.std.specs.Prelude.{ℕ, Bool, not, List, [], ◌∷◌, Option, Some, None, map, if◌then◌else◌}
+use Rattle.std.specs.Prelude.{◌≡◌, ℕ, Bool, not, List, [], ◌∷◌, Option, Some, None, map, if◌then◌else◌}
 use Rattle.std.specs.List.{filter, flat_map}
 use Rattle.css_rules.specs.Decls.{Decl}
 use Rattle.css_values.specs.Decls.{read_decl}
@@ -15,7 +15,7 @@ use Rattle.style.specs.declared.long.Given.TheVariants as given
 use Rattle.metrics.specs.Face.{FontFace}
 use Rattle.metrics.specs.Choice.{family_name, names_some}
 use Rattle.unread_list.specs.Parts.{PartOf, Declaration, PlacedOf, parts_of}
-use Rattle.unread_list.specs.Reading.{is_read}
+use Rattle.unread_list.specs.Reading.{is_read, unread_of}
 use Rattle.unread_list.specs.declared.part.Owner.{Owner}
 use Rattle.unread_list.specs.declared.part.Owner.TheVariants as owner
 
@@ -75,3 +75,12 @@ part_findings faces p = if is_read p.part then faceless faces p.line (families_i
 -- what is found in a sheet, in the order of its text
 abbrev pub findings_of : List FontFace → List ℕ → List FindingOf
 findings_of faces text = flat_map (part_findings faces) (parts_of text)
+
+-- the part without a reading that is found, if it is one
+abbrev pub unread_in : FindingOf → List PlacedOf
+unread_in (Unread p) = p ∷ []
+unread_in (Family line name) = []
+
+-- the parts without a reading among what is found in a sheet are those that have none
+abbrev pub UnreadIsFound : Type 0
+UnreadIsFound = (faces : List FontFace) (text : List ℕ) → flat_map unread_in (findings_of faces text) ≡ unread_of text

@@ -5,9 +5,10 @@
 pub mod elements;
 pub mod families;
 pub mod finding;
+pub mod laws;
 pub mod lines;
 pub mod part;
 pub mod reader;
-pub mod reading;
+mod reading;
 pub mod sheet;
 mod steps;

@@ -1,12 +1,11 @@
 //! Which parts of a sheet have no reading.
 
-ghost use Rattle.std.specs.Prelude.{◌≡◌, ◌++◌, ◌∷◌, [], map, if◌then◌else◌, option_map, IfOk, OnOk};
+ghost use Rattle.std.specs.Prelude.{◌≡◌, option_map, IfOk};
 ghost use Rattle.css_rules.specs.Decls.{decl_in};
-ghost use Rattle.unread_list.specs.Steps.{part_in, placed_in};
+ghost use Rattle.unread_list.specs.Steps.{part_in};
 ghost use Rattle.unread_list.specs.Reading as spec;
 
-use crate::part::{Owner, Part, Placed};
-use crate::sheet::sheet_parts;
+use crate::part::{Owner, Part};
 use bk_num::name::NoMem;
 use css_page::decls::{read_box_decl, read_page_decl};
 use css_page::selectors::read_selectors as read_page_selectors;
@@ -81,33 +80,4 @@ pub(crate) fn is_read(alloc: Global, part: &Part<'_>) -> Result<bool, NoMem>
         Part::Declaration(owner, _, decl) => is_read_piece(alloc, *owner, decl),
         Part::AtRule(_) | Part::Media(_) | Part::NoBlock(_) => Ok(false),
     }
-}
-
-/// Appends a part that has no reading.
-fn push_unread<'a>(
-    alloc: Global,
-    found: &mut Vec<Placed<'a>>,
-    placed: &Placed<'a>,
-) -> Result<(), NoMem>
-    ensures { OnOk result (map placed_in found.new.items ≡ map placed_in found.old.items ++
-        (if spec.is_read (part_in placed.now.part) then [] else placed_in placed.now ∷ [])) }
-{
-    if !is_read(alloc, &placed.part)? {
-        found.push(*placed)?;
-    }
-    Ok(())
-}
-
-/// What of a sheet has no reading, and nothing else, in the order of its text, each part with its line: each selector
-/// list, each page selector list and each declaration that its reader reads as None, each piece of a block that is no
-/// declaration, and each at-rule, media list and prelude that gives nothing. It takes time in proportion to the text.
-pub fn unread_parts<'a>(alloc: Global, text: &'a str) -> Result<Vec<Placed<'a>>, NoMem>
-    ensures { IfOk result (λ v. map placed_in v.items ≡ spec.unread_of text.now) }
-{
-    let parts = sheet_parts(alloc, text)?;
-    let mut found = Vec::new(alloc);
-    for placed in &parts {
-        push_unread(alloc, &mut found, placed)?;
-    }
-    Ok(found)
 }

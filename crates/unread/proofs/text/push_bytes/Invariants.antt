@@ -1,6 +1,6 @@
 use Rattle.std.proofs.Common.{◌≡◌, ◌++◌, drop}
 use Rattle.std.specs.List.{flat_map}
-use Rattle.unread.specs.Report.{shown_byte}
+use Rattle.bk_io.specs.Escapes.{shown_byte}
 use Rattle.unread.proofs.text.push_bytes.Given as goal
 
 abbrev pub invariant-loop-b : goal.invariant-loop-b
