@@ -139,4 +139,4 @@ def main(arguments):
 
 
 if __name__ == "__main__":
-    faults.run("metrics", main)
+    faults.run("metrics", main, ("fontTools",))

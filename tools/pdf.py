@@ -275,4 +275,4 @@ def main(arguments):
 
 
 if __name__ == "__main__":
-    faults.run("pdf", main)
+    faults.run("pdf", main, ("fontTools", "pikepdf"))

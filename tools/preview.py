@@ -194,4 +194,4 @@ def main(arguments):
 
 
 if __name__ == "__main__":
-    faults.run("preview", main)
+    faults.run("preview", main, ("fontTools",))

@@ -1,10 +1,15 @@
 """Faults that a user can mend, told in one line, and the packages that a tool needs."""
 import argparse
 import importlib
+import importlib.util
 import os
+import subprocess
 import sys
 
 BAD_WORDS = 2
+
+# the Python for which Debian's packages are installed, whichever comes first in PATH
+SYSTEM_PYTHON = "/usr/bin/python3"
 
 # the name at the Python Package Index and Debian's package of each module
 PACKAGES = {"fontTools": ("fonttools", "python3-fonttools"), "pikepdf": ("pikepdf", "python3-pikepdf")}
@@ -24,6 +29,16 @@ def need(module):
             f"the Python package {package} is missing in {sys.executable}: "
             f"`pip install {package}`, or on Debian `apt-get install {debian}`"
         ) from None
+
+
+def go_on_where_packages_are(modules):
+    """Starts the tool again in the system's Python where this one lacks a module of these and that one has them all."""
+    here, system = os.path.realpath(sys.executable), os.path.realpath(SYSTEM_PYTHON)
+    if here == system or not os.access(system, os.X_OK) or all(importlib.util.find_spec(name) for name in modules):
+        return
+    asked = subprocess.run([SYSTEM_PYTHON, "-c", f"import {', '.join(modules)}"], capture_output=True, check=False)
+    if asked.returncode == 0:
+        os.execv(SYSTEM_PYTHON, [SYSTEM_PYTHON, *sys.argv])
 
 
 def read_text(path):
@@ -67,9 +82,11 @@ class Words(argparse.ArgumentParser):
         raise Fault(f"{message}; usage: {usage}")
 
 
-def run(name, main):
-    """Ends the process with the status of `main`, which takes the words; a fault is one line and status 2."""
+def run(name, main, modules=()):
+    """Ends the process with the status of `main`, which takes the words and needs modules of these names; a fault is
+    one line and status 2."""
     try:
+        go_on_where_packages_are(modules)
         status = main(sys.argv[1:])
         sys.stdout.flush()
     except Fault as fault:
