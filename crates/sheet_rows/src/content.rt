@@ -3,7 +3,7 @@
 use crate::printed::Printed;
 use crate::rules::repeated;
 use crate::unanswered::{Answered, Unanswered, done};
-use css_content::content::content;
+use css_content::content::{ContentPlace, content};
 use css_content::counters::counter_list;
 use css_content::strings::string_sets;
 use css_words::reader::{Reader, Skipped};
@@ -24,7 +24,7 @@ fn print_found<T: Printed + Drop>(into: &mut String, found: T) -> Answered {
 
 fn parts(alloc: Global, into: &mut String, text: &str) -> Answered {
     let mut reader = Reader::new(text, Skipped::CommentsAndSpaces);
-    print_found(into, content(alloc, &mut reader)?)?;
+    print_found(into, content(alloc, &mut reader, ContentPlace::Content)?)?;
     at_end(&reader)
 }
 
