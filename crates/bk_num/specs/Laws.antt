@@ -1,5 +1,6 @@
 -- What rounding and clamping keep.
-use Rattle.std.specs.Prelude.{◌≡◌, ℕ, ◌<◌, ◌≤◌, ◌^◌, ℤ, ◌≤ℤ◌, unsigned_abs}
+use Rattle.std.specs.Prelude.{◌≡◌, ℕ, ◌<◌, ◌≤◌, ℤ, ◌≤ℤ◌, unsigned_abs}
+use Rattle.bk_num.specs.Limits.{most_length}
 use Rattle.bk_num.specs.Units.{clamped, rounded}
 
 -- clamping keeps the order
@@ -8,11 +9,11 @@ ClampingKeepsOrder = (x y : ℤ) → x ≤ℤ y → clamped x ≤ℤ clamped y
 
 -- a number within the bounds stays
 abbrev pub ClampingKeepsSmall : Type 0
-ClampingKeepsSmall = (x : ℤ) → unsigned_abs x ≤ 2 ^ 27 → clamped x ≡ x
+ClampingKeepsSmall = (x : ℤ) → unsigned_abs x ≤ most_length → clamped x ≡ x
 
 -- what is clamped is within the bounds
 abbrev pub ClampingBounds : Type 0
-ClampingBounds = (x : ℤ) → unsigned_abs (clamped x) ≤ 2 ^ 27
+ClampingBounds = (x : ℤ) → unsigned_abs (clamped x) ≤ most_length
 
 -- rounding keeps the order
 abbrev pub RoundingKeepsOrder : Type 0

@@ -1,7 +1,12 @@
+pub mod Chars
+pub mod Colors
 pub mod Laws
 pub mod Lengths
 pub mod Limits
+pub mod Names
 pub mod Numbers
+pub mod Ranges
 pub mod Sides
 pub mod Tables
 pub mod Units
+pub mod Written

@@ -1,6 +1,6 @@
 -- The limits of the program, and the sizes that a page has where no sheet says another, in units of 1/64 px.
-use Rattle.std.specs.Prelude.{◌≡◌, ℕ, ℤ, pos}
-use Rattle.bk_num.specs.declared.limits.TheConstants.{MOST_NODES, MOST_DEPTH, MOST_FILE_BYTES, MOST_TEXT_BYTES, MOST_PAGES, MOST_SHEETS, MOST_RULES, MOST_EVENTS, MOST_OPEN, MOST_ENTRIES, PAGE_WIDTH, PAGE_HEIGHT, PAGE_MARGIN, ROOT_SIZE, SEPARATOR}
+use Rattle.std.specs.Prelude.{◌≡◌, ◌^◌, ℕ, ℤ, pos}
+use Rattle.bk_num.specs.declared.limits.TheConstants.{MOST_NODES, MOST_DEPTH, MOST_FILE_BYTES, MOST_TEXT_BYTES, MOST_PAGES, MOST_SHEETS, MOST_RULES, MOST_EVENTS, MOST_OPEN, MOST_ENTRIES, MOST_LENGTH, PAGE_WIDTH, PAGE_HEIGHT, PAGE_MARGIN, ROOT_SIZE, SEPARATOR}
 
 -- the most nodes of a document, elements and texts
 abbrev pub most_nodes : ℕ
@@ -42,6 +42,10 @@ most_open = 2048
 abbrev pub most_entries : ℕ
 most_entries = 67108864
 
+-- the greatest length either way, in units
+abbrev pub most_length : ℕ
+most_length = 2 ^ 27
+
 -- the width of the default page, 148 mm
 abbrev pub page_width : ℤ
 page_width = pos 35800
@@ -74,6 +78,7 @@ pub record LimitsAgree : Type 0 where
   pub events : MOST_EVENTS ≡ most_events
   pub opened : MOST_OPEN ≡ most_open
   pub entries : MOST_ENTRIES ≡ most_entries
+  pub length : MOST_LENGTH ≡ pos most_length
 
 -- the code has this page
 pub record PageAgrees : Type 0 where

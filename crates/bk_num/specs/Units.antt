@@ -1,10 +1,11 @@
--- Whole units: rounding, and holding within 2^27.
-use Rattle.std.specs.Prelude.{ℕ, ◌*◌, ◌^◌, ℤ, pos, ◌+ℤ◌, ◌*ℤ◌, neg_ℤ}
+-- Whole units: rounding, and holding within the greatest length.
+use Rattle.std.specs.Prelude.{ℕ, ◌*◌, ℤ, pos, ◌+ℤ◌, ◌*ℤ◌, neg_ℤ}
 use Rattle.std.specs.Int.{int_max, int_min, int_div_euclid}
+use Rattle.bk_num.specs.Limits.{most_length}
 
--- the nearest whole number within plus or minus 2^27
+-- the nearest whole number that is a length
 unfoldable pub clamped : ℤ → ℤ
-clamped z = int_max (neg_ℤ (pos (2 ^ 27))) (int_min z (pos (2 ^ 27)))
+clamped z = int_max (neg_ℤ (pos most_length)) (int_min z (pos most_length))
 
 -- floor (n / d), for d above 0
 abbrev pub floor_div : ℤ → ℕ → ℤ

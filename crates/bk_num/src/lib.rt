@@ -1,6 +1,7 @@
 //! Lengths, names, lists, the project's limits and the counter of steps.
 #![tactic(auto)]
 
+pub mod chars;
 pub mod decimal;
 pub mod ids;
 pub mod items;
@@ -12,3 +13,4 @@ pub mod px;
 pub mod sides;
 pub mod steps;
 pub mod values;
+pub mod written;

@@ -32,6 +32,9 @@ pub const MOST_OPEN: u32 = 2048;
 /// The most entries of a list of solids, nodes, pages or spans, 2^26.
 pub const MOST_ENTRIES: u64 = 67108864;
 
+/// The greatest length either way, in units: 2^27.
+pub const MOST_LENGTH: i32 = 134217728;
+
 /// The width of the default page, in units: 148 mm.
 pub const PAGE_WIDTH: i32 = 35800;
 

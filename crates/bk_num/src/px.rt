@@ -1,8 +1,10 @@
 //! Lengths in whole units of 1/64 px.
 
-ghost use Rattle.std.specs.Prelude.{◌≡◌, ◌^◌, ◌<◌, ◌≤◌, pos, unsigned_abs, ◌≤ℤ◌, ◌*ℤ◌};
+ghost use Rattle.std.specs.Prelude.{◌≡◌, ◌<◌, ◌≤◌, pos, unsigned_abs, ◌≤ℤ◌, ◌*ℤ◌};
+ghost use Rattle.bk_num.specs.Limits.{most_length};
 ghost use Rattle.bk_num.specs.Units.{clamped, floor_div};
 
+use crate::limits::MOST_LENGTH;
 use std::marker::Model;
 
 /// A length in units of 1/64 px, within plus or minus 2^27 units.
@@ -10,19 +12,17 @@ use std::marker::Model;
 pub struct Px(i32);
 
 impl Model for Px {
-    ghost use Rattle.std.specs.Prelude.{ℤ, ◌^◌, ◌≤◌, unsigned_abs};
+    ghost use Rattle.std.specs.Prelude.{ℤ, ◌≤◌, unsigned_abs};
+    ghost use Rattle.bk_num.specs.Limits.{most_length};
 
     ghost Value = { ℤ };
 
     ghost view = { λ p. p.0 };
 
-    ghost invariant = { λ p. unsigned_abs p.0 ≤ 2 ^ 27 };
+    ghost invariant = { λ p. unsigned_abs p.0 ≤ most_length };
 
     ghost inverse = { λ z. record { 0 = z } };
 }
-
-/// The greatest length, in units.
-const MOST: i64 = 134217728;
 
 impl Px {
     /// The length nearest to this number of units.
@@ -30,13 +30,13 @@ impl Px {
     pub fn from_units(n: i64) -> Px
         ensures { result ≡ clamped n }
     {
-        Px(n.clamp(-MOST, MOST) as i32)
+        Px(n.clamp(-i64::from(MOST_LENGTH), i64::from(MOST_LENGTH)) as i32)
     }
 
     /// How many units it has, at most 2^27 either way.
     pub fn units(self) -> i32
         ensures value { result ≡ self }
-        ensures bound { unsigned_abs result ≤ 2 ^ 27 }
+        ensures bound { unsigned_abs result ≤ most_length }
     {
         self.0
     }
@@ -57,5 +57,5 @@ pub fn scale_floor(a: u32, size: Px, per_em: u32) -> Px
 pub(crate) fn clamp_wide(n: i128) -> Px
     ensures { result ≡ clamped n }
 {
-    Px(n.clamp(-(MOST as i128), MOST as i128) as i32)
+    Px(n.clamp(-i128::from(MOST_LENGTH), i128::from(MOST_LENGTH)) as i32)
 }

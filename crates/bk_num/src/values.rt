@@ -8,6 +8,13 @@ pub struct Color {
     pub blue: u8,
 }
 
+/// Black.
+pub const BLACK: Color = Color {
+    red: 0,
+    green: 0,
+    blue: 0,
+};
+
 /// What `break-before` and `break-after` ask: `recto` is read as `Right` and `verso` as `Left`.
 #[derive(Clone, Copy, Debug, PartialEq, Eq)]
 pub enum BreakAt {

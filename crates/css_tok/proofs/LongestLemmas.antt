@@ -9,7 +9,8 @@ use Rattle.std.specs.Char.{is_ascii_digit, to_ascii_lowercase}
 use Rattle.css_tok.specs.declared.kind.CssKind.{CssKind}
 use Rattle.css_tok.specs.declared.kind.CssKind.TheVariants as kind
 use Rattle.css_tok.specs.declared.lengths.Class.TheVariants as class
-use Rattle.css_tok.specs.Lengths.{is_quote, unit_len, run_from, run_len, is_newline, is_blank, is_name, hyphens, begins_name, ident_len, sign_len, fraction_len, unsigned_len, number_len, comment_len, with_backslash, escape_len}
+use Rattle.bk_num.specs.Chars.{is_quote}
+use Rattle.css_tok.specs.Lengths.{unit_len, run_from, run_len, is_newline, is_blank, is_name, hyphens, begins_name, ident_len, sign_len, fraction_len, unsigned_len, number_len, comment_len, with_backslash, escape_len}
 use Rattle.css_tok.specs.Kind.{string_at, numeric_at, url_len, word_at, sign_at, token_at}
 use Rattle.css_tok.specs.Readings.{quoted_run, part_byte, two_parts, byte_part, word_len, string_len, bad_string_len, reading_len, NoneIsLonger, OnlyDelimTies}
 use Rattle.css_tok.proofs.ReadingLemmas.{is_reading, not_none, some_of}

@@ -9,7 +9,8 @@ use Rattle.std.specs.Char.{is_ascii_hexdigit, encode_utf8, digit_value}
 use Rattle.std.specs.List.{prefix_len}
 use Rattle.css_tok.specs.declared.lengths.Class.TheVariants as class
 use Rattle.css_tok.specs.Lengths.{unit_len, run_from, run_len, is_newline, newline_len, blank_len, hex_len, escape_len, quoted_len}
-use Rattle.css_tok.specs.Plain.{plain_from, plain_of, escaped, code_point}
+use Rattle.bk_num.specs.Written.{character_of}
+use Rattle.css_tok.specs.Plain.{plain_from, plain_of, escaped}
 use Rattle.css_tok.proofs.Boundaries.{behind, past_ascii, join, after_byte, run_cut, StopsAtAscii, rest_utf8, if_cut, newline_low}
 
 pub plain_from-drop : (n : ℕ) (bs : List ℕ) → plain_from n bs ≡ plain_from 0 (drop n bs)
@@ -77,7 +78,7 @@ run_then bs front rest after n is cut left some past =
     plain_run bs ∙ ap (λ z. take (run_len class.Plain bs) bs ++ plain_of z) (sym e) ∙ ap (λ z. z ++ plain_of rest) (sym (cut ∙ ap (λ k. take k bs) is)) ∙ ap (λ z. front ++ z) f
 
 -- the cases of an escape
-pub hex_escaped : (bs : List ℕ) → is_ascii_hexdigit (get_or bs 0 0) ≡ true → escaped bs ≡ encode_utf8 (code_point (digits_value 16 (take (hex_len bs) bs)))
+pub hex_escaped : (bs : List ℕ) → is_ascii_hexdigit (get_or bs 0 0) ≡ true → escaped bs ≡ encode_utf8 (character_of (digits_value 16 (take (hex_len bs) bs)))
 unfolding escaped
 hex_escaped [] hex = cc
 hex_escaped (b ∷ bs) hex = let other : is_newline b ≡ false = grind (arith, nat_tests) in rw (other, hex)
@@ -188,10 +189,10 @@ hex_numeral [] hex = cc
 hex_numeral (b ∷ bs) hex = (take_some (prefix_len is_ascii_hexdigit (take 6 (b ∷ bs))) b bs (hexes_some 5 b bs hex), hexes 6 (b ∷ bs))
 
 -- what the reader answers in each case
-pub hex_step : (bs : List ℕ) → is_ascii_hexdigit (get_or bs 0 0) ≡ true → (ds : List ℕ) (c n k : ℕ) → n ≡ quoted_len bs → k ≡ hex_len bs → ds ≡ take k bs → c ≡ code_point (digits_value 16 ds) → escaped bs ++ plain_from (quoted_len bs) bs ≡ encode_utf8 c ++ plain_of (drop n bs)
+pub hex_step : (bs : List ℕ) → is_ascii_hexdigit (get_or bs 0 0) ≡ true → (ds : List ℕ) (c n k : ℕ) → n ≡ quoted_len bs → k ≡ hex_len bs → ds ≡ take k bs → c ≡ character_of (digits_value 16 ds) → escaped bs ++ plain_from (quoted_len bs) bs ≡ encode_utf8 c ++ plain_of (drop n bs)
 unfolding plain_of
 hex_step bs hex ds c n k len digits cut is =
-    let e : encode_utf8 c ≡ escaped bs = ap encode_utf8 (is ∙ ap (λ z. code_point (digits_value 16 z)) (cut ∙ ap (λ m. take m bs) digits)) ∙ sym (hex_escaped bs hex) in
+    let e : encode_utf8 c ≡ escaped bs = ap encode_utf8 (is ∙ ap (λ z. character_of (digits_value 16 z)) (cut ∙ ap (λ m. take m bs) digits)) ∙ sym (hex_escaped bs hex) in
     rw (e, len) (ap (λ z. escaped bs ++ z) (plain_from-drop (quoted_len bs) bs))
 
 pub newline_step : (bs : List ℕ) → is_newline (get_or bs 0 0) ≡ true → (n : ℕ) → n ≡ newline_len bs → escaped bs ++ plain_from (quoted_len bs) bs ≡ plain_of (drop n bs)

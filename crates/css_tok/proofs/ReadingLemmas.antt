@@ -8,7 +8,8 @@ use Rattle.css_tok.specs.declared.kind.CssKind.{CssKind}
 use Rattle.css_tok.specs.declared.kind.CssKind.TheVariants as kind
 use Rattle.css_tok.specs.declared.lengths.Class.{Class}
 use Rattle.css_tok.specs.declared.lengths.Class.TheVariants as class
-use Rattle.css_tok.specs.Lengths.{is_quote, unit_len, run_from, run_len, with_first, one_less, is_newline, is_blank, ident_len, number_len, comment_len, quoted_len}
+use Rattle.bk_num.specs.Chars.{is_quote}
+use Rattle.css_tok.specs.Lengths.{unit_len, run_from, run_len, with_first, one_less, is_newline, is_blank, ident_len, number_len, comment_len, quoted_len}
 use Rattle.css_tok.specs.Kind.{string_at, numeric_at, url_len, word_at, sign_at, token_at}
 use Rattle.css_tok.specs.Readings.{quoted_run, reading_len, TokenIsReading}
 use Rattle.css_tok.proofs.Runs.{blank_run}

@@ -4,7 +4,8 @@ use Rattle.std.specs.Str.{str_eq_ignore_ascii_case, bytes_eq}
 use Rattle.css_tok.specs.declared.kind.CssKind.{CssKind}
 use Rattle.css_tok.specs.declared.kind.CssKind.TheVariants as kind
 use Rattle.css_tok.specs.declared.lengths.Class.TheVariants as class
-use Rattle.css_tok.specs.Lengths.{is_newline, is_blank, is_quote, run_len, ident_len, number_len, comment_len}
+use Rattle.bk_num.specs.Chars.{is_quote}
+use Rattle.css_tok.specs.Lengths.{is_newline, is_blank, run_len, ident_len, number_len, comment_len}
 
 -- a string: to its closing quote or to the end; a bad one ends before a newline (css-syntax, 4.3.5)
 unfoldable pub string_at : List ℕ → CssKind × ℕ

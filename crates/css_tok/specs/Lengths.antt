@@ -9,13 +9,10 @@ use Rattle.css_tok.specs.declared.lengths.Class.TheVariants as class
 abbrev pub is_newline : ℕ → Bool
 is_newline b = b == 10 || b == 12 || b == 13
 
--- white space (css-syntax, 4.2)
+-- white space: a space, a tab or a newline (css-syntax-3, 4.2). CR and FF count, which CSS reads as newlines (3.3), so
+-- these are the five characters of ASCII white space in HTML (`is_ascii_whitespace`; HTML, "ASCII whitespace")
 abbrev pub is_blank : ℕ → Bool
 is_blank b = b == 32 || b == 9 || is_newline b
-
--- what a string stands between
-abbrev pub is_quote : ℕ → Bool
-is_quote b = b == 34 || b == 39
 
 -- a byte of a name character that is no escape
 abbrev pub is_name : ℕ → Bool

@@ -2,6 +2,7 @@
 use Rattle.std.specs.Prelude.{ℕ, ◌+◌, ◌*◌, ◌^◌, Bool, true, false, ◌==◌, if◌then◌else◌, List, [], length, take, drop, slice_index, min, ℤ, pos, neg_ℤ}
 use Rattle.std.specs.Str.Parse.{digits_value}
 use Rattle.bk_num.specs.Numbers.{Number}
+use Rattle.bk_num.specs.Written.{most_whole}
 use Rattle.css_tok.specs.declared.kind.CssKind.{CssKind}
 use Rattle.css_tok.specs.declared.kind.CssKind.TheVariants as kind
 use Rattle.css_tok.specs.declared.lengths.Class.TheVariants as class
@@ -25,10 +26,6 @@ past_digits bs = drop (run_len class.Digit bs) bs
 -- the digits after the point; those after the sixth are dropped
 unfoldable pub decimals : List ℕ → List ℕ
 decimals bs = if slice_index (past_digits bs) 0 == 46 then take 6 (digits_at (drop 1 (past_digits bs))) else []
-
--- an integer part above this is read as this
-abbrev pub most_whole : ℕ
-most_whole = 999999999
 
 -- the value of digits, up to the most that is held
 abbrev pub whole_of : List ℕ → ℕ

@@ -1,21 +1,17 @@
 -- A text with its escapes undone (CSS 2.1, 4.1.3).
-use Rattle.std.specs.Prelude.{◌≡◌, ℕ, zero, suc, Bool, false, MatchOption, ◌||◌, nat_lt, if◌then◌else◌, ◌==◌, List, [], ◌∷◌, ◌++◌, take, Option, Some, None}
+use Rattle.std.specs.Prelude.{◌≡◌, ℕ, zero, suc, Bool, false, MatchOption, if◌then◌else◌, ◌==◌, List, [], ◌∷◌, ◌++◌, take, Option, Some, None}
 use Rattle.std.specs.Char.{is_ascii_hexdigit, encode_utf8}
-use Rattle.std.specs.Int.{is_in_range}
 use Rattle.std.specs.Str.{str_eq_ignore_ascii_case}
 use Rattle.std.specs.Str.Parse.{digits_value}
+use Rattle.bk_num.specs.Written.{character_of}
 use Rattle.css_tok.specs.Lengths.{is_newline, hex_len, quoted_len}
-
--- the character with this number; U+FFFD for 0, for surrogates and above U+10FFFF
-abbrev pub code_point : ℕ → ℕ
-code_point n = if n == 0 || is_in_range 0xD800 0xDFFF n || nat_lt 0x10FFFF n then 0xFFFD else n
 
 -- What a `\` and what follows it stand for: nothing before a newline, a character before hexadecimal digits,
 -- and else the first byte of the character after it. A `\` at the end stands for itself.
 unfoldable pub escaped : List ℕ → List ℕ
 escaped [] = 92 ∷ []
 escaped (b ∷ bs) = if is_newline b then [] else (if is_ascii_hexdigit b
-    then encode_utf8 (code_point (digits_value 16 (take (hex_len (b ∷ bs)) (b ∷ bs)))) else b ∷ [])
+    then encode_utf8 (character_of (digits_value 16 (take (hex_len (b ∷ bs)) (b ∷ bs)))) else b ∷ [])
 
 -- The number counts the bytes that are left of an escape.
 unfoldable pub plain_from : ℕ → List ℕ → List ℕ

@@ -5,7 +5,8 @@ use Rattle.std.specs.Str.{bytes_eq}
 use Rattle.css_tok.specs.declared.kind.CssKind.{CssKind}
 use Rattle.css_tok.specs.declared.kind.CssKind.TheVariants as kind
 use Rattle.css_tok.specs.declared.lengths.Class.TheVariants as class
-use Rattle.css_tok.specs.Lengths.{is_quote, is_newline, run_len, ident_len, number_len, comment_len}
+use Rattle.bk_num.specs.Chars.{is_quote}
+use Rattle.css_tok.specs.Lengths.{is_newline, run_len, ident_len, number_len, comment_len}
 use Rattle.css_tok.specs.Kind.{url_len, token_at}
 
 -- a part that isn't empty, and this byte after it

@@ -4,7 +4,8 @@ use Rattle.std.specs.Str.{str_eq_ignore_ascii_case}
 use Rattle.css_tok.specs.declared.kind.CssKind.{CssKind}
 use Rattle.css_tok.specs.declared.kind.CssKind.TheVariants as kind
 use Rattle.css_tok.specs.declared.lengths.Class.TheVariants as class
-use Rattle.css_tok.specs.Lengths.{is_quote, run_len}
+use Rattle.bk_num.specs.Chars.{is_quote}
+use Rattle.css_tok.specs.Lengths.{run_len}
 
 -- without its first byte, where that is this one
 abbrev pub without_first : ℕ → List ℕ → List ℕ

@@ -38,13 +38,6 @@ pub fn is_blank(b: u8) -> bool
     b == b' ' || b == b'\t' || is_newline(b)
 }
 
-/// Whether a byte is a quotation mark, which opens a string.
-pub fn is_quote(b: u8) -> bool
-    ensures { result ≡ spec.is_quote b }
-{
-    b == b'"' || b == b'\''
-}
-
 fn is_name(b: u8) -> bool
     ensures { result ≡ spec.is_name b }
 {

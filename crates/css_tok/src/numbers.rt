@@ -4,11 +4,13 @@ ghost use Rattle.std.specs.Prelude.{◌≡◌, ◌<◌, ◌≤◌, ◌^◌, ◌+
 ghost use Rattle.std.specs.Char.{is_ascii_digit, digit_value};
 ghost use Rattle.std.specs.List.{list_all};
 ghost use Rattle.std.specs.Str.Parse.{digits_value};
+ghost use Rattle.bk_num.specs.Written.{most_whole};
 ghost use Rattle.css_tok.specs.Numbers as spec;
 
 use crate::lengths::{Class, byte, number_len, run_len, sign_len};
 use crate::tokens::CssToken;
 use bk_num::decimal::Decimal;
+use bk_num::written::MOST_WHOLE;
 
 /// The digits at the start of a text.
 #[tactic(auto, using(crate::proofs::NumberLemmas::digits_are))]
@@ -70,14 +72,12 @@ fn value_of(digits: &[u8]) -> u64
     value
 }
 
-const MOST_WHOLE: u64 = 999999999;
-
 /// The integer part that digits write.
 #[tactic(auto, using(crate::proofs::NumberLemmas::digit_at, crate::proofs::NumberLemmas::whole_more))]
 fn whole_of(digits: &[u8]) -> u64
     requires { list_all is_ascii_digit digits.now ≡ true }
     ensures value { result ≡ spec.whole_of digits.now }
-    ensures few { result ≤ spec.most_whole }
+    ensures few { result ≤ most_whole }
 {
     let mut value = 0;
     for b in digits {

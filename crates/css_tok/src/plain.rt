@@ -4,11 +4,13 @@ ghost use Rattle.std.specs.Prelude.{◌≡◌, ◌++◌, ◌+◌, ◌≤◌, ◌
 ghost use Rattle.std.specs.Char.{is_ascii_hexdigit};
 ghost use Rattle.std.specs.Str.{IsCharBoundary, IsUtf8};
 ghost use Rattle.std.specs.Str.Parse.{IsNumeral, digits_value};
+ghost use Rattle.bk_num.specs.Written.{character_of};
 ghost use Rattle.css_tok.specs.Lengths as lengths;
 ghost use Rattle.css_tok.specs.Plain as spec;
 
 use crate::lengths::{Class, byte, escape_len, hex_len, is_newline, newline_len, run_len};
 use bk_num::name::{Name, NoMem};
+use bk_num::written::character_of;
 use std::alloc::Global;
 
 /// The text up to the first `\`, and what follows that, if there is one.
@@ -29,12 +31,11 @@ pub(crate) fn until_escape(text: &str) -> (&str, Option<&str>)
 fn character(digits: &str) -> char
     requires few { length digits.now ≤ 6 }
     requires hex { IsNumeral 16 digits.now }
-    ensures { result ≡ spec.code_point (digits_value 16 digits.now) }
+    ensures { result ≡ character_of (digits_value 16 digits.now) }
 {
     match u32::from_str_radix(digits, 16) {
+        Ok(number) => character_of(number),
         Err(_) => '\u{FFFD}',
-        Ok(0) => '\u{FFFD}',
-        Ok(number) => char::from_u32(number).unwrap_or('\u{FFFD}'),
     }
 }
 

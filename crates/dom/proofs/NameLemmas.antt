@@ -5,7 +5,8 @@ use Rattle.std.specs.declared.string.String.{String}
 use Rattle.std.specs.Str.{bytes_eq}
 use Rattle.std.proofs.lemmas.List.Quantifiers.{position-Some}
 use Rattle.std.proofs.lemmas.Option.{slice_get-get_or}
-use Rattle.dom.specs.NameLists.{with_name, AreOnce}
+use Rattle.bk_num.specs.Names.{with_name}
+use Rattle.dom.specs.NameLists.{AreOnce}
 use Rattle.std.specs.List.{list_any, prefix_len, position_or_len}
 use Rattle.std.proofs.lemmas.List.{length-map, map-append}
 use Rattle.std.proofs.lemmas.Bool.Decides.{nat_tests}
@@ -44,7 +45,12 @@ pub names-new : {S : Type 0} (text : S → List ℕ) (keys : List S) (key : S) (
 names-new {S} text keys key name is none =
     let at : position (bytes_eq (text key)) (map text keys) ≡ None = rw is none in
     let no : list_any (λ k. bytes_eq (text key) (text k)) keys ≡ false = any-position (λ k. bytes_eq (text key) (text k)) keys ∙ ap is_some (sym (position-map text (bytes_eq (text key)) keys) ∙ at) in
-    rw (no, none) (map-append text keys (key ∷ []) ∙ ap (λ n. map text keys ++ n ∷ []) is)
+    let absent : list_any (bytes_eq name) (map text keys) ≡ false = any-position (bytes_eq name) (map text keys) ∙ ap is_some none in
+    rw (no, absent) (map-append text keys (key ∷ []) ∙ ap (λ n. map text keys ++ n ∷ []) is)
+
+-- a name that is there adds nothing
+pub name-there : (names : List (List ℕ)) (name : List ℕ) (k : ℕ) → position (bytes_eq name) names ≡ Some k → with_name names name ≡ names
+name-there names name k e = rw (any-position (bytes_eq name) names, e) refl
 
 any-get : {A : Type 0} (test : A → Bool) (xs : List A) (j : ℕ) (x : A) → slice_get xs j ≡ Some x → test x ≡ true → list_any test xs ≡ true
 any-get test [] j x g t = cc
@@ -70,7 +76,7 @@ is-there names name k e =
     (p.0, slice_get-get_or names k [] p.0 ∙ ap (λ n. Some n) (sym (bytes_same name (get_or names k []) p.1)))
 
 pub once-with : (names : List (List ℕ)) (name : List ℕ) → AreOnce names → AreOnce (with_name names name)
-once-with names name once = by (position (bytes_eq name) names) refl
+once-with names name once = subst (λ b. AreOnce (cond b names (names ++ name ∷ []))) (sym (any-position (bytes_eq name) names)) (by (position (bytes_eq name) names) refl)
   where
     by : (o : Option ℕ) → position (bytes_eq name) names ≡ o → AreOnce (cond (is_some o) names (names ++ name ∷ []))
     by (Some k) e = once

@@ -5,13 +5,15 @@ use Rattle.std.proofs.lemmas.Bool.{eq-eqb}
 use Rattle.std.specs.Str.{bytes_eq, IsUtf8}
 use Rattle.std.proofs.lemmas.Option.{slice_get-get_or, slice_get_read, unwrap_or-slice_get}
 use Rattle.std.specs.Map.{lookup}
-use Rattle.dom.specs.NameLists.{with_name, place_of, AreOnce}
-use Rattle.dom.proofs.NameLemmas.{not-there, is-there}
+use Rattle.bk_num.specs.Names.{with_name}
+use Rattle.dom.specs.NameLists.{place_of, AreOnce}
+use Rattle.dom.proofs.NameLemmas.{any-position, not-there, is-there}
 use Rattle.dom.proofs.SpanLemmas.{between-append, fits-append}
 use Rattle.std.proofs.lemmas.Bool.{and_parts, and_from}
 use Rattle.dom.specs.Keys.{is_key}
 use Rattle.dom.specs.Nodes.{NodeData, Element, Text, attributed, changed_at, is_element, attribute_in}
 use Rattle.dom.specs.Pairs.{pair_value}
+use Rattle.std.specs.List.{list_any}
 use Rattle.std.specs.Option.{option_and_then}
 use Rattle.bk_num.proofs.ListLemmas.{bytes_same, bytes_self, get-append, get-push, get-end}
 use Rattle.dom.specs.Spans.{between, Fits}
@@ -131,7 +133,7 @@ module _ (names : List (List ℕ)) (texts : List ℕ) where
 -- ---- names and texts that go on
 
 pub grow-name : (names : List (List ℕ)) (texts : List ℕ) (name : List ℕ) → Grow names texts (with_name names name) texts
-grow-name names texts name = by (is_some (position (bytes_eq name) names))
+grow-name names texts name = by (list_any (bytes_eq name) names)
   where
     by : (b : Bool) → Grow names texts (cond b names (names ++ name ∷ [])) texts
     by true = record { name = λ k h. refl; count = omega arith; text = λ s f. refl; fits = λ s f. f }
@@ -161,7 +163,7 @@ sound-push names texts es is i s f = record { items = λ k j g. item j k (get-pu
 
 -- the place of a name among those with it
 pub place-name : (names : List (List ℕ)) (name : List ℕ) → (slice_get (with_name names name) (place_of names name) ≡ Some name) × (place_of names name < length (with_name names name))
-place-name names name = by (position (bytes_eq name) names) refl
+place-name names name = subst (λ b. (slice_get (cond b names (names ++ name ∷ [])) (place_of names name) ≡ Some name) × (place_of names name < length (cond b names (names ++ name ∷ [])))) (sym (any-position (bytes_eq name) names)) (by (position (bytes_eq name) names) refl)
   where
     by : (o : Option ℕ) → position (bytes_eq name) names ≡ o → (slice_get (cond (is_some o) names (names ++ name ∷ [])) (unwrap_or o (length names)) ≡ Some name) × (unwrap_or o (length names) < length (cond (is_some o) names (names ++ name ∷ [])))
     by None e = (get-end names name, (let a = length-append names (name ∷ []) in omega arith))

@@ -1,10 +1,6 @@
--- Lists of names without repetition.
-use Rattle.std.specs.Prelude.{◌≡◌, ℕ, List, [], ◌∷◌, ◌++◌, Some, length, slice_get, position, is_some, if◌then◌else◌, unwrap_or}
+-- The places of names in a list without repetition.
+use Rattle.std.specs.Prelude.{◌≡◌, ℕ, List, Some, length, slice_get, position, unwrap_or}
 use Rattle.std.specs.Str.{bytes_eq}
-
--- the names with this one: at their end, where it isn't among them
-abbrev pub with_name : List (List ℕ) → List ℕ → List (List ℕ)
-with_name names name = if is_some (position (bytes_eq name) names) then names else names ++ name ∷ []
 
 -- the number of a name among names: its place, or the next free one
 abbrev pub place_of : List (List ℕ) → List ℕ → ℕ

@@ -1,7 +1,8 @@
 //! Names, each kept once and known by its number.
 ghost use Rattle.std.specs.Prelude.{◌≡◌, ◌<◌, Some, slice_get, length, position, IfOk, OnOk, OnErr};
 ghost use Rattle.std.specs.Str.{bytes_eq};
-ghost use Rattle.dom.specs.NameLists.{with_name, place_of, AreOnce};
+ghost use Rattle.bk_num.specs.Names.{with_name};
+ghost use Rattle.dom.specs.NameLists.{place_of, AreOnce};
 
 use bk_num::name::NoMem;
 use indexmap::IndexSet;

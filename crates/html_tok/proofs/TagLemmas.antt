@@ -7,7 +7,8 @@ use Rattle.std.proofs.lemmas.Str.{IsCharBoundary-end, IsCharBoundary-before_asci
 use Rattle.std.proofs.lemmas.Bool.{cases_Bool, cases_lt, false_from_ne_true}
 use Rattle.std.proofs.lemmas.Bool.Decides.{nat_tests}
 use Rattle.memchr.specs.Find.{Nowhere, Passes, is_byte, NoneBefore}
-use Rattle.html_tok.specs.Classes.{is_between, ends_attribute_name, is_quote, from_first}
+use Rattle.bk_num.specs.Chars.{is_quote}
+use Rattle.html_tok.specs.Classes.{is_between, ends_attribute_name, from_first}
 use Rattle.html_tok.specs.Tags.{value_at, value_after, past_space, name_at, attribute_at, after_attribute, attribute_len, end_after, attributes_after, ends_attributes}
 use Rattle.html_tok.proofs.Places.{place-cons, place-le, place-passes, place-is}
 

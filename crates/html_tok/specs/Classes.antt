@@ -19,10 +19,6 @@ ends_attribute_name b = ends_name b || b == 61
 abbrev pub ends_value : ℕ → Bool
 ends_value b = is_ascii_whitespace b || b == 62
 
--- what a quoted value stands between: `"` or `'`
-abbrev pub is_quote : ℕ → Bool
-is_quote b = b == 34 || b == 39
-
 -- the bytes from the first one on that passes
 abbrev pub from_first : (ℕ → Bool) → List ℕ → List ℕ
 from_first p bs = drop (position_or_len p bs) bs

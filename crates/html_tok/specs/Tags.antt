@@ -2,7 +2,8 @@
 use Rattle.std.specs.Prelude.{ℕ, zero, suc, ◌+◌, ◌-◌, Bool, true, not, List, [], ◌∷◌, Option, None, Some, length, drop, slice_index, option_map, ◌==◌, if◌then◌else◌}
 use Rattle.std.specs.List.{before_first, after_first}
 use Rattle.std.specs.Char.{is_ascii_whitespace}
-use Rattle.html_tok.specs.Classes.{is_between, ends_attribute_name, ends_value, is_quote, from_first}
+use Rattle.bk_num.specs.Chars.{is_quote}
+use Rattle.html_tok.specs.Classes.{is_between, ends_attribute_name, ends_value, from_first}
 
 -- what stands at the start, and what is left after it
 pub record Part : Type 0 where

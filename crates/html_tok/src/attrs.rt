@@ -1,11 +1,11 @@
 //! The attributes of a tag, and its end.
 ghost use Rattle.std.specs.Prelude.{◌≡◌, ◌<◌, List, [], ◌∷◌, length, IfSome, IfNone};
 ghost use Rattle.std.specs.Prelude.{◌==◌, slice_index};
-ghost use Rattle.html_tok.specs.Classes.{is_quote};
 ghost use Rattle.std.specs.List.{before_first, after_first};
 ghost use Rattle.html_tok.specs.Tags.{ends_attributes, value_at, value_after, name_at, attribute_at, after_attribute, tag_end, attributes_of};
 
 use crate::classes::{Stop, skip_to, split_before};
+use bk_num::chars::is_quote;
 use memchr::memchr;
 use std::marker::Model;
 
@@ -123,12 +123,6 @@ fn first_byte(text: &str) -> u8
         Some(b) => *b,
         None => 0,
     }
-}
-
-fn is_quote(b: u8) -> bool
-    ensures { result ≡ is_quote b }
-{
-    b == b'"' || b == b'\''
 }
 
 /// The text before the quote, and the text after it.

@@ -1,7 +1,8 @@
 -- The text that the bytes of a token stand for: line ends, U+0000 and character references (HTML, 13.2.3.5 and 13.5).
-use Rattle.std.specs.Prelude.{ℕ, zero, suc, ◌+◌, ◌-◌, ◌*◌, Bool, not, List, [], ◌∷◌, ◌++◌, length, take, drop, map, fold, nat_eq, nat_lt, nat_le, ◌==◌, ◌&&◌, ◌||◌, if◌then◌else◌, slice_index, encode_utf8, codes}
+use Rattle.std.specs.Prelude.{ℕ, zero, suc, ◌+◌, ◌-◌, ◌*◌, Bool, not, List, [], ◌∷◌, ◌++◌, length, take, drop, map, fold, nat_eq, ◌==◌, ◌&&◌, ◌||◌, if◌then◌else◌, slice_index, encode_utf8, codes}
 use Rattle.std.specs.List.{starts_with, position_or_len}
 use Rattle.std.specs.Char.{is_digit, digit_value, to_ascii_lowercase}
+use Rattle.bk_num.specs.Written.{character_of}
 
 -- what a byte becomes before the next one: CR before LF goes, other CR are LF, and U+0000 is U+FFFD
 abbrev pub normalized_byte : ℕ → ℕ → List ℕ
@@ -31,14 +32,6 @@ plain = record { code = 38; len = 1 }
 -- the number that digits write
 abbrev pub number_of : ℕ → List ℕ → ℕ
 number_of base ds = fold (λ v d. v * base + digit_value d) 0 ds
-
--- whether a number is that of a character: at most 10FFFF, and no surrogate
-abbrev pub is_scalar : ℕ → Bool
-is_scalar n = nat_lt n 0xD800 || nat_le 0xE000 n && nat_lt n 0x11_0000
-
--- the character of a number: U+FFFD for 0, surrogates and numbers above 10FFFF
-abbrev pub character_of : ℕ → ℕ
-character_of n = if n == 0 || not (is_scalar n) then 0xFFFD else n
 
 -- how many digits of a base the bytes begin with
 abbrev pub digits_len : ℕ → List ℕ → ℕ

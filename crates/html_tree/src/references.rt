@@ -3,7 +3,9 @@ ghost use Rattle.std.specs.Prelude.{◌≡◌, ◌+◌, ◌<◌, ◌≤◌, leng
 ghost use Rattle.std.specs.List.{starts_with, position};
 ghost use Rattle.std.specs.Char.{is_digit, digit_value};
 ghost use Rattle.html_tree.specs.Words.{starting};
-ghost use Rattle.html_tree.specs.Texts.{character_of, digits_len, number_of, numeric, closing_len, named, named_references, reference_at};
+ghost use Rattle.html_tree.specs.Texts.{digits_len, number_of, numeric, closing_len, named, named_references, reference_at};
+
+use bk_num::written::character_of;
 
 // The named references that are read, each with its `;`, by the first letter of the name (HTML, 13.5).
 const A: [(&str, char); 2] = [("amp", '&'), ("apos", '\'')];
@@ -171,16 +173,6 @@ fn number_of(digits: &[u8], base: u32) -> u32
         number = (number * base + digit_value(*b)).min(PAST);
     }
     number
-}
-
-/// The character of a number.
-fn character_of(number: u32) -> char
-    ensures { result ≡ character_of number }
-{
-    match char::from_u32(number) {
-        Some(c) if number > 0 => c,
-        _ => '\u{FFFD}',
-    }
 }
 
 fn closing_len(rest: &[u8]) -> usize

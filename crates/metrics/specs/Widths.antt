@@ -2,12 +2,13 @@
 use Rattle.std.specs.Prelude.{◌≡◌, ℕ, zero, suc, ◌+◌, ◌^◌, List, min, slice_index, drop, nat_lt, nat_le, ◌==◌, ◌||◌, not, Bool, unsigned_abs, if◌then◌else◌, length}
 use Rattle.std.specs.List.{sum_by}
 use Rattle.std.specs.Str.{IsUtf8, chars}
+use Rattle.bk_num.specs.Chars.{hyphen, soft_hyphen, zero_width_space}
 use Rattle.metrics.specs.Face.{advance_number, scaled}
 use Rattle.metrics.specs.Pen.{PenView}
 
 -- a soft hyphen, a zero width space and a newline have no width
 unfoldable pub has_width : ℕ → Bool
-has_width c = not (c == 173 || c == 8203 || c == 10)
+has_width c = not (c == soft_hyphen || c == zero_width_space || c == 10)
 
 -- the width of a character: its advance by the face at the size
 unfoldable pub char_width : PenView → ℕ → ℕ
@@ -15,7 +16,7 @@ char_width p c = if has_width c then unsigned_abs (scaled (advance_number p.face
 
 -- the width of the hyphen that a line shows at its end
 unfoldable pub hyphen_width : PenView → ℕ
-hyphen_width p = char_width p 45
+hyphen_width p = char_width p hyphen
 
 -- whether a byte begins a character (UTF-8)
 unfoldable pub is_lead : ℕ → Bool

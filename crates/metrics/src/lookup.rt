@@ -1,6 +1,7 @@
 //! The faces of a metrics text.
 
-ghost use Rattle.std.specs.Prelude.{◌≡◌, ◌<◌, ◌≤◌, ◌^◌, pos, ◌≤ℤ◌, length, IfOk};
+ghost use Rattle.std.specs.Prelude.{◌≡◌, ◌<◌, ◌≤◌, pos, ◌≤ℤ◌, length, IfOk};
+ghost use Rattle.bk_num.specs.Limits.{most_length};
 ghost use Rattle.metrics.specs.Choice.{Chooses, family_name, names_some};
 ghost use Rattle.metrics.specs.Face.{FontFace, advance_of, ascent_of, descent_of, face_at};
 ghost use Rattle.metrics.specs.Text.{AreFaces};
@@ -79,7 +80,7 @@ impl Faces {
         requires size { pos 0 ≤ℤ size }
         ensures value { result ≡ advance_of self.now face size c }
         ensures least { pos 0 ≤ℤ result }
-        ensures most { result ≤ℤ pos (2 ^ 27) }
+        ensures most { result ≤ℤ pos most_length }
     {
         self.faces[face.0 as usize].advance(size, c)
     }
@@ -100,7 +101,7 @@ impl Faces {
         requires size { pos 0 ≤ℤ size }
         ensures value { result ≡ ascent_of self.now face size }
         ensures least { pos 0 ≤ℤ result }
-        ensures most { result ≤ℤ pos (2 ^ 27) }
+        ensures most { result ≤ℤ pos most_length }
     {
         self.faces[face.0 as usize].ascent(size)
     }
@@ -112,7 +113,7 @@ impl Faces {
         requires size { pos 0 ≤ℤ size }
         ensures value { result ≡ descent_of self.now face size }
         ensures least { pos 0 ≤ℤ result }
-        ensures most { result ≤ℤ pos (2 ^ 27) }
+        ensures most { result ≤ℤ pos most_length }
     {
         self.faces[face.0 as usize].descent(size)
     }

@@ -1,5 +1,5 @@
 use Rattle.std.proofs.Common.{◌≡◌, ◌∙◌, sym, true}
-use Rattle.html_tok.specs.Classes.{is_quote}
+use Rattle.bk_num.specs.Chars.{is_quote}
 use Rattle.html_tok.proofs.TagLemmas.{after-first, quote-small}
 use Rattle.html_tok.proofs.attrs.split_begun.Goals as goal
 

@@ -2,10 +2,14 @@ use Rattle.std.proofs.Common.{sym, length, length-append, ◌++◌, ◌∷◌, [
 use Rattle.std.specs.String.{string_bytes, string_eq}
 use Rattle.std.specs.List.{list_any}
 use Rattle.std.specs.Str.{bytes_eq}
-use Rattle.dom.specs.NameLists.{with_name, AreOnce}
+use Rattle.bk_num.specs.Names.{with_name}
+use Rattle.dom.specs.NameLists.{AreOnce}
 use Rattle.std.proofs.lemmas.Grind.{common_steps}
-use Rattle.dom.proofs.NameLemmas.{not-any, names-new, of_ok, once-with}
+use Rattle.dom.proofs.NameLemmas.{not-any, name-there, names-new, of_ok, once-with}
 use Rattle.dom.proofs.names.Names.intern.Goals as goal
+
+pub returns-in-Some-clause-names : goal.returns-in-Some-clause-names
+returns-in-Some-clause-names c = sym (name-there c.args.self.now c.args.name.now c.in-Some.number (sym c.number.ensures.number ∙ c.in-Some.is))
 
 pub returns-clause-names : goal.returns-clause-names
 returns-clause-names c =

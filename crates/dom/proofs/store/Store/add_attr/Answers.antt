@@ -1,7 +1,8 @@
 use Rattle.std.proofs.Common.{◌≡◌, ◌<◌, ◌++◌, ◌∷◌, [], length, arith, ◌∙◌, sym, None, Some, true, slice_get, option_map}
 use Rattle.std.proofs.lemmas.Grind.{common_steps}
 use Rattle.std.specs.Option.{option_and_then}
-use Rattle.dom.specs.NameLists.{with_name, place_of}
+use Rattle.bk_num.specs.Names.{with_name}
+use Rattle.dom.specs.NameLists.{place_of}
 use Rattle.dom.specs.Spans.{between, Fits}
 use Rattle.dom.specs.Nodes.{attribute_in, is_element}
 use Rattle.dom.specs.StoreFields.{nodes_from}

@@ -1,6 +1,7 @@
 use Rattle.std.proofs.Common.{◌≡◌, arith, ◌++◌, ◌∷◌, []}
 use Rattle.std.proofs.lemmas.Grind.{common_steps}
-use Rattle.dom.specs.NameLists.{with_name, place_of}
+use Rattle.bk_num.specs.Names.{with_name}
+use Rattle.dom.specs.NameLists.{place_of}
 use Rattle.dom.specs.declared.store.Item.TheVariants as item
 use Rattle.dom.proofs.StoreLemmas.{grow-name, nodes-kept, sound-grow, element-added, element-sound}
 use Rattle.dom.proofs.store.Store.add_element.Goals as goal
