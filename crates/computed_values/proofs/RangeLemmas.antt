@@ -12,7 +12,8 @@ use Rattle.style.specs.declared.values.LineHeight.{LineHeight}
 use Rattle.style.specs.declared.values.LineHeight.TheVariants as height
 use Rattle.style.specs.declared.long.Given.{Given}
 use Rattle.style.specs.declared.long.Given.TheVariants as given
-use Rattle.computed_values.specs.Values.{given_by, held, units_of, size_of, height_of, used_line_height, IsHeight}
+use Rattle.computed_values.specs.Values.{given_by, held, units_of, size_of, height_of, used_line_height}
+use Rattle.style.specs.Ranges.{IsHeight}
 
 pub held_least : (z : ℤ) → pos 0 ≤ℤ held z
 held_least z = omega (arith, ints, int_max_is z (pos 0))

@@ -1,6 +1,6 @@
 -- Computed values of declared ones (CSS 2.1, 6.1.2). A value out of its property's range is held at the nearest one in
 -- it.
-use Rattle.std.specs.Prelude.{ℕ, ◌+◌, ◌-◌, min, max, ◌≤ℤ◌, ℤ, pos, Bool, true, false, Option, None, Some, if◌then◌else◌}
+use Rattle.std.specs.Prelude.{ℕ, ◌+◌, ◌-◌, min, max, ℤ, pos, Bool, true, false, Option, None, Some, if◌then◌else◌}
 use Rattle.std.specs.Int.{int_max}
 use Rattle.bk_num.specs.Numbers.{Number}
 use Rattle.bk_num.specs.Lengths.{part}
@@ -95,11 +95,6 @@ weight_of parent weight.Lighter = max (parent - 300) 100
 abbrev pub height_of : ℤ → ℤ → GivenHeight → LineHeight
 height_of font root (given_height.Number d) = height.Number (held_number d)
 height_of font root (given_height.Size m) = height.Px (held (units_of font root font m))
-
--- it isn't negative
-abbrev pub IsHeight : LineHeight → Type 0
-IsHeight (height.Number d) = pos 0 ≤ℤ d.units
-IsHeight (height.Px p) = pos 0 ≤ℤ p
 
 -- the used height of lines: a number is of the font size (CSS 2.1, 10.8.1)
 abbrev pub used_line_height : ℤ → LineHeight → ℤ

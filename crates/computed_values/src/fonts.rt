@@ -2,6 +2,7 @@
 
 ghost use Rattle.std.specs.Prelude.{◌≡◌, ◌≤ℤ◌, pos};
 ghost use Rattle.style.specs.Initial.{normal_weight};
+ghost use Rattle.style.specs.Ranges.{IsHeight};
 ghost use Rattle.style.specs.Styles.{initial_style};
 ghost use Rattle.computed_values.specs.Values as spec;
 
@@ -63,7 +64,7 @@ pub fn chosen_weight(given: &Given<Weight>, parent: u16) -> u16
 /// root's.
 fn height_of(font: Px, root: Px, height: &GivenHeight) -> LineHeight
     ensures height { result ≡ spec.height_of font root height.now }
-    ensures least { spec.IsHeight result }
+    ensures least { IsHeight result }
 {
     match height {
         GivenHeight::Number(number) => LineHeight::Number(held_number(number)),
@@ -80,7 +81,7 @@ pub fn chosen_height(
 ) -> LineHeight
     ensures height { result ≡
         spec.given_by (spec.height_of font root) given.now inherited.now initial_style.line_height }
-    ensures least { spec.IsHeight inherited.now → spec.IsHeight result }
+    ensures least { IsHeight inherited.now → IsHeight result }
 {
     match given {
         Given::Value(height) => height_of(font, root, height),
@@ -92,7 +93,7 @@ pub fn chosen_height(
 /// The used height of lines: a number is of the font size.
 pub fn used_line_height(size: Px, height: &LineHeight) -> Px
     ensures height { result ≡ spec.used_line_height size height.now }
-    ensures least { pos 0 ≤ℤ size → spec.IsHeight height.now → pos 0 ≤ℤ result }
+    ensures least { pos 0 ≤ℤ size → IsHeight height.now → pos 0 ≤ℤ result }
 {
     match height {
         LineHeight::Number(number) => part_of(*number, size.units() as i64, 1),

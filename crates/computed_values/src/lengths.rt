@@ -1,6 +1,7 @@
 //! Lengths (CSS 2.1, 4.3.2; css-values-3, 5.1). A value out of its property's range is held at the nearest one in it.
 
-ghost use Rattle.std.specs.Prelude.{◌≡◌, ◌≤◌, ◌^◌, unsigned_abs};
+ghost use Rattle.std.specs.Prelude.{◌≡◌, ◌≤◌, unsigned_abs};
+ghost use Rattle.bk_num.specs.Limits.{most_length};
 ghost use Rattle.computed_values.specs.Values as spec;
 
 use bk_num::decimal::Decimal;
@@ -8,10 +9,10 @@ use bk_num::length::{Len, part_of};
 use bk_num::px::Px;
 use style::values::{BorderStyle, Measure};
 
-/// A length of so many units of 1/64 px, at most 2^27 either way.
+/// A length of so many units of 1/64 px, at most the greatest length either way.
 #[tactic(auto, unfolding(bk_num::specs::Units::clamped))]
 pub fn px(units: i32) -> Px
-    requires { unsigned_abs units ≤ 2 ^ 27 }
+    requires { unsigned_abs units ≤ most_length }
     ensures { result ≡ units }
 {
     Px::from_units(units as i64)

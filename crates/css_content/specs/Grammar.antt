@@ -16,7 +16,7 @@ use Rattle.style.specs.declared.content.Link.{Link}
 use Rattle.style.specs.declared.content.Link.TheVariants as link
 use Rattle.style.specs.declared.content.Part.{Part}
 use Rattle.style.specs.declared.content.Part.TheVariants as part
-use Rattle.css_content.specs.Basics.{word_in, whole}
+use Rattle.css_content.specs.Basics.{word_argument, whole}
 use Rattle.css_content.specs.Numerals.{styles}
 use Rattle.css_content.specs.declared.content.ContentPlace.{ContentPlace}
 use Rattle.css_content.specs.declared.content.ContentPlace.TheVariants as place
@@ -33,10 +33,8 @@ functions =
     []
 
 -- a comma and a style, or `decimal`
-unfoldable pub style_argument : Parser NumStyle
-style_argument = do
-  t ← peek
-  if is_mark 44 t then (advance >> word_in styles) else pure style.Decimal
+abbrev pub style_argument : Parser NumStyle
+style_argument = word_argument styles style.Decimal
 
 -- the arguments of attr(), a name in lower case (CSS 2.1, 12.2)
 unfoldable pub attr_arguments : Parser Part
@@ -126,10 +124,8 @@ keywords =
     (codes "first-except", keyword.FirstExcept) ∷ []
 
 -- a comma and a keyword, or `first`
-unfoldable pub keyword_argument : Parser Keyword
-keyword_argument = do
-  t ← peek
-  if is_mark 44 t then (advance >> word_in keywords) else pure keyword.First
+abbrev pub keyword_argument : Parser Keyword
+keyword_argument = word_argument keywords keyword.First
 
 -- the arguments of string(): a name, and a keyword (css-gcpm-3, 1.2)
 unfoldable pub running_arguments : Parser Part

@@ -4,10 +4,9 @@ ghost use Rattle.std.specs.Prelude.{◌≡◌, ◌≤◌, ◌<◌, length, optio
 ghost use Rattle.css_tok.specs.Tokens.{item_in};
 ghost use Rattle.css_words.specs.Parser.{Reads};
 ghost use Rattle.css_words.specs.Table.{find_word};
-ghost use Rattle.css_content.specs.Basics.{word_in};
 ghost use Rattle.css_content.specs.Grammar as spec;
 
-use crate::words::{num_style, word_in};
+use crate::words::{style_argument, word_argument};
 use bk_num::name::Name;
 use bk_num::values::NumStyle;
 use css_tok::kind::CssKind;
@@ -60,19 +59,6 @@ fn function_of(name: &str) -> Option<ContentFunction>
         ],
         name,
     )
-}
-
-/// Reads a comma and a style of numerals, or nothing, which is `decimal`.
-#[tactic(auto, unfolding(crate::specs::Grammar::style_argument))]
-fn style_argument(reader: &mut Reader<'_>) -> Result<NumStyle, Unread>
-    ensures reads { Reads (λ x. x) (spec.style_argument reader.old) result reader.new }
-    ensures within { length reader.new ≤ length reader.old }
-{
-    if !is_mark(b',', reader.peek()) {
-        return Ok(NumStyle::Decimal);
-    }
-    reader.advance();
-    num_style(reader)
 }
 
 #[tactic(auto, unfolding(crate::specs::Grammar::attr_arguments))]
@@ -221,13 +207,13 @@ fn own_arguments(reader: &mut Reader<'_>) -> Result<Part, Unread>
     Ok(Part::Own)
 }
 
-/// Reads which value of a string is printed.
+/// Reads a comma and which value of a string is printed, or nothing, which is the first.
 #[tactic(auto, unfolding(crate::specs::Grammar::keywords))]
-fn keyword(reader: &mut Reader<'_>) -> Result<Keyword, Unread>
-    ensures reads { Reads (λ x. x) (word_in spec.keywords reader.old) result reader.new }
+fn keyword_argument(reader: &mut Reader<'_>) -> Result<Keyword, Unread>
+    ensures reads { Reads (λ x. x) (spec.keyword_argument reader.old) result reader.new }
     ensures within { length reader.new ≤ length reader.old }
 {
-    word_in(
+    word_argument(
         reader,
         &[
             ("first", Keyword::First),
@@ -235,20 +221,8 @@ fn keyword(reader: &mut Reader<'_>) -> Result<Keyword, Unread>
             ("last", Keyword::Last),
             ("first-except", Keyword::FirstExcept),
         ],
+        Keyword::First,
     )
-}
-
-/// Reads a comma and a keyword, or nothing, which is `first`.
-#[tactic(auto, unfolding(crate::specs::Grammar::keyword_argument))]
-fn keyword_argument(reader: &mut Reader<'_>) -> Result<Keyword, Unread>
-    ensures reads { Reads (λ x. x) (spec.keyword_argument reader.old) result reader.new }
-    ensures within { length reader.new ≤ length reader.old }
-{
-    if !is_mark(b',', reader.peek()) {
-        return Ok(Keyword::First);
-    }
-    reader.advance();
-    keyword(reader)
 }
 
 #[tactic(auto, unfolding(crate::specs::Grammar::running_arguments))]

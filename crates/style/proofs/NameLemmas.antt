@@ -8,7 +8,7 @@ use Rattle.std.specs.List.{list_any}
 use Rattle.std.specs.String.{string_bytes, string_eq}
 use Rattle.std.specs.declared.string.String.{String}
 use Rattle.indexmap.specs.IndexSet.{insert_key}
-use Rattle.style.specs.PageNames.{with_name}
+use Rattle.bk_num.specs.Names.{with_name}
 
 any-map : {Y : Type 0} (bs : List ℕ) (ks : List (String Y)) → list_any (bytes_eq bs) (map (λ s. string_bytes s) ks) ≡ list_any (λ k. bytes_eq bs (string_bytes k)) ks
 any-map bs [] = refl

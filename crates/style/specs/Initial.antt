@@ -1,5 +1,6 @@
 -- Initial values that more than one rule names (CSS 2.1, appendix F).
 use Rattle.std.specs.Prelude.{ℕ, ℤ, pos}
+use Rattle.bk_num.specs.Colors.{black}
 use Rattle.bk_num.specs.Numbers.{Number}
 use Rattle.bk_num.specs.declared.values.Color.{Color}
 use Rattle.style.specs.declared.values.BorderStyle.{BorderStyle}
@@ -11,7 +12,7 @@ initial_border = border.Off
 
 -- the initial colour: black (CSS 2.1, 14.1, leaves it open)
 abbrev pub initial_color : Color
-initial_color = record { red = 0; green = 0; blue = 0 }
+initial_color = black
 
 -- the initial number of widows and of orphans (CSS 2.1, 13.3.2)
 abbrev pub initial_lines : ℕ

@@ -5,6 +5,7 @@ pub mod Longs
 pub mod NodeFields
 pub mod Nodes
 pub mod PageNames
+pub mod Ranges
 pub mod Ranking
 pub mod Sides
 pub mod Styles

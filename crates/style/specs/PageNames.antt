@@ -1,17 +1,11 @@
 -- Names of pages, numbered in the order in which they are first seen. The number 0 is no name.
-use Rattle.std.specs.Prelude.{ℕ, ◌<◌, length, List, [], ◌∷◌, ◌++◌, map, if◌then◌else◌}
-use Rattle.std.specs.Str.{bytes_eq}
-use Rattle.std.specs.List.{list_any}
+use Rattle.std.specs.Prelude.{ℕ, ◌<◌, length, List, [], ◌∷◌, map}
 use Rattle.std.specs.String.{string_bytes}
 use Rattle.style.specs.declared.names.Names.TheInside.{Inside}
 
 -- the names as texts: that of number 0 is empty
 abbrev pub texts_of : Inside → List (List ℕ)
 texts_of a = [] ∷ map (λ s. string_bytes s) a.names.keys
-
--- the names with one more, unless it is among them
-abbrev pub with_name : List (List ℕ) → List ℕ → List (List ℕ)
-with_name names name = if list_any (bytes_eq name) names then names else names ++ name ∷ []
 
 -- the numbers of the names have 32 bits
 abbrev pub IsShort : Inside → Type 0

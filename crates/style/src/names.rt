@@ -3,7 +3,7 @@
 ghost use Rattle.std.specs.Prelude.{◌≡◌, ◌+◌, ◌<◌, ◌≤◌, [], ◌∷◌, IfOk, OnOk, OnErr, Some, option_map, map, length, slice_get};
 ghost use Rattle.std.specs.String.{string_bytes, string_eq};
 ghost use Rattle.indexmap.specs.IndexSet.{insert_key};
-ghost use Rattle.style.specs.PageNames.{with_name};
+ghost use Rattle.bk_num.specs.Names.{with_name};
 
 use bk_num::ids::NameId;
 use bk_num::name::NoMem;

@@ -6,8 +6,10 @@ ghost use Rattle.style.specs.Styles.{child_style, initial_style, initial_with, z
 
 use crate::content::Content;
 use crate::initial::{
-    INITIAL_ALIGN, INITIAL_BORDER, INITIAL_BREAK, INITIAL_COLOR, INITIAL_DISPLAY, INITIAL_LINES,
-    INITIAL_MARKER, INITIAL_SPACE, medium_size, normal_height, normal_weight,
+    INITIAL_ALIGN, INITIAL_BACKGROUND, INITIAL_BORDER, INITIAL_BREAK, INITIAL_COLOR,
+    INITIAL_DISPLAY, INITIAL_FLOAT, INITIAL_INSIDE, INITIAL_ITALIC, INITIAL_LINES, INITIAL_MARKER,
+    INITIAL_SPACE, INITIAL_WRAP, initial_content, initial_counters, initial_strings, medium_size,
+    normal_height, normal_weight,
 };
 use crate::lists::{CounterList, Families, StringSets};
 use crate::values::{BorderStyle, Display, LineHeight};
@@ -253,7 +255,7 @@ fn initial_with(alloc: Global, families: Families, color: Color) -> Style
 {
     Style {
         display: INITIAL_DISPLAY,
-        float: false,
+        float: INITIAL_FLOAT,
         margin_top: zero_len(),
         margin_right: zero_len(),
         margin_bottom: zero_len(),
@@ -276,24 +278,24 @@ fn initial_with(alloc: Global, families: Families, color: Color) -> Style
         border_left_color: color,
         width: Len::Auto,
         color,
-        background_color: None,
+        background_color: INITIAL_BACKGROUND,
         font_family: families,
         font_size: medium_size(),
-        font_style: false,
+        font_style: INITIAL_ITALIC,
         font_weight: normal_weight(),
         line_height: LineHeight::Number(normal_height()),
         text_align: INITIAL_ALIGN,
         text_indent: zero_len(),
         white_space: INITIAL_SPACE,
-        overflow_wrap: false,
+        overflow_wrap: INITIAL_WRAP,
         list_style_type: INITIAL_MARKER,
-        content: None,
-        counter_reset: CounterList::new(alloc),
-        counter_increment: CounterList::new(alloc),
-        string_set: StringSets::new(alloc),
+        content: initial_content(),
+        counter_reset: initial_counters(alloc),
+        counter_increment: initial_counters(alloc),
+        string_set: initial_strings(alloc),
         break_before: INITIAL_BREAK,
         break_after: INITIAL_BREAK,
-        break_inside: false,
+        break_inside: INITIAL_INSIDE,
         widows: INITIAL_LINES,
         orphans: INITIAL_LINES,
         page: NameId(0),

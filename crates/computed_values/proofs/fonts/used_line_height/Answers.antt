@@ -1,7 +1,7 @@
 use Rattle.std.proofs.Common.{◌≡◌, ◌≤ℤ◌, pos, subst, sym, rules}
 use Rattle.bk_num.specs.Lengths.{part}
 use Rattle.style.specs.declared.values.LineHeight.TheVariants as height
-use Rattle.computed_values.specs.Values.{IsHeight}
+use Rattle.style.specs.Ranges.{IsHeight}
 use Rattle.bk_num.proofs.UnitLemmas.{part-least}
 use Rattle.computed_values.proofs.fonts.used_line_height.Goals as goal
 
