@@ -3,7 +3,6 @@
 ghost use Rattle.std.specs.Prelude.{◌≡◌, map, IfOk};
 ghost use Rattle.std.specs.List.{filter_map};
 ghost use Rattle.css_rules.specs.Pages.{box_in, page_in};
-ghost use Rattle.css_words.specs.Table.{find_word};
 ghost use Rattle.css_page.specs.Rules as spec;
 
 use crate::decls::read_decls;
@@ -13,8 +12,8 @@ use crate::values::PageDecl;
 use bk_num::items::Items;
 use bk_num::name::NoMem;
 use css_rules::decls::DeclSlice;
+use css_rules::margin_boxes::margin_box_number;
 use css_rules::pages::PageSlice;
-use css_words::table::find_word;
 use std::alloc::Global;
 
 /// The number of a margin box, and its declarations.
@@ -29,38 +28,10 @@ pub struct PageRule {
     pub boxes: Items<BoxDecls>,
 }
 
-/// The number of a margin box, ASCII case aside.
-#[tactic(auto, unfolding(crate::specs::Rules::box_numbers))]
-fn box_number(name: &str) -> Option<u8>
-    ensures { result ≡ find_word spec.box_numbers name.now }
-{
-    find_word(
-        &[
-            ("top-left-corner", 0u8),
-            ("top-left", 1),
-            ("top-center", 2),
-            ("top-right", 3),
-            ("top-right-corner", 4),
-            ("right-top", 5),
-            ("right-middle", 6),
-            ("right-bottom", 7),
-            ("bottom-right-corner", 8),
-            ("bottom-right", 9),
-            ("bottom-center", 10),
-            ("bottom-left", 11),
-            ("bottom-left-corner", 12),
-            ("left-bottom", 13),
-            ("left-middle", 14),
-            ("left-top", 15),
-        ],
-        name,
-    )
-}
-
 fn read_box(alloc: Global, slice: &(&str, Vec<DeclSlice<'_>>)) -> Result<Option<BoxDecls>, NoMem>
     ensures { IfOk result (λ read. read ≡ spec.box_of (box_in slice.now)) }
 {
-    match box_number(slice.0) {
+    match margin_box_number(slice.0) {
         Some(number) => {
             let decls = read_decls(alloc, PageContext::MarginBox, &slice.1)?;
             Ok(Some((number, decls)))

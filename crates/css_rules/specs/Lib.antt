@@ -2,6 +2,7 @@ pub mod Brackets
 pub mod Views
 pub mod Parts
 pub mod Decls
+pub mod MarginBoxes
 pub mod Media
 pub mod MediaSteps
 pub mod Pages

@@ -1,13 +1,13 @@
 -- The block of a page rule: its declarations, its margin boxes, and what follows it (css-page, 4 and 5).
-use Rattle.std.specs.Prelude.{◌≡◌, ℕ, Bool, true, false, ◌&&◌, ◌||◌, if◌then◌else◌, ◌==◌, List, [], ◌∷◌, ◌++◌, None, map, codes, not, option_to_list, option_map, is_some, Vec, MatchBool, IfSome}
+use Rattle.std.specs.Prelude.{◌≡◌, ℕ, Bool, true, false, ◌&&◌, ◌||◌, if◌then◌else◌, ◌==◌, List, [], ◌∷◌, ◌++◌, None, map, not, option_to_list, option_map, is_some, Vec, MatchBool, IfSome}
 use Rattle.std.specs.Borrow.{Bor}
-use Rattle.std.specs.List.{list_any, list_all}
+use Rattle.std.specs.List.{list_all}
 use Rattle.css_tok.specs.declared.kind.CssKind.{CssKind}
 use Rattle.css_tok.specs.declared.kind.CssKind.TheVariants as kind
 use Rattle.css_tok.specs.Tokens.{Item}
-use Rattle.css_tok.specs.Plain.{is_word}
 use Rattle.css_tok.specs.Value.{value_slice}
 use Rattle.css_tok.specs.Marks.{mark, first_mark, rest_of, is_gap}
+use Rattle.css_rules.specs.MarginBoxes.{margin_box_number}
 use Rattle.css_rules.specs.Parts.{front_from, after_from, past_block}
 use Rattle.css_rules.specs.Decls.{Decl, decl_in, decl_of, decls_of}
 use Rattle.css_rules.specs.declared.parts.Stop.TheVariants as stop
@@ -36,19 +36,9 @@ box_in b = record { name = b.0.now; decls = map decl_in b.1.items }
 abbrev pub page_in : PageSlice → PageOf
 page_in p = record { selectors = p.selectors.now; decls = map decl_in p.decls.items; boxes = map box_in p.boxes.items }
 
--- the margin boxes, in the order in which they are painted
-abbrev pub margin_names : List (List ℕ)
-margin_names =
-    codes "top-left-corner" ∷ codes "top-left" ∷ codes "top-center" ∷ codes "top-right" ∷ codes "top-right-corner"
-    ∷ codes "right-top" ∷ codes "right-middle" ∷ codes "right-bottom" ∷ codes "bottom-right-corner"
-    ∷ codes "bottom-right"
-    ∷ codes "bottom-center" ∷ codes "bottom-left" ∷ codes "bottom-left-corner" ∷ codes "left-bottom"
-    ∷ codes "left-middle"
-    ∷ codes "left-top" ∷ []
-
--- the name of a margin box in any case (css-page, 5.3)
+-- whether a name is that of a margin box, ASCII case aside (css-page-3, 5.1)
 unfoldable pub is_margin_name : List ℕ → Bool
-is_margin_name name = list_any (λ word. is_word name word) margin_names
+is_margin_name name = is_some (margin_box_number name)
 
 -- an at keyword
 abbrev pub is_at_kind : CssKind → Bool

@@ -3,6 +3,7 @@
 
 pub mod brackets;
 pub mod decls;
+pub mod margin_boxes;
 pub mod media;
 pub mod pages;
 pub mod parts;

@@ -9,11 +9,11 @@ ghost use Rattle.css_rules.specs.Decls as spec_decls;
 ghost use Rattle.css_rules.specs.Pages as spec;
 
 use crate::decls::{DeclSlice, decl_of, read_block};
+use crate::margin_boxes::margin_box_number;
 use crate::parts::{Stop, take_until};
 use bk_num::name::NoMem;
 use css_tok::kind::CssKind;
 use css_tok::tokens::{CssToken, CssTokens};
-use css_tok::words::is_word;
 use std::alloc::Global;
 
 /// What stands where a rule or a declaration could begin.
@@ -38,27 +38,12 @@ pub struct PageSlice<'a> {
     pub boxes: Vec<(&'a str, Vec<DeclSlice<'a>>)>,
 }
 
-/// Whether a name is that of one of the sixteen margin boxes (css-page, 5), ASCII case aside.
+/// Whether a name is that of a margin box (css-page-3, 5.1), ASCII case aside.
 #[tactic(auto, unfolding(crate::specs::Pages::is_margin_name))]
 pub fn is_margin_name(name: &str) -> bool
     ensures { result ≡ spec.is_margin_name name.now }
 {
-    is_word(name, "top-left-corner")
-        || is_word(name, "top-left")
-        || is_word(name, "top-center")
-        || is_word(name, "top-right")
-        || is_word(name, "top-right-corner")
-        || is_word(name, "right-top")
-        || is_word(name, "right-middle")
-        || is_word(name, "right-bottom")
-        || is_word(name, "bottom-right-corner")
-        || is_word(name, "bottom-right")
-        || is_word(name, "bottom-center")
-        || is_word(name, "bottom-left")
-        || is_word(name, "bottom-left-corner")
-        || is_word(name, "left-bottom")
-        || is_word(name, "left-middle")
-        || is_word(name, "left-top")
+    margin_box_number(name).is_some()
 }
 
 pub(crate) fn is_at(token: &CssToken<'_>) -> bool
