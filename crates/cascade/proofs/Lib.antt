@@ -8,3 +8,4 @@ pub mod OneListLemmas
 pub mod PlaceLemmas
 pub mod TableLemmas
 pub mod ShareLemmas
+pub mod AlikeLemmas

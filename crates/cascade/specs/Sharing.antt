@@ -1,6 +1,12 @@
 -- Nodes to which the same rules apply.
-use Rattle.std.specs.Prelude.{◌≡◌, ◌<◌, ℕ, List, [], ◌∷◌, ◌++◌, Some, codes, slice_get}
+use Rattle.std.specs.Prelude.{◌≡◌, ◌<◌, ◌&&◌, nat_eq, nat_lt, ℕ, Bool, false, List, [], ◌∷◌, ◌++◌, Option, None, Some, option_and_then, option_map, if◌then◌else◌, codes, map, slice_get}
+use Rattle.std.specs.Borrow.{Bor}
+use Rattle.std.specs.Cmp.Lexicographic.{pointwise}
+use Rattle.std.specs.Map.{lookup}
+use Rattle.std.specs.Option.{option_eq}
+use Rattle.bk_num.specs.declared.ids.NodeId.{NodeId}
 use Rattle.dom.specs.Nodes.{attribute_at}
+use Rattle.indexmap.specs.IndexMap.{insert_entry}
 use Rattle.selectors.specs.Match.{Tree}
 use Rattle.cascade.specs.declared.table.NodeWinners.{NodeWinners}
 use Rattle.cascade.specs.Document.{style_decls}
@@ -11,6 +17,39 @@ pub record IsLike (dom : Tree) (matched : List (List ℕ)) (e n : ℕ) : Type 0 
   pub before : e < n
   pub places : slice_get matched e ≡ slice_get matched n
   pub style : attribute_at dom e (codes "style") ≡ attribute_at dom n (codes "style")
+
+-- what a node is noted by: the places of the selectors that match it, and its style attribute
+abbrev pub mark_of : Tree → List (List ℕ) → ℕ → Option (List ℕ × Option (List ℕ))
+mark_of dom matched n = option_map (λ places. (places, attribute_at dom n (codes "style"))) (slice_get matched n)
+
+-- whether two are the same
+abbrev pub is_same : List ℕ × Option (List ℕ) → List ℕ × Option (List ℕ) → Bool
+is_same a b = pointwise nat_eq a.0 b.0 && option_eq (pointwise nat_eq) a.1 b.1
+
+-- the nodes that are noted, as a map keeps them
+abbrev pub seen_of : List ((Bor (List ℕ) × Option (Bor (List ℕ))) × NodeId) → List ((List ℕ × Option (List ℕ)) × ℕ)
+seen_of entries = map (λ e. ((e.0.0.now, option_map (λ s. s.now) e.0.1), e.1.0)) entries
+
+-- whether a node is noted by this
+abbrev pub is_mark : List ℕ × Option (List ℕ) → Option (List ℕ × Option (List ℕ)) → Bool
+is_mark m None = false
+is_mark m (Some o) = is_same o m
+
+-- a node that was noted, where it is an earlier one and is noted by this
+abbrev pub if_like : Tree → List (List ℕ) → ℕ → List ℕ × Option (List ℕ) → ℕ → Option ℕ
+if_like dom matched n m e = if nat_lt e n && is_mark m (mark_of dom matched e) then Some e else None
+
+-- the earlier node that is found for a node: the one that was noted by the same
+abbrev pub found_for : Tree → List (List ℕ) → List ((List ℕ × Option (List ℕ)) × ℕ) → ℕ → Option ℕ
+found_for dom matched noted n =
+    option_and_then (λ m. option_and_then (if_like dom matched n m) (lookup (is_same m) noted)) (mark_of dom matched n)
+
+-- the nodes that are noted, with one more
+abbrev pub noted_as :
+    Option (List ℕ × Option (List ℕ)) → ℕ → List ((List ℕ × Option (List ℕ)) × ℕ) →
+    List ((List ℕ × Option (List ℕ)) × ℕ)
+noted_as None n noted = noted
+noted_as (Some m) n noted = insert_entry is_same noted m n
 
 -- what wins at a node by the selectors that match it and by its style attribute
 abbrev pub IsChosenAt : Tree → List SelectedOf → List (List ℕ) → ℕ → NodeWinners → Type 0

@@ -6,9 +6,9 @@ use Rattle.std.specs.List.{list_any}
 use Rattle.std.specs.Option.{option_to_list}
 use Rattle.std.specs.Str.{bytes_eq}
 use Rattle.dom.specs.NameLists.{AreOnce}
-use Rattle.dom.proofs.NameLemmas.{any-position, once-with}
+use Rattle.dom.proofs.NameLemmas.{once-with}
 use Rattle.style.specs.Nodes.{NodeStyles}
-use Rattle.style.specs.PageNames.{with_name}
+use Rattle.bk_num.specs.Names.{with_name}
 use Rattle.style.specs.declared.style.Style.{Style}
 use Rattle.style.specs.declared.long.Long.{Long}
 use Rattle.cascade.specs.declared.table.NodeWinners.{NodeWinners}
@@ -86,7 +86,7 @@ names-turn names more winners i w rows next r len at added h g =
 -- ---- each name has one number
 
 once-more : (names : List (List ℕ)) (name : List ℕ) → AreOnce names → AreOnce (with_name names name)
-once-more names name once = subst AreOnce (ap (λ b. cond b names (names ++ name ∷ [])) (sym (any-position (bytes_eq name) names))) (once-with names name once)
+once-more = once-with
 
 once-all : (names more : List (List ℕ)) → AreOnce names → AreOnce (with_names names more)
 once-all names [] once = once

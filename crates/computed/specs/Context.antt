@@ -16,8 +16,12 @@ use Rattle.computed_values.specs.Values.{given_by, same, size_of}
 
 -- that of an element without winners
 abbrev pub bare : Style → ElementContext
-bare p =
-    record { font_size = p.font_size; root_size = p.font_size; color = p.color; border_styles = sides.same initial_border }
+bare p = record {
+  font_size = p.font_size;
+  root_size = p.font_size;
+  color = p.color;
+  border_styles = sides.same initial_border;
+}
 
 -- with what a winner gives to a side
 abbrev pub noted_side : Style → ElementContext → SideLong → ElementContext

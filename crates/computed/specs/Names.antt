@@ -3,7 +3,7 @@ use Rattle.std.specs.Prelude.{ℕ, List, [], ◌∷◌, ◌++◌, Option, None, 
 use Rattle.std.specs.List.{flat_map, zip}
 use Rattle.std.specs.Option.{option_to_list}
 use Rattle.style.specs.Nodes.{NodeStyles}
-use Rattle.style.specs.PageNames.{with_name}
+use Rattle.bk_num.specs.Names.{with_name}
 use Rattle.style.specs.declared.style.Style.{Style}
 use Rattle.style.specs.declared.long.Long.{Long}
 use Rattle.style.specs.declared.long.Long.TheVariants as long

@@ -1,6 +1,6 @@
 //! Styles from winners.
 
-ghost use Rattle.std.specs.Prelude.{◌≡◌, [], None, IfOk, OnOk};
+ghost use Rattle.std.specs.Prelude.{◌≡◌, IfOk, OnOk};
 ghost use Rattle.style.specs.Styles.{initial_style};
 ghost use Rattle.computed_values.specs.Values.{given_by, same};
 ghost use Rattle.computed.specs.Applied as spec;
@@ -16,7 +16,9 @@ use computed_values::given::{chosen, chosen_color};
 use std::alloc::Global;
 use style::content::Content;
 use style::initial::{
-    INITIAL_ALIGN, INITIAL_BREAK, INITIAL_DISPLAY, INITIAL_LINES, INITIAL_MARKER, INITIAL_SPACE,
+    INITIAL_ALIGN, INITIAL_BACKGROUND, INITIAL_BREAK, INITIAL_DISPLAY, INITIAL_FLOAT,
+    INITIAL_INSIDE, INITIAL_ITALIC, INITIAL_LINES, INITIAL_MARKER, INITIAL_SPACE, INITIAL_WRAP,
+    initial_content, initial_counters, initial_strings,
 };
 use style::lists::{CounterList, Families, StringSets};
 use style::long::{Given, Long, SideLong};
@@ -134,17 +136,19 @@ fn apply_flow(style: &mut Style, parent: &Style, context: &ElementContext, long:
 {
     match long {
         Long::Display(g) => style.display = chosen(g, parent.display, INITIAL_DISPLAY),
-        Long::Float(g) => style.float = chosen(g, parent.float, false),
+        Long::Float(g) => style.float = chosen(g, parent.float, INITIAL_FLOAT),
         Long::Width(g) => style.width = chosen_length(LengthUse::Width, g, parent.width, context),
         Long::BackgroundColor(g) => {
-            style.background_color = chosen(g, parent.background_color, None);
+            style.background_color = chosen(g, parent.background_color, INITIAL_BACKGROUND);
         }
         Long::ListStyleType(g) => {
             style.list_style_type = chosen(g, parent.list_style_type, INITIAL_MARKER);
         }
         Long::BreakBefore(g) => style.break_before = chosen(g, parent.break_before, INITIAL_BREAK),
         Long::BreakAfter(g) => style.break_after = chosen(g, parent.break_after, INITIAL_BREAK),
-        Long::BreakInside(g) => style.break_inside = chosen(g, parent.break_inside, false),
+        Long::BreakInside(g) => {
+            style.break_inside = chosen(g, parent.break_inside, INITIAL_INSIDE);
+        }
         Long::Widows(g) => style.widows = chosen(g, parent.widows, INITIAL_LINES),
         Long::Orphans(g) => style.orphans = chosen(g, parent.orphans, INITIAL_LINES),
         _ => {}
@@ -156,7 +160,7 @@ fn apply_text(style: &mut Style, parent: &Style, context: &ElementContext, long:
     ensures { style.new ≡ spec.applied_text parent.now context.now style.old long.now }
 {
     match long {
-        Long::FontStyle(g) => style.font_style = chosen(g, parent.font_style, false),
+        Long::FontStyle(g) => style.font_style = chosen(g, parent.font_style, INITIAL_ITALIC),
         Long::FontWeight(g) => style.font_weight = chosen_weight(g, parent.font_weight),
         Long::LineHeight(g) => {
             let (font, root) = (context.font_size, context.root_size);
@@ -169,7 +173,9 @@ fn apply_text(style: &mut Style, parent: &Style, context: &ElementContext, long:
         Long::WhiteSpace(g) => {
             style.white_space = chosen(g, parent.white_space, INITIAL_SPACE);
         }
-        Long::OverflowWrap(g) => style.overflow_wrap = chosen(g, parent.overflow_wrap, false),
+        Long::OverflowWrap(g) => {
+            style.overflow_wrap = chosen(g, parent.overflow_wrap, INITIAL_WRAP);
+        }
         _ => {}
     }
 }
@@ -216,12 +222,12 @@ fn chosen_content(
     given: &Given<Option<Content>>,
     inherited: &Option<Content>,
 ) -> Result<Option<Content>, NoMem>
-    ensures { IfOk result (λ content. content ≡ given_by same given.now inherited.now None) }
+    ensures { IfOk result (λ content. content ≡ given_by same given.now inherited.now initial_style.content) }
 {
     match given {
         Given::Value(content) => copy_content(alloc, content),
         Given::Inherit => copy_content(alloc, inherited),
-        Given::Initial => Ok(None),
+        Given::Initial => Ok(initial_content()),
     }
 }
 
@@ -239,12 +245,12 @@ fn chosen_counters(
     given: &Given<CounterList>,
     inherited: &CounterList,
 ) -> Result<CounterList, NoMem>
-    ensures { IfOk result (λ counters. counters ≡ given_by same given.now inherited.now []) }
+    ensures { IfOk result (λ counters. counters ≡ given_by same given.now inherited.now initial_style.counter_reset) }
 {
     match given {
         Given::Value(counters) => counters.copy(alloc),
         Given::Inherit => inherited.copy(alloc),
-        Given::Initial => Ok(CounterList::new(alloc)),
+        Given::Initial => Ok(initial_counters(alloc)),
     }
 }
 
@@ -253,11 +259,11 @@ fn chosen_strings(
     given: &Given<StringSets>,
     inherited: &StringSets,
 ) -> Result<StringSets, NoMem>
-    ensures { IfOk result (λ strings. strings ≡ given_by same given.now inherited.now []) }
+    ensures { IfOk result (λ strings. strings ≡ given_by same given.now inherited.now initial_style.string_set) }
 {
     match given {
         Given::Value(strings) => strings.copy(alloc),
         Given::Inherit => inherited.copy(alloc),
-        Given::Initial => Ok(StringSets::new(alloc)),
+        Given::Initial => Ok(initial_strings(alloc)),
     }
 }

@@ -75,8 +75,8 @@ fn add_next(
     requires count { length winners.now.winners ≡ length dom.now }
     requires rows { length styles.old ≡ node.0 }
     requires initial { initial.now ≡ initial_style }
-    ensures adds { OnOk result (AddsNext names.old names.new dom.now winners.now.winners node.0 alike.old alike.new
-        styles.old styles.new) }
+    ensures adds { OnOk result (AddsNext names.old names.new dom.now winners.now.winners node.0 alike.old.firsts
+        alike.new.firsts styles.old styles.new) }
     ensures names { Extends names.old names.new }
 {
     if let Some(earlier) = alike.earlier(dom, winners, node) {

@@ -6,7 +6,7 @@ use Rattle.cascade.proofs.ShareLemmas.{adds-like, adds-new, chosen-here, on-ok, 
 use Rattle.cascade.proofs.winners.add_winners.Goals as goal
 
 pub returns-in-Some : goal.returns-in-Some
-returns-in-Some c = then-ok c.push_like.result (adds-like c.args.dom.now (map selected_in c.args.selected.now) c.args.matched.now _ c.args.node.0 _ _ c.in-Some.ensures) c.push_like.ensures.ok
+returns-in-Some c = then-ok c.push_like.result (adds-like c.args.dom.now (map selected_in c.args.selected.now) c.args.matched.now _ c.args.node.0 _ _ c.in-Some.ensures.like) c.push_like.ensures.ok
 
 pub returns : goal.returns
 returns c =

@@ -1,4 +1,4 @@
-use Rattle.std.proofs.Common.{◌<◌, length, arith}
+use Rattle.std.proofs.Common.{◌<◌, ap, length, arith}
 use Rattle.bk_num.proofs.ListLemmas.{slice_get_at}
 use Rattle.computed.proofs.NameLemmas.{no-names, names-turn}
 use Rattle.computed.proofs.WalkLemmas.{none-yet, nodes-turn, count-turn}
@@ -8,7 +8,7 @@ use Rattle.computed.proofs.walk.add_all.Goals as goal
 pub loop-index-init : goal.loop-index-init
 loop-index-init c =
     let none = none-yet c.args.names.now c.args.dom.now c.args.winners.now.winners c.args.styles.now c.requires.styles in
-    let noted = none-noted c.args.styles.now c.new-alike.result c.new-alike.ensures in
+    let noted = none-noted c.args.styles.now c.new-alike.result.firsts (ap (λ k. k.firsts) c.new-alike.ensures) in
     let numbered = no-names c.args.names.now c.args.winners.now.winners c.args.styles.now c.requires.names c.requires.styles in
     record { numbered = numbered; nodes = none.0; count = none.1; firsts = noted.0; noted = noted.1 }
 

@@ -9,6 +9,6 @@ invariant-loop-index l = record {
   numbered : l.names ≡ names_of l.winners.winners l.styles;
   nodes : AreNodes l.names l.dom l.winners.winners l.styles;
   count : length l.styles ≡ l.index;
-  firsts : AreFirsts l.styles l.alike;
-  noted : length l.alike ≡ l.index;
+  firsts : AreFirsts l.styles l.alike.firsts;
+  noted : length l.alike.firsts ≡ l.index;
 }

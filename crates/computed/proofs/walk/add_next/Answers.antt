@@ -2,7 +2,7 @@ use Rattle.computed.proofs.AlikeLemmas.{adds-like, adds-new}
 use Rattle.computed.proofs.walk.add_next.Goals as goal
 
 pub returns-in-Some-clause-adds : goal.returns-in-Some-clause-adds
-returns-in-Some-clause-adds c = adds-like c.note_like.result _ _ _ _ _ _ _ _ _ c.in-Some.ensures c.in_ok-add_like.ensures.ok c.note_like.ensures
+returns-in-Some-clause-adds c = adds-like c.note_like.result _ _ _ _ _ _ _ _ _ c.in-Some.ensures.like c.in_ok-add_like.ensures.ok c.note_like.ensures.firsts
 
 pub returns-clause-adds : goal.returns-clause-adds
-returns-clause-adds c = adds-new c.note.result _ _ _ _ _ c.of.result.now _ _ _ _ c.requires.rows c.of.ensures c.in_ok-add_node.ensures.adds c.note.ensures
+returns-clause-adds c = adds-new c.note.result _ _ _ _ _ c.of.result.now _ _ _ _ c.requires.rows c.of.ensures c.in_ok-add_node.ensures.adds c.note.ensures.firsts
