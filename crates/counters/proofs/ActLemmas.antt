@@ -22,10 +22,10 @@ use Rattle.counters.specs.declared.scopes.CounterEvent.{CounterEvent}
 use Rattle.counters.specs.At.{place_number}
 use Rattle.counters.specs.Scopes.{Each, IsAfter, AreNested, Scope, live, holding, new_scope, opened_by, share, History, nothing_yet, with_event, history_of, total, value_of, or_zero}
 use Rattle.counters.specs.Document.{changes_at, into, out_of, named, events_from, events_of, values_of, values_up_to}
-use Rattle.counters.specs.Gather.{of_name}
+use Rattle.named_lists.specs.Lists.{of_name}
 use Rattle.counters.specs.Sites.{Site, number_of, end_of, AreBegunAt, IsBegunAt, first_scope, IsLastReached}
 use Rattle.counters.specs.Acts.{sites_at, SiteAct, acts_at, acts_of, Count, NoneReaches, Adds, Does, Come, HasValue, innermost, ValuesBelongToResets, ValuesAreOne}
-use Rattle.counters.proofs.GatherLemmas.{of_name-append}
+use Rattle.named_lists.proofs.ListLemmas.{of_name-append}
 use Rattle.counters.proofs.ScopeLemmas.{AreNumbered, numbered-below, none-of, own, below-more, share-reset, event-is, opened-is, each-map}
 use Rattle.counters.proofs.NestLemmas.{each-append, events-are-nested}
 use Rattle.counters.proofs.SetLemmas.{last-reset-holds}

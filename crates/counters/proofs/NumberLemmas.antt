@@ -1,5 +1,5 @@
 -- from events and marks to values
-use Rattle.std.proofs.Common.{◌≡◌, ℕ, zero, suc, ◌<◌, List, [], ◌∷◌, ◌++◌, Option, None, Some, length, length-append, slice_get, get_or, refl, sym, ◌∙◌, ap, subst, arith, ◌⊎◌, inl, inr}
+use Rattle.std.proofs.Common.{◌≡◌, ℕ, zero, suc, ◌+◌, ◌<◌, List, [], ◌∷◌, ◌++◌, Option, None, Some, length, length-append, slice_get, take, get_or, refl, sym, ◌∙◌, ap, subst, arith, ◌⊎◌, inl, inr}
 use Rattle.std.specs.Prelude.{slice_index_or, pos}
 use Rattle.std.specs.Str.{bytes_eq}
 use Rattle.std.specs.List.{position}
@@ -18,7 +18,9 @@ use Rattle.counters.specs.Scopes.{Each, IsAfter, AreNested, values_by}
 use Rattle.counters.specs.Chains.{AreMarks, AreMarked}
 use Rattle.counters.specs.At.{Kept, AreAllMarks, place_number, place_in, values_of_marks, marks_by, counter_values}
 use Rattle.counters.specs.Document.{document_events, events_of, values_up_to, values_of, into, out_of}
-use Rattle.counters.specs.Gather.{AreSpots, spot_at, of_name, listed, list_at, AreListed, AreInOrder, IsMarksOf, AreMarksOf}
+use Rattle.named_lists.specs.Lists.{ListsOf, listed, list_at, of_name}
+use Rattle.counters.specs.Gather.{AreSpots, spot_at, needed, AreKept, AreInOrder, IsMarksOf, AreMarksOf}
+use Rattle.counters.proofs.NeededLemmas.{needed-nested, needed-values}
 use Rattle.counters.proofs.NestLemmas.{events-are-nested}
 use Rattle.counters.proofs.ValueLemmas.{values-are}
 
@@ -34,16 +36,21 @@ nested-sorted (e ∷ more) h zero (suc j) d le l = (each-at (IsAfter e) more j d
 nested-sorted (e ∷ more) h (suc i) zero d le l = absurd (omega arith)
 nested-sorted (e ∷ more) h (suc i) (suc j) d le l = nested-sorted more h.2 i j d (omega arith) (omega arith)
 
-of-list : (events : List (List ℕ × CounterEvent)) (names : List (List ℕ)) (lists : List (List CounterEvent)) → AreListed events names lists → (i : ℕ) (l : List CounterEvent) → slice_get lists i ≡ Some l → (x : List ℕ) × (l ≡ of_name events x)
-of-list events names lists a i l g =
-    let w = slice_get_within lists i l g in
-    let n = slice_get_at names i (let z = a.len in omega (arith, w)) in
-    (n.0, sym (ap listed g) ∙ sym (ap (list_at lists) (a.distinct i n.0 n.1)) ∙ a.each n.0)
+of-list : (events : List (List ℕ × CounterEvent)) (l : ListsOf CounterEvent) → AreKept events l → (i : ℕ) (es : List CounterEvent) → slice_get l.lists i ≡ Some es → (x : List ℕ) × (es ≡ needed None (of_name events x))
+of-list events l a i es g =
+    let w = slice_get_within l.lists i es g in
+    let n = slice_get_at l.names i (let z = a.len in omega (arith, w)) in
+    (n.0, sym (ap listed g) ∙ sym (ap (list_at l.lists) (a.distinct i n.0 n.1)) ∙ a.each n.0)
 
-pub in-order : (nodes : List Node) (styles : List NodeStyles) (names : List (List ℕ)) (lists : List (List CounterEvent)) → IsTree nodes → AreListed (document_events nodes styles) names lists → AreInOrder lists
-in-order nodes styles names lists t a i l g =
-    let n = of-list (document_events nodes styles) names lists a i l g in
-    subst (IsNonDecreasingBy (λ e. e.at)) (sym n.1) (nested-sorted (events_of nodes styles n.0) (events-are-nested nodes styles n.0 t))
+pub in-order : (nodes : List Node) (styles : List NodeStyles) (l : ListsOf CounterEvent) → IsTree nodes → AreKept (document_events nodes styles) l → AreInOrder l.lists
+in-order nodes styles l t a i es g =
+    let n = of-list (document_events nodes styles) l a i es g in
+    subst (IsNonDecreasingBy (λ e. e.at)) (sym n.1) (nested-sorted (needed None (events_of nodes styles n.0)) (needed-nested None (events_of nodes styles n.0) (events-are-nested nodes styles n.0 t)))
+
+pub take-more : {A : Type 0} (xs : List A) (i : ℕ) (x : A) → slice_get xs i ≡ Some x → take (i + 1) xs ≡ take i xs ++ x ∷ []
+take-more [] i x g = cc
+take-more (y ∷ ys) zero x g = let h : y ≡ x = cc in rw h refl
+take-more (y ∷ ys) (suc i) x g = (let z : suc i + 1 ≡ suc (i + 1) = omega arith in ap (λ n. take n (y ∷ ys)) z) ∙ ap (λ r. y ∷ r) (take-more ys i x g)
 
 pub marks-more : (lists : List (List CounterEvent)) (all : List (List ScopeMark)) (l : List CounterEvent) (m : List ScopeMark) → AreMarksOf lists all → AreMarks m → AreMarked l m → AreMarksOf (lists ++ l ∷ []) (all ++ m ∷ [])
 marks-more lists all l m a are marked = record {
@@ -86,10 +93,15 @@ marks-hold lists all events a nested (Some i) k e = by (slice_get all i) refl k
         let same : o.0 ≡ events = sym (ap listed o.1) ∙ e in
         values-are o.0 m j (subst AreNested (sym same) nested) o.2.marked ∙ ap (λ (v : List CounterEvent). values_by v j) same
 
-pub values-are-those : (nodes : List Node) (styles : List NodeStyles) (names : List (List ℕ)) (lists : List (List CounterEvent)) (all : List (List ScopeMark)) (spots : List Spot) → IsTree nodes → AreSpots (steps_of nodes) spots → AreListed (document_events nodes styles) names lists → AreMarksOf lists all → (c : Kept) → c.names ≡ names → c.marks ≡ all → c.spots ≡ spots → (n : ℕ) (p : Pseudo) (x : List ℕ) → counter_values c n p x ≡ values_of nodes styles n p x
-values-are-those nodes styles names lists all spots t s a m c e f g n p x =
+needed-up-to : (events : List CounterEvent) (k : Option ℕ) → AreNested events → values_up_to (needed None events) k ≡ values_up_to events k
+needed-up-to events None h = refl
+needed-up-to events (Some k) h = needed-values events k h
+
+pub values-are-those : (nodes : List Node) (styles : List NodeStyles) (l : ListsOf CounterEvent) (all : List (List ScopeMark)) (spots : List Spot) → IsTree nodes → AreSpots (steps_of nodes) spots → AreKept (document_events nodes styles) l → AreMarksOf l.lists all → (c : Kept) → c.names ≡ l.names → c.marks ≡ all → c.spots ≡ spots → (n : ℕ) (p : Pseudo) (x : List ℕ) → counter_values c n p x ≡ values_of nodes styles n p x
+values-are-those nodes styles l all spots t s a m c e f g n p x =
     let place : place_in (slice_get spots n) p ≡ place_number (into (steps_of nodes) n) (out_of (steps_of nodes) n) p = place-is (slice_get spots n) p ∙ ap (λ (z : Spot). place_number z.into z.out p) (s n) in
-    rw (e, f, g, place) (marks-hold lists all (events_of nodes styles x) m (events-are-nested nodes styles x t) (position (bytes_eq x) names) (place_number (into (steps_of nodes) n) (out_of (steps_of nodes) n) p) (a.each x))
+    let nested = events-are-nested nodes styles x t in
+    rw (e, f, g, place) (marks-hold l.lists all (needed None (events_of nodes styles x)) m (needed-nested None (events_of nodes styles x) nested) (position (bytes_eq x) l.names) (place_number (into (steps_of nodes) n) (out_of (steps_of nodes) n) p) (a.each x) ∙ needed-up-to (events_of nodes styles x) (place_number (into (steps_of nodes) n) (out_of (steps_of nodes) n) p) nested)
 
 pub item-at : {A : Type 0} (xs : List A) (i : ℕ) (x : A) → i < length xs → x ≡ get_or xs i x → slice_get xs i ≡ Some x
 item-at xs i x l e = slice_get-get_or xs i x l ∙ ap (λ y. Some y) (sym e)

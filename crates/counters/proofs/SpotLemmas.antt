@@ -5,6 +5,7 @@ use Rattle.std.specs.List.{position, prefix_len}
 use Rattle.std.proofs.lemmas.Bool.{eq-eqb}
 use Rattle.std.proofs.lemmas.Map.Views.{exact_unsigned_eq}
 use Rattle.std.proofs.lemmas.Bool.Decides.{nat_tests}
+use Rattle.named_lists.proofs.ListLemmas.{first, position-first}
 use Rattle.dom.specs.Nodes.{Node, IsTree}
 use Rattle.dom.specs.Walk.{node_of, steps_of}
 use Rattle.dom.specs.declared.walk.Step.{Step}
@@ -14,28 +15,6 @@ use Rattle.counters.specs.At.{AreSmall, IsSmall}
 use Rattle.counters.specs.Document.{enters, leaves, into, out_of}
 use Rattle.counters.specs.Gather.{AreSpots, spot_at, stepped, or_else}
 use Rattle.counters.proofs.StepCounts.{steps-few}
-
--- the first place where a test passes, element by element
-abbrev pub first : {A : Type 0} → (A → Bool) → List A → Option ℕ
-first p [] = None
-first p (x ∷ xs) = cond (p x) (Some 0) (option_map (λ i. suc i) (first p xs))
-
-pub position-first : {A : Type 0} (p : A → Bool) (xs : List A) → position p xs ≡ first p xs
-position-first p [] = refl
-position-first p (x ∷ xs) = by (p x) refl (position-first p xs)
-  where
-    by : (b : Bool) → p x ≡ b → position p xs ≡ first p xs → position p (x ∷ xs) ≡ cond (p x) (Some 0) (option_map (λ i. suc i) (first p xs))
-    by true e r =
-        let k : prefix_len (λ y. not (p y)) (x ∷ xs) ≡ 0 = rw e refl in
-        let t : nat_lt 0 (suc (length xs)) ≡ true = grind (arith, nat_tests) in
-        ap (λ m. cond {A = Option ℕ} (nat_lt m (suc (length xs))) (Some m) None) k ∙ ap (λ b. cond {A = Option ℕ} b (Some 0) None) t ∙ ap (λ b. cond {A = Option ℕ} b (Some 0) (option_map (λ (i : ℕ). suc i) (first p xs))) (sym e)
-    by false e r =
-        let k : prefix_len (λ y. not (p y)) (x ∷ xs) ≡ suc (prefix_len (λ y. not (p y)) xs) = rw e (omega arith) in
-        ap (λ m. cond {A = Option ℕ} (nat_lt m (suc (length xs))) (Some m) None) k ∙ past (nat_lt (prefix_len (λ y. not (p y)) xs) (length xs)) refl ∙ ap (option_map (λ (i : ℕ). suc i)) r ∙ ap (λ b. cond {A = Option ℕ} b (Some 0) (option_map (λ (i : ℕ). suc i) (first p xs))) (sym e)
-      where
-        past : (c : Bool) → nat_lt (prefix_len (λ y. not (p y)) xs) (length xs) ≡ c → cond (nat_lt (suc (prefix_len (λ y. not (p y)) xs)) (suc (length xs))) (Some (suc (prefix_len (λ y. not (p y)) xs))) None ≡ option_map (λ i. suc i) (cond (nat_lt (prefix_len (λ y. not (p y)) xs) (length xs)) (Some (prefix_len (λ y. not (p y)) xs)) None)
-        past true h = let t : nat_lt (suc (prefix_len (λ y. not (p y)) xs)) (suc (length xs)) ≡ true = grind (arith, nat_tests, h) in rw (h, t) refl
-        past false h = let t : nat_lt (suc (prefix_len (λ y. not (p y)) xs)) (suc (length xs)) ≡ false = grind (arith, nat_tests, h) in rw (h, t) refl
 
 first-more : {A : Type 0} (p : A → Bool) (xs : List A) (x : A) → first p (xs ++ x ∷ []) ≡ or_else (first p xs) (cond (p x) (Some (length xs)) None)
 first-more p [] x = refl

@@ -56,7 +56,7 @@ run-all events nested = run events nothing_yet 0 [] (from-0 events) nested (no-s
 abbrev pub up_to : ℕ → List CounterEvent → List CounterEvent
 up_to k events = filter (λ e. nat_le e.at k) events
 
-filter-none : {A : Type 0} (p : A → Bool) (xs : List A) → Each (λ x. p x ≡ false) xs → filter p xs ≡ []
+pub filter-none : {A : Type 0} (p : A → Bool) (xs : List A) → Each (λ x. p x ≡ false) xs → filter p xs ≡ []
 filter-none p [] h = refl
 filter-none p (x ∷ xs) h = rw (h.0) (filter-none p xs h.1)
 

@@ -1,10 +1,11 @@
 -- What is gathered in one walk: the steps into nodes and out of them, and events by their counters' names.
-use Rattle.std.specs.Prelude.{◌≡◌, ℕ, zero, suc, if◌then◌else◌, ◌+◌, ◌*◌, List, [], ◌∷◌, ◌++◌, Option, None, Some, map, filter, length, slice_get}
-use Rattle.std.specs.Str.{bytes_eq}
-use Rattle.std.specs.List.{list_any, position}
+use Rattle.std.specs.Prelude.{◌≡◌, ℕ, Bool, false, if◌then◌else◌, ◌&&◌, ◌==◌, ◌+◌, ◌-◌, ◌*◌, List, [], ◌∷◌, Option, None, Some, fold, length, slice_get, pos}
+use Rattle.std.specs.Ordering.{int_eq}
 use Rattle.dom.specs.declared.walk.Step.{Step}
 use Rattle.dom.specs.declared.walk.Step.TheVariants.{Enter, Leave}
+use Rattle.named_lists.specs.Lists.{ListsOf, AreDistinct, items_of, of_name, with_item}
 use Rattle.counters.specs.declared.scopes.Act.{Act}
+use Rattle.counters.specs.declared.scopes.Act.TheVariants as act
 use Rattle.counters.specs.declared.scopes.CounterEvent.{CounterEvent}
 use Rattle.counters.specs.declared.events.EventPlace.{EventPlace}
 use Rattle.counters.specs.declared.at.Spot.{Spot}
@@ -16,10 +17,6 @@ use Rattle.counters.specs.Document.{named, not_page, into, out_of}
 -- the events of what a place does
 abbrev pub placed : EventPlace → List (List ℕ × Act) → List (List ℕ × CounterEvent)
 placed p changes = named p.at p.end (not_page changes)
-
--- the events of a counter
-abbrev pub of_name : List (List ℕ × CounterEvent) → List ℕ → List CounterEvent
-of_name events name = map (λ e. e.1) (filter (λ e. bytes_eq e.0 name) events)
 
 -- the spot of a node, which has no steps where the list ends
 abbrev pub spot_at : Option Spot → Spot
@@ -50,36 +47,43 @@ abbrev pub end_below : ℕ → List Spot → Option ℕ → ℕ
 end_below count spots None = 4 * count
 end_below count spots (Some p) = end_after count (spot_at (slice_get spots p)).out
 
--- names with one more, unless it is among them
-abbrev pub with_name : List (List ℕ) → List ℕ → List (List ℕ)
-with_name names name = if list_any (bytes_eq name) names then names else names ++ name ∷ []
+-- whether an event stands at a place
+abbrev pub is_at : ℕ → Option CounterEvent → Bool
+is_at k None = false
+is_at k (Some e) = e.at == k
 
--- lists with an event more in one of them; the one after the last is empty
-abbrev pub with_event_at : List (List CounterEvent) → ℕ → CounterEvent → List (List CounterEvent)
-with_event_at [] i e = (e ∷ []) ∷ []
-with_event_at (l ∷ ls) zero e = (l ++ e ∷ []) ∷ ls
-with_event_at (l ∷ ls) (suc i) e = l ∷ with_event_at ls i e
+-- a use: 0 is added
+abbrev pub is_use : Act → Bool
+is_use (act.Reset n) = false
+is_use (act.Add n) = int_eq n (pos 0)
 
--- a list, or none
-abbrev pub listed : Option (List CounterEvent) → List CounterEvent
-listed None = []
-listed (Some l) = l
+-- a use adds nothing where the last event of its counter stands at the same place: a scope holds there
+abbrev pub adds_nothing : List CounterEvent → CounterEvent → Bool
+adds_nothing events e = is_at e.at (slice_get events (length events - 1)) && is_use e.act
 
--- the events of the counter of a number
-abbrev pub list_at : List (List CounterEvent) → Option ℕ → List CounterEvent
-list_at lists None = []
-list_at lists (Some i) = listed (slice_get lists i)
+-- one event more under its counter's name, unless it adds nothing
+abbrev pub with_change : ListsOf CounterEvent → List ℕ × CounterEvent → ListsOf CounterEvent
+with_change l p = if adds_nothing (items_of l p.0) p.1 then l else with_item l p
 
--- no name comes twice
-abbrev pub AreDistinct : List (List ℕ) → Type 0
-AreDistinct names = (i : ℕ) (x : List ℕ) → slice_get names i ≡ Some x → position (bytes_eq x) names ≡ Some i
+-- events one after the other
+abbrev pub with_changes : ListsOf CounterEvent → List (List ℕ × CounterEvent) → ListsOf CounterEvent
+with_changes l pairs = fold with_change l pairs
 
--- the events of each name are in the list of its number
-pub record AreListed (events : List (List ℕ × CounterEvent)) (names : List (List ℕ)) (lists : List (List CounterEvent))
-    : Type 0 where
-  pub len : length names ≡ length lists
-  pub distinct : AreDistinct names
-  pub each : (name : List ℕ) → list_at lists (position (bytes_eq name) names) ≡ of_name events name
+-- whether the last event before stands at a place
+abbrev pub is_same : Option ℕ → ℕ → Bool
+is_same None k = false
+is_same (Some j) k = j == k
+
+-- events without uses that add nothing, where the last one before them stands at a place
+abbrev pub needed : Option ℕ → List CounterEvent → List CounterEvent
+needed at [] = []
+needed at (e ∷ more) = if is_same at e.at && is_use e.act then needed at more else e ∷ needed (Some e.at) more
+
+-- the events of each name are in its list, but for uses that add nothing
+pub record AreKept (pairs : List (List ℕ × CounterEvent)) (l : ListsOf CounterEvent) : Type 0 where
+  pub len : length l.names ≡ length l.lists
+  pub distinct : AreDistinct l.names
+  pub each : (name : List ℕ) → items_of l name ≡ needed None (of_name pairs name)
 
 -- each list is in document order
 abbrev pub AreInOrder : List (List CounterEvent) → Type 0

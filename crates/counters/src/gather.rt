@@ -6,13 +6,13 @@ ghost use Rattle.dom.specs.Nodes.{parents_of};
 ghost use Rattle.dom.specs.Walk.{node_of, steps_of};
 ghost use Rattle.counters.specs.At.{AreSmall};
 ghost use Rattle.counters.specs.Document.{changes_at, document_events, named, step_events};
-ghost use Rattle.counters.specs.Gather.{AreSpots, end_below};
+ghost use Rattle.counters.specs.Gather.{AreSpots, end_below, with_changes};
+ghost use Rattle.named_lists.specs.Lists.{no_lists};
 
 use crate::at::Spot;
-use crate::events::{EventPlace, push_changes};
-use crate::scopes::CounterEvent;
+use crate::events::{CounterEvents, EventPlace, push_changes};
 use bk_num::ids::NodeId;
-use bk_num::name::{Name, NoMem};
+use bk_num::name::NoMem;
 use bk_num::values::Pseudo;
 use dom::{Dom, Step, Walk};
 use std::alloc::Global;
@@ -44,10 +44,10 @@ fn push_entered(
     at: u32,
     outside: u32,
     inside: u32,
-    into: &mut Vec<(Name, CounterEvent)>,
+    into: &mut CounterEvents,
 ) -> Result<(), NoMem>
     requires { at + 3 < 2 ^ 32 }
-    ensures { OnOk result (into.new.items ≡ into.old.items ++
+    ensures { OnOk result (into.new ≡ with_changes into.old
         (named at outside (changes_at styles.now node.0 pseudo.Element) ++
         (named (at + 1) inside (changes_at styles.now node.0 pseudo.Call) ++
         (named (at + 2) inside (changes_at styles.now node.0 pseudo.Marker) ++
@@ -81,7 +81,7 @@ fn push_step(
     count: u32,
     index: u32,
     step: Step,
-    into: &mut Vec<(Name, CounterEvent)>,
+    into: &mut CounterEvents,
 ) -> Result<(), NoMem>
     requires spots { AreSpots (steps_of dom.now) spots.now }
     requires small { AreSmall spots.now }
@@ -89,8 +89,8 @@ fn push_step(
     requires few { count < 2 ^ 28 }
     requires index { index < count }
     requires within { node_of step < length dom.now }
-    ensures { OnOk result (into.new.items ≡ into.old.items ++
-        step_events (parents_of dom.now) styles.now (steps_of dom.now) index step) }
+    ensures { OnOk result (into.new ≡ with_changes into.old
+        (step_events (parents_of dom.now) styles.now (steps_of dom.now) index step)) }
 {
     match step {
         Step::Enter(node) => {
@@ -109,25 +109,25 @@ fn push_step(
     }
 }
 
-/// All events of a document, each with its counter's name.
+/// The events of each counter of a document, but for uses that add nothing.
 ///
 /// # Errors
 ///
 /// `NoMem`.
-pub fn all_events(
+pub(crate) fn all_events(
     alloc: Global,
     dom: &Dom,
     styles: &Styles,
     spots: &[Spot],
     count: u32,
-) -> Result<Vec<(Name, CounterEvent)>, NoMem>
+) -> Result<CounterEvents, NoMem>
     requires spots { AreSpots (steps_of dom.now) spots.now }
     requires small { AreSmall spots.now }
     requires count { count ≡ length (steps_of dom.now) }
     requires few { count < 2 ^ 28 }
-    ensures { IfOk result (λ v. v.items ≡ document_events dom.now styles.now) }
+    ensures { IfOk result (λ v. v ≡ with_changes no_lists (document_events dom.now styles.now)) }
 {
-    let mut events = Vec::new(alloc);
+    let mut events = CounterEvents::new(alloc);
     let mut walk = Walk::new(dom);
     let mut index = 0;
     while let Some(step) = walk.next() {

@@ -3,11 +3,10 @@
 
 pub mod at;
 mod events;
-pub mod gather;
+mod gather;
 pub mod laws;
 pub mod marker;
 pub mod number;
 pub mod numeral;
 pub mod scopes;
 pub mod spots;
-mod tally;

@@ -12,7 +12,6 @@ use crate::at::CounterAt;
 use crate::gather::all_events;
 use crate::scopes::{CounterEvent, ScopeMark, mark_all};
 use crate::spots::spots_of;
-use crate::tally::lists_of;
 use bk_num::items::Items;
 use bk_num::name::NoMem;
 use dom::Dom;
@@ -66,7 +65,7 @@ pub fn number_all(alloc: Global, dom: &Dom, styles: &Styles) -> Result<CounterAt
 {
     let (spots, count) = spots_of(alloc, dom)?;
     let events = all_events(alloc, dom, styles, &spots, count)?;
-    let (names, lists) = lists_of(alloc, &events)?;
+    let (names, lists) = events.into_parts();
     let lists = all_marks(alloc, &lists)?;
     Ok(CounterAt::of(names, lists, spots))
 }

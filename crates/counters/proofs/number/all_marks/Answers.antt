@@ -2,8 +2,7 @@ use Rattle.std.proofs.Common.{◌<◌, length, take, sym, subst, arith}
 use Rattle.std.specs.List.Sorted.{IsNonDecreasingBy}
 use Rattle.counters.specs.Chains.{AreMarked}
 use Rattle.counters.specs.declared.scopes.CounterEvent.{CounterEvent}
-use Rattle.counters.proofs.NumberLemmas.{marks-more, item-at}
-use Rattle.counters.proofs.TallyLemmas.{take-more}
+use Rattle.counters.proofs.NumberLemmas.{marks-more, item-at, take-more}
 use Rattle.counters.proofs.number.all_marks.Goals as goal
 
 pub marks_of-requires : goal.marks_of-requires

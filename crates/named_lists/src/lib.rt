@@ -1,0 +1,5 @@
+//! Lists of values by names.
+#![tactic(auto)]
+
+pub mod laws;
+pub mod lists;
