@@ -11,6 +11,7 @@ use Rattle.metrics.specs.Chosen.{face_by}
 use Rattle.metrics.specs.Widths.{text_width}
 use Rattle.line_fill.specs.Widths.{pen_of}
 use Rattle.line_place.specs.Extents.{span_extent}
+use Rattle.css_rules.specs.MarginBoxes.{margin_box_count}
 use Rattle.page_ctx.specs.Margins.{MarginStyleOf, style_of}
 use Rattle.paint.specs.Areas as paint
 use Rattle.paint.specs.Items.{for_some}
@@ -69,7 +70,7 @@ box_items m number page areas place =
 
 -- the items of the boxes from 0 to 15, in their order
 abbrev pub boxes_items : MarginsOf → ℕ → Page → List Area → List Item
-boxes_items m number page areas = flat_map (box_items m number page areas) (range_with_len 0 16)
+boxes_items m number page areas = flat_map (box_items m number page areas) (range_with_len 0 margin_box_count)
 
 -- in the areas that a page box gives them
 abbrev pub items_in : MarginsOf → ℕ → Page → PageCell → List Item

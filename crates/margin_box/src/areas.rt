@@ -4,10 +4,8 @@ ghost use Rattle.std.specs.Prelude.{◌≡◌, ◌-ℤ◌, MatchOption};
 ghost use Rattle.margin_box.specs.Areas as spec;
 
 use boxes::table::PageCell;
+use css_rules::margin_boxes::MARGIN_BOXES;
 use paint::item::Area;
-
-/// How many margin boxes a page has.
-pub const MARGIN_BOXES: usize = 16;
 
 fn area(x: i64, y: i64, w: i64, h: i64) -> Area
     ensures { result ≡ spec.area x y w h }

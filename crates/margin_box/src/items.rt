@@ -6,13 +6,14 @@ ghost use Rattle.margin_box.specs.Conditions.{CanShowMargins};
 ghost use Rattle.margin_box.specs.Margins as spec;
 ghost use Rattle.margin_box.specs.Margins.{HasFace, items_of, margins_in};
 
-use crate::areas::{MARGIN_BOXES, areas_of};
+use crate::areas::areas_of;
 use crate::line::{line_baseline, line_left};
 use crate::text::box_text;
 use bk_num::name::{Name, NoMem};
 use boxes::flow::Flow;
 use boxes::leaf::Span;
 use boxes::page::{Page, PageList};
+use css_rules::margin_boxes::MARGIN_BOXES;
 use metrics::Faces;
 use metrics::chosen::choose;
 use page_ctx::margins::MarginStyle;

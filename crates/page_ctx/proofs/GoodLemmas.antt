@@ -5,7 +5,8 @@ use Rattle.bk_num.specs.Limits.{root_size}
 use Rattle.style.specs.Styles.{initial_style}
 use Rattle.style.specs.declared.content.Part.{Part}
 use Rattle.style.specs.declared.values.LineHeight.{LineHeight}
-use Rattle.computed_values.specs.Values.{size_of, height_of, IsHeight}
+use Rattle.computed_values.specs.Values.{size_of, height_of}
+use Rattle.style.specs.Ranges.{IsHeight}
 use Rattle.computed_values.proofs.RangeLemmas.{given_in, size_least, height_least, used_least}
 use Rattle.css_page.specs.declared.rules.PageRule.{PageRule}
 use Rattle.css_page.specs.declared.values.PageLong.{PageLong}

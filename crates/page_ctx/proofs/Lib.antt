@@ -3,3 +3,5 @@ pub mod MarginLemmas
 pub mod GoodLemmas
 pub mod WeightLemmas
 pub mod WinnerLemmas
+pub mod AskedLemmas
+pub mod FilledLemmas

@@ -4,7 +4,8 @@ use Rattle.std.specs.Option.{option_or, option_and_then}
 use Rattle.std.specs.List.{list_any, filter_map, cons_option, range_with_len}
 use Rattle.std.proofs.lemmas.Bool.{eqb-true, eqb-false, leb-true, leb-false}
 use Rattle.std.proofs.lemmas.Option.{slice_get-map, slice_get_past}
-use Rattle.boxes.specs.Table.{cell_of}
+use Rattle.bk_num.specs.declared.ids.NameId.{NameId}
+use Rattle.boxes.specs.Table.{cell_of, row_of}
 use Rattle.boxes.specs.declared.frames.PageKind.{PageKind}
 use Rattle.css_page.specs.declared.rules.PageRule.{PageRule}
 use Rattle.page_ctx.specs.declared.classes.PageClasses.{PageClasses}
@@ -12,7 +13,7 @@ use Rattle.page_ctx.specs.Selectors.{classes_of}
 use Rattle.page_ctx.specs.Settings.{PageSettingOf}
 use Rattle.page_ctx.specs.Winners.{AppliedPageRuleOf, applied_to, box_declared}
 use Rattle.page_ctx.specs.Tables.{texts_of, text_of, six_pages}
-use Rattle.page_ctx.specs.Margins.{MarginStyleOf, alignments, style_by, style_below, margin_style, placed, box_at, boxes_by, style_at, row_or_first, AreMarginStyles, boxes_of_name}
+use Rattle.page_ctx.specs.Margins.{MarginStyleOf, alignments, style_by, style_below, margin_style, placed, box_at, boxes_by, style_at, AreMarginStyles, boxes_of_name}
 use Rattle.page_ctx.proofs.TableLemmas.{six_is}
 
 -- ---- the boxes of a cell
@@ -78,9 +79,9 @@ boxes_more f boxes new all place few pushed before =
 
 -- ---- the rows of names
 
-row_is : {A : Type 0} (g : List ℕ → A) (names : List (List ℕ)) (number : ℕ) (o : Option (List ℕ)) → slice_get (texts_of names) number ≡ o → row_or_first (map g (texts_of names)) number ≡ Some (g (unwrap_or o []))
-row_is g names number None e = ap (λ r. option_or r (slice_get (map g (texts_of names)) 0)) (slice_get-map g (texts_of names) number ∙ ap (option_map g) e)
-row_is g names number (Some text) e = ap (λ r. option_or r (slice_get (map g (texts_of names)) 0)) (slice_get-map g (texts_of names) number ∙ ap (option_map g) e)
+row_is : {A : Type 0} (g : List ℕ → A) (names : List (List ℕ)) (name : NameId) (o : Option (List ℕ)) → slice_get (texts_of names) name.0 ≡ o → row_of (map g (texts_of names)) name ≡ Some (g (unwrap_or o []))
+row_is g names name None e = ap (λ r. option_or r (slice_get (map g (texts_of names)) 0)) (slice_get-map g (texts_of names) name.0 ∙ ap (option_map g) e)
+row_is g names name (Some text) e = ap (λ r. option_or r (slice_get (map g (texts_of names)) 0)) (slice_get-map g (texts_of names) name.0 ∙ ap (option_map g) e)
 
 cell_is : (rules : List PageRule) (text : List ℕ) (index : ℕ) (kind : PageKind) → slice_get (boxes_of_name rules text) (cell_of index kind) ≡ Some (boxes_by (margin_style rules text (classes_of index kind)))
 cell_is rules text index kind = slice_get-map (λ c. boxes_by (margin_style rules text c)) six_pages (cell_of index kind) ∙ ap (option_map (λ c. boxes_by (margin_style rules text c))) (six_is index kind)
@@ -91,6 +92,6 @@ style_is rules text c place = style_there (margin_style rules text c) (λ k h. p
 pub are_styles : (rules : List PageRule) (names : List (List ℕ)) → AreMarginStyles rules names (map (boxes_of_name rules) (texts_of names))
 are_styles rules names index name kind place =
     let text = text_of names name in
-    let row = row_is (boxes_of_name rules) names name.0 (slice_get (texts_of names) name.0) refl in
+    let row = row_is (boxes_of_name rules) names name (slice_get (texts_of names) name.0) refl in
     ap (λ r. option_and_then (style_at place) (option_and_then (λ cells. slice_get cells (cell_of index kind)) r)) row ∙
     ap (option_and_then (style_at place)) (cell_is rules text index kind) ∙ style_is rules text (classes_of index kind) place

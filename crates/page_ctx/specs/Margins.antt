@@ -1,6 +1,6 @@
 -- How the texts of margin boxes are set, and where in their boxes they stand (css-page-3, page-margin boxes).
-use Rattle.std.specs.Prelude.{◌≡◌, ◌≤ℤ◌, ◌==◌, ℕ, ℤ, pos, Bool, List, [], ◌∷◌, Option, None, Some, option_map, map, slice_get}
-use Rattle.std.specs.Option.{option_or, option_and_then}
+use Rattle.std.specs.Prelude.{◌≡◌, ◌≤ℤ◌, ◌==◌, ℕ, ℤ, pos, Bool, List, [], ◌∷◌, Option, None, Some, option_map, map, slice_get, get_or}
+use Rattle.std.specs.Option.{option_and_then}
 use Rattle.std.specs.List.{find, filter_map, range_with_len}
 use Rattle.bk_num.specs.declared.ids.NameId.{NameId}
 use Rattle.bk_num.specs.declared.values.Align.{Align}
@@ -9,8 +9,9 @@ use Rattle.bk_num.specs.declared.values.Color.{Color}
 use Rattle.style.specs.declared.content.Part.{Part}
 use Rattle.style.specs.declared.long.Given.TheVariants as given
 use Rattle.computed_values.specs.Values.{given_by, same, used_line_height}
-use Rattle.boxes.specs.Table.{cell_of}
+use Rattle.boxes.specs.Table.{cell_of, row_of}
 use Rattle.boxes.specs.declared.frames.PageKind.{PageKind}
+use Rattle.css_rules.specs.MarginBoxes.{margin_box_count}
 use Rattle.css_page.specs.declared.rules.PageRule.{PageRule}
 use Rattle.css_page.specs.declared.values.PageLong.{PageLong}
 use Rattle.css_page.specs.declared.values.PageLong.TheVariants as long
@@ -143,21 +144,31 @@ box_at f place = option_map (placed place) (f place)
 
 -- the margin boxes that have content, in the order of their numbers
 unfoldable pub boxes_by : (ℕ → Option MarginStyleOf) → List (ℕ × MarginStyleOf)
-boxes_by f = filter_map (box_at f) (range_with_len 0 16)
+boxes_by f = filter_map (box_at f) (range_with_len 0 margin_box_count)
 
 -- the style of the box of a number
 abbrev pub style_at : ℕ → List (ℕ × MarginStyleOf) → Option MarginStyleOf
 style_at place boxes = option_map (λ b. b.1) (find (λ b. b.0 == place) boxes)
 
--- the row of a name: that of no name where there is none for it
-abbrev pub row_or_first : {A : Type 0} → List A → ℕ → Option A
-row_or_first rows number = option_or (slice_get rows number) (slice_get rows 0)
+-- the cells of a name; without any they are those of no name
+abbrev pub or_cells : {A : Type 0} → List A → List A → List A
+or_cells first [] = first
+or_cells first (c ∷ cells) = c ∷ cells
+
+-- the cells of a name by those of no name and its own, if they are there
+abbrev pub found_cells : {A : Type 0} → Option (List A) → Option (List A) → Option (List A)
+found_cells None cells = None
+found_cells (Some first) None = Some first
+found_cells (Some first) (Some cells) = Some (or_cells first cells)
+
+-- the cells of all names, where those of no name come first
+abbrev pub filled : {A : Type 0} → List (List A) → List (List A)
+filled rows = map (or_cells (get_or rows 0 [])) rows
 
 -- the style of the margin box of a number on the pages of an index, a name and a kind
 abbrev pub style_of : List (List (List (ℕ × MarginStyleOf))) → ℕ → NameId → PageKind → ℕ → Option MarginStyleOf
 style_of rows index name kind place =
-    option_and_then (style_at place) (option_and_then (λ row. slice_get row (cell_of index kind))
-    (row_or_first rows name.0))
+    option_and_then (style_at place) (option_and_then (λ row. slice_get row (cell_of index kind)) (row_of rows name))
 
 -- neither its size nor its line height is negative
 abbrev pub IsGoodStyle : MarginStyleOf → Type 0

@@ -1,9 +1,11 @@
 -- Which pages a page selector takes (css-page-3, 3).
-use Rattle.std.specs.Prelude.{ℕ, ◌==◌, Bool, true, false, not, ◌&&◌, ◌||◌, List, Option, None, Some}
+use Rattle.std.specs.Prelude.{ℕ, ◌==◌, Bool, true, false, not, ◌&&◌, ◌||◌, List, [], ◌∷◌, Option, None, Some}
+use Rattle.std.specs.List.{flat_map, list_any}
 use Rattle.std.specs.Str.{bytes_eq}
-use Rattle.boxes.specs.Frames.{side_of, is_left}
+use Rattle.boxes.specs.Frames.{is_first, side_of, is_left}
 use Rattle.boxes.specs.declared.frames.PageKind.{PageKind}
 use Rattle.boxes.specs.declared.frames.PageKind.TheVariants.{Flow, Blank, Notes}
+use Rattle.css_page.specs.declared.rules.PageRule.{PageRule}
 use Rattle.css_page.specs.declared.selectors.PageSelector.{PageSelector}
 use Rattle.page_ctx.specs.declared.classes.PageClasses.{PageClasses}
 
@@ -15,7 +17,7 @@ is_blank Notes = false
 
 -- the pseudo-classes of a page: page 1 is the first one, and sides alternate from a right page
 abbrev pub classes_of : ℕ → PageKind → PageClasses
-classes_of index kind = record { first = index == 1; left = is_left (side_of index); blank = is_blank kind }
+classes_of index kind = record { first = is_first index; left = is_left (side_of index); blank = is_blank kind }
 
 -- a pseudo-class that stands in a selector must hold
 abbrev pub holds_if : ℕ → Bool → Bool
@@ -35,3 +37,24 @@ takes_classes s c =
 -- a selector takes the pages that have its name and each of its pseudo-classes
 abbrev pub takes : PageSelector → List ℕ → PageClasses → Bool
 takes s name c = takes_name s.name name && takes_classes s c
+
+-- a rule has a selector that takes the name, whatever its pseudo-classes
+abbrev pub may_take : List ℕ → PageRule → Bool
+may_take name r = list_any (λ s. takes_name s.name name) r.selectors
+
+-- a name that is asked for, if any
+abbrev pub name_in : Option (List ℕ) → List (List ℕ)
+name_in None = []
+name_in (Some name) = name ∷ []
+
+-- the name that a selector asks for
+abbrev pub asked_by : PageSelector → List (List ℕ)
+asked_by s = name_in s.name
+
+-- the names that selectors ask for
+abbrev pub asked_in : List PageSelector → List (List ℕ)
+asked_in selectors = flat_map asked_by selectors
+
+-- the names that the selectors of rules ask for
+abbrev pub all_asked : List PageRule → List (List ℕ)
+all_asked rules = flat_map (λ r. asked_in r.selectors) rules

@@ -47,9 +47,10 @@ pub fn applied_to<'s>(
     alloc: Global,
     name: &str,
     classes: PageClasses,
-    rules: &'s [PageRule],
+    rules: &[&'s PageRule],
 ) -> Result<Vec<AppliedPageRule<'s>>, NoMem>
-    ensures { IfOk result (λ v. map spec.applied_in v.items ≡ spec.applied_to name.now classes rules.entry.now) }
+    ensures { IfOk result (λ v. map spec.applied_in v.items ≡
+        spec.applied_to name.now classes (map (λ r. r.now) rules.now)) }
 {
     let mut found = Vec::new(alloc);
     for rule in rules {

@@ -21,7 +21,8 @@ fn holds_if(count: u32, holds: bool) -> bool
     count == 0 || holds
 }
 
-fn takes_name(asked: &Option<Name>, name: &str) -> bool
+/// Whether a selector that asks for this name takes a name; without one it takes each.
+pub(crate) fn takes_name(asked: &Option<Name>, name: &str) -> bool
     ensures { result ≡ spec.takes_name asked.now name.now }
 {
     match asked {

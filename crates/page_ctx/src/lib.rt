@@ -2,6 +2,7 @@
 #![tactic(auto)]
 
 pub mod applied;
+mod asked;
 pub mod cells;
 pub mod classes;
 pub mod laws;

@@ -2,6 +2,7 @@
 
 ghost use Rattle.std.specs.Prelude.{◌≡◌, ◌≤ℤ◌, ◌++◌, pos, map, option_map, option_to_list, slice_get, IfOk, IfSome, OnOk};
 ghost use Rattle.style.specs.Styles.{initial_style};
+ghost use Rattle.boxes.specs.Table.{row_of};
 ghost use Rattle.page_ctx.specs.Winners.{applied_in, candidate_in};
 ghost use Rattle.page_ctx.specs.Settings.{setting_in};
 ghost use Rattle.page_ctx.specs.Margins as spec;
@@ -21,6 +22,7 @@ use boxes::table::cell_number;
 use computed_values::fonts::used_line_height;
 use computed_values::given::chosen;
 use css_page::values::{PageLong, Upright};
+use css_rules::margin_boxes::MARGIN_BOXES;
 use std::alloc::Global;
 use std::marker::Model;
 use style::content::Part;
@@ -166,7 +168,7 @@ pub(crate) fn boxes_by<'s>(
         spec.boxes_by (spec.style_below (setting_in page.now) (map applied_in rules.now))) }
 {
     let mut boxes = Items::new(alloc);
-    for place in 0..16u32 {
+    for place in 0..MARGIN_BOXES as u32 {
         push_place(alloc, &mut boxes, page, initial, rules, place)?;
     }
     Ok(boxes)
@@ -175,8 +177,8 @@ pub(crate) fn boxes_by<'s>(
 /// The margin boxes that have content on the pages of a name, for each of six cells.
 pub(crate) type BoxCells<'s> = Items<Items<MarginBox<'s>>>;
 
-/// The styles of the margin boxes of all pages. Contracts see, by the numbers of the names, for each of six cells the
-/// boxes that have content.
+/// The styles of the margin boxes of all pages, where a name without cells has those of no name. Contracts see, by the
+/// numbers of the names, for each of six cells the boxes that have content.
 #[derive(Drop)]
 pub struct MarginStyles<'s> {
     rows: Items<BoxCells<'s>>,
@@ -184,13 +186,13 @@ pub struct MarginStyles<'s> {
 
 impl<'s> Model for MarginStyles<'s> {
     ghost use Rattle.std.specs.Prelude.{List, ℕ, map};
-    ghost use Rattle.page_ctx.specs.Margins.{AreGoodStyles, MarginStyleOf, cells_in};
+    ghost use Rattle.page_ctx.specs.Margins.{AreGoodStyles, MarginStyleOf, cells_in, filled};
 
     ghost Value = { List (List (List (ℕ × MarginStyleOf))) };
 
-    ghost view = { λ m. map cells_in m.rows };
+    ghost view = { λ m. filled (map cells_in m.rows) };
 
-    ghost invariant = { λ m. AreGoodStyles (map cells_in m.rows) };
+    ghost invariant = { λ m. AreGoodStyles (filled (map cells_in m.rows)) };
 }
 
 /// The style of the box of a number among those of a cell.
@@ -205,11 +207,44 @@ fn style_at<'a, 's>(boxes: &'a [MarginBox<'s>], place: u32) -> Option<&'a Margin
     None
 }
 
+/// Cells, or those of no name where there are none.
+fn or_cells<'a, 's>(first: &'a BoxCells<'s>, cells: &'a BoxCells<'s>) -> &'a BoxCells<'s>
+    ensures { spec.cells_in result.now ≡ spec.or_cells (spec.cells_in first.entry.now) (spec.cells_in cells.entry.now) }
+{
+    if cells.as_slice().is_empty() {
+        return first;
+    }
+    cells
+}
+
+/// The cells of a name by those of no name and its own, if they are there.
+fn found_cells<'a, 's>(
+    first: Option<&'a BoxCells<'s>>,
+    cells: Option<&'a BoxCells<'s>>,
+) -> Option<&'a BoxCells<'s>>
+    ensures { option_map (λ c. spec.cells_in c.now) result ≡ spec.found_cells
+        (option_map (λ c. spec.cells_in c.now) first.entry) (option_map (λ c. spec.cells_in c.now) cells.entry) }
+{
+    let first = first?;
+    match cells {
+        Some(cells) => Some(or_cells(first, cells)),
+        None => Some(first),
+    }
+}
+
+/// The cells of a number.
+fn cells_at<'a, 's>(rows: &'a [BoxCells<'s>], number: usize) -> Option<&'a BoxCells<'s>>
+    ensures { option_map (λ cells. cells.now) result ≡ slice_get rows.entry.now number }
+{
+    rows.get(number)
+}
+
 /// The boxes of the pages of a name, or else those of no name.
 fn cells_of<'a, 's>(rows: &'a [BoxCells<'s>], name: NameId) -> Option<&'a BoxCells<'s>>
-    ensures { option_map (λ cells. cells.now) result ≡ spec.row_or_first rows.entry.now name.0 }
+    ensures { option_map (λ cells. spec.cells_in cells.now) result ≡
+        row_of (spec.filled (map spec.cells_in rows.entry.now)) name }
 {
-    rows.get(name.0 as usize).or(rows.first())
+    found_cells(cells_at(rows, 0), cells_at(rows, name.0 as usize))
 }
 
 /// The style of the box of a number on the pages of an index, a name and a kind.
@@ -221,7 +256,7 @@ fn style_in<'a, 's>(
     place: u32,
 ) -> Option<&'a MarginStyle<'s>>
     ensures { option_map (λ s. spec.style_in s.now) result ≡
-        spec.style_of (map spec.cells_in rows.entry.now) index name kind place }
+        spec.style_of (spec.filled (map spec.cells_in rows.entry.now)) index name kind place }
 {
     let cells = cells_of(rows, name)?;
     let boxes = cells.as_slice().get(cell_number(index, kind))?;
@@ -231,8 +266,8 @@ fn style_in<'a, 's>(
 impl<'s> MarginStyles<'s> {
     /// The styles of the names by their numbers. It takes no memory.
     pub(crate) fn of_names(rows: Items<BoxCells<'s>>) -> MarginStyles<'s>
-        requires { spec.AreGoodStyles (map spec.cells_in rows) }
-        ensures { result ≡ map spec.cells_in rows.entry }
+        requires { spec.AreGoodStyles (spec.filled (map spec.cells_in rows)) }
+        ensures { result ≡ spec.filled (map spec.cells_in rows.entry) }
     {
         MarginStyles { rows }
     }

@@ -1,15 +1,20 @@
 //! The pages that the page rules of all sheets make: their table, and the styles of their margin boxes.
 
-ghost use Rattle.std.specs.Prelude.{◌≡◌, ◌<◌, ◌++◌, ◌∷◌, [], Some, IfOk, OnOk, length, map, slice_get};
-ghost use Rattle.std.specs.List.{All};
+ghost use Rattle.std.specs.Prelude.{◌≡◌, ◌<◌, ◌||◌, ◌++◌, ◌∷◌, [], Some, IfOk, OnOk, fold, length, map, slice_get};
+ghost use Rattle.std.specs.List.{All, list_any};
+ghost use Rattle.std.specs.Str.{bytes_eq};
+ghost use Rattle.std.specs.String.{string_bytes};
 ghost use Rattle.style.specs.Styles.{initial_style};
 ghost use Rattle.boxes.specs.Frames.{IsGoodFrame};
 ghost use Rattle.boxes.specs.Table.{cell_in, cell_of, row_of};
 ghost use Rattle.page_seq.specs.Frames.{HasGoodCells, IsGoodTable};
-ghost use Rattle.page_ctx.specs.Margins.{AreMarginStyles, boxes_by, boxes_of_name, cells_in, margin_style};
+ghost use Rattle.bk_num.specs.Names.{with_name};
+ghost use Rattle.page_ctx.specs.Selectors.{all_asked};
+ghost use Rattle.page_ctx.specs.Margins.{AreMarginStyles, boxes_by, boxes_of_name, cells_in, filled, margin_style};
 ghost use Rattle.page_ctx.specs.Tables as spec;
 
 use crate::applied::{applied_to, page_declared};
+use crate::asked::{asked_names, is_asked, rules_of};
 use crate::cells::cell_by;
 use crate::classes::PageClasses;
 use crate::margins::{BoxCells, MarginStyles, boxes_by};
@@ -20,6 +25,7 @@ use bk_num::name::{Name, NoMem};
 use boxes::frames::PageKind;
 use boxes::table::{PageCell, PageRow, PageTable};
 use css_page::rules::PageRule;
+use indexmap::IndexSet;
 use std::alloc::Global;
 use style::lists::Families;
 use style::names::Names;
@@ -29,15 +35,15 @@ use style::names::Names;
 fn add_page<'s>(
     alloc: Global,
     boxes: &mut BoxCells<'s>,
-    rules: &'s [PageRule],
+    rules: &[&'s PageRule],
     initial: &'s [Name],
     name: &str,
     classes: PageClasses,
 ) -> Result<PageCell, NoMem>
     requires { initial.now ≡ initial_style.font_family }
-    ensures cell { IfOk result (λ cell. cell ≡ spec.page_cell rules.entry.now name.now classes) }
+    ensures cell { IfOk result (λ cell. cell ≡ spec.page_cell (map (λ r. r.now) rules.now) name.now classes) }
     ensures boxes { IfOk result (λ cell. cells_in boxes.new ≡
-        cells_in boxes.old ++ boxes_by (margin_style rules.entry.now name.now classes) ∷ []) }
+        cells_in boxes.old ++ boxes_by (margin_style (map (λ r. r.now) rules.now) name.now classes) ∷ []) }
     ensures good { IfOk result (λ cell. IsGoodFrame cell.frame) }
 {
     let applied = applied_to(alloc, name, classes, rules)?;
@@ -89,14 +95,14 @@ const A_BLANK_RIGHT_PAGE: PageClasses = PageClasses {
 fn add_name<'s>(
     alloc: Global,
     boxes: &mut BoxCells<'s>,
-    rules: &'s [PageRule],
+    rules: &[&'s PageRule],
     initial: &'s [Name],
     name: &str,
 ) -> Result<PageRow, NoMem>
     requires { initial.now ≡ initial_style.font_family }
-    ensures row { IfOk result (λ row. row ≡ spec.row_by rules.entry.now name.now) }
+    ensures row { IfOk result (λ row. row ≡ spec.row_by (map (λ r. r.now) rules.now) name.now) }
     ensures boxes { IfOk result (λ row. cells_in boxes.new ≡
-        cells_in boxes.old ++ boxes_of_name rules.entry.now name.now) }
+        cells_in boxes.old ++ boxes_of_name (map (λ r. r.now) rules.now) name.now) }
     ensures good { IfOk result (λ row. HasGoodCells row) }
 {
     let first = add_page(alloc, boxes, rules, initial, name, PAGE_1)?;
@@ -128,25 +134,96 @@ struct Rows<'s> {
     boxes: Items<BoxCells<'s>>,
 }
 
-/// Appends the row of a name, and the margin boxes of its pages.
-fn push_name<'s>(
+/// Appends the row of a name, and the margin boxes of its pages, and answers the row.
+fn push_row<'s>(
+    alloc: Global,
+    rows: &mut Rows<'s>,
+    rules: &'s [PageRule],
+    initial: &'s [Name],
+    name: &str,
+) -> Result<PageRow, NoMem>
+    requires { initial.now ≡ initial_style.font_family }
+    ensures row { IfOk result (λ row. row ≡ spec.row_by rules.entry.now name.now) }
+    ensures table { IfOk result (λ row. rows.new.table ≡
+        rows.old.table ++ spec.row_by rules.entry.now name.now ∷ []) }
+    ensures boxes { IfOk result (λ row. map cells_in rows.new.boxes ≡
+        map cells_in rows.old.boxes ++ boxes_of_name rules.entry.now name.now ∷ []) }
+    ensures good { All HasGoodCells rows.old.table → IfOk result (λ row. All HasGoodCells rows.new.table) }
+    ensures good_row { IfOk result (λ row. HasGoodCells row) }
+{
+    let own = rules_of(alloc, name, rules)?;
+    let mut boxes = Items::new(alloc);
+    let row = add_name(alloc, &mut boxes, &own, initial, name)?;
+    rows.boxes.push(boxes)?;
+    rows.table.push(row)?;
+    Ok(row)
+}
+
+/// The same after the row of no name.
+fn push_own<'s>(
     alloc: Global,
     rows: &mut Rows<'s>,
     rules: &'s [PageRule],
     initial: &'s [Name],
     name: &str,
 ) -> Result<(), NoMem>
-    requires { initial.now ≡ initial_style.font_family }
+    requires initial { initial.now ≡ initial_style.font_family }
+    requires first { slice_get (map cells_in rows.old.boxes) 0 ≡ Some (boxes_of_name rules.now []) }
     ensures table { OnOk result (rows.new.table ≡ rows.old.table ++ spec.row_by rules.entry.now name.now ∷ []) }
-    ensures boxes { OnOk result (map cells_in rows.new.boxes ≡
-        map cells_in rows.old.boxes ++ boxes_of_name rules.entry.now name.now ∷ []) }
+    ensures boxes { OnOk result (filled (map cells_in rows.new.boxes) ≡
+        filled (map cells_in rows.old.boxes) ++ boxes_of_name rules.entry.now name.now ∷ []) }
+    ensures first { OnOk result (slice_get (map cells_in rows.new.boxes) 0 ≡
+        Some (boxes_of_name rules.entry.now [])) }
     ensures good { All HasGoodCells rows.old.table → OnOk result (All HasGoodCells rows.new.table) }
 {
-    let mut boxes = Items::new(alloc);
-    let row = add_name(alloc, &mut boxes, rules, initial, name)?;
-    rows.boxes.push(boxes)?;
+    push_row(alloc, rows, rules, initial, name)?;
+    Ok(())
+}
+
+/// Appends the row of no name for a name that no selector asks for; its margin boxes are those of no name.
+fn push_same(alloc: Global, rows: &mut Rows<'_>, row: PageRow) -> Result<(), NoMem>
+    ensures table { OnOk result (rows.new.table ≡ rows.old.table ++ row ∷ []) }
+    ensures boxes { OnOk result (map cells_in rows.new.boxes ≡ map cells_in rows.old.boxes ++ [] ∷ []) }
+{
+    rows.boxes.push(Items::new(alloc))?;
     rows.table.push(row)?;
     Ok(())
+}
+
+/// Whether a selector asks for the name, or for the empty one.
+fn has_rules(asked: &IndexSet<String>, name: &str) -> bool
+    ensures { result ≡ (list_any (bytes_eq name.now) (map (λ k. string_bytes k) asked.now.keys) ||
+        list_any (bytes_eq []) (map (λ k. string_bytes k) asked.now.keys)) }
+{
+    is_asked(asked, name) || is_asked(asked, "")
+}
+
+/// The same by whether a selector asks for the name. `row` is the row of no name.
+fn push_name<'s>(
+    alloc: Global,
+    rows: &mut Rows<'s>,
+    rules: &'s [PageRule],
+    initial: &'s [Name],
+    asked: &IndexSet<String>,
+    row: PageRow,
+    name: &str,
+) -> Result<(), NoMem>
+    requires initial { initial.now ≡ initial_style.font_family }
+    requires asked { map (λ k. string_bytes k) asked.now.keys ≡ fold with_name [] (all_asked rules.now) }
+    requires row { row ≡ spec.row_by rules.now [] }
+    requires good { HasGoodCells row }
+    requires first { slice_get (map cells_in rows.old.boxes) 0 ≡ Some (boxes_of_name rules.now []) }
+    ensures table { OnOk result (rows.new.table ≡ rows.old.table ++ spec.row_by rules.entry.now name.now ∷ []) }
+    ensures boxes { OnOk result (filled (map cells_in rows.new.boxes) ≡
+        filled (map cells_in rows.old.boxes) ++ boxes_of_name rules.entry.now name.now ∷ []) }
+    ensures first { OnOk result (slice_get (map cells_in rows.new.boxes) 0 ≡
+        Some (boxes_of_name rules.entry.now [])) }
+    ensures good { All HasGoodCells rows.old.table → OnOk result (All HasGoodCells rows.new.table) }
+{
+    if has_rules(asked, name) {
+        return push_own(alloc, rows, rules, initial, name);
+    }
+    push_same(alloc, rows, row)
 }
 
 /// Number 0 is no name.
@@ -158,16 +235,18 @@ fn rows_by<'s>(
 ) -> Result<Rows<'s>, NoMem>
     requires { initial.now ≡ initial_style.font_family }
     ensures table { IfOk result (λ rows. rows.table ≡ map (spec.row_by rules.entry.now) (spec.texts_of names.now)) }
-    ensures boxes { IfOk result (λ rows. map cells_in rows.boxes ≡
+    ensures boxes { IfOk result (λ rows. filled (map cells_in rows.boxes) ≡
         map (boxes_of_name rules.entry.now) (spec.texts_of names.now)) }
     ensures good { IfOk result (λ rows. All HasGoodCells rows.table) }
 {
+    let asked = asked_names(alloc, rules)?;
     let table = Items::new(alloc);
     let boxes = Items::new(alloc);
     let mut rows = Rows { table, boxes };
-    push_name(alloc, &mut rows, rules, initial, "")?;
+    let row = push_row(alloc, &mut rows, rules, initial, "")?;
     for number in 1..names.len() {
-        push_name(alloc, &mut rows, rules, initial, text_at(names, number))?;
+        let name = text_at(names, number);
+        push_name(alloc, &mut rows, rules, initial, &asked, row, name)?;
     }
     Ok(rows)
 }
@@ -190,8 +269,8 @@ impl PageStyles<'_> {
 }
 
 /// The table of pages and the styles of margin boxes by rules in the order of the sheets: what the winning declarations
-/// give for each index, name and kind. `initial` are the initial families. It takes time in proportion to the names
-/// times the page selectors, and to the declarations that apply.
+/// give for each index, name and kind. `initial` are the initial families. It takes time in proportion to the names, to
+/// the names that selectors ask for times the page selectors, and to the declarations that apply.
 pub fn resolve<'s>(
     alloc: Global,
     rules: &'s [PageRule],

@@ -7,7 +7,7 @@ ghost use Rattle.page_seq.specs.Frames.{IsGoodTable, frame_of};
 
 use bk_num::ids::NameId;
 pub use boxes::frames::side_of as side;
-use boxes::frames::{Demand, Frame, Frames, PageKind, meets_side, side_of};
+use boxes::frames::{Demand, Frame, Frames, PageKind, empty_by_side};
 use boxes::table::PageTable;
 
 /// Pages whose frames stand in a table. Odd pages are right pages.
@@ -41,11 +41,7 @@ impl Frames for Pages {
     ghost sides = { λ p. (refl, refl) };
 
     fn empty_before(&self, index: u32, demand: Demand) -> u32 {
-        if meets_side(side_of(index), demand) {
-            0
-        } else {
-            1
-        }
+        empty_by_side(index, demand)
     }
 
     fn frame(&self, index: u32, name: NameId, kind: PageKind) -> Frame {

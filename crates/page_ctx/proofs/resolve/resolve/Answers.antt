@@ -1,6 +1,6 @@
 use Rattle.std.proofs.Common.{sym, ◌∙◌, subst, map}
 use Rattle.page_ctx.specs.Tables.{IsTable}
-use Rattle.page_ctx.specs.Margins.{AreMarginStyles, cells_in}
+use Rattle.page_ctx.specs.Margins.{AreMarginStyles, cells_in, filled}
 use Rattle.page_ctx.proofs.GoodLemmas.{styles_good}
 use Rattle.page_ctx.proofs.MarginLemmas.{are_styles}
 use Rattle.page_ctx.proofs.TableLemmas.{is_table}
@@ -8,7 +8,7 @@ use Rattle.page_ctx.proofs.resolve.resolve.Goals as goal
 
 pub of_names-requires : goal.of_names-requires
 of_names-requires c =
-    styles_good c.args.rules.now c.args.names.now (map cells_in c.in_ok-rows.rows.boxes)
+    styles_good c.args.rules.now c.args.names.now (filled (map cells_in c.in_ok-rows.rows.boxes))
     (subst (AreMarginStyles c.args.rules.now c.args.names.now) (sym c.in_ok-rows.ensures.boxes) (are_styles c.args.rules.now c.args.names.now))
 
 pub returns-clause-table : goal.returns-clause-table
