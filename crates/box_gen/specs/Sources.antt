@@ -1,17 +1,15 @@
 -- What a flow is made from, as the arguments have it.
-use Rattle.std.specs.Prelude.{◌≡◌, ◌≤ℤ◌, ◌&&◌, not, ℕ, pos, IsTrue, List, Some, slice_get, ℤ}
+use Rattle.std.specs.Prelude.{◌≡◌, ◌&&◌, not, ℕ, IsTrue, List, Some, slice_get, ℤ}
 use Rattle.bk_num.specs.declared.values.Pseudo.{Pseudo}
 use Rattle.bk_num.specs.declared.values.Pseudo.TheVariants as pseudo
-use Rattle.boxes.specs.Contents.{IsNotAuto, IsNotNegative}
-use Rattle.computed_values.specs.Values as values
 use Rattle.counters.specs.At.{counter_values}
 use Rattle.dom.specs.Nodes.{Node}
 use Rattle.gen_text.specs.declared.generated.NodeTexts.{NodeTexts}
 use Rattle.gen_text.specs.Generated.{assigned_strings, generated_text}
 use Rattle.metrics.specs.Face.{FontFace}
 use Rattle.style.specs.declared.style.Style.{Style}
-use Rattle.style.specs.declared.values.LineHeight.{LineHeight}
 use Rattle.style.specs.Nodes.{NodeStyles, is_note_in, is_shown_in, style_at}
+pub use Rattle.style.specs.Ranges.{AreInRange, IsInRange}
 use Rattle.style.specs.Styles.{initial_style}
 use Rattle.box_gen.specs.declared.input.FlowInput.{FlowInput}
 use Rattle.box_gen.specs.Faces.{face_of}
@@ -47,35 +45,7 @@ pub record IsRootShown (styles : List NodeStyles) : Type 0 where
   pub own : style_at styles 0 pseudo.Element ≡ Some style
   pub shown : IsTrue (is_shown_in (slice_get styles 0))
 
--- ---- ranges
-
--- a line height that isn't negative
-abbrev pub IsHeight : LineHeight → Type 0
-IsHeight h = values.IsHeight h
-
--- what is asked of a style: no font size, line height, border width, padding or width is negative, and no padding or
--- indent is auto (CSS 2.1, 8.4, 8.5.1, 10.2, 10.8.1, 15.7 and 16.1)
-pub record IsInRange (s : Style) : Type 0 where
-  pub size : pos 0 ≤ℤ s.font_size
-  pub height : IsHeight s.line_height
-  pub border_top : pos 0 ≤ℤ s.border_top_width
-  pub border_right : pos 0 ≤ℤ s.border_right_width
-  pub border_bottom : pos 0 ≤ℤ s.border_bottom_width
-  pub border_left : pos 0 ≤ℤ s.border_left_width
-  pub padding_top : IsNotNegative s.padding_top
-  pub padding_right : IsNotNegative s.padding_right
-  pub padding_bottom : IsNotNegative s.padding_bottom
-  pub padding_left : IsNotNegative s.padding_left
-  pub given_top : IsNotAuto s.padding_top
-  pub given_right : IsNotAuto s.padding_right
-  pub given_bottom : IsNotAuto s.padding_bottom
-  pub given_left : IsNotAuto s.padding_left
-  pub width : IsNotNegative s.width
-  pub indent : IsNotAuto s.text_indent
-
--- each style of nodes and pseudo-elements is in range
-abbrev pub AreInRange : List NodeStyles → Type 0
-AreInRange styles = (n : ℕ) (p : Pseudo) (s : Style) → style_at styles n p ≡ Some s → IsInRange s
+-- ---- the input
 
 -- what holds of the input of a walk
 pub record IsInput (i : FlowInput) : Type 0 where

@@ -14,7 +14,8 @@ use Rattle.unicode_segmentation.specs.Segments.{Rule, cut, prepend, segments, wi
 use Rattle.unicode_segmentation.proofs.SegmentsLemmas.{IsPieceOf, All-IsPieceOf}
 use Rattle.boxes.specs.Contents.{AreOffsets}
 use Rattle.boxes.specs.declared.leaf.Span.{Span}
-use Rattle.inline_text.specs.Places.{Joint, joints_after, joints, is_opportunity, opportunities_of, boundaries_of, emergencies_of, ends_in, wraps_anywhere}
+use Rattle.boxes.specs.Wraps.{wraps_anywhere}
+use Rattle.inline_text.specs.Places.{Joint, joints_after, joints, is_opportunity, opportunities_of, boundaries_of, emergencies_of, ends_in}
 
 -- the places of some characters, the first of which stands at an offset after another character
 abbrev pub places_after : List Span → ℕ → ℕ → List ℕ → List ℕ

@@ -5,6 +5,7 @@ use Rattle.std.specs.List.{filter, list_any}
 use Rattle.std.specs.Str.{chars}
 use Rattle.unicode_segmentation.specs.Grapheme.{graphemes}
 use Rattle.unicode_segmentation.specs.Segments.{with_offsets}
+use Rattle.boxes.specs.Wraps.{wraps_anywhere}
 use Rattle.boxes.specs.declared.leaf.Span.{Span}
 
 -- the characters after which a line may end: space, hyphen-minus, soft hyphen, zero width space, hyphen, en dash and em
@@ -39,10 +40,6 @@ ends_in p spans at = list_any (λ (s : Span). p s && nat_lt s.from at && nat_le 
 -- whether lines end in a span
 abbrev pub wraps : Span → Bool
 wraps s = s.wrap
-
--- whether lines end between any two graphemes of a span (CSS Text 3, `overflow-wrap`)
-abbrev pub wraps_anywhere : Span → Bool
-wraps_anywhere s = s.wrap && s.anywhere
 
 -- whether a joint is an ordinary place
 abbrev pub is_opportunity : List Span → Joint → Bool

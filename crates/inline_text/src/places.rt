@@ -4,9 +4,10 @@ ghost use Rattle.std.specs.Prelude.{◌≡◌, ◌<◌, ◌≤◌, ◌^◌, ◌+
 ghost use Rattle.std.specs.List.{list_any};
 ghost use Rattle.bk_num.specs.Limits.{most_text_bytes};
 ghost use Rattle.boxes.specs.Contents.{AreOffsets, AreSpans};
+ghost use Rattle.boxes.specs.Wraps.{wraps_anywhere};
 ghost use Rattle.boxes.specs.declared.leaf.Span.{Span};
 ghost use Rattle.inline_text.specs.Places as spec;
-ghost use Rattle.inline_text.specs.Places.{ends_in, passes, wraps, wraps_anywhere, opportunities_of, emergencies_of};
+ghost use Rattle.inline_text.specs.Places.{ends_in, passes, wraps, opportunities_of, emergencies_of};
 
 use bk_num::items::Items;
 use bk_num::name::NoMem;
@@ -62,7 +63,7 @@ fn wraps_anywhere_before(text: &str, spans: &[Span], at: usize) -> bool
     ensures { result ≡ ends_in wraps_anywhere spans.now at }
 {
     match span_before(text, spans, at) {
-        Some(span) => span.wrap && span.anywhere,
+        Some(span) => span.wraps_anywhere(),
         None => false,
     }
 }
@@ -105,7 +106,7 @@ fn ordinary(alloc: Global, text: &str, spans: &[Span]) -> Result<Offsets, NoMem>
 fn has_emergencies(spans: &[Span]) -> bool
     ensures { result ≡ list_any wraps_anywhere spans.now }
 {
-    spans.iter().any(|span| span.wrap && span.anywhere)
+    spans.iter().any(|span| span.wraps_anywhere())
 }
 
 fn boundaries(alloc: Global, text: &str, spans: &[Span]) -> Result<Offsets, NoMem>

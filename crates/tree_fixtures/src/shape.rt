@@ -1,7 +1,8 @@
 //! Boxes in short.
 
 ghost use Rattle.std.specs.Prelude.{◌≡◌, pos};
-ghost use Rattle.boxes.specs.Contents.{IsGoodBox, IsNotAuto, IsNotNegative};
+ghost use Rattle.bk_num.specs.Ranges.{IsNotAuto, IsNotNegative};
+ghost use Rattle.boxes.specs.Contents.{IsGoodBox};
 
 use bk_num::decimal::Decimal;
 use bk_num::ids::NameId;

@@ -5,7 +5,8 @@ use Rattle.unicode_segmentation.specs.Grapheme.{graphemes, is_grapheme_break}
 use Rattle.unicode_segmentation.specs.Segments.{with_offsets}
 use Rattle.unicode_segmentation.specs.Iter.{grapheme_indices_left}
 use Rattle.unicode_segmentation.proofs.SegmentsLemmas.{IsPieceOf, All-IsPieceOf}
-use Rattle.inline_text.specs.Places.{boundaries_of, emergencies_of, ends_in, wraps_anywhere}
+use Rattle.boxes.specs.Wraps.{wraps_anywhere}
+use Rattle.inline_text.specs.Places.{boundaries_of, emergencies_of, ends_in}
 use Rattle.inline_text.proofs.PlaceLemmas.{filter_step}
 use Rattle.inline_text.proofs.places.boundaries.Goals as goal
 

@@ -2,7 +2,8 @@ use Rattle.std.proofs.Common.{◌≡◌, ◌++◌, map}
 use Rattle.std.specs.List.{All, filter}
 use Rattle.unicode_segmentation.specs.Iter.{grapheme_indices_left}
 use Rattle.unicode_segmentation.proofs.SegmentsLemmas.{IsPieceOf}
-use Rattle.inline_text.specs.Places.{emergencies_of, ends_in, wraps_anywhere}
+use Rattle.boxes.specs.Wraps.{wraps_anywhere}
+use Rattle.inline_text.specs.Places.{emergencies_of, ends_in}
 use Rattle.inline_text.proofs.places.boundaries.Given as goal
 
 abbrev pub invariant-loop-at : goal.invariant-loop-at
