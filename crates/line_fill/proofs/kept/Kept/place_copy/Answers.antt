@@ -1,0 +1,11 @@
+use Rattle.std.proofs.Common.{refl, FitsSigned, w64}
+use Rattle.std.proofs.lemmas.Int.{to_z-of_z}
+use Rattle.line_fill.proofs.kept.Kept.place_copy.Goals as goal
+
+pub returns-in-Some-clause-at : goal.returns-in-Some-clause-at
+returns-in-Some-clause-at c =
+    let fits : FitsSigned w64 c.args.measure = c.ranges.measure in
+    rw (to_z-of_z w64 c.args.measure fits) at c.in-Some.ensures.some
+
+pub add-requires-clause-none : goal.add-requires-clause-none
+add-requires-clause-none c = rw c.in_ok-shared.ensures (c.in_default.ensures.none refl)
