@@ -1,5 +1,6 @@
 -- The runs of a line: the part of each span in it, cut after the spaces over which slack is shared.
 use Rattle.std.specs.Prelude.{◌≡◌, ◌<◌, ◌≤◌, ℕ, zero, suc, ◌+◌, ◌-◌, ◌*◌, ◌/◌, ◌%◌, min, max, List, [], ◌∷◌, ◌++◌, Bool, ◌==◌, ◌&&◌, nat_lt, slice_index, length, if◌then◌else◌}
+use Rattle.std.specs.Str.{IsCharBoundary}
 use Rattle.boxes.specs.Contents.{AreSpans}
 use Rattle.boxes.specs.declared.leaf.Span.{Span}
 use Rattle.line_place.specs.declared.pieces.Piece.{Piece}
@@ -41,6 +42,12 @@ line_pieces free from to i (s ∷ spans) = part_pieces free from to i s ++ line_
 abbrev pub Covers : ℕ → List Piece → ℕ → Type 0
 Covers from [] to = from ≡ to
 Covers from (p ∷ pieces) to = (p.from ≡ from) × (p.from < p.to) × Covers p.to pieces to
+
+-- a piece begins and ends at characters of a text
+pub record IsPieceOf (text : List ℕ) (p : Piece) : Type 0 where
+  pub order : p.from ≤ p.to
+  pub begins : IsCharBoundary text p.from
+  pub ends : IsCharBoundary text p.to
 
 -- the pieces of a line cover it once
 abbrev pub PiecesCover : Type 0

@@ -1,6 +1,6 @@
 //! The runs of a line.
 
-ghost use Rattle.std.specs.Prelude.{◌≡◌, ◌<◌, ◌≤◌, ◌+◌, ◌-◌, ◌*◌, ◌^◌, pos, neg_ℤ, ◌≤ℤ◌, ◌+ℤ◌, ◌-ℤ◌, length, unsigned_abs, slice_index_or, Some, true, ◌∷◌, [], ◌++◌, map, OnOk, if◌then◌else◌, IfOk};
+ghost use Rattle.std.specs.Prelude.{◌≡◌, ◌<◌, ◌≤◌, ◌+◌, ◌-◌, ◌*◌, ◌^◌, pos, neg_ℤ, ◌≤ℤ◌, ◌+ℤ◌, ◌-ℤ◌, length, unsigned_abs, slice_index_or, Some, true, ◌∷◌, [], ◌++◌, map, All, OnOk, if◌then◌else◌, IfOk};
 ghost use Rattle.std.specs.Int.{int_max};
 ghost use Rattle.bk_num.specs.declared.values.Align.TheVariants as align;
 ghost use Rattle.boxes.specs.Contents.{IsGoodLeaf};
@@ -10,7 +10,7 @@ ghost use Rattle.line_fill.specs.LineEnd.{indent_of, shown_len};
 ghost use Rattle.line_fill.specs.Widths.{hyphen_at, span_at, unit_at};
 ghost use Rattle.line_place.specs.Conditions.{HasFaces, IsInLeaf};
 ghost use Rattle.line_place.specs.Placing as spec;
-ghost use Rattle.line_place.specs.Placing.{free_end, hyphens_of, number_at, runs_of, setting_of, shift_of, slack_of};
+ghost use Rattle.line_place.specs.Placing.{IsRunIn, free_end, hyphens_of, number_at, runs_of, setting_of, shift_of, slack_of};
 ghost use Rattle.line_place.specs.Runs.{is_free, line_pieces};
 ghost use Rattle.line_place.specs.Sums.{ArePieces, AreSums, IsBounded, count_free, run_of};
 
@@ -222,9 +222,11 @@ fn setting_at(leaf: &Leaf, line: Line, measure: i64, ends: Ends, slack: u64, pas
 fn push_hyphen(runs: &mut Items<Run>, leaf: &Leaf, line: Line, x: i64) -> Result<(), NoMem>
     requires good { IsGoodLeaf leaf.now }
     requires line { IsInLeaf leaf.now line }
-    ensures { OnOk result (runs.new ≡ runs.old ++ (if line.hyphen then
+    requires inside { All (IsRunIn leaf.now) runs.old }
+    ensures value { OnOk result (runs.new ≡ runs.old ++ (if line.hyphen then
         record { x = x; from = line.to; to = line.to; span = number_at leaf.now.spans (line.to - 2); hyphen = true }
         ∷ [] else [])) }
+    ensures inside { OnOk result (All (IsRunIn leaf.now) runs.new) }
 {
     if line.hyphen() {
         let span = hyphen_span(leaf, line.to()) as u32;
@@ -253,9 +255,10 @@ fn set_runs(
     requires line { IsInLeaf leaf.now line }
     requires count { setting.count ≡ count_free leaf.now.text free line.from (free - line.from) }
     requires setting { IsBounded setting }
-    ensures { IfOk result (λ v. v ≡ map (run_of faces.now leaf.now free line.from setting)
+    ensures value { IfOk result (λ v. v ≡ map (run_of faces.now leaf.now free line.from setting)
         (line_pieces (is_free leaf.now.text free) line.from line.to 0 leaf.now.spans)
         ++ hyphens_of faces.now leaf.now line free setting) }
+    ensures inside { IfOk result (λ v. All (IsRunIn leaf.now) v) }
 {
     let ends = Ends {
         from: line.from(),
@@ -282,7 +285,8 @@ fn left_runs(
     requires line { IsInLeaf leaf.now line }
     requires measure { unsigned_abs measure ≤ 2 ^ 40 }
     requires left { leaf.now.align ≡ align.Left }
-    ensures { IfOk result (λ v. v ≡ runs_of faces.now leaf.now line measure) }
+    ensures value { IfOk result (λ v. v ≡ runs_of faces.now leaf.now line measure) }
+    ensures inside { IfOk result (λ v. All (IsRunIn leaf.now) v) }
 {
     let setting = Setting {
         start: start_at(leaf, line.from(), measure, 0),
@@ -304,7 +308,8 @@ fn measured_runs(
     requires faced { HasFaces faces.now leaf.now }
     requires line { IsInLeaf leaf.now line }
     requires measure { unsigned_abs measure ≤ 2 ^ 40 }
-    ensures { IfOk result (λ v. v ≡ runs_of faces.now leaf.now line measure) }
+    ensures value { IfOk result (λ v. v ≡ runs_of faces.now leaf.now line measure) }
+    ensures inside { IfOk result (λ v. All (IsRunIn leaf.now) v) }
 {
     let (from, to) = (line.from(), line.to());
     let shown = shown_end(leaf.text.as_str().as_bytes(), from, to);
@@ -325,7 +330,8 @@ fn measured_runs(
 /// A run is the part of one span in the line. The line begins at the indent, if it is the leaf's first, and is moved by
 /// its slack where it is aligned right, by half of it where it is centred (CSS 2.1, 16.1 and 16.2). A justified line
 /// with slack that ends neither with a newline nor at the leaf's end is cut after each space that doesn't hang, and
-/// shares the slack over these, the odd units to the first ones. A shown hyphen is the last run, without text.
+/// shares the slack over these, the odd units to the first ones. A shown hyphen is the last run, without text. Each run
+/// stands in a span of the leaf, and begins and ends at characters.
 pub fn runs(
     alloc: Global,
     faces: &Faces,
@@ -337,7 +343,8 @@ pub fn runs(
     requires faced { HasFaces faces.now leaf.now }
     requires line { IsInLeaf leaf.now line }
     requires measure { unsigned_abs measure ≤ 2 ^ 40 }
-    ensures { IfOk result (λ v. v ≡ runs_of faces.now leaf.now line measure) }
+    ensures value { IfOk result (λ v. v ≡ runs_of faces.now leaf.now line measure) }
+    ensures inside { IfOk result (λ v. All (IsRunIn leaf.now) v) }
 {
     match leaf.align {
         Align::Left => left_runs(alloc, faces, leaf, line, measure),

@@ -1,5 +1,6 @@
 -- The notes of a page: how many of their solids stand on it (css-gcpm-3, 2: footnotes).
-use Rattle.std.specs.Prelude.{◌≡◌, ℕ, suc, ℤ, pos, ◌^◌, ◌<◌, ◌≤◌, ◌≤ℤ◌, ◌+ℤ◌, List, [], ◌∷◌, ◌++◌, Option, Some, None, ◌==◌, length, slice_get, max, if◌then◌else◌}
+use Rattle.std.specs.Prelude.{◌≡◌, ℕ, suc, ℤ, pos, ◌^◌, ◌<◌, ◌≤◌, ◌≤ℤ◌, ◌+ℤ◌, List, [], ◌∷◌, ◌++◌, Option, Some, None, ◌==◌, length, slice_get, max, FitsSigned, if◌then◌else◌}
+use Rattle.std.specs.Int.{w64}
 use Rattle.bk_num.specs.Limits.{separator}
 use Rattle.bk_num.specs.Numbers.{IsWithin}
 use Rattle.boxes.specs.declared.page.Placed.{Placed}
@@ -48,6 +49,10 @@ placed_bottom (Some n) = n.1.top +ℤ n.1.height
 -- the height of the note area in which some solids are placed
 abbrev pub placed_height : List (ℕ × Placed) → ℤ
 placed_height notes = area_height (λ k. placed_bottom (slice_get notes k)) (length notes)
+
+-- the bottoms of some placed solids are within 64 bits
+abbrev pub HaveBottoms : List (ℕ × Placed) → Type 0
+HaveBottoms notes = (k : ℕ) → k < length notes → FitsSigned w64 (placed_bottom (slice_get notes k))
 
 -- how many of the carried solids a page of this height places at least: 0 where nothing is carried, else the greatest
 -- number whose area is at most half the height, at least 1

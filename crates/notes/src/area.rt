@@ -1,9 +1,9 @@
 //! The area of notes, and how many solids of a list stand on a page.
 
-ghost use Rattle.std.specs.Prelude.{◌≡◌, pos, ◌+◌, ◌<◌, ◌≤◌, ◌^◌, ◌≤ℤ◌, ◌+ℤ◌, length, All, IfSome, slice_get, Some, ◌⊎◌};
-ghost use Rattle.std.specs.Int.{int_max};
+ghost use Rattle.std.specs.Prelude.{◌≡◌, pos, ◌+◌, ◌<◌, ◌≤◌, ◌^◌, ◌≤ℤ◌, ◌+ℤ◌, length, All, SomeIff, FitsSigned, slice_get, Some, ◌⊎◌};
+ghost use Rattle.std.specs.Int.{int_max, w64};
 ghost use Rattle.bk_num.specs.Limits.{most_entries};
-ghost use Rattle.notes.specs.Notes.{IsSmallNote, area_of, must_of, placed_bottom, placed_height, IsCarryCount, IsPlaced};
+ghost use Rattle.notes.specs.Notes.{HaveBottoms, IsSmallNote, area_of, must_of, placed_bottom, placed_height, IsCarryCount, IsPlaced};
 
 use crate::reach::Reach;
 use crate::solid::NoteSolid;
@@ -47,25 +47,28 @@ pub fn area(list: &[NoteSolid], n: usize) -> i64
     if n == 0 { 0 } else { reach.area() }
 }
 
-/// The bottom of a placed solid. None where that is past 64 bits.
+/// The bottom of a placed solid. None exactly where that is past 64 bits.
 fn bottom_of(placed: &Placed) -> Option<i64>
-    ensures { IfSome result (λ bottom. bottom ≡ placed.now.top +ℤ placed.now.height) }
+    ensures { SomeIff result (FitsSigned w64 (placed.now.top +ℤ placed.now.height))
+        (placed.now.top +ℤ placed.now.height) }
 {
     placed.top.checked_add(placed.height)
 }
 
-/// A height of a note area that reaches at least to the bottom of a placed solid. None where that is past 64 bits.
+/// A height of a note area that reaches at least to the bottom of a placed solid. None exactly where that is past 64
+/// bits.
 fn height_with(notes: &[PlacedNote], at: usize, height: i64) -> Option<i64>
     requires { at < length notes.now }
-    ensures { IfSome result (λ h. h ≡ int_max height (placed_bottom (slice_get notes.now at))) }
+    ensures { SomeIff result (FitsSigned w64 (placed_bottom (slice_get notes.now at)))
+        (int_max height (placed_bottom (slice_get notes.now at))) }
 {
     Some(height.max(bottom_of(&notes[at].1)?))
 }
 
 /// The height of the note area in which solids are placed, in units of 1/64 px: it begins with the separator's room,
-/// and reaches to their greatest bottom. None where that is past 64 bits.
+/// and reaches to their greatest bottom. None exactly where a bottom is past 64 bits.
 pub fn placed_height(notes: &[PlacedNote]) -> Option<i64>
-    ensures { IfSome result (λ height. height ≡ placed_height notes.now) }
+    ensures { SomeIff result (HaveBottoms notes.now) (placed_height notes.now) }
 {
     let mut height = SEPARATOR;
     for at in 0..notes.len() {

@@ -1,17 +1,14 @@
 -- The text that a page prints.
-use Rattle.std.proofs.Common.{◌≡◌, ◌∙◌, ◌<◌, ◌≤◌, ◌-◌, ℕ, ℤ, pos, ◌+ℤ◌, suc, min, max, List, [], ◌∷◌, ◌++◌, map, Option, None, Some, Bool, true, false, cond, ◌==◌, length, take, drop, slice_get, refl, sym, ap, ap₂, append-nil, append_assoc, subst, arith, ◌⊎◌, inl, inr}
+use Rattle.std.proofs.Common.{◌≡◌, ◌∙◌, ◌-◌, ℕ, ℤ, pos, ◌+ℤ◌, List, [], ◌∷◌, ◌++◌, map, Option, None, Some, Bool, true, false, cond, ◌==◌, length, slice_get, refl, sym, ap₂, append-nil, subst}
 use Rattle.std.specs.Prelude.{slice_range}
 use Rattle.std.specs.Ordering.{int_eq}
 use Rattle.std.specs.List.{flat_map, range_with_len}
-use Rattle.std.proofs.lemmas.Bool.{cases_lt}
 use Rattle.std.proofs.lemmas.Grind.{flat_map-append}
-use Rattle.std.proofs.lemmas.List.{append_cancel_right, drop_all, length-drop, take_all, take_rest}
-use Rattle.std.proofs.lemmas.List.Folds.{drop_split, flat_map-map}
+use Rattle.std.proofs.lemmas.List.Folds.{flat_map-map}
 use Rattle.std.proofs.lemmas.Option.{get_or_from_slice_get, slice_get_within}
-use Rattle.std.proofs.Math.Seq.{take-nil}
 use Rattle.bk_num.specs.declared.values.Color.{Color}
 use Rattle.metrics.specs.Face.{FontFace}
-use Rattle.boxes.specs.Contents.{AreSpans, IsGoodLeaf}
+use Rattle.boxes.specs.Contents.{IsGoodLeaf}
 use Rattle.boxes.specs.Lines.{LineView}
 use Rattle.boxes.specs.Spans.{units_at}
 use Rattle.boxes.specs.Tree.{IsTree, Tree, open_before}
@@ -20,7 +17,6 @@ use Rattle.boxes.specs.declared.flow.Note.{Note}
 use Rattle.boxes.specs.declared.item.Item.{Item}
 use Rattle.boxes.specs.declared.leaf.Leaf.{Leaf as LeafData}
 use Rattle.boxes.specs.declared.leaf.Lead.{Lead}
-use Rattle.boxes.specs.declared.leaf.Span.{Span}
 use Rattle.boxes.specs.declared.page.Page.{Page}
 use Rattle.boxes.specs.declared.page.Placed.{Placed}
 use Rattle.boxes.specs.declared.place.Event.{Event}
@@ -30,11 +26,9 @@ use Rattle.boxes.specs.declared.span.Content.{Content}
 use Rattle.boxes.proofs.TreeFacts.{leaf_good}
 use Rattle.line_place.specs.Extents.{extent_of}
 use Rattle.line_place.specs.Laws.{text_of}
-use Rattle.line_place.specs.Placing.{free_end, hyphens_of, number_at, runs_of, setting_of, slack_of}
-use Rattle.line_place.specs.Runs.{Covers, cut_pieces, is_free, line_pieces}
-use Rattle.line_place.specs.Sums.{left_at, run_of}
+use Rattle.line_place.specs.Placing.{runs_of}
 use Rattle.line_place.specs.declared.place.Run.{Run}
-use Rattle.line_place.proofs.CoverLemmas.{no_part, pieces_cover}
+use Rattle.line_place.proofs.JoinLemmas.{runs-are-the-text}
 use Rattle.paint.specs.Fragments.{is_lower, is_upper, reach_by, stands_in}
 use Rattle.paint.specs.Items.{event_items, for_some, lead_item, line_items, line_of, run_item, solid_items}
 use Rattle.paint.specs.Opens.{border_in, content_along}
@@ -45,81 +39,6 @@ use Rattle.paint.specs.Views.{rect_item}
 use Rattle.paint.specs.declared.extent.VerticalExtent.{VerticalExtent}
 use Rattle.paint.specs.declared.item.Area.{Area}
 use Rattle.paint.specs.declared.item.SolidOrigin.{SolidOrigin}
-
--- ---- the pieces of a line, wherever it begins and ends
-
-covers_order : (a b : ℕ) (ps : _) → Covers a ps b → a ≤ b
-covers_order a b [] h = omega arith
-covers_order a b (p ∷ ps) h = let r = covers_order p.to b ps h.2 in let e = h.0 in let l = h.1 in omega arith
-
-pieces_from : (faces : List FontFace) (leaf : LeafData) (end first : ℕ) (s : _) (a b : ℕ) (ps : _) → Covers a ps b → flat_map (text_of leaf.text) (map (run_of faces leaf end first s) ps) ++ drop b leaf.text ≡ drop a leaf.text
-pieces_from faces leaf end first s a b [] h = ap (λ (n : ℕ). drop n leaf.text) (sym h)
-pieces_from faces leaf end first s a b (p ∷ ps) h =
-    let l = h.1 in
-    let text : List ℕ = leaf.text in
-    append_assoc (slice_range text p.from p.to) (flat_map (text_of text) (map (run_of faces leaf end first s) ps)) (drop b text)
-    ∙ ap (λ (y : List ℕ). slice_range text p.from p.to ++ y) (pieces_from faces leaf end first s p.to b ps h.2)
-    ∙ sym (drop_split text p.from p.to (omega arith))
-    ∙ ap (λ (n : ℕ). drop n text) h.0
-
-pieces_text : (faces : List FontFace) (leaf : LeafData) (end first : ℕ) (s : _) (a b : ℕ) (ps : _) → Covers a ps b → flat_map (text_of leaf.text) (map (run_of faces leaf end first s) ps) ≡ slice_range leaf.text a b
-pieces_text faces leaf end first s a b ps h =
-    append_cancel_right (flat_map (text_of leaf.text) (map (run_of faces leaf end first s) ps)) (slice_range leaf.text a b) (drop b leaf.text) (pieces_from faces leaf end first s a b ps h ∙ drop_split leaf.text a b (covers_order a b ps h))
-
--- a line that ends before it begins has no piece
-pieces_none : (free : ℕ → Bool) (from to i : ℕ) (spans : List Span) → to < from → line_pieces free from to i spans ≡ []
-pieces_none free from to i [] low = refl
-pieces_none free from to i (s ∷ spans) low =
-    ap (λ x. x ++ line_pieces free from to (suc i) spans) (no_part free from to i s (omega arith)) ∙ pieces_none free from to (suc i) spans low
-
-spans_within : (text : List ℕ) (a : ℕ) (spans : List Span) → AreSpans text a spans → a ≤ length text
-spans_within text a [] h = omega arith
-spans_within text a (s ∷ spans) h = let r = spans_within text s.to spans h.3 in let e = h.0 in let l = h.1 in omega arith
-
--- what a line has past the text's end is nothing
-pieces_past : (text : List ℕ) (free : ℕ → Bool) (from to i a : ℕ) (spans : List Span) → AreSpans text a spans → length text ≤ to → line_pieces free from to i spans ≡ line_pieces free from (length text) i spans
-pieces_past text free from to i a [] h long = refl
-pieces_past text free from to i a (s ∷ spans) h long =
-    let m : ℕ = max from s.from in
-    let low = spans_within text s.to spans h.3 in
-    let same : min to s.to ≡ min (length text) s.to = omega arith in
-    ap (λ (n : ℕ). cut_pieces free i m m (n - m) ++ line_pieces free from to (suc i) spans) same
-    ∙ ap (λ y. cut_pieces free i m m (min (length text) s.to - m) ++ y) (pieces_past text free from to (suc i) s.to spans h.3 long)
-
-line_pieces_text : (faces : List FontFace) (leaf : LeafData) (end first : ℕ) (s : _) → IsGoodLeaf leaf → (free : ℕ → Bool) (from to : ℕ) → flat_map (text_of leaf.text) (map (run_of faces leaf end first s) (line_pieces free from to 0 leaf.spans)) ≡ slice_range leaf.text from to
-line_pieces_text faces leaf end first s good free from to = by (cases_lt to from) (cases_lt (length leaf.text) to) (cases_lt (length leaf.text) from)
-  where
-    by : (to < from) ⊎ (from ≤ to) → (length leaf.text < to) ⊎ (to ≤ length leaf.text) → (length leaf.text < from) ⊎ (from ≤ length leaf.text) → flat_map (text_of leaf.text) (map (run_of faces leaf end first s) (line_pieces free from to 0 leaf.spans)) ≡ slice_range leaf.text from to
-    by (inl none) b c =
-        let z : 0 ≡ to - from = omega arith in
-        ap (λ ps. flat_map (text_of leaf.text) (map (run_of faces leaf end first s) ps)) (pieces_none free from to 0 leaf.spans none) ∙ ap (λ (n : ℕ). take n (drop from leaf.text)) z
-    by (inr order) (inr within) c = pieces_text faces leaf end first s from to (line_pieces free from to 0 leaf.spans) (pieces_cover leaf.text free leaf.spans from to good.spans order within)
-    by (inr order) (inl long) (inr begins) =
-        let all : length (drop from leaf.text) ≤ to - from = (let l = length-drop from leaf.text in omega arith) in
-        ap (λ ps. flat_map (text_of leaf.text) (map (run_of faces leaf end first s) ps)) (pieces_past leaf.text free from to 0 0 leaf.spans good.spans (omega arith))
-        ∙ pieces_text faces leaf end first s from (length leaf.text) (line_pieces free from (length leaf.text) 0 leaf.spans) (pieces_cover leaf.text free leaf.spans from (length leaf.text) good.spans begins (omega arith))
-        ∙ take_rest leaf.text from ∙ sym (take_all (to - from) (drop from leaf.text) all)
-    by (inr order) (inl long) (inl beyond) =
-        ap (λ ps. flat_map (text_of leaf.text) (map (run_of faces leaf end first s) ps)) (pieces_past leaf.text free from to 0 0 leaf.spans good.spans (omega arith) ∙ pieces_none free from (length leaf.text) 0 leaf.spans beyond)
-        ∙ sym (ap (take (to - from)) (drop_all from leaf.text (omega arith)) ∙ take-nil (to - from))
-
-hyphens_none : (faces : List FontFace) (leaf : LeafData) (line : LineView) (end : ℕ) (s : _) → flat_map (text_of leaf.text) (hyphens_of faces leaf line end s) ≡ []
-hyphens_none faces leaf line end s = by line.hyphen
-  where
-    by : (b : Bool) → flat_map (text_of leaf.text) (cond b (record { x = left_at faces leaf end line.from s line.to; from = line.to; to = line.to; span = number_at leaf.spans (line.to - 2); hyphen = true } ∷ []) []) ≡ []
-    by true = refl
-    by false = refl
-
-runs_text : (faces : List FontFace) (leaf : LeafData) (line : LineView) (measure : ℤ) → IsGoodLeaf leaf → flat_map (text_of leaf.text) (runs_of faces leaf line measure) ≡ slice_range leaf.text line.from line.to
-runs_text faces leaf line measure good =
-    let slack = slack_of faces leaf line measure in
-    let free = free_end leaf line slack in
-    let s = setting_of leaf line measure slack in
-    let runs : List Run = map (run_of faces leaf free line.from s) (line_pieces (is_free leaf.text free) line.from line.to 0 leaf.spans) in
-    flat_map-append (text_of leaf.text) runs (hyphens_of faces leaf line free s)
-    ∙ ap (λ (y : List ℕ). flat_map (text_of leaf.text) runs ++ y) (hyphens_none faces leaf line free s)
-    ∙ append-nil (flat_map (text_of leaf.text) runs)
-    ∙ line_pieces_text faces leaf free line.from s good (is_free leaf.text free) line.from line.to
 
 -- ---- lists of items
 
@@ -170,7 +89,7 @@ line_prints faces t o s leaf good =
     texts_append (cond (line.from == 0) (map (lead_item faces t o boxes y) leaf.leads) []) (map (run_item faces leaf left y) (runs_of faces leaf line content.width))
     (cond (line.from == 0) (leads_text leaf) []) (slice_range leaf.text line.from line.to)
     (first_text faces t o boxes leaf y (line.from == 0))
-    (texts_map (run_item faces leaf left y) (text_of leaf.text) (run_text faces leaf left y) (runs_of faces leaf line content.width) ∙ runs_text faces leaf line content.width good)
+    (texts_map (run_item faces leaf left y) (text_of leaf.text) (run_text faces leaf left y) (runs_of faces leaf line content.width) ∙ runs-are-the-text faces leaf line content.width good)
 
 -- ---- solids
 

@@ -1,5 +1,5 @@
 -- The items of a solid on a page, with their places in units from the page's top left.
-use Rattle.std.specs.Prelude.{◌<◌, ◌≤◌, FitsSigned, ℕ, ℤ, pos, ◌+ℤ◌, ◌-ℤ◌, List, [], ◌∷◌, ◌++◌, map, length, Bool, true, false, Option, Some, None, ◌==◌, slice_get, slice_index_or, slice_range, if◌then◌else◌}
+use Rattle.std.specs.Prelude.{◌<◌, FitsSigned, ℕ, ℤ, pos, ◌+ℤ◌, ◌-ℤ◌, List, [], ◌∷◌, ◌++◌, map, length, Bool, true, false, Option, Some, None, ◌==◌, slice_get, slice_index_or, slice_range, if◌then◌else◌}
 use Rattle.std.specs.Int.{w64}
 use Rattle.std.specs.Str.{IsCharBoundary}
 use Rattle.metrics.specs.Face.{FontFace}
@@ -28,12 +28,6 @@ use Rattle.paint.specs.Views.{area_item, edge_item, hyphen_item, text_item}
 -- the span of a number; each run of a line names one that is there
 abbrev pub span_of : LeafData → ℕ → Span
 span_of leaf n = slice_index_or leaf.spans n leaf.strut
-
--- a part of a text begins and ends at characters
-pub record IsPartOf (text : List ℕ) (from to : ℕ) : Type 0 where
-  pub order : from ≤ to
-  pub begins : IsCharBoundary text from
-  pub ends : IsCharBoundary text to
 
 -- a run of a line whose content begins at a left, on a baseline
 unfoldable pub run_item : List FontFace → LeafData → ℤ → ℤ → Run → Item

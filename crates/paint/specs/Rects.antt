@@ -69,6 +69,13 @@ abbrev pub FitsLower : SolidOrigin → ℤ → Option VerticalExtent → Type 0
 FitsLower o thick None = Unit {0}
 FitsLower o thick (Some e) = FitsSigned w64 (o.top +ℤ e.bottom) × FitsSigned w64 ((o.top +ℤ e.bottom) -ℤ thick)
 
+-- the places of the borders of a fragment, whose upper and lower edge reach so far, are within 64 bits
+pub record FitsSides (o : SolidOrigin) (p : BoxProps) (a : Area) (upper lower : Option VerticalExtent) : Type 0 where
+  pub edge : FitsSigned w64 (a.x +ℤ a.w)
+  pub right : FitsSigned w64 (right_area a (units_at p.border 1)).x
+  pub top : FitsUpper o upper
+  pub bottom : FitsLower o (units_at p.border 2) lower
+
 -- the borders of a fragment: top, right, bottom and left, each in its colour
 abbrev pub side_rects : BoxProps → Area → Option ℤ → Option ℤ → List Item
 side_rects p a upper lower =

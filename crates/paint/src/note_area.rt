@@ -1,15 +1,16 @@
 //! Items of the note area of a page.
 
-ghost use Rattle.std.specs.Prelude.{◌≡◌, ◌+◌, ◌≤◌, ◌∷◌, [], OnOk, IfSome, Some, length, slice_get, option_map};
+ghost use Rattle.std.specs.Prelude.{◌≡◌, ◌+◌, ◌≤◌, ◌∷◌, [], OnOk, SomeIff, FitsSigned, Some, length, slice_get, option_map};
+ghost use Rattle.std.specs.Int.{w64};
 ghost use Rattle.std.specs.List.{flat_map, range_with_len};
 ghost use Rattle.boxes.specs.declared.flow.Note.{Note};
 ghost use Rattle.paint.specs.Conditions.{CanNotesBePainted};
 ghost use Rattle.paint.specs.Groups.{GoesOn};
 ghost use Rattle.paint.specs.Items.{for_some};
-ghost use Rattle.paint.specs.Pages.{area_items, area_origin, note_items, separator_area, separator_at, tree_items};
+ghost use Rattle.paint.specs.Pages.{FitsArea, area_items, area_origin, note_items, separator_area, separator_at, tree_items};
 ghost use Rattle.paint.specs.Views.{Adds, HaveItemFaces, items_in};
 
-use crate::item::{Area, Canvas, ItemRef, SolidOrigin, sum};
+use crate::item::{Area, Canvas, ItemRef, SolidOrigin, difference, sum};
 use crate::rects::push_rect;
 use crate::trees::push_tree;
 use bk_num::limits::SEPARATOR;
@@ -30,22 +31,22 @@ const BLACK: Color = Color {
     blue: 0,
 };
 
-/// What the places of a page's note solids count from. None where it is past 64 bits.
+/// What the places of a page's note solids count from. None exactly where it, the frame's bottom or the bottom of one
+/// of these solids is past 64 bits.
 fn area_origin(frame: &Frame, notes: &[PlacedNote]) -> Option<SolidOrigin>
-    ensures { IfSome result (λ origin. origin ≡ area_origin frame.now notes.now) }
+    ensures { SomeIff result (FitsArea frame.now notes.now) (area_origin frame.now notes.now) }
 {
     let bottom = sum(frame.top, frame.height)?;
-    let top = bottom.checked_sub(placed_height(notes)?)?;
     Some(SolidOrigin {
         left: frame.left,
-        top,
+        top: difference(bottom, placed_height(notes)?)?,
         width: frame.width,
     })
 }
 
-/// Where the separator stands. None where it is past 64 bits.
+/// Where the separator stands. None exactly where its top is past 64 bits.
 fn separator_area(origin: &SolidOrigin) -> Option<Area>
-    ensures { IfSome result (λ area. area ≡ separator_area origin.now) }
+    ensures { SomeIff result (FitsSigned w64 (separator_area origin.now).y) (separator_area origin.now) }
 {
     Some(Area {
         x: origin.left,

@@ -1,6 +1,6 @@
 //! Items of backgrounds and borders.
 
-ghost use Rattle.std.specs.Prelude.{◌≡◌, ◌<◌, ◌∷◌, [], length, All, OnOk, OkIff, IfOk, SomeIff, Some, FitsSigned, ◌+ℤ◌, ◌-ℤ◌, slice_get};
+ghost use Rattle.std.specs.Prelude.{◌≡◌, ◌<◌, ◌∷◌, [], length, All, OnOk, OkIff, IfOk, IfErr, SomeIff, Some, FitsSigned, ◌+ℤ◌, ◌-ℤ◌, slice_get};
 ghost use Rattle.std.specs.Int.{w64};
 ghost use Rattle.std.specs.List.{flat_map};
 ghost use Rattle.boxes.specs.Contents.{IsGoodBox};
@@ -9,7 +9,7 @@ ghost use Rattle.paint.specs.Conditions.{CanBePainted};
 ghost use Rattle.paint.specs.Opens as spec;
 ghost use Rattle.paint.specs.Pages.{rects_of};
 ghost use Rattle.paint.specs.Parts.{part_rects};
-ghost use Rattle.paint.specs.Rects.{FitsFragment, FitsLower, FitsUpper, background_rects, border_rects, box_rects, edge_rects, fragment_area, left_area, lower_top, right_area, side_rects, upper_top};
+ghost use Rattle.paint.specs.Rects.{FitsFragment, FitsLower, FitsSides, FitsUpper, background_rects, border_rects, box_rects, edge_rects, fragment_area, left_area, lower_top, right_area, side_rects, upper_top};
 ghost use Rattle.paint.specs.Views.{Adds, HaveItemFaces, rect_item};
 
 use crate::extent::VerticalExtent;
@@ -261,13 +261,14 @@ fn lower_top(
     }
 }
 
-/// Where the borders of a part of a box stand.
+/// Where the borders of a part of a box stand. Refused exactly where one of these places is past 64 bits.
 fn sides_of(
     origin: &SolidOrigin,
     props: &BoxProps,
     part: &Fragment,
     area: Area,
 ) -> Result<BorderPlaces, NoMem>
+    ensures refused { IfErr result (λ _. ¬ (FitsSides origin.now props.now area part.now.upper part.now.lower)) }
     ensures area { IfOk result (λ s. s.area ≡ area) }
     ensures right { IfOk result (λ s. s.right ≡ right_area area (units_at props.now.border 1)) }
     ensures upper { IfOk result (λ s. s.upper ≡ upper_top origin.now part.now.upper) }

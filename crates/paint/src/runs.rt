@@ -1,10 +1,12 @@
 //! Items of the runs of a line.
 
-ghost use Rattle.std.specs.Prelude.{◌≡◌, ◌<◌, ◌∷◌, [], map, length, OnOk, IfSome, MatchOption, FitsSigned, slice_range, ◌+ℤ◌};
+ghost use Rattle.std.specs.Prelude.{◌≡◌, ◌<◌, ◌≤◌, ◌∷◌, [], map, length, All, OnOk, IfSome, SomeIff, FitsSigned, slice_range, ◌+ℤ◌};
 ghost use Rattle.std.specs.Int.{w64};
+ghost use Rattle.std.specs.Str.{IsCharBoundary};
 ghost use Rattle.line_place.specs.Conditions.{HasFaces};
+ghost use Rattle.line_place.specs.Placing.{IsRunIn};
 ghost use Rattle.paint.specs.Areas.{style_of};
-ghost use Rattle.paint.specs.Items.{IsPartOf, run_item, span_of};
+ghost use Rattle.paint.specs.Items.{run_item, span_of};
 ghost use Rattle.paint.specs.Views.{Adds, HaveItemFaces, hyphen_item, text_item};
 
 use crate::item::{Canvas, ItemRef, TextPlace, style_at, sum};
@@ -13,16 +15,14 @@ use boxes::leaf::Leaf;
 use line_place::place::Run;
 use metrics::Faces;
 
-/// A part of a text. None exactly where it doesn't begin and end at characters, as each run does.
-fn part_of(text: &str, from: u32, to: u32) -> Option<&str>
-    ensures { MatchOption result (¬ (IsPartOf text.now from to)) (λ part. part.now ≡ slice_range text.now from to) }
+/// A part of a text, which begins and ends at characters.
+fn part_of(text: &str, from: u32, to: u32) -> &str
+    requires order { from ≤ to }
+    requires begins { IsCharBoundary text.now from }
+    requires ends { IsCharBoundary text.now to }
+    ensures { result.now ≡ slice_range text.now from to }
 {
-    let (from, to) = (from as usize, to as usize);
-    if from <= to && text.is_char_boundary(from) && text.is_char_boundary(to) {
-        Some(&text[from..to])
-    } else {
-        None
-    }
+    &text[from as usize..to as usize]
 }
 
 /// Adds a shown hyphen.
@@ -66,8 +66,8 @@ fn push_text<'a>(
     Ok(())
 }
 
-/// The style of a run of a line whose content begins at a left, on a baseline. None exactly where its span isn't one of
-/// the leaf's, or its left is past 64 bits.
+/// The style of a run of a line whose content begins at a left, on a baseline. None exactly where its left is past 64
+/// bits.
 fn style_of_run(
     faces: &Faces,
     leaf: &Leaf,
@@ -75,21 +75,16 @@ fn style_of_run(
     baseline: i64,
     run: &Run,
 ) -> Option<TextPlace>
-    requires { HasFaces faces.now leaf.now }
-    ensures style { MatchOption result
-        (¬ ((run.now.span < length leaf.now.spans) × FitsSigned w64 (left +ℤ run.now.x)))
-        (λ style. style ≡ style_of (left +ℤ run.now.x) baseline (span_of leaf.now run.now.span)) }
+    requires leaf { HasFaces faces.now leaf.now }
+    requires there { run.now.span < length leaf.now.spans }
+    ensures style { SomeIff result (FitsSigned w64 (left +ℤ run.now.x))
+        (style_of (left +ℤ run.now.x) baseline (span_of leaf.now run.now.span)) }
     ensures face { IfSome result (λ style. style.face.0 < length faces.now) }
 {
     // named by the clauses alone
     let _faces = faces;
-    let spans = leaf.spans.as_slice();
-    let number = run.span as usize;
-    if number >= spans.len() {
-        return None;
-    }
-    let x = sum(left, run.x)?;
-    Some(style_at(&spans[number], x, baseline))
+    let span = &leaf.spans.as_slice()[run.span as usize];
+    Some(style_at(span, sum(left, run.x)?, baseline))
 }
 
 /// Adds a run of a line whose content begins at a left, on a baseline.
@@ -103,6 +98,7 @@ fn push_run<'a>(
     run: &Run,
 ) -> Result<(), NoMem>
     requires leaf { HasFaces canvas.now.faces.now leaf.now }
+    requires run { IsRunIn leaf.now run.now }
     requires faces { HaveItemFaces canvas.now.faces.now out.old.items }
     ensures items { OnOk result (Adds canvas.now.faces.now out.old.items
         (run_item canvas.now.faces.now leaf.now left baseline run.now ∷ []) out.new.items) }
@@ -115,9 +111,7 @@ fn push_run<'a>(
         push_hyphen(out, canvas, style)?;
         return Ok(());
     }
-    let Some(text) = part_of(leaf.text.as_str(), run.from, run.to) else {
-        return Err(NoMem);
-    };
+    let text = part_of(leaf.text.as_str(), run.from, run.to);
     push_text(out, canvas, style, text)?;
     Ok(())
 }
@@ -132,6 +126,7 @@ pub(crate) fn push_runs<'a>(
     runs: &[Run],
 ) -> Result<(), NoMem>
     requires leaf { HasFaces canvas.now.faces.now leaf.now }
+    requires runs { All (IsRunIn leaf.now) runs.now }
     requires faces { HaveItemFaces canvas.now.faces.now out.old.items }
     ensures items { OnOk result (Adds canvas.now.faces.now out.old.items
         (map (run_item canvas.now.faces.now leaf.now left baseline) runs.now) out.new.items) }
