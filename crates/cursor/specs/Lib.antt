@@ -1,3 +1,6 @@
 pub mod Conditions
+pub mod CursorFields
+pub mod Cursors
 pub mod Fields
+pub mod Parted
 pub mod Remainder

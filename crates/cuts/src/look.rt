@@ -1,11 +1,12 @@
 //! How far a page's cut reads.
 
-ghost use Rattle.std.specs.Prelude.{◌≡◌, ℕ, ℤ, Bool, List, true, false, ◌+◌, ◌<◌, ◌≤◌, length, ◌∷◌, ◌++◌, [], ◌≤ℤ◌, ◌+ℤ◌};
+ghost use Rattle.std.specs.Prelude.{◌≡◌, ℕ, ℤ, Bool, List, Some, true, false, ◌+◌, ◌<◌, ◌≤◌, length, ◌∷◌, ◌++◌, [], ◌≤ℤ◌, ◌+ℤ◌};
 ghost use Rattle.bk_num.specs.Limits.{most_entries};
 ghost use Rattle.cuts.specs.Areas.{AreTold, IsArea};
 ghost use Rattle.cuts.specs.Cuts.{NoteLists};
 ghost use Rattle.cuts.specs.Prefixes.{HasMissed, HasRead, IsLook, is_break};
 ghost use Rattle.cuts.specs.Rows.{IsSmallRow, is_joined};
+ghost use Rattle.cuts.specs.Short.{IsShort};
 ghost use Rattle.cuts.specs.declared.row.SolidRow.{SolidRow};
 
 use crate::reach::fits_above;
@@ -27,6 +28,7 @@ pub struct Look {
 /// The most widows that the lines at the end ask for, with one more solid.
 fn least_with(least: u32, row: &SolidRow) -> u32
     ensures own { row.now.widows ≤ result }
+    ensures most { (widest : ℕ) → least ≤ widest → row.now.widows ≤ widest → result ≤ widest }
     ensures kept { is_joined row.now ≡ true → least ≤ result }
 {
     if row.joins() {
@@ -38,7 +40,8 @@ fn least_with(least: u32, row: &SolidRow) -> u32
 
 /// How many lines more are to be read behind a point that misses, once a solid more is.
 fn left_after(left: u32, row: &SolidRow) -> u32
-    ensures { is_joined row.now ≡ true → left ≤ result + 1 }
+    ensures least { is_joined row.now ≡ true → left ≤ result + 1 }
+    ensures less { 0 < left → result + 1 ≤ left }
 {
     if row.joins() {
         left.saturating_sub(1)
@@ -52,6 +55,7 @@ impl Look {
     pub fn start() -> Look
         ensures look { (kept : Bool) (height : ℤ) (list : NoteLists) (c : ℕ) → IsLook kept height list c [] result }
         ensures read { HasRead 0 result }
+        ensures short { (kept : Bool) (height : ℤ) (widest : ℕ) → IsShort kept height widest [] result }
     {
         Look {
             some: false,
@@ -64,8 +68,9 @@ impl Look {
 
     /// Whether the solids read so far tell the cut.
     pub fn is_enough(&self) -> bool
-        ensures { result ≡ true → (kept : Bool) (height : ℤ) (list : NoteLists) (c : ℕ) (rows : List SolidRow) →
+        ensures enough { result ≡ true → (kept : Bool) (height : ℤ) (list : NoteLists) (c : ℕ) (rows : List SolidRow) →
             IsLook kept height list c rows self.now → HasMissed kept height list c rows 0 }
+        ensures more { result ≡ false → ¬ (self.now.left ≡ Some 0) }
     {
         self.left == Some(0)
     }
@@ -91,6 +96,8 @@ impl Look {
             ¬ ((self.now.reach.extent +ℤ area) ≤ℤ room.now.height) }
         ensures none { result ≡ true → self.now.fitted ≡ false →
             ¬ ((self.now.reach.extent +ℤ room.now.carried) ≤ℤ room.now.height) }
+        ensures fits { result ≡ false → self.now.some ≡ true → is_break row.now ≡ true →
+            self.now.reach.extent ≤ℤ room.now.height }
     {
         let needed = if self.fitted { area } else { room.carried };
         self.some && row.breaks() && !fits_above(&self.reach, needed, room.height)
@@ -109,6 +116,11 @@ impl Look {
             IsLook room.now.kept room.now.height list c rows self.old →
             IsLook room.now.kept room.now.height list c (rows ++ row.now ∷ []) self.new }
         ensures read { (n : ℕ) → HasRead n self.old → HasRead (n + 1) self.new }
+        ensures short { (rows : List SolidRow) (list : NoteLists) (c widest : ℕ) →
+            IsLook room.now.kept room.now.height list c rows self.old →
+            row.now.widows ≤ widest → ¬ (self.old.left ≡ Some 0) →
+            IsShort room.now.kept room.now.height widest rows self.old →
+            IsShort room.now.kept room.now.height widest (rows ++ row.now ∷ []) self.new }
     {
         if let Some(left) = self.left {
             self.left = Some(left_after(left, row));

@@ -1,17 +1,28 @@
-use Rattle.std.proofs.Common.{◌≡◌, ◌+ℤ◌, ◌≤ℤ◌, ◌∷◌, ◌++◌, [], ℤ, Bool, true, false, not, ap, rules, refl, sym, subst, ◌||◌}
+use Rattle.std.proofs.Common.{◌≡◌, ◌∙◌, ◌<◌, ◌≤◌, ℕ, zero, suc, List, length, Some, None, ap, arith, ◌+ℤ◌, ◌≤ℤ◌, ◌∷◌, ◌++◌, [], ℤ, Bool, true, false, rules, refl, sym, subst, ◌||◌, not}
 use Rattle.std.proofs.lemmas.Int.{to_z-of_z}
 use mir.Val.{SFits}
 use mir.Syntax.{w64}
 use Rattle.cuts.specs.declared.look.Look.{Look}
+use Rattle.cuts.specs.declared.row.SolidRow.{SolidRow}
 use Rattle.cuts.specs.Prefixes.{HasMissed, IsGoing, look_by}
 use Rattle.cuts.proofs.LookLemmas.{took_missed, took_miss, took_going, seam_misses, seam_fits}
 use Rattle.cuts.proofs.ReachLemmas.{reached_more}
+use Rattle.cuts.specs.Short.{short_by}
+use Rattle.cuts.proofs.ShortLemmas.{short_missed, short_miss, short_going}
 use Rattle.cuts.proofs.look.Look.take.Goals as goal
+
+above : (n : ℕ) → (n ≡ 0 → ⊥) → 0 < n
+above zero f = absurd (f refl)
+above (suc n) f = omega arith
+
+is_some : (rows : List SolidRow) (b : Bool) → (b ≡ false → rows ≡ []) → 0 < length rows → b ≡ true
+is_some rows true f l = refl
+is_some rows false f l = let e : length rows ≡ 0 = ap (λ (rs : List SolidRow). length rs) (f refl) in absurd (omega (arith, e))
 
 pub returns-in-Some-clause-look : goal.returns-in-Some-clause-look
 returns-in-Some-clause-look c = λ rows list n told look.
     let m : HasMissed c.args.room.now.kept c.args.room.now.height list n rows c.in-Some.left = subst (look_by c.args.room.now.kept c.args.room.now.height list n rows c.args.self.now) c.in-Some.is look in
-    took_missed c.args.room.now.kept c.args.room.now.height list n rows c.args.row.now c.in-Some.left c.left_after.result c.left_after.ensures m
+    took_missed c.args.room.now.kept c.args.room.now.height list n rows c.args.row.now c.in-Some.left c.left_after.result c.left_after.ensures.least m
 
 pub returns-then-misses-clause-look : goal.returns-then-misses-clause-look
 returns-then-misses-clause-look c = λ rows list n told look.
@@ -48,3 +59,31 @@ returns-clause-read c = λ n read.
     let tall : SFits w64 c.args.row.now.height = search rules in
     let bottom : c.place.new.self.bottom ≡ (c.args.self.now.reach.bottom +ℤ c.gap_above-gap.result) +ℤ c.args.row.now.height = simp to_z-of_z at c.place.ensures.bottom in
     reached_more n c.args.self.now.reach c.place.new.self c.gap_above-gap.result c.args.row.now.height read c.gap_above-gap.ensures.small c.requires.small.height c.requires.small.some bottom c.place.ensures.extent
+
+pub returns-in-Some-clause-short : goal.returns-in-Some-clause-short
+returns-in-Some-clause-short c = λ rows list n widest look few more short.
+    let kept : Bool = c.args.room.now.kept in
+    let height : ℤ = c.args.room.now.height in
+    let s : short_by kept height widest rows (Some c.in-Some.left) = subst (short_by kept height widest rows) c.in-Some.is short.short in
+    let some : 0 < c.in-Some.left = above c.in-Some.left (λ e. more (c.in-Some.is ∙ ap (λ (m : ℕ). Some m) e)) in
+    record { least = short.least; short = short_missed kept height widest rows c.args.row.now c.in-Some.left c.left_after.result (c.left_after.ensures.less some) s }
+
+pub returns-then-misses-clause-short : goal.returns-then-misses-clause-short
+returns-then-misses-clause-short c = λ rows list n widest look few more short.
+    let kept : Bool = c.args.room.now.kept in
+    let height : ℤ = c.args.room.now.height in
+    let s : short_by kept height widest rows None = subst (short_by kept height widest rows) c.in_default.is short.short in
+    let least : c.least_with-self.result ≤ widest = c.least_with-self.ensures.most widest short.least few in
+    record { least = least; short = subst (λ (m : ℕ). short_by kept height widest (rows ++ c.args.row.now ∷ []) (Some m)) (sym c.saturating_sub.ensures) (short_miss kept height widest rows c.args.row.now c.least_with-self.result least s) }
+
+pub returns-clause-short : goal.returns-clause-short
+returns-clause-short c = λ rows list n widest look few more short.
+    let kept : Bool = c.args.room.now.kept in
+    let height : ℤ = c.args.room.now.height in
+    let going : IsGoing kept height list n rows c.args.self.now = subst (look_by kept height list n rows c.args.self.now) c.in_default.is look in
+    let s : short_by kept height widest rows None = subst (short_by kept height widest rows) c.in_default.is short.short in
+    let least : c.least_with-self.result ≤ widest = c.least_with-self.ensures.most widest short.least few in
+    record {
+      least = least;
+      short = subst (short_by kept height widest (rows ++ c.args.row.now ∷ [])) (sym c.in_default.is) (short_going kept height widest rows c.args.row.now (λ b l. subst (λ (e : ℤ). e ≤ℤ height) going.extent (c.misses.ensures.fits c.if-misses.false (is_some rows c.args.self.now.some going.none l) b)) s);
+    }

@@ -1,0 +1,15 @@
+use Rattle.std.proofs.Common.{ℤ, subst, FitsSigned, arith}
+use Rattle.std.specs.Int.{w64}
+use Rattle.std.proofs.lemmas.Int.{ints, to_z-of_z}
+use Rattle.cursor.specs.Cursors.{CursorView}
+use Rattle.cursor.specs.Fields.{solid_view}
+use Rattle.cursor.specs.Remainder.{IsSolid}
+use Rattle.cursor.proofs.cursor.Cursor.next.Goals as goal
+
+pub returns-in-Some-clause-solid : goal.returns-in-Some-clause-solid
+returns-in-Some-clause-solid g c =
+    let low = c.self.invariant.goes.low in
+    let high = c.self.invariant.goes.high in
+    let wide : FitsSigned w64 c.self.inside.width = omega (arith, ints, low, high) in
+    subst (λ (v : CursorView). IsSolid v.faces v.tree v.width v.at (solid_view c.in-Some.solid)) c.self.view_is
+    (subst (λ (w : ℤ). IsSolid c.self.inside.faces.now c.self.inside.tree.now w c.self.inside.at (solid_view c.in-Some.solid)) (to_z-of_z w64 c.self.inside.width wide) c.in-Some.ensures.solid)
