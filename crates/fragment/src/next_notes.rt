@@ -4,6 +4,7 @@ ghost use Rattle.std.specs.Prelude.{◌<◌, IfOk, All, None, length, []};
 ghost use Rattle.boxes.specs.Frames.{IsGoodFrame};
 ghost use Rattle.note_list.specs.Conditions.{AreCarried, CanBePaged, IsAtSolid};
 ghost use Rattle.page_list.specs.Cuts.{IsNotesCut, place_after};
+ghost use Rattle.page_list.specs.Looked.{LooksAtNotes};
 ghost use Rattle.page_list.specs.Pages.{AreNear};
 
 use bk_num::name::NoMem;
@@ -18,7 +19,7 @@ use std::alloc::Global;
 use std::sync::ledger::Ledger;
 
 /// What a page of notes after the flow places of what is carried to it, and what is left: the greatest number of solids
-/// that fits, at least one.
+/// that fits, at least one. It takes no more steps than such a page may look at lines.
 pub fn next_notes<L: Ledger>(
     alloc: Global,
     flow: &Flow,
@@ -36,6 +37,7 @@ pub fn next_notes<L: Ledger>(
     ensures carried { IfOk result (λ p. AreCarried flow.now (place_after flow.now.main None) p.left) }
     ensures stands { IfOk result (λ p. All (IsAtSolid flow.now.notes) p.left) }
     ensures near { IfOk result (λ p. AreNear [] p.notes) }
+    ensures lines { IfOk result (λ p. LooksAtNotes faces.now flow.now frame carried.now steps.old steps.new) }
 {
     let list = NoteList::carried(alloc, flow, faces, carried, frame, steps)?;
     let all = flow.notes.as_slice().len() as u32;

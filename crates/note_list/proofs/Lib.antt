@@ -8,4 +8,5 @@ pub mod PartLemmas
 pub mod PlaceLemmas
 pub mod ReadLemmas
 pub mod RowLemmas
+pub mod ShortLemmas
 pub mod SizeLemmas

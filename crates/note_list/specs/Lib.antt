@@ -5,3 +5,4 @@ pub mod Left
 pub mod Lists
 pub mod Places
 pub mod Reads
+pub mod Short

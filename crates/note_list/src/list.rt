@@ -1,11 +1,12 @@
 //! The list of a page's notes, read as far as the page can use it.
 
-ghost use Rattle.std.specs.Prelude.{◌≡◌, ℤ, List, ◌≤◌, ◌++◌, All, length, IfOk, OnOk};
+ghost use Rattle.std.specs.Prelude.{◌≡◌, ℤ, List, ◌+◌, ◌≤◌, ◌++◌, All, length, IfOk, OnOk};
 ghost use Rattle.boxes.specs.Frames.{IsGoodFrame};
 ghost use Rattle.cuts.specs.Areas.{IsArea, Tells};
 ghost use Rattle.note_list.specs.Conditions.{CanBePaged, IsHeld};
 ghost use Rattle.note_list.specs.Lists.{AreNoted, called_parts, note_rows};
 ghost use Rattle.note_list.specs.Reads.{EndInNotes, IsCarriedList, IsReadOf, IsReady};
+ghost use Rattle.note_list.specs.Short.{IsShortList, lines_in};
 ghost use Rattle.note_list.specs.declared.solid.NotedSolid.{NotedSolid};
 ghost use Rattle.notes.specs.Notes.{area_of, must_of};
 
@@ -71,6 +72,8 @@ impl NoteList {
         ensures ready { IfOk result IsReady }
         ensures ends { IfOk result (EndInNotes flow.now.notes) }
         ensures list { IfOk result (λ l. IsCarriedList faces.now flow.now.notes frame carried.now l) }
+        ensures short { IfOk result (IsShortList frame.height) }
+        ensures lines { IfOk result (λ l. steps.new ≡ steps.old + lines_in l.solids.items) }
     {
         let mut list = NoteList::new(alloc);
         for part in carried {
@@ -102,6 +105,9 @@ impl NoteList {
             (more : List NotedSolid) ×
             AreNoted faces.now flow.now.notes frame.width (called_parts from to) more ×
             IsReadOf frame.height (list ++ more) self.new) }
+        ensures short { OnOk result (IsShortList frame.height self.old → IsShortList frame.height self.new) }
+        ensures lines { OnOk result (steps.new + lines_in self.old.solids.items
+            ≡ steps.old + lines_in self.new.solids.items) }
     {
         for note in from..to {
             self.read(flow, faces, whole(note), true, frame, steps)?;

@@ -1,6 +1,6 @@
 //! How the list of a page's notes is read.
 
-ghost use Rattle.std.specs.Prelude.{◌≡◌, ◌<◌, ◌≤◌, ◌<ℤ◌, ◌≤ℤ◌, ◌++◌, ◌∷◌, [], ◌&&◌, ℤ, List, true, false, Some, is_some, length, slice_get, OnOk};
+ghost use Rattle.std.specs.Prelude.{◌≡◌, ◌+◌, ◌<◌, ◌≤◌, ◌<ℤ◌, ◌≤ℤ◌, ◌++◌, ◌∷◌, [], ◌&&◌, ℤ, List, true, false, Some, is_some, length, slice_get, OnOk};
 ghost use Rattle.bk_num.specs.Limits.{most_entries};
 ghost use Rattle.boxes.specs.Frames.{IsGoodFrame};
 ghost use Rattle.boxes.specs.Tree.{Holds};
@@ -10,6 +10,7 @@ ghost use Rattle.note_list.specs.Calls.{start_place};
 ghost use Rattle.note_list.specs.Conditions.{CanBeCut, CanBePaged, IsHeld};
 ghost use Rattle.note_list.specs.Lists.{AreNoted, note_rows};
 ghost use Rattle.note_list.specs.Reads.{EndInNotes, HasReadOn, IsReadOf, IsReady};
+ghost use Rattle.note_list.specs.Short.{IsShortList, lines_in};
 ghost use Rattle.note_list.specs.declared.solid.NotedSolid.{NotedSolid};
 ghost use Rattle.notes.specs.Notes.{IsCarryCount, IsSmallNote, area_of};
 ghost use Rattle.seams.specs.Runs.{solid_after};
@@ -104,6 +105,8 @@ impl NoteList {
         ensures solids { OnOk result (self.new.solids.items ≡ self.old.solids.items ++ solid ∷ []) }
         ensures over { OnOk result (self.new.over ≡ true →
             height <ℤ area_of (note_rows self.new.solids.items) (length self.new.solids.items)) }
+        ensures short { OnOk result (self.old.over ≡ false → IsShortList height self.old →
+            IsShortList height self.new) }
         ensures begun { OnOk result (self.new.begun ≡ self.old.begun) }
         ensures own { OnOk result (self.new.own ≡ self.old.own) }
     {
@@ -141,6 +144,9 @@ impl NoteList {
         ensures ends { OnOk result ((notes : List Note) (note : Note) → slice_get notes part.note ≡ Some note →
             note.body ≡ body.now →
             EndInNotes notes self.old → EndInNotes notes self.new) }
+        ensures short { OnOk result (IsShortList frame.height self.old → IsShortList frame.height self.new) }
+        ensures lines { OnOk result (steps.new + lines_in self.old.solids.items
+            ≡ steps.old + lines_in self.new.solids.items) }
     {
         let first = solid_after(body, 0);
         let mut widths = Widths::none();
@@ -181,6 +187,9 @@ impl NoteList {
             AreNoted faces.now flow.now.notes frame.width
             (record { note = part.note; at = part.at; called = called } ∷ []) more ×
             IsReadOf frame.height (list ++ more) self.new) }
+        ensures short { OnOk result (IsShortList frame.height self.old → IsShortList frame.height self.new) }
+        ensures lines { OnOk result (steps.new + lines_in self.old.solids.items
+            ≡ steps.old + lines_in self.new.solids.items) }
     {
         let body = body_of(flow, part.note);
         if self.over {

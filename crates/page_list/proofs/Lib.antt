@@ -8,6 +8,7 @@ pub mod ExistLemmas
 pub mod FallLemmas
 pub mod FirstSolidLemmas
 pub mod InsideLemmas
+pub mod LookedLemmas
 pub mod NextLemmas
 pub mod NoteRunLemmas
 pub mod OneLemmas

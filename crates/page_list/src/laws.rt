@@ -1,6 +1,7 @@
 //! What holds of all page lists. Each function is empty and carries one law.
 
 ghost use Rattle.page_list.specs.Laws.{BreaksHold, MainStandsOnce, NotesBeginInTime, NotesStandOnce, PagesAreFew, PagesEndInside};
+ghost use Rattle.page_list.specs.Looked.{HaveOneLooked};
 ghost use Rattle.page_list.specs.Pages.{HasOnePageList, HasSomePageList, LeavesNothing};
 
 /// Two page lists of one flow are equal.
@@ -46,4 +47,9 @@ pub fn pages_end_inside()
 /// At most a page for each edge and each character, and blank pages before the sides that are asked.
 pub fn pages_are_few()
     ensures { PagesAreFew }
+{}
+
+/// A page may look at one number of lines.
+pub fn looked_lines_are_one()
+    ensures { HaveOneLooked }
 {}

@@ -3,6 +3,7 @@ use Rattle.std.proofs.lemmas.Int.{ints, to_z-of_z}
 use mir.Val.{SFits}
 use mir.Syntax.{w64}
 use Rattle.boxes.specs.declared.flow.Note.{Note}
+use Rattle.page_list.proofs.LookedLemmas.{looked_carried}
 use Rattle.fragment.proofs.NotesLemmas.{carried_low, carried_on, notes_cut}
 use Rattle.fragment.proofs.SolidLemmas.{if_ok}
 use Rattle.fragment.proofs.next_notes.next_notes.Goals as goal
@@ -42,3 +43,10 @@ returns-clause-carried g c =
     if_ok _ _ c.place.result
     (λ p is. carried_on c.args.flow.now p.left (length c.as_slice.result.now) (ap (λ (notes : List Note). length notes) c.as_slice.ensures) is.0 is.1.0 is.1.1)
     (both _ _ c.place.result c.place.ensures.held (both _ _ c.place.result c.place.ensures.order c.place.ensures.below))
+
+pub returns-clause-lines : goal.returns-clause-lines
+returns-clause-lines g c =
+    let q = looked_carried c.args.faces.now c.args.flow.now c.args.frame c.args.carried.now c.in_ok-list.list c.in_ok-list.ensures.list c.in_ok-list.ensures.short c.requires.frame.height_low in
+    let most = q.2 in
+    let count = c.in_ok-list.ensures.lines in
+    if_ok _ _ c.place.result (λ p placed. (q.0, q.1, omega (arith, most, count))) c.place.ensures.placed

@@ -170,7 +170,7 @@ returns-then-is_enough-clause-prefix g c =
     let views : List SolidView = map solid_view c.push-in-Some.new.self.items in
     let some : 0 < length views = rw (views_now g d, length-append) (omega arith) in
     read_missed c.args.faces.now c.args.flow.now.main c.args.frame c.args.from.at c.args.from.kept c.args.notes.now.list.own c.take-in-Some.new.self.areas.items c.args.room.now.carried c.count-count.ensures.tree c.requires.holds views c.in-Some.solid.end c.in-Some.ensures.holds (goes_on g d) some (frees g d c.if-ends.false)
-    (λ list told. c.is_enough.ensures c.if-is_enough.true c.args.from.kept c.args.frame.height list c.args.notes.now.list.own (rows_of c.args.flow.now.main views) (looks g d list told))
+    (λ list told. c.is_enough.ensures.enough c.if-is_enough.true c.args.from.kept c.args.frame.height list c.args.notes.now.list.own (rows_of c.args.flow.now.main views) (looks g d list told))
 
 pub returns-then-is_enough-clause-read : goal.returns-then-is_enough-clause-read
 returns-then-is_enough-clause-read g c = reads g (goal.at.returns-then-is_enough-clause-read g c).Else-is_err

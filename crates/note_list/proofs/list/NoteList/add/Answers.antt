@@ -1,8 +1,9 @@
-use Rattle.std.proofs.Common.{◌≡◌, ◌<ℤ◌, ◌∙◌, rules, true, false, refl, subst, arith}
+use Rattle.std.proofs.Common.{◌≡◌, ◌<ℤ◌, ◌≤ℤ◌, ◌∙◌, rules, true, false, refl, subst, arith}
 use Rattle.std.proofs.lemmas.Int.{ints, to_z-of_z}
 use mir.Val.{SFits}
 use mir.Syntax.{w64}
 use Rattle.note_list.proofs.ReadLemmas.{area_next, needed_small, ready_more, ready_reach, reach_high, reach_low}
+use Rattle.note_list.proofs.ShortLemmas.{short_next}
 use Rattle.note_list.proofs.list.NoteList.add.Goals as goal
 
 pub place_note-self-requires-clause-bottom : goal.place_note-self-requires-clause-bottom
@@ -46,3 +47,14 @@ returns-clause-over c = λ e.
     let above : c.args.height <ℤ c.area-area.result = simp to_z-of_z at (c.is_above-self.ensures.above e) in
     let all = area_next c.args.self.now c.args.solid c.push.new.self.items _ _ c.requires.ready c.in_ok-push.ensures.items c.place_note-self.ensures.bottom c.place_note-self.ensures.extent in
     subst (λ z. c.args.height <ℤ z) (c.area-area.ensures.area ∙ all) above
+
+pub returns-clause-short : goal.returns-clause-short
+returns-clause-short c = λ room short.
+    let low = c.area-area.ensures.low in
+    let high = c.area-area.ensures.high in
+    let area : SFits w64 c.area-area.result = omega (arith, ints) in
+    let height : SFits w64 c.args.height = c.ranges.height in
+    let all = area_next c.args.self.now c.args.solid c.push.new.self.items _ _ c.requires.ready c.in_ok-push.ensures.items c.place_note-self.ensures.bottom c.place_note-self.ensures.extent in
+    short_next c.args.height c.args.self.now _ c.args.solid c.in_ok-push.ensures.items room
+    (λ e. let within : c.area-area.result ≤ℤ c.args.height = simp to_z-of_z at (c.is_above-self.ensures.within e) in subst (λ z. z ≤ℤ c.args.height) (c.area-area.ensures.area ∙ all) within)
+    short

@@ -14,6 +14,8 @@ loop-note-init g c = record {
   low = omega arith;
   high = omega arith;
   calls = call_start c.args.faces.now c.args.flow.now.notes c.args.frame.width c.args.frame.height c.args.from c.args.self.now;
+  short = λ h. h;
+  lines = refl;
 }
 
 pub loop-note-preserved : goal.loop-note-preserved
@@ -29,6 +31,8 @@ loop-note-preserved g c =
       low = omega arith;
       high = omega arith;
       calls = call_next c.args.faces.now c.args.flow.now.notes c.args.frame.width c.args.frame.height c.args.from c.loop-note.note c.args.self.now c.loop-note.self c.read.new.self low c.loop-note.invariant.calls next;
+      short = λ h. c.in_ok-read.ensures.short (c.loop-note.invariant.short h);
+      lines = let more = c.in_ok-read.ensures.lines in let count = c.loop-note.invariant.lines in omega (arith, more, count);
     }
 
 pub read-requires-clause-held : goal.read-requires-clause-held

@@ -1,6 +1,7 @@
-use Rattle.std.proofs.Common.{◌≡◌, ◌≤◌, max}
+use Rattle.std.proofs.Common.{◌≡◌, ◌≤◌, ◌+◌, max}
 use Rattle.note_list.specs.Lists.{called_parts}
 use Rattle.note_list.specs.Reads.{EndInNotes, IsReady}
+use Rattle.note_list.specs.Short.{IsShortList, lines_in}
 use Rattle.note_list.proofs.BodyLemmas.{Calls}
 use Rattle.note_list.proofs.list.NoteList.call.Given as goal
 
@@ -12,4 +13,6 @@ invariant-loop-note g l = record {
   low : l.fn.from ≤ l.note;
   high : l.note ≤ max l.fn.from l.fn.to;
   calls : Calls l.faces l.flow.notes l.fn.frame.width l.fn.frame.height (called_parts l.fn.from l.note) l.fn.self l.self;
+  short : IsShortList l.fn.frame.height l.fn.self → IsShortList l.fn.frame.height l.self;
+  lines : l.steps + lines_in l.fn.self.solids.items ≡ l.fn.steps + lines_in l.self.solids.items;
 }
