@@ -3,18 +3,20 @@
 ghost use Rattle.std.specs.Prelude.{◌≡◌, ◌≤◌, length, IfOk, None};
 ghost use Rattle.bk_io.specs.Shelf.{untold};
 
+use crate::retry::{MOST_TRIES, is_passing, pause};
 use crate::shelf::{FetchErr, Shelf};
 use bk_num::name::Name;
 use std::alloc::Global;
 use std::fs;
 use std::io::{Read, Seek, SeekFrom};
 use std::rt::Files;
+use std::time::Clock;
 
 /// The files of the system. It tells nothing of their bytes.
 #[derive(Drop)]
-pub struct DirShelf<'a, R: Files> {
+pub struct DirShelf<'a, R: Files + Clock> {
     alloc: Global,
-    files: &'a R,
+    runtime: &'a R,
     opened: Option<Opened<R::File>>,
     faults: u64,
 }
@@ -27,12 +29,12 @@ struct Opened<F> {
     at: u64,
 }
 
-impl<'a, R: Files> DirShelf<'a, R> {
+impl<'a, R: Files + Clock> DirShelf<'a, R> {
     /// The files that this runtime opens. It takes no memory.
-    pub fn new(alloc: Global, files: &'a R) -> DirShelf<'a, R> {
+    pub fn new(alloc: Global, runtime: &'a R) -> DirShelf<'a, R> {
         DirShelf {
             alloc,
-            files,
+            runtime,
             opened: None,
             faults: 0,
         }
@@ -44,7 +46,7 @@ impl<'a, R: Files> DirShelf<'a, R> {
             Ok(owned) => owned,
             Err(_) => return Err(FetchErr::NoMemory),
         };
-        let Ok(mut file) = fs::open(self.files, name) else {
+        let Ok(mut file) = fs::open(self.runtime, name) else {
             return Err(FetchErr::Failed);
         };
         if from > 0 && file.seek(SeekFrom::Start(from)).is_err() {
@@ -57,25 +59,46 @@ impl<'a, R: Files> DirShelf<'a, R> {
         })
     }
 
-    /// Reads on where the last fetch left off, or opens the file.
+    /// The file that the last fetch read, where it left off there. Another one is closed.
+    fn left_off(&mut self, name: &str, from: u64) -> Option<Opened<R::File>>
+        ensures { self.new.faults ≡ self.old.faults }
+    {
+        self.opened
+            .take()
+            .filter(|opened| opened.at == from && opened.name.as_str() == name)
+    }
+
+    /// Reads once. A read that a signal interrupts or that would have to wait is made again, up to 6,000 times.
+    fn read_file(&self, file: &mut R::File, into: &mut [u8]) -> Result<usize, FetchErr>
+        ensures { IfOk result (λ n. n ≤ length into.new) }
+    {
+        for _ in 0..MOST_TRIES {
+            match file.read(into) {
+                Ok(count) => return Ok(count),
+                Err(e) if is_passing(e.kind()) => pause(self.runtime, e.kind()),
+                Err(_) => break,
+            }
+        }
+        Err(FetchErr::Failed)
+    }
+
+    /// Reads on where the last fetch left off, or opens the file, once the last one is closed.
     fn read(&mut self, name: &str, from: u64, into: &mut [u8]) -> Result<usize, FetchErr>
         ensures bound { IfOk result (λ n. n ≤ length into.new) }
         ensures faults { self.new.faults ≡ self.old.faults }
     {
-        let mut opened = match self.opened.take() {
-            Some(opened) if opened.at == from && opened.name.as_str() == name => opened,
-            _ => self.open(name, from)?,
+        let mut opened = match self.left_off(name, from) {
+            Some(opened) => opened,
+            None => self.open(name, from)?,
         };
-        let Ok(count) = opened.file.read(into) else {
-            return Err(FetchErr::Failed);
-        };
+        let count = self.read_file(&mut opened.file, into)?;
         opened.at = from.saturating_add(count as u64);
         self.opened = Some(opened);
         Ok(count)
     }
 }
 
-impl<R: Files> Shelf for DirShelf<'_, R> {
+impl<R: Files + Clock> Shelf for DirShelf<'_, R> {
     ghost told = { λ _ _. untold };
 
     ghost faults = { λ s. s.faults };

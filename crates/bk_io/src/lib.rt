@@ -2,6 +2,7 @@
 //! files.
 #![tactic(auto)]
 
+pub mod buffer;
 pub mod dir_shelf;
 pub mod escape;
 pub mod mem_shelf;
@@ -9,6 +10,7 @@ pub mod mem_sink;
 pub mod put_all;
 pub mod read_all;
 pub mod read_text;
+mod retry;
 pub mod shelf;
 pub mod sink;
 pub mod std_sink;

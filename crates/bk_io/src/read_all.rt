@@ -1,4 +1,4 @@
-ghost use Rattle.std.specs.Prelude.{◌≡◌, ◌<◌};
+ghost use Rattle.std.specs.Prelude.{◌≡◌, ◌≢◌, ◌<◌, length};
 ghost use Rattle.bk_io.specs.Shelf.{ReadAnswers, HasFault};
 
 use crate::shelf::{FetchErr, Shelf};
@@ -42,22 +42,24 @@ impl From<FetchErr> for ReadErr {
     }
 }
 
-/// The bytes of the file with this name, where it has at most so many.
-pub fn read_all<S: Shelf>(
+/// The bytes of the file with this name, where it has at most so many. They are fetched piece by piece.
+fn read_pieces<S: Shelf>(
     alloc: Global,
     shelf: &mut S,
     name: &str,
     limit: u64,
+    piece: &mut [u8],
 ) -> Result<Vec<u8>, ReadErr>
+    requires { 0 < length piece.old }
     ensures told { S.told shelf.new ≡ S.told shelf.old }
+    ensures count { result ≢ Err ReadErr.Failed → S.faults shelf.new ≡ S.faults shelf.old }
     ensures answers { ReadAnswers (S.told shelf.old name.now) limit result }
     ensures fault { HasFault (S.told shelf.old name.now) name.now (S.faults shelf.old) (S.faults shelf.new)
         (S.last_fault shelf.new) (result ≡ Err ReadErr.Failed) }
 {
-    let mut piece = [0; PIECE];
     let mut bytes = Vec::new(alloc);
     loop {
-        let count = shelf.fetch(name, bytes.len() as u64, &mut piece)?;
+        let count = shelf.fetch(name, bytes.len() as u64, piece)?;
         if count == 0 {
             return Ok(bytes);
         }
@@ -66,4 +68,22 @@ pub fn read_all<S: Shelf>(
             return Err(ReadErr::TooLarge);
         }
     }
+}
+
+/// The bytes of the file with this name, where it has at most so many. It takes memory for a piece beside them, and
+/// little of the stack.
+pub fn read_all<S: Shelf>(
+    alloc: Global,
+    shelf: &mut S,
+    name: &str,
+    limit: u64,
+) -> Result<Vec<u8>, ReadErr>
+    ensures told { S.told shelf.new ≡ S.told shelf.old }
+    ensures count { result ≢ Err ReadErr.Failed → S.faults shelf.new ≡ S.faults shelf.old }
+    ensures answers { ReadAnswers (S.told shelf.old name.now) limit result }
+    ensures fault { HasFault (S.told shelf.old name.now) name.now (S.faults shelf.old) (S.faults shelf.new)
+        (S.last_fault shelf.new) (result ≡ Err ReadErr.Failed) }
+{
+    let mut piece = vec![in alloc; 0; PIECE]?;
+    read_pieces(alloc, shelf, name, limit, piece.as_mut_slice())
 }

@@ -1,6 +1,6 @@
 //! Reads the text of a file.
 
-ghost use Rattle.std.specs.Prelude.{◌≡◌, ◌≤◌, IfErr, IfOk, string_len};
+ghost use Rattle.std.specs.Prelude.{◌≡◌, ◌≢◌, ◌≤◌, IfErr, IfOk, string_len};
 ghost use Rattle.bk_io.specs.Reads.{HasTextFault, IsTextOf};
 
 use crate::read_all::{ReadErr, read_all};
@@ -34,6 +34,7 @@ pub fn read_text<S: Shelf>(
     limit: u64,
 ) -> Result<String, TextErr>
     ensures told { S.told shelf.new ≡ S.told shelf.old }
+    ensures count { result ≢ Err TextErr.Failed → S.faults shelf.new ≡ S.faults shelf.old }
     ensures text { IfOk result (IsTextOf (S.told shelf.old name.now) limit) }
     ensures small { IfOk result (λ t. string_len t ≤ limit) }
     ensures later { S.faults shelf.old ≤ S.faults shelf.new }

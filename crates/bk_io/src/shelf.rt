@@ -27,6 +27,7 @@ pub trait Shelf {
         requires { 0 < length into.old }
         ensures bound { IfOk result (λ n. n ≤ length into.new) }
         ensures told { told self.new ≡ told self.old }
+        ensures read { IfOk result (λ _. faults self.new ≡ faults self.old) }
         ensures answers { IfOk result (λ n. IfHolds (told self.old name.now)
             (λ file. Fetches file from (take n into.new))) }
         ensures fault { HasFault (told self.old name.now) name.now (faults self.old) (faults self.new)

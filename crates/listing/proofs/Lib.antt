@@ -1,4 +1,3 @@
 pub mod Numbers
-pub mod Passing
 pub mod Printing
 pub mod RecordLemmas

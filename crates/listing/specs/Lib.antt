@@ -1,4 +1,3 @@
-pub mod Buffers
 pub mod Fields
 pub mod Pages
 pub mod Printed

@@ -3,11 +3,11 @@
 ghost use Rattle.std.specs.Prelude.{◌≡◌};
 ghost use Rattle.std.specs.List.{flat_map, list_all};
 ghost use Rattle.bk_io.specs.Sink.{HasCause};
-ghost use Rattle.listing.specs.Buffers.{Gives};
+ghost use Rattle.bk_io.specs.Buffers.{Gives};
 ghost use Rattle.listing.specs.Fields.{field_bytes, record_bytes};
 ghost use Rattle.listing.specs.Records.{color_field, escape, face_field, field, stands, string_field, style_name, word};
 
-use crate::buffer::Buffer;
+use bk_io::buffer::Buffer;
 use bk_io::escape::{hex_digit, is_control, shown_byte};
 use bk_io::sink::{Failed, Sink};
 use bk_num::values::Color;
@@ -29,18 +29,6 @@ pub(crate) enum Field<'a> {
     Quoted(&'a str),
     Color(Color),
     Face(FaceLabel<'a>),
-}
-
-/// Adds some texts one after the other.
-fn add_texts<S: Sink>(buffer: &mut Buffer, sink: &mut S, texts: &[&str]) -> Result<(), Failed>
-    ensures bytes { Gives (S.taken sink.old) buffer.old (S.taken sink.new) buffer.new
-        (flat_map (λ t. t.now) texts.now) result }
-    ensures cause { HasCause (S.faults sink.old) (S.faults sink.new) result }
-{
-    for text in texts {
-        buffer.add_text(sink, text)?;
-    }
-    Ok(())
 }
 
 /// Whether a byte of a string stands as it is.
@@ -145,12 +133,8 @@ fn add_face<S: Sink>(buffer: &mut Buffer, sink: &mut S, face: &FaceLabel<'_>) ->
     ensures cause { HasCause (S.faults sink.old) (S.faults sink.new) result }
 {
     let mut digits = Digits::new();
-    add_texts(buffer, sink, &[" ", face.name])?;
-    add_texts(
-        buffer,
-        sink,
-        &[style_name(face.italic), digits.format(face.weight)],
-    )
+    buffer.add_texts(sink, &[" ", face.name])?;
+    buffer.add_texts(sink, &[style_name(face.italic), digits.format(face.weight)])
 }
 
 /// Adds a space and a number.
@@ -159,7 +143,7 @@ fn add_number<S: Sink>(buffer: &mut Buffer, sink: &mut S, n: i64) -> Result<(), 
     ensures cause { HasCause (S.faults sink.old) (S.faults sink.new) result }
 {
     let mut digits = Digits::new();
-    add_texts(buffer, sink, &[" ", digits.format(n)])
+    buffer.add_texts(sink, &[" ", digits.format(n)])
 }
 
 /// Adds a space and a word.
@@ -167,7 +151,7 @@ fn add_word<S: Sink>(buffer: &mut Buffer, sink: &mut S, text: &str) -> Result<()
     ensures bytes { Gives (S.taken sink.old) buffer.old (S.taken sink.new) buffer.new (word text.now) result }
     ensures cause { HasCause (S.faults sink.old) (S.faults sink.new) result }
 {
-    add_texts(buffer, sink, &[" ", text])
+    buffer.add_texts(sink, &[" ", text])
 }
 
 /// Adds a field after a space.

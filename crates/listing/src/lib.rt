@@ -1,7 +1,6 @@
 //! The listing of a page list: the records of its pages, which go to a sink through a buffer of fixed size.
 #![tactic(auto)]
 
-mod buffer;
 mod fields;
 pub mod pages;
 pub mod print;

@@ -6,12 +6,12 @@ ghost use Rattle.bk_io.specs.Sink.{HasCause};
 ghost use Rattle.margin_box.specs.Margins.{HasFace};
 ghost use Rattle.paint.specs.Faces.{face_text};
 ghost use Rattle.paint.specs.Views.{HasItemFace, area_item, edge_item, hyphen_item, item_of, rect_item, text_item};
-ghost use Rattle.listing.specs.Buffers.{Gives};
+ghost use Rattle.bk_io.specs.Buffers.{Gives};
 ghost use Rattle.listing.specs.Pages.{head_record, page_records};
 ghost use Rattle.listing.specs.Records.{book_record, edge_name, face_field, item_record, kind_name, side_name, word};
 
-use crate::buffer::Buffer;
 use crate::fields::{FaceLabel, Field, add_record};
+use bk_io::buffer::Buffer;
 use bk_io::sink::{Failed, Sink};
 use bk_num::values::{Color, Side};
 use boxes::frames::PageKind;

@@ -7,8 +7,8 @@ ghost use Rattle.paint.specs.Views.{HasItemFace};
 ghost use Rattle.listing.specs.Pages.{page_records};
 ghost use Rattle.listing.specs.Records.{book_record, end_record};
 
-use crate::buffer::Buffer;
 use crate::records::{PageHead, add_book, add_page};
+use bk_io::buffer::Buffer;
 use bk_io::put_all::put_all;
 use bk_io::sink::{Failed, Sink};
 use margin_box::items::MarginText;

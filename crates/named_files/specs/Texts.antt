@@ -1,11 +1,12 @@
 -- The texts of the files that the words name, or the first of them that gives none.
-use Rattle.std.specs.Prelude.{◌≡◌, ℕ, suc, ◌<◌, ◌≤◌, List, length, true, Option, Some, slice_get}
+use Rattle.std.specs.Prelude.{◌≡◌, ◌≢◌, ℕ, suc, ◌<◌, ◌≤◌, List, length, true, Option, Some, Result, Ok, Err, slice_get}
 use Rattle.std.specs.List.{AllZip}
 use Rattle.std.specs.Str.{is_utf8}
 use Rattle.bk_num.specs.Limits.{most_file_bytes}
 use Rattle.bk_io.specs.Reads.{HasTextFault, IsTextOf}
 use Rattle.bk_io.specs.Shelf.{Told, IfHolds}
 use Rattle.bk_io.specs.declared.read_text.TextErr.{TextErr}
+use Rattle.bk_io.specs.declared.read_text.TextErr.TheVariants as err
 use Rattle.words.specs.Asked.{FormatWords}
 use Rattle.named_files.specs.Names.{file_stage, name_of}
 use Rattle.named_files.specs.declared.fault.FileFault.{FileFault}
@@ -18,6 +19,12 @@ pub record AreTextsOf (names : FormatWords) (told : List ℕ → Told) (texts : 
   pub metrics : IsTextOf (told names.metrics) most_file_bytes texts.metrics
   pub html : IsTextOf (told names.html) most_file_bytes texts.html
   pub sheets : AllZip (λ name text. IsTextOf (told name) most_file_bytes text) names.sheets texts.sheets.items
+
+-- the count of faults stays, unless a file can't be read. Any fetch may fail, so none is made but for the files up to
+-- the one that gives no text
+abbrev pub KeepsCount : {T : Type 0} → ℕ → ℕ → Result T FileFault → Type 0
+KeepsCount before now (Ok texts) = now ≡ before
+KeepsCount before now (Err fault) = fault.why ≢ err.Failed → now ≡ before
 
 -- these bytes are a text within the limit
 pub record IsReadable (file : List ℕ) : Type 0 where

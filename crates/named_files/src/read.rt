@@ -5,7 +5,7 @@ ghost use Rattle.std.specs.List.{AllZip};
 ghost use Rattle.bk_num.specs.Limits.{most_file_bytes};
 ghost use Rattle.bk_io.specs.Reads.{HasTextFault, IsTextOf};
 ghost use Rattle.words.specs.Asked.{format_view};
-ghost use Rattle.named_files.specs.Texts.{AreTextsOf, IsFirstFault, IsSheetFault};
+ghost use Rattle.named_files.specs.Texts.{AreTextsOf, IsFirstFault, IsSheetFault, KeepsCount};
 
 use crate::fault::FileFault;
 use crate::file::FileOf;
@@ -31,6 +31,7 @@ fn text_of<F: Shelf>(
     file: FileOf,
 ) -> Result<String, FileFault>
     ensures told { F.told shelf.new ≡ F.told shelf.old }
+    ensures count { KeepsCount (F.faults shelf.old) (F.faults shelf.new) result }
     ensures text { IfOk result (IsTextOf (F.told shelf.old name.now) most_file_bytes) }
     ensures small { IfOk result (λ t. string_len t ≤ most_file_bytes) }
     ensures later { F.faults shelf.old ≤ F.faults shelf.new }
@@ -51,6 +52,7 @@ fn sheet_texts<F: Shelf>(
     names: &[&str],
 ) -> Result<Vec<String>, FileFault>
     ensures told { F.told shelf.new ≡ F.told shelf.old }
+    ensures count { KeepsCount (F.faults shelf.old) (F.faults shelf.new) result }
     ensures texts { IfOk result (λ v. AllZip (λ name text. IsTextOf (F.told shelf.old name) most_file_bytes text)
         (map (λ n. n.now) names.now) v.items) }
     ensures later { F.faults shelf.old ≤ F.faults shelf.new }
@@ -74,12 +76,15 @@ fn sheet_texts<F: Shelf>(
 }
 
 /// The texts of the files that are named, each of at most 16,777,216 bytes, read whole one after the other: the
-/// metrics text, the HTML, and the sheets in their order. It stops at the first that gives no text.
+/// metrics text, the HTML, and the sheets in their order. It stops at the first that gives no text, and asks for no other
+/// file.
 pub fn read_files<F: Shelf>(
     alloc: Global,
     names: &Format<'_>,
     shelf: &mut F,
 ) -> Result<FileTexts, FileFault>
+    ensures told { F.told shelf.new ≡ F.told shelf.old }
+    ensures count { KeepsCount (F.faults shelf.old) (F.faults shelf.new) result }
     ensures texts { IfOk result (AreTextsOf (format_view names.now) (F.told shelf.old)) }
     ensures small { IfOk result (λ t. string_len t.metrics ≤ most_file_bytes) }
     ensures fault { IfErr result (IsFirstFault (format_view names.now) (F.told shelf.old) (F.faults shelf.old)

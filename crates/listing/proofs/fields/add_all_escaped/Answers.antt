@@ -3,8 +3,8 @@ use Rattle.std.proofs.lemmas.List.{take_all}
 use Rattle.std.proofs.lemmas.Result.{err_from_is_err_and}
 use Rattle.std.specs.List.{flat_map}
 use Rattle.listing.specs.Records.{escape}
-use Rattle.listing.specs.Buffers.{Passes, TakesPrefix}
-use Rattle.listing.proofs.Passing.{next_fails, next_passes, passes_none}
+use Rattle.bk_io.specs.Buffers.{Passes, TakesPrefix}
+use Rattle.bk_io.proofs.Passing.{next_fails, next_passes, passes_none}
 use Rattle.listing.proofs.fields.add_all_escaped.Goals as goal
 
 pub loop-b-init : goal.loop-b-init

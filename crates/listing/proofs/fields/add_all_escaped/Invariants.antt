@@ -1,7 +1,7 @@
 use Rattle.std.proofs.Common.{◌≤◌, take}
 use Rattle.std.specs.List.{flat_map}
 use Rattle.listing.specs.Records.{escape}
-use Rattle.listing.specs.Buffers.{Passes}
+use Rattle.bk_io.specs.Buffers.{Passes}
 use Rattle.listing.proofs.fields.add_all_escaped.Given as goal
 
 abbrev pub invariant-loop-b : goal.invariant-loop-b

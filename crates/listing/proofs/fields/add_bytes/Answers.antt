@@ -1,5 +1,5 @@
 use Rattle.std.proofs.Common.{◌∙◌, sym}
-use Rattle.listing.proofs.Passing.{gives_same}
+use Rattle.bk_io.proofs.Passing.{gives_same}
 use Rattle.listing.proofs.RecordLemmas.{string_same}
 use Rattle.listing.proofs.fields.add_bytes.Goals as goal
 

@@ -2,7 +2,7 @@ use Rattle.std.proofs.Common.{[], ◌∷◌, ◌++◌, pos, refl}
 use Rattle.std.proofs.lemmas.Result.{err_from_is_err_and}
 use Rattle.std.specs.Fmt.{signed_decimal}
 use Rattle.listing.specs.Records.{style_name}
-use Rattle.listing.proofs.Passing.{first_of_two, two_given}
+use Rattle.bk_io.proofs.Passing.{first_of_two, two_given}
 use Rattle.listing.proofs.RecordLemmas.{face-is}
 use Rattle.listing.proofs.fields.add_face.Goals as goal
 

@@ -1,7 +1,7 @@
 use Rattle.std.proofs.Common.{arith}
 use Rattle.std.proofs.lemmas.Result.{err_from_is_err_and}
 use Rattle.listing.specs.Fields.{field_bytes}
-use Rattle.listing.proofs.Passing.{next_fails, next_passes}
+use Rattle.bk_io.proofs.Passing.{next_fails, next_passes}
 use Rattle.listing.proofs.fields.add_fields.Goals as goal
 
 pub loop-part-preserved : goal.loop-part-preserved

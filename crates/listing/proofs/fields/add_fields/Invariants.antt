@@ -1,6 +1,6 @@
 use Rattle.std.proofs.Common.{◌≤◌, take}
 use Rattle.std.specs.List.{flat_map}
-use Rattle.listing.specs.Buffers.{Passes}
+use Rattle.bk_io.specs.Buffers.{Passes}
 use Rattle.listing.specs.Fields.{field_bytes}
 use Rattle.listing.proofs.fields.add_fields.Given as goal
 

@@ -1,6 +1,6 @@
 use Rattle.std.proofs.Common.{◌≡◌, rules}
 use Rattle.std.specs.Fmt.{signed_decimal}
-use Rattle.listing.proofs.Passing.{gives_same}
+use Rattle.bk_io.proofs.Passing.{gives_same}
 use Rattle.listing.proofs.RecordLemmas.{number-is}
 use Rattle.listing.proofs.fields.add_number.Goals as goal
 

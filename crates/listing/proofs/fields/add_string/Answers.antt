@@ -2,7 +2,7 @@ use Rattle.std.proofs.Common.{codes}
 use Rattle.std.proofs.lemmas.Result.{err_from_is_err_and}
 use Rattle.std.specs.List.{flat_map}
 use Rattle.listing.specs.Records.{escape}
-use Rattle.listing.proofs.Passing.{first_of_three, second_of_three, three_given}
+use Rattle.bk_io.proofs.Passing.{first_of_three, second_of_three, three_given}
 use Rattle.listing.proofs.RecordLemmas.{string-is}
 use Rattle.listing.proofs.fields.add_string.Goals as goal
 

@@ -1,4 +1,4 @@
-use Rattle.listing.proofs.Passing.{gives_same}
+use Rattle.bk_io.proofs.Passing.{gives_same}
 use Rattle.listing.proofs.RecordLemmas.{word-is}
 use Rattle.listing.proofs.fields.add_word.Goals as goal
 

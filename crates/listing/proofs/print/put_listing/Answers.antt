@@ -2,7 +2,7 @@ use Rattle.std.proofs.Common.{◌∙◌, ◌<◌, ◌^◌, ℕ, [], append-nil, 
 use Rattle.std.proofs.lemmas.Result.{err_from_is_err_and}
 use Rattle.std.specs.List.{flat_map}
 use Rattle.listing.specs.Records.{book_record, end_record}
-use Rattle.listing.proofs.Passing.{first_of_three, given_put, put_given, second_of_three, three_given}
+use Rattle.bk_io.proofs.Passing.{first_of_three, given_put, put_given, second_of_three, three_given}
 use Rattle.listing.specs.Printer.{page_in}
 use Rattle.listing.proofs.Printing.{listing_parts}
 use Rattle.listing.proofs.print.put_listing.Goals as goal

@@ -1,6 +1,6 @@
 use Rattle.std.proofs.Common.{ℕ, List, [], append-nil, arith, subst, sym}
 use Rattle.std.proofs.lemmas.Result.{err_from_is_err_and}
-use Rattle.listing.proofs.Passing.{read_fails, read_passes}
+use Rattle.bk_io.proofs.Passing.{read_fails, read_passes}
 use Rattle.listing.specs.Printer.{IsGoodPage, page_in}
 use Rattle.listing.specs.declared.pages.PrintedPage.{PrintedPage}
 use Rattle.listing.proofs.print.put_pages.Goals as goal

@@ -1,6 +1,6 @@
 use Rattle.std.proofs.Common.{◌≤◌, [], take}
 use Rattle.std.specs.List.{flat_map}
-use Rattle.listing.specs.Buffers.{Passes}
+use Rattle.bk_io.specs.Buffers.{Passes}
 use Rattle.listing.specs.Printer.{page_in}
 use Rattle.listing.proofs.print.put_pages.Given as goal
 

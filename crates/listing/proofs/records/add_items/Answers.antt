@@ -3,7 +3,7 @@ use Rattle.std.proofs.lemmas.Result.{err_from_is_err_and}
 use Rattle.listing.specs.Records.{item_record}
 use Rattle.paint.specs.Views.{item_of}
 use Rattle.paint.specs.declared.item.ItemRef.{ItemRef}
-use Rattle.listing.proofs.Passing.{read_fails, read_passes}
+use Rattle.bk_io.proofs.Passing.{read_fails, read_passes}
 use Rattle.listing.proofs.records.add_items.Goals as goal
 
 pub loop-item-preserved : goal.loop-item-preserved

@@ -1,7 +1,7 @@
 use Rattle.std.proofs.Common.{ℕ, List, ap}
 use Rattle.listing.specs.Records.{item_record}
 use Rattle.paint.specs.Views.{text_item}
-use Rattle.listing.proofs.Passing.{same_gives}
+use Rattle.bk_io.proofs.Passing.{same_gives}
 use Rattle.listing.proofs.records.add_margin.Goals as goal
 
 pub returns-clause-bytes : goal.returns-clause-bytes

@@ -3,7 +3,7 @@ use Rattle.std.proofs.lemmas.Result.{err_from_is_err_and}
 use Rattle.listing.specs.Records.{item_record}
 use Rattle.paint.specs.Views.{text_item}
 use Rattle.margin_box.specs.declared.items.MarginText.{MarginText}
-use Rattle.listing.proofs.Passing.{read_fails, read_passes}
+use Rattle.bk_io.proofs.Passing.{read_fails, read_passes}
 use Rattle.listing.proofs.records.add_margins.Goals as goal
 
 pub loop-margin-preserved : goal.loop-margin-preserved

@@ -2,7 +2,7 @@ use Rattle.std.proofs.Common.{◌≤◌, take}
 use Rattle.std.specs.List.{flat_map}
 use Rattle.listing.specs.Records.{item_record}
 use Rattle.paint.specs.Views.{text_item}
-use Rattle.listing.specs.Buffers.{Passes}
+use Rattle.bk_io.specs.Buffers.{Passes}
 use Rattle.listing.proofs.records.add_margins.Given as goal
 
 abbrev pub invariant-loop-margin : goal.invariant-loop-margin

@@ -1,5 +1,5 @@
 use Rattle.std.proofs.lemmas.Result.{err_from_is_err_and}
-use Rattle.listing.proofs.Passing.{first_of_three, second_of_three, three_given}
+use Rattle.bk_io.proofs.Passing.{first_of_three, second_of_three, three_given}
 use Rattle.listing.proofs.RecordLemmas.{page-parts}
 use Rattle.listing.proofs.records.add_page.Goals as goal
 

@@ -1,5 +1,5 @@
 use Rattle.std.proofs.Common.{rules}
-use Rattle.listing.proofs.Passing.{same_gives}
+use Rattle.bk_io.proofs.Passing.{same_gives}
 use Rattle.listing.proofs.RecordLemmas.{text-is}
 use Rattle.listing.proofs.records.add_text.Goals as goal
 

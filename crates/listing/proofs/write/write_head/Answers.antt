@@ -1,4 +1,4 @@
-use Rattle.listing.proofs.Passing.{flushed}
+use Rattle.bk_io.proofs.Passing.{flushed}
 use Rattle.listing.proofs.write.write_head.Goals as goal
 
 pub returns-clause-bytes : goal.returns-clause-bytes

@@ -1,4 +1,4 @@
-use Rattle.std.proofs.Common.{◌≡◌, arith, refl}
+use Rattle.std.proofs.Common.{arith}
 use Rattle.std.proofs.lemmas.Result.{err_from_is_err_and}
 use Rattle.words.specs.Asked.{format_view}
 use Rattle.named_files.proofs.TextLemmas.{first_html, first_metrics, first_sheet, readable}

@@ -5,7 +5,7 @@ use Rattle.std.proofs.lemmas.Result.{err_from_is_err_and}
 use Rattle.bk_num.specs.Limits.{most_file_bytes}
 use Rattle.bk_io.specs.Reads.{IsTextOf}
 use Rattle.named_files.specs.declared.file.FileOf.TheVariants as file
-use Rattle.named_files.proofs.TextLemmas.{earlier, fault_since, name_is, next_pair}
+use Rattle.named_files.proofs.TextLemmas.{earlier, name_is, next_pair}
 use Rattle.named_files.proofs.read.sheet_texts.Goals as goal
 
 abbrev none : Bor (List ℕ)
@@ -25,7 +25,7 @@ returns-in_err-text-clause-fault g c =
       first = record {
         name = name;
         is = name_is names i none c.loop-name-test.true;
-        cause = fault_since (told name) name (g.F.Shelf.faults c.args.shelf.now) (g.F.Shelf.faults c.loop-name.shelf) (g.F.Shelf.faults c.text_of.new.shelf) (g.F.Shelf.last_fault c.text_of.new.shelf) c.in_err-text.field-0.0.why c.loop-name.invariant.later (rw c.loop-name.invariant.told at c.in_err-text.ensures.fault);
+        cause = rw (c.loop-name.invariant.told, c.loop-name.invariant.count) at c.in_err-text.ensures.fault;
         first = earlier told names i c.loop-name.texts.items c.loop-name.invariant.texts;
       };
     })
@@ -52,12 +52,10 @@ loop-name-preserved g c =
     let i = c.loop-name.name-index in
     let told = g.F.Shelf.told c.args.shelf.now in
     let now : c.push.new.self.items ≡ c.loop-name.texts.items ++ c.in_ok-text.text ∷ [] = grind (arith, common_steps) in
-    let more = c.text_of.ensures.later in
-    let later = c.loop-name.invariant.later in
     record {
       number = omega (arith, c.loop-name.invariant.number);
       told = c.text_of.ensures.told ∙ c.loop-name.invariant.told;
-      later = omega (arith, later, more);
+      count = c.in_ok-text.ensures.count ∙ c.loop-name.invariant.count;
       texts = subst (λ z. AllZip (λ name text. IsTextOf (told name) most_file_bytes text) (map (λ (n : Bor (List ℕ)). n.now) (take (i + 1) names)) z) (sym now)
           (next_pair (λ name text. IsTextOf (told name) most_file_bytes text) names i none c.loop-name.texts.items c.in_ok-text.text c.loop-name-test.true c.loop-name.invariant.texts (rw c.loop-name.invariant.told at c.in_ok-text.ensures.text));
     }

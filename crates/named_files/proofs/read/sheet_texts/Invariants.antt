@@ -1,4 +1,4 @@
-use Rattle.std.proofs.Common.{◌≡◌, ◌+◌, ◌≤◌, map, take}
+use Rattle.std.proofs.Common.{◌≡◌, ◌+◌, map, take}
 use Rattle.std.specs.List.{AllZip}
 use Rattle.bk_num.specs.Limits.{most_file_bytes}
 use Rattle.bk_io.specs.Reads.{IsTextOf}
@@ -8,6 +8,6 @@ abbrev pub invariant-loop-name : goal.invariant-loop-name
 invariant-loop-name g l = record {
   number : l.number ≡ l.name-index + 1;
   told : g.F.Shelf.told l.shelf ≡ g.F.Shelf.told l.fn.shelf;
-  later : g.F.Shelf.faults l.fn.shelf ≤ g.F.Shelf.faults l.shelf;
+  count : g.F.Shelf.faults l.shelf ≡ g.F.Shelf.faults l.fn.shelf;
   texts : AllZip (λ name text. IsTextOf (g.F.Shelf.told l.fn.shelf name) most_file_bytes text) (map (λ n. n.now) (take l.name-index l.names)) l.texts.items;
 }

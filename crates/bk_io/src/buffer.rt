@@ -1,11 +1,12 @@
-//! Bytes that wait to be put.
+//! Bytes that wait to be put, so that a short line is one put.
 
 ghost use Rattle.std.specs.Prelude.{◌≡◌, ◌++◌, ◌+◌, ◌<◌, ◌≤◌, [], OnOk, length};
+ghost use Rattle.std.specs.List.{flat_map};
+ghost use Rattle.bk_io.specs.Buffers.{Gives};
 ghost use Rattle.bk_io.specs.Sink.{HasCause};
-ghost use Rattle.listing.specs.Buffers.{Gives};
 
-use bk_io::put_all::put_all;
-use bk_io::sink::{Failed, Sink};
+use crate::put_all::put_all;
+use crate::sink::{Failed, Sink};
 use std::marker::Model;
 
 /// How many bytes wait at most.
@@ -13,7 +14,7 @@ const ROOM: usize = 4096;
 
 /// Bytes that wait to be put, at most 4,096. Contracts see the list.
 #[derive(Drop)]
-pub(crate) struct Buffer {
+pub struct Buffer {
     bytes: [u8; 4096],
     used: usize,
 }
@@ -30,7 +31,7 @@ impl Model for Buffer {
 
 impl Buffer {
     /// A buffer in which nothing waits.
-    pub(crate) fn new() -> Buffer
+    pub fn new() -> Buffer
         ensures { result ≡ [] }
     {
         Buffer {
@@ -40,7 +41,7 @@ impl Buffer {
     }
 
     /// Puts what waits.
-    pub(crate) fn flush<S: Sink>(&mut self, sink: &mut S) -> Result<(), Failed>
+    pub fn flush<S: Sink>(&mut self, sink: &mut S) -> Result<(), Failed>
         ensures bytes { Gives (S.taken sink.old) self.old (S.taken sink.new) self.new [] result }
         ensures empty { OnOk result (self.new ≡ []) }
         ensures cause { HasCause (S.faults sink.old) (S.faults sink.new) result }
@@ -108,7 +109,7 @@ impl Buffer {
     /// # Errors
     ///
     /// `Failed` where a put failed. Then a prefix of what waited and these bytes was put.
-    pub(crate) fn add<S: Sink>(&mut self, sink: &mut S, piece: &[u8]) -> Result<(), Failed>
+    pub fn add<S: Sink>(&mut self, sink: &mut S, piece: &[u8]) -> Result<(), Failed>
         ensures bytes { Gives (S.taken sink.old) self.old (S.taken sink.new) self.new piece.now result }
         ensures waits { length self.old + length piece.now ≤ 4096 → sink.new ≡ sink.old }
         ensures cause { HasCause (S.faults sink.old) (S.faults sink.new) result }
@@ -121,10 +122,22 @@ impl Buffer {
     }
 
     /// Adds a text, as `add` adds bytes.
-    pub(crate) fn add_text<S: Sink>(&mut self, sink: &mut S, text: &str) -> Result<(), Failed>
+    pub fn add_text<S: Sink>(&mut self, sink: &mut S, text: &str) -> Result<(), Failed>
         ensures bytes { Gives (S.taken sink.old) self.old (S.taken sink.new) self.new text.now result }
         ensures cause { HasCause (S.faults sink.old) (S.faults sink.new) result }
     {
         self.add(sink, text.as_bytes())
+    }
+
+    /// Adds some texts one after the other, as `add` adds bytes.
+    pub fn add_texts<S: Sink>(&mut self, sink: &mut S, texts: &[&str]) -> Result<(), Failed>
+        ensures bytes { Gives (S.taken sink.old) self.old (S.taken sink.new) self.new
+            (flat_map (λ t. t.now) texts.now) result }
+        ensures cause { HasCause (S.faults sink.old) (S.faults sink.new) result }
+    {
+        for text in texts {
+            self.add_text(sink, text)?;
+        }
+        Ok(())
     }
 }

@@ -2,9 +2,9 @@ use Rattle.std.proofs.Common.{ℕ, List, [], Bor, arith, subst}
 use Rattle.std.proofs.lemmas.List.{take_all}
 use Rattle.std.proofs.lemmas.Result.{err_from_is_err_and}
 use Rattle.std.specs.List.{flat_map}
-use Rattle.listing.specs.Buffers.{Passes}
-use Rattle.listing.proofs.Passing.{next_fails, next_passes, passes_none}
-use Rattle.listing.proofs.fields.add_texts.Goals as goal
+use Rattle.bk_io.specs.Buffers.{Passes}
+use Rattle.bk_io.proofs.Passing.{next_fails, next_passes, passes_none}
+use Rattle.bk_io.proofs.buffer.Buffer.add_texts.Goals as goal
 
 abbrev text_of : Bor (List ℕ) → List ℕ
 text_of t = t.now
@@ -28,5 +28,5 @@ returns-in_err-add_text-clause-bytes g c =
 
 pub returns-clause-bytes : goal.returns-clause-bytes
 returns-clause-bytes g c =
-    subst (λ ls. Passes (g.S.Sink.taken c.args.sink.now) c.args.buffer.now (g.S.Sink.taken c.loop-text.sink) c.loop-text.buffer (flat_map text_of ls))
+    subst (λ ls. Passes (g.S.Sink.taken c.args.sink.now) c.args.self.now (g.S.Sink.taken c.loop-text.sink) c.loop-text.self (flat_map text_of ls))
     (take_all c.loop-text.text-index c.args.texts.now c.loop-text-test.false) c.loop-text.invariant.put

@@ -4,13 +4,11 @@ use Rattle.std.proofs.lemmas.List.{take-append-le, take_min}
 use Rattle.std.specs.List.{flat_map}
 use Rattle.std.specs.Io.KnownBytes.{Appends}
 use Rattle.bk_io.specs.Sink.{AppendsAllOrPrefix}
-use Rattle.listing.specs.Buffers.{Gives, Passes, TakesPrefix}
+use Rattle.bk_io.specs.Buffers.{Gives, Passes, TakesPrefix}
+use Rattle.bk_io.proofs.Bytes.{Appends-more}
 
 appends_more : (a b c : Option (List ℕ)) (xs ys : List ℕ) → Appends a b xs → Appends b c ys → Appends a c (xs ++ ys)
-appends_more None b c xs ys x y = tt
-appends_more (Some a) None c xs ys x y = absurd x
-appends_more (Some a) (Some b) None xs ys x y = absurd y
-appends_more (Some a) (Some b) (Some c) xs ys x y = y ∙ ap (λ zs. zs ++ ys) x ∙ append_assoc a xs ys
+appends_more a b c xs ys x y = Appends-more a b c xs ys (xs ++ ys) x y refl
 
 appends_none : (a : Option (List ℕ)) → Appends a a []
 appends_none None = tt

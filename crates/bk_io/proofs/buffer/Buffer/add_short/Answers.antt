@@ -1,7 +1,7 @@
 use Rattle.std.proofs.Common.{[]}
 use Rattle.std.proofs.lemmas.Result.{err_from_is_err_and}
-use Rattle.listing.proofs.Passing.{prefix_more}
-use Rattle.listing.proofs.buffer.Buffer.add_short.Goals as goal
+use Rattle.bk_io.proofs.Passing.{prefix_more}
+use Rattle.bk_io.proofs.buffer.Buffer.add_short.Goals as goal
 
 pub returns-in_err-make_room-clause-bytes : goal.returns-in_err-make_room-clause-bytes
 returns-in_err-make_room-clause-bytes g c =

@@ -1,7 +1,7 @@
 use Rattle.std.proofs.Common.{[]}
 use Rattle.std.proofs.lemmas.Result.{err_from_is_err_and}
-use Rattle.listing.proofs.Passing.{prefix_more, put_after}
-use Rattle.listing.proofs.buffer.Buffer.put_past.Goals as goal
+use Rattle.bk_io.proofs.Passing.{prefix_more, put_after}
+use Rattle.bk_io.proofs.buffer.Buffer.put_past.Goals as goal
 
 pub returns-in_err-flush-clause-bytes : goal.returns-in_err-flush-clause-bytes
 returns-in_err-flush-clause-bytes g c =

@@ -3,7 +3,7 @@ use Rattle.std.proofs.lemmas.Result.{err_from_is_err_and}
 use Rattle.bk_io.specs.Shelf.{read_err_of}
 use Rattle.bk_io.specs.declared.read_all.ReadErr.TheVariants as reading
 use Rattle.bk_io.proofs.Reading.{HasFault-since, ReadAnswers-refused, failed_by_fetch, bytes_more, all_fetched, length-front}
-use Rattle.bk_io.proofs.read_all.read_all.Goals as goal
+use Rattle.bk_io.proofs.read_all.read_pieces.Goals as goal
 
 pub returns-in_err-count-clause-answers : goal.returns-in_err-count-clause-answers
 returns-in_err-count-clause-answers g c =
@@ -53,11 +53,13 @@ pub loop-bytes-preserved : goal.loop-bytes-preserved
 loop-bytes-preserved g c =
     let fault = rw c.loop-bytes.invariant.told at c.fetch.ensures.fault in
     record {
+      room = search rules;
       within = search rules;
       told = c.fetch.ensures.told ∙ c.loop-bytes.invariant.told;
       bytes = λ file e.
           let answers = rw c.loop-bytes.invariant.told at c.in_ok-count.ensures.answers in
           bytes_more file (vec_len c.loop-bytes.bytes) c.in_ok-count.count _ c.loop-bytes.bytes.items (take c.in_ok-count.count c.fetch.new.into) _ (c.loop-bytes.invariant.bytes file e) (search rules) (search (rules, answers.bytes file e)) (search rules) (search rules);
+      count = c.in_ok-count.ensures.read ∙ c.loop-bytes.invariant.count;
       later = omega (arith, c.fetch.ensures.fault.later);
       absent = λ e. fault.absent e ∙ c.loop-bytes.invariant.absent e;
     }
