@@ -11,6 +11,7 @@ use Rattle.book.specs.declared.outcome.Outcome.TheVariants as out
 use Rattle.book.specs.declared.outcome.LimitOf.{LimitOf}
 use Rattle.book.specs.declared.outcome.LimitOf.TheVariants as limit
 use Rattle.named_files.specs.Names.{file_words}
+use Rattle.words.specs.Statuses as status
 use Rattle.words.specs.declared.fault.WordsFault.TheVariants as words
 
 -- a number in decimal digits
@@ -67,18 +68,18 @@ texts_of out.NoMemory = codes "bookfmt: no memory\n" ∷ []
 abbrev pub message : Outcome → List ℕ
 message o = flat_map (λ t. t) (texts_of o)
 
--- the status of an answer: 0 where all went well or help was asked for
+-- the exit status of an answer
 abbrev pub status_of : Outcome → ℕ
-status_of (out.Done pages passes) = 0
-status_of (out.NotRead words.Help) = 0
-status_of (out.NotRead words.NoCommand) = 2
-status_of (out.NotRead words.UnknownCommand) = 2
-status_of (out.NotRead words.Refused) = 2
-status_of (out.ReadFault f) = 1
-status_of (out.TooLarge f) = 8
-status_of (out.NotUtf8 f at) = 3
-status_of (out.BadMetrics line reason) = 5
-status_of (out.Limit what) = 8
-status_of (out.NotSettled target before after) = 6
-status_of out.WriteFault = 7
-status_of out.NoMemory = 9
+status_of (out.Done pages passes) = status.all_done
+status_of (out.NotRead words.Help) = status.all_done
+status_of (out.NotRead words.NoCommand) = status.usage
+status_of (out.NotRead words.UnknownCommand) = status.usage
+status_of (out.NotRead words.Refused) = status.usage
+status_of (out.ReadFault f) = status.cannot_read
+status_of (out.TooLarge f) = status.past_limit
+status_of (out.NotUtf8 f at) = status.not_utf8
+status_of (out.BadMetrics line reason) = status.bad_metrics
+status_of (out.Limit what) = status.past_limit
+status_of (out.NotSettled target before after) = status.not_settled
+status_of out.WriteFault = status.cannot_write
+status_of out.NoMemory = status.no_memory

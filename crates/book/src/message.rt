@@ -3,13 +3,15 @@
 ghost use Rattle.std.specs.Prelude.{◌≡◌, ◌∷◌, [], codes};
 ghost use Rattle.std.specs.Fmt.{signed_decimal};
 ghost use Rattle.std.specs.List.{flat_map};
+ghost use Rattle.bk_io.specs.Buffers.{Gives};
 ghost use Rattle.bk_io.specs.Sink.{AppendsAllOrPrefix, HasCause};
 ghost use Rattle.named_files.specs.Names.{file_words};
 ghost use Rattle.book.specs.Message.{message, shown_target, texts_of, why_text, limit_text, decimal};
 
 use crate::outcome::{LimitOf, Outcome};
-use crate::target::put_target;
-use bk_io::put_all::{put_all, put_texts};
+use crate::target::add_target;
+use bk_io::buffer::Buffer as Line;
+use bk_io::put_all::put_texts;
 use bk_io::sink::{Failed, Sink};
 use bk_num::limits::MOST_FILE_BYTES;
 use itoa::Buffer;
@@ -142,15 +144,15 @@ fn put_pages_line<E: Sink>(err: &mut E, pages: u32, passes: u32) -> Result<(), F
     )
 }
 
-/// Puts what the line tells of a page reference after its target: the numbers of the last two passes.
-fn put_numbers<E: Sink>(err: &mut E, before: i64, after: i64) -> Result<(), Failed>
-    ensures bytes { AppendsAllOrPrefix (E.taken err.old) (E.taken err.new)
+/// Adds what the line tells of a page reference after its target: the numbers of the last two passes.
+fn add_numbers<E: Sink>(line: &mut Line, err: &mut E, before: i64, after: i64) -> Result<(), Failed>
+    ensures bytes { Gives (E.taken err.old) line.old (E.taken err.new) line.new
         (flat_map (λ t. t) (codes " not settled: " ∷ signed_decimal before
         ∷ codes " then " ∷ signed_decimal after ∷ codes "\n" ∷ [])) result }
     ensures cause { HasCause (E.faults err.old) (E.faults err.new) result }
 {
     let (mut first, mut second) = (Buffer::new(), Buffer::new());
-    put_texts(
+    line.add_texts(
         err,
         &[
             " not settled: ",
@@ -162,7 +164,25 @@ fn put_numbers<E: Sink>(err: &mut E, before: i64, after: i64) -> Result<(), Fail
     )
 }
 
-/// Puts the line that tells which page reference doesn't settle.
+/// Adds what the line tells of a page reference that doesn't settle.
+fn add_reference<E: Sink>(
+    line: &mut Line,
+    err: &mut E,
+    target: &str,
+    before: i64,
+    after: i64,
+) -> Result<(), Failed>
+    ensures bytes { Gives (E.taken err.old) line.old (E.taken err.new) line.new
+        (flat_map (λ t. t) (codes "bookfmt: page reference to " ∷ shown_target target.now ∷ codes " not settled: "
+        ∷ signed_decimal before ∷ codes " then " ∷ signed_decimal after ∷ codes "\n" ∷ [])) result }
+    ensures cause { HasCause (E.faults err.old) (E.faults err.new) result }
+{
+    line.add_text(err, "bookfmt: page reference to ")?;
+    add_target(line, err, target)?;
+    add_numbers(line, err, before, after)
+}
+
+/// Puts the line that tells which page reference doesn't settle. It is one put where it has 4,096 bytes at most.
 fn put_reference_line<E: Sink>(
     err: &mut E,
     target: &str,
@@ -174,9 +194,9 @@ fn put_reference_line<E: Sink>(
         ∷ signed_decimal before ∷ codes " then " ∷ signed_decimal after ∷ codes "\n" ∷ [])) result }
     ensures cause { HasCause (E.faults err.old) (E.faults err.new) result }
 {
-    put_all(err, b"bookfmt: page reference to ")?;
-    put_target(err, target)?;
-    put_numbers(err, before, after)
+    let mut line = Line::new();
+    add_reference(&mut line, err, target, before, after)?;
+    line.flush(err)
 }
 
 /// Puts the line of an answer. It takes no memory but what the sink takes.

@@ -8,8 +8,8 @@ use bk_num::name::Name;
 use metrics::MetricsWhy;
 use named_files::FileFault;
 pub use named_files::FileOf;
-use words::WordsErr;
 pub use words::WordsFault;
+use words::{WordsErr, status};
 
 /// What a run answers.
 #[derive(Drop, PartialEq)]
@@ -102,24 +102,24 @@ impl From<FileFault> for Outcome {
 }
 
 impl Outcome {
-    /// The status that the program ends with: 0 for Done and for help.
+    /// The exit status of the program.
     pub fn status(&self) -> u8
         ensures { result ≡ status_of self.now }
     {
         match self {
-            Outcome::Done { .. } => 0,
+            Outcome::Done { .. } => status::DONE,
             Outcome::NotRead {
                 kind: WordsFault::Help,
-            } => 0,
-            Outcome::ReadFault { .. } => 1,
-            Outcome::NotRead { .. } => 2,
-            Outcome::NotUtf8 { .. } => 3,
-            Outcome::BadMetrics { .. } => 5,
-            Outcome::NotSettled { .. } => 6,
-            Outcome::WriteFault => 7,
-            Outcome::TooLarge { .. } => 8,
-            Outcome::Limit { .. } => 8,
-            Outcome::NoMemory => 9,
+            } => status::DONE,
+            Outcome::ReadFault { .. } => status::CANNOT_READ,
+            Outcome::NotRead { .. } => status::USAGE,
+            Outcome::NotUtf8 { .. } => status::NOT_UTF8,
+            Outcome::BadMetrics { .. } => status::BAD_METRICS,
+            Outcome::NotSettled { .. } => status::NOT_SETTLED,
+            Outcome::WriteFault => status::CANNOT_WRITE,
+            Outcome::TooLarge { .. } => status::PAST_LIMIT,
+            Outcome::Limit { .. } => status::PAST_LIMIT,
+            Outcome::NoMemory => status::NO_MEMORY,
         }
     }
 }

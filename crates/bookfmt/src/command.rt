@@ -40,7 +40,12 @@ fn answer<F: Shelf, O: Sink, E: Sink, L: Ledger>(
     steps: &mut Steps<L>,
 ) -> Outcome
     ensures answer { IsAnswer words
-        (record { told = F.told shelf.old; before = F.faults shelf.old; now = F.faults shelf.new; last = F.last_fault shelf.new })
+        (record {
+          told = F.told shelf.old;
+          before = F.faults shelf.old;
+          now = F.faults shelf.new;
+          last = F.last_fault shelf.new;
+        })
         (record { old = O.taken out.old; new = O.taken out.new; before = O.faults out.old; now = O.faults out.new })
         result }
     ensures line { PutsLine (E.taken err.old) (E.taken err.new) (E.faults err.old) (E.faults err.new) (message result) }
@@ -68,7 +73,12 @@ fn end<F: Shelf, O: Sink, E: Sink, L: Ledger>(
     requires parts { token.parts ≡ L.parts }
     requires some { 0 < L.parts }
     ensures { (answer : Outcome) × IsAnswer words
-        (record { told = F.told shelf.old; before = F.faults shelf.old; now = F.faults shelf.new; last = F.last_fault shelf.new })
+        (record {
+          told = F.told shelf.old;
+          before = F.faults shelf.old;
+          now = F.faults shelf.new;
+          last = F.last_fault shelf.new;
+        })
         (record { old = O.taken out.old; new = O.taken out.new; before = O.faults out.old; now = O.faults out.new })
         answer
         × EndsWith answer (E.taken err.old) (E.taken err.new) (E.faults err.old) (E.faults err.new) result }
@@ -82,8 +92,8 @@ fn end<F: Shelf, O: Sink, E: Sink, L: Ledger>(
 pub(crate) fn program(rt: &HostRuntime) -> ExitCode {
     let alloc = rt.alloc();
     let mut shelf = DirShelf::new(alloc, rt);
-    let mut out = StdSink::new(rt.stdout());
-    let mut err = StdSink::new(rt.stderr());
+    let mut out = StdSink::new(rt, rt.stdout());
+    let mut err = StdSink::new(rt, rt.stderr());
     let words = asked_words(alloc, rt);
     end::<_, _, _, Brand>(alloc, words, &mut shelf, &mut out, &mut err, Blank::new(1))
 }

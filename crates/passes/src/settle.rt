@@ -27,8 +27,10 @@ use metrics::Faces;
 use refs::difference::first_difference;
 use refs::opening::opening;
 use std::alloc::Global;
+use std::fmt::{self, Debug, Display, Formatter, Write};
 use std::sync::ledger::Ledger;
 use style::styles::Styles;
+use thiserror::Error;
 
 /// A document with its styles and counters, and the faces that set it.
 #[derive(Clone, Copy)]
@@ -50,16 +52,26 @@ pub struct Settled {
 
 /// Why passes don't settle: the last two give a target other numbers, the flow of a pass has more than 33,554,432 bytes
 /// of text, 100,000 pages leave something of it unplaced, or want of memory.
-#[derive(Drop)]
+#[derive(Drop, Error)]
 pub enum PassErr {
+    #[error("a page reference to {} shows {before}, then {after}", .target.as_str())]
     NotSettled {
         target: Name,
         before: i64,
         after: i64,
     },
+    #[error("too much text")]
     Text,
+    #[error("too many pages")]
     Pages,
+    #[error("no memory")]
     NoMemory,
+}
+
+impl Debug for PassErr {
+    fn fmt<W: Write>(&self, f: &mut Formatter<W>) -> fmt::Result {
+        Display::fmt(self, f)
+    }
 }
 
 impl From<NoMem> for PassErr {

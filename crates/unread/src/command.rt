@@ -13,8 +13,8 @@ use words::program_words;
 pub(crate) fn program(rt: &HostRuntime) -> ExitCode {
     let alloc = rt.alloc();
     let mut shelf = DirShelf::new(alloc, rt);
-    let mut out = StdSink::new(rt.stdout());
-    let mut err = StdSink::new(rt.stderr());
+    let mut out = StdSink::new(rt, rt.stdout());
+    let mut err = StdSink::new(rt, rt.stderr());
     let outcome = match program_words(alloc, rt) {
         Ok(words) => run(alloc, &words, &mut shelf, &mut out, &mut err),
         Err(e) => {

@@ -24,9 +24,20 @@ fn put_file_line<E: Sink>(
 
 /// Puts the line that tells which file is too large.
 fn put_large_line<E: Sink>(err: &mut E, file: FileOf) -> Result<(), Failed> {
-    put_file_line(err, "", file, " has more than ")?;
-    let mut buffer = Buffer::new();
-    put_texts(err, &[buffer.format(MOST_FILE_BYTES), " bytes\n"])
+    let (mut first, mut second) = (Buffer::new(), Buffer::new());
+    let (word, number) = file_words(file, &mut first);
+    let most = second.format(MOST_FILE_BYTES);
+    put_texts(
+        err,
+        &[
+            "unread: ",
+            word,
+            number,
+            " has more than ",
+            most,
+            " bytes\n",
+        ],
+    )
 }
 
 fn put_metrics_line<E: Sink>(err: &mut E, line: u32) -> Result<(), Failed> {

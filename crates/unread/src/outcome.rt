@@ -5,7 +5,10 @@ ghost use Rattle.unread.specs.Status.{status_of};
 
 use bk_io::read_text::TextErr;
 use named_files::{FileFault, FileOf};
-use words::{WordsErr, WordsFault};
+use words::{WordsErr, WordsFault, status};
+
+/// The exit status where something was found.
+const FOUND: u8 = 1;
 
 /// What a run comes to.
 #[derive(Clone, Copy)]
@@ -66,19 +69,20 @@ impl From<FileFault> for Outcome {
 }
 
 impl Outcome {
-    /// The status that the program ends with.
+    /// The exit status of the program.
     pub fn status(&self) -> u8
         ensures { result ≡ status_of self.now }
     {
         match self {
-            Outcome::Clean | Outcome::Help => 0,
-            Outcome::Found | Outcome::CannotRead(_) => 1,
-            Outcome::Usage => 2,
-            Outcome::NotUtf8(_) => 3,
-            Outcome::BadMetrics(_) => 5,
-            Outcome::CannotWrite => 7,
-            Outcome::TooLarge(_) | Outcome::Limit => 8,
-            Outcome::NoMemory => 9,
+            Outcome::Clean | Outcome::Help => status::DONE,
+            Outcome::Found => FOUND,
+            Outcome::CannotRead(_) => status::CANNOT_READ,
+            Outcome::Usage => status::USAGE,
+            Outcome::NotUtf8(_) => status::NOT_UTF8,
+            Outcome::BadMetrics(_) => status::BAD_METRICS,
+            Outcome::CannotWrite => status::CANNOT_WRITE,
+            Outcome::TooLarge(_) | Outcome::Limit => status::PAST_LIMIT,
+            Outcome::NoMemory => status::NO_MEMORY,
         }
     }
 }

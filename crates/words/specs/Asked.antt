@@ -5,7 +5,7 @@ use Rattle.std.specs.Str.Parse.{digits_value, without_leading_plus}
 use Rattle.clap.specs.Words.{Kinds, Row, Text, all_of, fault_of, first_of, matches_of, one_of}
 use Rattle.clap.specs.declared.error.ErrorKind.{ErrorKind}
 use Rattle.clap.specs.declared.error.ErrorKind.TheVariants as kind
-use Rattle.words.specs.Grammar.{format_app, sample_app}
+use Rattle.words.specs.Grammar.{format_app, most_chapters, most_passes, sample_app}
 use Rattle.words.specs.declared.fault.WordsErr.{WordsErr}
 use Rattle.words.specs.declared.fault.WordsErr.TheVariants as err
 use Rattle.words.specs.declared.fault.WordsFault.{WordsFault}
@@ -96,7 +96,7 @@ Answers asked (Ok r) = request_of r ≡ asked
 Answers asked (Err (err.Fault f)) = refused f ≡ asked
 Answers asked (Err err.NoMemory) = Unit {0}
 
--- the passes lie from 1 to 64, and the chapters from 1 to 2,000
+-- the passes and the chapters lie from 1 to the most that may be asked for
 abbrev pub IsInRange : Request → Type 0
-IsInRange (request.Format f) = (1 ≤ f.passes) × (f.passes ≤ 64)
-IsInRange (request.Sample n) = (1 ≤ n) × (n ≤ 2000)
+IsInRange (request.Format f) = (1 ≤ f.passes) × (f.passes ≤ most_passes)
+IsInRange (request.Sample n) = (1 ≤ n) × (n ≤ most_chapters)

@@ -4,13 +4,25 @@ use Rattle.clap.specs.Words.{App, Rule, new_app, new_rule, with_rule}
 use Rattle.clap.specs.declared.builder.ArgAction.TheVariants.{Set, Append}
 use Rattle.clap.specs.declared.builder.value_parser.ValueParser.TheVariants as parser
 
--- `--passes`, which takes one whole number from 1 to 64, and 8 where it isn't given
+-- the most passes that may be asked for
+abbrev pub most_passes : ℕ
+most_passes = 64
+
+-- how many passes may be made where none are asked for, as a word
+abbrev pub default_passes : List ℕ
+default_passes = codes "8"
+
+-- the most chapters of a sample
+abbrev pub most_chapters : ℕ
+most_chapters = 2000
+
+-- `--passes`, which takes one whole number from 1 on, and has a default
 abbrev pub passes_rule : Rule
 passes_rule = record (new_rule (codes "passes")) {
   long = Some (codes "passes");
   action = Some Set;
-  defaults = codes "8" ∷ [];
-  parser = Some (parser.Signed (pos 1) (pos 64));
+  defaults = default_passes ∷ [];
+  parser = Some (parser.Signed (pos 1) (pos most_passes));
 }
 
 -- a name that has to be given at its place
@@ -24,12 +36,12 @@ names_rule id = record (new_rule id) {
   range = Some (record { start_inclusive = 0; end_inclusive = 2 ^ 64 - 1 });
 }
 
--- a whole number from 1 to 2,000, which has to be given at its place
+-- a whole number of chapters from 1 on, which has to be given at its place
 abbrev pub chapters_rule : Rule
 chapters_rule = record (new_rule (codes "n")) {
   action = Some Set;
   required = true;
-  parser = Some (parser.Signed (pos 1) (pos 2000));
+  parser = Some (parser.Signed (pos 1) (pos most_chapters));
 }
 
 -- a command whose words begin after its name

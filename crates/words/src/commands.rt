@@ -7,6 +7,15 @@ ghost use Rattle.words.specs.Grammar.{format_app, sample_app, passes_rule, name_
 use clap::{Arg, ArgAction, Command, value_parser};
 use std::alloc::{AllocError, Global};
 
+/// The most passes that may be asked for.
+const MOST_PASSES: i64 = 64;
+
+/// How many passes may be made where none are asked for, as a word.
+const DEFAULT_PASSES: &str = "8";
+
+/// The most chapters of a sample.
+const MOST_CHAPTERS: i64 = 2000;
+
 /// The option `--passes`.
 fn passes_option<'a>(alloc: Global) -> Arg<'a>
     ensures rule { rule_of result ≡ passes_rule }
@@ -15,8 +24,8 @@ fn passes_option<'a>(alloc: Global) -> Arg<'a>
     Arg::new(alloc, "passes")
         .long("passes")
         .action(ArgAction::Set)
-        .default_value("8")
-        .value_parser(value_parser!(u8).range(1..65))
+        .default_value(DEFAULT_PASSES)
+        .value_parser(value_parser!(u8).range(1..MOST_PASSES + 1))
 }
 
 /// A name that has to be given.
@@ -43,7 +52,7 @@ fn chapters_argument<'a>(alloc: Global) -> Arg<'a>
     Arg::new(alloc, "n")
         .action(ArgAction::Set)
         .required(true)
-        .value_parser(value_parser!(u32).range(1..2001))
+        .value_parser(value_parser!(u32).range(1..MOST_CHAPTERS + 1))
 }
 
 /// A command whose words begin after its name.

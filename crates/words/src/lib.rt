@@ -6,6 +6,7 @@ mod fault;
 mod program;
 mod read;
 mod request;
+pub mod status;
 mod values;
 
 pub use fault::{WordsErr, WordsFault};

@@ -2,7 +2,7 @@
 
 ghost use Rattle.std.specs.Prelude.{◌≡◌, ◌≤◌, IfOk, IfErr, codes, is_some, true, unwrap_or, map, []};
 ghost use Rattle.clap.specs.Words.{found_of, first_value, all_of, rows_of};
-ghost use Rattle.words.specs.Grammar.{format_app, sample_app};
+ghost use Rattle.words.specs.Grammar.{format_app, most_chapters, most_passes, sample_app};
 ghost use Rattle.words.specs.Asked.{format_view, format_in, number_in, text_in};
 ghost use Rattle.words.specs.Parsed.{IsParseBy};
 
@@ -36,7 +36,7 @@ fn passes_in(matches: &ArgMatches<'_>) -> u8
     requires { IsParseBy format_app matches.now }
     ensures passes { result ≡ number_in (rows_of (found_of matches.now)) (codes "passes") }
     ensures least { 1 ≤ result }
-    ensures most { result ≤ 64 }
+    ensures most { result ≤ most_passes }
 {
     matches.get_one::<u8>("passes").unwrap()
 }
@@ -46,7 +46,7 @@ pub(crate) fn chapters_in(matches: &ArgMatches<'_>) -> u32
     requires { IsParseBy sample_app matches.now }
     ensures chapters { result ≡ number_in (rows_of (found_of matches.now)) (codes "n") }
     ensures least { 1 ≤ result }
-    ensures most { result ≤ 2000 }
+    ensures most { result ≤ most_chapters }
 {
     matches.get_one::<u32>("n").unwrap()
 }
@@ -55,7 +55,7 @@ pub(crate) fn chapters_in(matches: &ArgMatches<'_>) -> u32
 pub(crate) fn format_in<'a>(alloc: Global, matches: &ArgMatches<'a>) -> Result<Format<'a>, WordsErr>
     requires { IsParseBy format_app matches.now }
     ensures words { IfOk result (λ f. format_view f ≡ format_in (rows_of (found_of matches.now))) }
-    ensures passes { IfOk result (λ f. (1 ≤ f.passes) × (f.passes ≤ 64)) }
+    ensures passes { IfOk result (λ f. (1 ≤ f.passes) × (f.passes ≤ most_passes)) }
     ensures fault { IfErr result (λ e. e ≡ WordsErr.NoMemory) }
 {
     let sheets = sheets_in(alloc, matches)?;
