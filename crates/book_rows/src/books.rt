@@ -1,5 +1,6 @@
 //! Books as texts: a title, sections of what is asked, and sections of what is wanted.
 
+use crate::faults::push_answers;
 use crate::levels::push_levels;
 use crate::runs::push_run;
 use bk_num::name::NoMem;
@@ -19,6 +20,8 @@ pub(crate) enum View {
     Listing,
     /// How many lines each page has.
     Lines,
+    /// How many pages, lines and texts it has.
+    Counts,
 }
 
 /// A text up to a heading.
@@ -32,7 +35,10 @@ fn before<'a>(text: &'a str, heading: &str) -> &'a str {
 /// A book up to the first section of what is wanted.
 fn asked_of(book: &str) -> &str {
     let asked = before(before(book, "\n== listing"), "\n== lines");
-    before(before(asked, "\n== levels"), "\n== answer")
+    before(
+        before(before(asked, "\n== counts"), "\n== levels"),
+        "\n== answer",
+    )
 }
 
 /// The sections of what a book asks.
@@ -53,6 +59,10 @@ fn push_answered(printed: &mut String, alloc: Global, book: &str) -> Result<(), 
     let sections = sections(alloc, asked)?;
     if book.contains("\n== levels") {
         push_levels(printed, alloc, &sections)
+    } else if book.contains("\n== answers") {
+        push_answers(printed, alloc, &sections)
+    } else if book.contains("\n== counts") {
+        push_run(printed, alloc, &sections, View::Counts)
     } else if book.contains("\n== lines") {
         push_run(printed, alloc, &sections, View::Lines)
     } else {

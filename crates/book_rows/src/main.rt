@@ -3,6 +3,7 @@
 #![tactic(auto)]
 
 mod books;
+mod faults;
 mod files;
 mod levels;
 mod runs;

@@ -19,8 +19,11 @@ use std::marker::Brand;
 use std::str;
 use std::sync::ledger::{Blank, Ledger};
 
-/// How many bytes of a listing there is room for.
-const MOST_ROOM: u64 = 1 << 22;
+/// How many bytes of a listing there is room for, where a book says nothing.
+const USUAL_ROOM: u64 = 1 << 22;
+
+/// For how many bytes of a listing a book may ask room.
+const MOST_ROOM: u64 = 1 << 26;
 
 /// What the words are refused for.
 fn words_fault(outcome: &Outcome) -> &'static str {
@@ -35,13 +38,13 @@ fn words_fault(outcome: &Outcome) -> &'static str {
     }
 }
 
-/// A run with a counter of its own.
-fn outcome_of<F: Shelf, O: Sink, L: Ledger>(
+/// A run with this token of a counter.
+fn outcome_of<F: Shelf, O: Sink, E: Sink, L: Ledger>(
     alloc: Global,
     words: &[String],
     shelf: &mut F,
     out: &mut O,
-    err: &mut StillSink,
+    err: &mut E,
     token: Blank,
 ) -> Outcome
     requires name { token.name ≡ L.name }
@@ -50,6 +53,17 @@ fn outcome_of<F: Shelf, O: Sink, L: Ledger>(
 {
     let mut steps = Steps::<L>::zero(token);
     run(alloc, words, shelf, out, err, &mut steps)
+}
+
+/// A run with a counter of its own.
+pub(crate) fn run_counted<F: Shelf, O: Sink, E: Sink>(
+    alloc: Global,
+    words: &[String],
+    shelf: &mut F,
+    out: &mut O,
+    err: &mut E,
+) -> Outcome {
+    outcome_of::<F, O, E, Brand>(alloc, words, shelf, out, err, Blank::new(1))
 }
 
 /// The status of a run, what its words are refused for, and the line of its answer.
@@ -61,7 +75,7 @@ fn answer<F: Shelf, O: Sink>(
 ) -> Result<String, NoMem> {
     let words = words_of(alloc, sections)?;
     let mut err = StillSink::new(alloc, 400)?;
-    let outcome = outcome_of::<F, O, Brand>(alloc, &words, shelf, out, &mut err, Blank::new(1));
+    let outcome = run_counted(alloc, &words, shelf, out, &mut err);
     let line = str::from_utf8(err.bytes()).unwrap_or("?");
     let (status, fault) = (outcome.status(), words_fault(&outcome));
     Ok(format!(in alloc; "\n== answer {status}{fault}\n{line}")?)
@@ -79,10 +93,24 @@ fn push_lines(printed: &mut String, listing: &str) -> Result<(), NoMem> {
     Ok(())
 }
 
+/// Puts how many pages, lines and texts a listing has at the end.
+fn push_counts(printed: &mut String, listing: &str) -> Result<(), NoMem> {
+    printed.push_str("\n== counts\n")?;
+    for (name, record) in [
+        ("pages", "\npage "),
+        (" lines", "\nline "),
+        (" texts", "\ntext "),
+    ] {
+        write!(printed, "{name} {}", listing.split(record).skip(1).count())?;
+    }
+    Ok(())
+}
+
 /// Puts what is to be shown of a listing at the end.
 fn push_listing(printed: &mut String, listing: &str, view: View) -> Result<(), NoMem> {
     match view {
         View::Lines => push_lines(printed, listing),
+        View::Counts => push_counts(printed, listing),
         View::Listing if listing.is_empty() => Ok(()),
         View::Listing => {
             printed.push_str("\n== listing\n")?;
@@ -144,7 +172,7 @@ fn push_written<F: Shelf>(
     view: View,
 ) -> Result<(), NoMem> {
     let room = after(sections, "room ")
-        .map_or(MOST_ROOM, count)
+        .map_or(USUAL_ROOM, count)
         .min(MOST_ROOM) as usize;
     match after(sections, "failing put ").and_then(|put| put.split_once(" of ")) {
         None => push_still(printed, alloc, sections, shelf, view, room),

@@ -14,7 +14,8 @@ use bk_io::still_sink::StillSink;
 use bk_num::name::{Name, NoMem};
 use rows::question_of;
 use std::alloc::Global;
-use std::{fs, process, str};
+use std::io::{Error, ErrorKind, Write};
+use std::{fs, io, process, str};
 
 /// A text of a row: `N*TEXT+END` stands for N times the text, and its end.
 fn text_of(alloc: Global, part: &str) -> Result<String, NoMem> {
@@ -121,17 +122,62 @@ fn taken<S: Sink>(alloc: Global, sink: &mut S, pieces: &[&str]) -> Result<String
 }
 
 /// Pieces that are put on a stream of the system.
-fn stream(alloc: Global, pieces: &[&str]) -> Result<String, NoMem> {
+fn stream(rt: &HostRuntime, pieces: &[&str]) -> Result<String, NoMem> {
+    let alloc = rt.alloc();
     let mut bytes = Vec::<u8>::new(alloc);
-    let mut answers = taken(alloc, &mut StdSink::new(&mut bytes), pieces)?;
+    let mut answers = taken(alloc, &mut StdSink::new(rt, &mut bytes), pieces)?;
+    answers.push_str(shown(alloc, bytes.as_slice())?.as_str())?;
+    Ok(answers)
+}
+
+/// A stream into memory that fails so often before each write, in passing.
+#[derive(Drop)]
+struct Passing<'a> {
+    bytes: &'a mut Vec<u8>,
+    kind: ErrorKind,
+    times: u64,
+    left: u64,
+}
+
+impl Write for Passing<'_> {
+    fn write(&mut self, piece: &[u8]) -> io::Result<usize> {
+        if self.left > 0 {
+            self.left -= 1;
+            return Err(Error::from(self.kind));
+        }
+        self.left = self.times;
+        self.bytes.write(piece)
+    }
+
+    fn flush(&mut self) -> io::Result<()> {
+        Ok(())
+    }
+}
+
+/// Pieces that are put on a stream that fails so often before each write, in passing.
+fn put_passing(
+    rt: &HostRuntime,
+    kind: ErrorKind,
+    times: u64,
+    pieces: &[&str],
+) -> Result<String, NoMem> {
+    let alloc = rt.alloc();
+    let mut bytes = Vec::<u8>::new(alloc);
+    let stream = Passing {
+        bytes: &mut bytes,
+        kind,
+        times,
+        left: times,
+    };
+    let mut answers = taken(alloc, &mut StdSink::new(rt, stream), pieces)?;
     answers.push_str(shown(alloc, bytes.as_slice())?.as_str())?;
     Ok(answers)
 }
 
 /// Pieces that are put on a stream of the system that has no room.
-fn full(alloc: Global, pieces: &[&str]) -> Result<String, NoMem> {
+fn full(rt: &HostRuntime, pieces: &[&str]) -> Result<String, NoMem> {
     let mut none = [0u8; 0];
-    let mut answers = taken(alloc, &mut StdSink::new(&mut none[..]), pieces)?;
+    let mut answers = taken(rt.alloc(), &mut StdSink::new(rt, &mut none[..]), pieces)?;
     answers.push_str("no room")?;
     Ok(answers)
 }
@@ -181,8 +227,14 @@ fn answer(rt: &HostRuntime, parts: &[&str]) -> Result<String, NoMem> {
         ["put in steps", step, failing, pieces @ ..] => {
             put_in_steps(alloc, count(step), failing, pieces)
         }
-        ["stream", pieces @ ..] => stream(alloc, pieces),
-        ["full stream", pieces @ ..] => full(alloc, pieces),
+        ["stream", pieces @ ..] => stream(rt, pieces),
+        ["full stream", pieces @ ..] => full(rt, pieces),
+        ["interrupted stream", times, pieces @ ..] => {
+            put_passing(rt, ErrorKind::Interrupted, count(times), pieces)
+        }
+        ["unready stream", times, pieces @ ..] => {
+            put_passing(rt, ErrorKind::WouldBlock, count(times), pieces)
+        }
         ["real file", text, places @ ..] => real(rt, text, places),
         _ => Ok(String::from_str(alloc, "?")?),
     }

@@ -1,7 +1,8 @@
 //! Leaves by hand: a text in two spans, with places at which its lines may end.
 
 ghost use Rattle.std.specs.Prelude.{◌≡◌, ◌<◌, pos, length, IfOk};
-ghost use Rattle.boxes.specs.Contents.{AreOffsets, IsGoodLeaf, IsGoodSpan, IsNotAuto};
+ghost use Rattle.bk_num.specs.Ranges.{IsNotAuto};
+ghost use Rattle.boxes.specs.Contents.{AreOffsets, IsGoodLeaf, IsGoodSpan};
 ghost use Rattle.line_place.specs.Conditions.{HasFaces};
 
 use bk_num::decimal::Decimal;

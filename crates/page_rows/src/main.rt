@@ -42,7 +42,7 @@ fn topic_of(call: &str) -> Topic {
     match call {
         "area" | "carry" | "must" | "placed" => Topic::NoteArea,
         "cut" | "read" => Topic::LinesCut,
-        "tops" | "pages" | "solids" | "cut_at" => Topic::TreePages,
+        "tops" | "pages" | "solids" | "walks" | "cut_at" => Topic::TreePages,
         "frame" | "side" | "place" | "numbers" => Topic::PagePlaces,
         "shown" | "changed" | "difference" => Topic::References,
         "strings" | "string_on" | "assigned" => Topic::RunningStrings,

@@ -1,7 +1,8 @@
 //! The items of a page, of a flow of two trees with one text, the second being the body of a note.
 
 ghost use Rattle.std.specs.Prelude.{◌≡◌, ◌<◌, ◌∷◌, [], ◌++◌, length, All, IfOk, OnOk, Some};
-ghost use Rattle.boxes.specs.Contents.{AreOffsets, IsGoodBox, IsGoodLeaf, IsGoodSpan, IsNotAuto, IsNotNegative};
+ghost use Rattle.bk_num.specs.Ranges.{IsNotAuto, IsNotNegative};
+ghost use Rattle.boxes.specs.Contents.{AreOffsets, IsGoodBox, IsGoodLeaf, IsGoodSpan};
 ghost use Rattle.paint.specs.Conditions.{CanBePainted, CanFlowBePainted, IsFaced};
 
 use crate::notation::{faces_of, units, unknown};

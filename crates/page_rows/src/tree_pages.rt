@@ -13,7 +13,7 @@ use boxes::frames::PageKind;
 use boxes::page::{Page, Placed, PlacedNote, SolidKind};
 use boxes::place::Position;
 use boxes::tree::BoxTree;
-use cursor::{Solid, next_solid, remainder};
+use cursor::{Cursor, Solid, next_solid, remainder};
 use fragment::next_cut::next_cut;
 use metrics::Faces;
 use page_list::cut::CutFrom;
@@ -23,6 +23,12 @@ use seams::widths::Widths;
 use std::alloc::{AllocError, Global};
 use std::marker::Brand;
 use std::sync::ledger::{Blank, Ledger};
+
+/// The start of a tree.
+const START: Position = Position {
+    event: 0,
+    offset: 0,
+};
 
 /// A solid: where it begins and ends, its top and its height, and the box whose edge it is.
 fn push_solid(line: &mut String, solid: &Placed) -> Result<(), AllocError> {
@@ -208,6 +214,79 @@ fn solids(alloc: Global, tree: &BoxTree, faces: &Faces, from: Position) -> Resul
     solids_counted::<Brand>(alloc, tree, faces, from, Blank::new(1))
 }
 
+/// A walk in short: the width of its frame, and how many solids it hands out.
+type Walk = (u16, u16);
+
+fn walk_of(words: &str) -> Walk {
+    let (width, count) = words.split_once(' ').unwrap_or((words, "0"));
+    (units(width), units(count))
+}
+
+/// Where a walk begins that is resumed at a place, its first solids, up to a number, with `none` for each that isn't
+/// there, and the mark behind them.
+fn push_walk<L: Ledger>(
+    line: &mut String,
+    tree: &BoxTree,
+    faces: &Faces,
+    from: Position,
+    walk: Walk,
+    steps: &mut Steps<L>,
+) -> Result<Position, NoMem>
+    requires tree { CanBeLaidOut faces.now tree.now }
+{
+    if !tree.holds(from) {
+        return Ok(from);
+    }
+    let (width, count) = walk;
+    let mut cursor = Cursor::resume(tree, faces, from, width.into());
+    let Position { event, offset } = cursor.mark();
+    write!(line, "from {event}.{offset}:")?;
+    for _ in 0..count {
+        match cursor.next(steps) {
+            Some(solid) => push_of_tree(line, &solid)?,
+            None => line.push_str(" none")?,
+        }
+    }
+    Ok(cursor.mark())
+}
+
+/// The first solids of a tree in a frame of a width, and those of a walk that is resumed behind them in a frame of
+/// another width.
+fn walks_counted<L: Ledger>(
+    alloc: Global,
+    tree: &BoxTree,
+    faces: &Faces,
+    walks: (Walk, Walk),
+    token: Blank,
+) -> Result<String, NoMem>
+    requires name { token.name ≡ L.name }
+    requires parts { token.parts ≡ L.parts }
+    requires some { 0 < L.parts }
+    requires tree { CanBeLaidOut faces.now tree.now }
+{
+    let (first, second) = walks;
+    let mut steps = Steps::<L>::zero(token);
+    let mut line = String::new(alloc);
+    let mark = push_walk(&mut line, tree, faces, START, first, &mut steps)?;
+    line.push_str(" ")?;
+    push_walk(&mut line, tree, faces, mark, second, &mut steps)?;
+    Ok(line)
+}
+
+/// The same, with a counter of its own.
+fn walks(
+    alloc: Global,
+    tree: &BoxTree,
+    faces: &Faces,
+    from: &str,
+    on: &str,
+) -> Result<String, NoMem>
+    requires tree { CanBeLaidOut faces.now tree.now }
+{
+    let walks = (walk_of(from), walk_of(on));
+    walks_counted::<Brand>(alloc, tree, faces, walks, Blank::new(1))
+}
+
 /// Where a page of two lines ends, whether the flow ends there, its level, and how many solids it places.
 type CutRow = ((u32, u32), bool, u8, usize);
 
@@ -260,6 +339,7 @@ fn of_flow(alloc: Global, faces: &Faces, flow: &Flow, parts: &[&str]) -> Result<
         ["tops", _, size] => pages(alloc, flow, faces, size, false),
         ["pages", _, _, size] => pages(alloc, flow, faces, size, true),
         ["solids", _, from] => solids(alloc, &flow.main, faces, position(from)),
+        ["walks", _, from, on] => walks(alloc, &flow.main, faces, from, on),
         ["cut_at", _, at] => cut(alloc, flow, faces, position(at)),
         _ => unknown(alloc),
     }

@@ -7,7 +7,7 @@ use rows::push_all;
 use std::alloc::AllocError;
 use std::fmt::Debug;
 use style::lists::{CounterList, Families};
-use style::long::{Given, Long};
+use style::long::{Given, Long, SideLong};
 use style::values::{BorderStyle, Display, FontSize, GivenHeight, Measure, Weight};
 
 /// Whether a text was written.
@@ -179,51 +179,49 @@ impl Printed for CounterList {
     }
 }
 
+fn print_side(into: &mut String, long: &SideLong) -> Written {
+    match long {
+        SideLong::Margin(_, given)
+        | SideLong::Padding(_, given)
+        | SideLong::BorderWidth(_, given) => given.print(into),
+        SideLong::BorderStyle(_, given) => given.print(into),
+        SideLong::BorderColor(_, given) => given.print(into),
+    }
+}
+
+/// What is declared for a longhand that has no side.
+fn print_alone(into: &mut String, long: &Long) -> Written {
+    match long {
+        Long::Display(given) => given.print(into),
+        Long::Width(given) | Long::TextIndent(given) => given.print(into),
+        Long::BackgroundColor(given) => given.print(into),
+        Long::Color(given) => given.print(into),
+        Long::FontFamily(given) => given.print(into),
+        Long::FontSize(given) => given.print(into),
+        Long::FontWeight(given) => given.print(into),
+        Long::LineHeight(given) => given.print(into),
+        Long::TextAlign(given) => given.print(into),
+        Long::WhiteSpace(given) => given.print(into),
+        Long::ListStyleType(given) => given.print(into),
+        Long::Content(given) => given.print(into),
+        Long::CounterReset(given) | Long::CounterIncrement(given) => given.print(into),
+        Long::StringSet(given) => given.print(into),
+        Long::BreakBefore(given) | Long::BreakAfter(given) => given.print(into),
+        Long::Float(given)
+        | Long::FontStyle(given)
+        | Long::OverflowWrap(given)
+        | Long::BreakInside(given) => given.print(into),
+        Long::Widows(given) | Long::Orphans(given) => given.print(into),
+        Long::Page(given) => given.print(into),
+        _ => Ok(()),
+    }
+}
+
 impl Printed for Long {
     fn print(&self, into: &mut String) -> Written {
-        match self {
-            Long::Display(given) => given.print(into),
-            Long::MarginTop(given)
-            | Long::MarginRight(given)
-            | Long::MarginBottom(given)
-            | Long::MarginLeft(given)
-            | Long::PaddingTop(given)
-            | Long::PaddingRight(given)
-            | Long::PaddingBottom(given)
-            | Long::PaddingLeft(given)
-            | Long::BorderTopWidth(given)
-            | Long::BorderRightWidth(given)
-            | Long::BorderBottomWidth(given)
-            | Long::BorderLeftWidth(given)
-            | Long::Width(given)
-            | Long::TextIndent(given) => given.print(into),
-            Long::BorderTopStyle(given)
-            | Long::BorderRightStyle(given)
-            | Long::BorderBottomStyle(given)
-            | Long::BorderLeftStyle(given) => given.print(into),
-            Long::BorderTopColor(given)
-            | Long::BorderRightColor(given)
-            | Long::BorderBottomColor(given)
-            | Long::BorderLeftColor(given)
-            | Long::BackgroundColor(given) => given.print(into),
-            Long::Color(given) => given.print(into),
-            Long::FontFamily(given) => given.print(into),
-            Long::FontSize(given) => given.print(into),
-            Long::FontWeight(given) => given.print(into),
-            Long::LineHeight(given) => given.print(into),
-            Long::TextAlign(given) => given.print(into),
-            Long::WhiteSpace(given) => given.print(into),
-            Long::ListStyleType(given) => given.print(into),
-            Long::Content(given) => given.print(into),
-            Long::CounterReset(given) | Long::CounterIncrement(given) => given.print(into),
-            Long::StringSet(given) => given.print(into),
-            Long::BreakBefore(given) | Long::BreakAfter(given) => given.print(into),
-            Long::Float(given)
-            | Long::FontStyle(given)
-            | Long::OverflowWrap(given)
-            | Long::BreakInside(given) => given.print(into),
-            Long::Widows(given) | Long::Orphans(given) => given.print(into),
-            Long::Page(given) => given.print(into),
+        match self.at_side() {
+            Some(given) => print_side(into, &given),
+            None => print_alone(into, self),
         }
     }
 }
