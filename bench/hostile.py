@@ -29,8 +29,8 @@ def names(n, begin="a"):
 
 # Each shape: the number of its greatest run, and what makes HTML and sheet of a number.
 SHAPES = {
-    "short notes on one line": (28_000, lambda n: ("<p>" + "<span class=n>x</span>" * n, NOTE)),
-    "lines, each with a note and a reference": (20_000, lambda n: (
+    "short notes on one line": (90_000, lambda n: ("<p>" + "<span class=n>x</span>" * n, NOTE)),
+    "lines, each with a note and a reference": (50_000, lambda n: (
         "".join(f"<p id=t{k}>a<span class=n>x</span><a href='#t{k}'></a>" for k in range(n)),
         NOTE + "a::after{content:target-counter(attr(href),page)}")),
     "universal rules x nodes": (20_000, lambda n: ("<p>" + "<b></b>" * (n // 2), "*{}" * n)),
@@ -48,13 +48,18 @@ SHAPES = {
         "".join("@page %s{@top-left{content:'a'}}" % x for x in names(n // 10)))),
     "page names that are used x page rules": (19_500, lambda n: (
         "".join(f"<p style='page:{x}'>a</p>" for x in names(n)), "".join("@page %s{margin:1px}" % x for x in names(n)))),
+    "page names of one rule": (10_000, lambda n: (
+        "".join(f"<p style='page:{x}'>a</p>" for x in names(n)), "@page " + ",".join(names(n)) + "{margin:1px}")),
+    "page rules without a name x names that are asked for": (4_000, lambda n: (
+        "".join(f"<p style='page:{x}'>a</p>" for x in names(n)),
+        "@page{margin:2px}" * n + "".join("@page %s{margin:1px}" % x for x in names(n)))),
     "a list of families x elements": (62_500, lambda n: ("<p>" + "<b>a</b>" * (n // 5), "b{font-family:" + ",".join(names(n)) + "}")),
     "a list of families in margin boxes": (4_000, lambda n: (
         "<p>a</p>" * n, PAGE + "@page{font-family:" + ",".join(names(n)) + ";" + "".join(f"{box}{{content:'a'}}" for box in BOXES) + "}")),
     "widows of 1,000 lines": (60_000, lambda n: ("<p>" + "a<br>" * n, "@page{size:100px 20px;margin:0}p{widows:1000;margin:0}")),
     "painted boxes over many pages": (100_000, lambda n: (
         "<div>" * 190 + "<p>a</p>" * n, PAGE + "div{background-color:red;margin:0;padding:0}")),
-    "page names with all margin boxes": (100_000, lambda n: (
+    "page names with all margin boxes": (200_000, lambda n: (
         "".join(f"<p style='page:{x}'>a</p>" for x in names(n)),
         "@page{" + "".join(f"{box}{{content:'a'}}" for box in BOXES) + "}")),
 }
