@@ -1,8 +1,8 @@
 -- names that no selector asks for have the rules of no name
-use Rattle.std.proofs.Common.{◌≡◌, ℕ, Bool, true, false, ◌&&◌, ◌||◌, cond, List, [], ◌∷◌, ◌++◌, Option, None, Some, option_map, map, refl, sym, ◌∙◌, ap, subst}
+use Rattle.std.proofs.Common.{◌≡◌, ℕ, Bool, true, false, ◌&&◌, ◌||◌, cond, List, [], ◌∷◌, ◌++◌, Option, None, Some, option_map, map, refl, sym, ◌∙◌, ap}
 use Rattle.std.specs.Prelude.{filter, fold}
 use Rattle.std.specs.Str.{bytes_eq}
-use Rattle.std.specs.List.{filter_map, cons_option, list_any}
+use Rattle.std.specs.List.{cons_option, list_any}
 use Rattle.std.proofs.lemmas.List.Folds.{list_any-append}
 use Rattle.bk_num.proofs.ListLemmas.{bytes_same}
 use Rattle.boxes.specs.declared.table.PageCell.{PageCell}
@@ -13,9 +13,9 @@ use Rattle.bk_num.specs.Names.{with_name}
 use Rattle.named_lists.proofs.ListLemmas.{turned}
 use Rattle.page_ctx.specs.declared.classes.PageClasses.{PageClasses}
 use Rattle.page_ctx.specs.declared.weight.PageWeight.{PageWeight}
-use Rattle.page_ctx.specs.Selectors.{takes, takes_name, takes_classes, may_take, name_in, asked_by, asked_in, all_asked}
-use Rattle.page_ctx.specs.Weights.{greater, specificity, with_selector, greatest}
-use Rattle.page_ctx.specs.Winners.{AppliedPageRuleOf, applied, applied_by, applied_to, page_declared}
+use Rattle.page_ctx.specs.Selectors.{takes_name, takes_classes, may_take, name_in, asked_by, asked_in, all_asked}
+use Rattle.page_ctx.specs.Weights.{greater, specificity, with_selector}
+use Rattle.page_ctx.specs.Winners.{applied, applied_by, applied_to, page_declared}
 use Rattle.page_ctx.specs.Cells.{cell_by}
 use Rattle.page_ctx.specs.Tables.{six_pages, row_by}
 use Rattle.page_ctx.specs.Margins.{boxes_by, boxes_of_name, style_applied}

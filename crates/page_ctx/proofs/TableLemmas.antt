@@ -1,17 +1,19 @@
 -- Six cells a name, and the table that they make.
-use Rattle.std.proofs.Common.{◌≡◌, ℕ, zero, suc, ◌+◌, ◌==◌, Bool, true, false, List, [], ◌∷◌, ◌++◌, append_assoc, Option, None, Some, option_map, map, drop, slice_get, unwrap_or, refl, sym, ◌∙◌, ap, subst, arith}
+use Rattle.std.proofs.Common.{◌≡◌, ◌<◌, ℕ, zero, suc, ◌+◌, ◌==◌, Bool, true, false, List, [], ◌∷◌, ◌++◌, append_assoc, Option, None, Some, option_map, length, map, drop, slice_get, unwrap_or, refl, sym, ◌∙◌, ap, subst, arith}
 use Rattle.std.proofs.lemmas.Bool.{eqb-true}
 use Rattle.std.proofs.lemmas.List.{map-append}
 use Rattle.std.proofs.lemmas.Option.{slice_get-map}
 use Rattle.std.specs.List.{All}
 use Rattle.bk_num.specs.declared.ids.NameId.{NameId}
-use Rattle.boxes.specs.Frames.{side_of, is_left, IsGoodFrame}
+use Rattle.boxes.specs.Frames.{side_of, is_left}
 use Rattle.boxes.specs.Table.{cell_in, cell_of, row_of}
 use Rattle.boxes.specs.declared.frames.PageKind.{PageKind}
 use Rattle.boxes.specs.declared.frames.PageKind.TheVariants.{Flow, Blank, Notes}
 use Rattle.boxes.specs.declared.table.PageCell.{PageCell}
 use Rattle.boxes.specs.declared.table.PageRow.{PageRow}
 use Rattle.css_page.specs.declared.rules.PageRule.{PageRule}
+use Rattle.page_seq.specs.Frames.{IsGoodTable}
+use Rattle.page_ctx.specs.Bounds.{AreGoodCells, HasGoodRows, IsGoodCell}
 use Rattle.page_ctx.specs.Selectors.{classes_of, takes}
 use Rattle.page_ctx.specs.Tables.{page_cell, texts_of, text_of, IsTable, CellsSuffice, six_pages, row_by}
 
@@ -86,9 +88,8 @@ rows_first f new names row is pushed = ap (λ z. z ++ map f (drop 1 names)) (pus
 pub push_in : {A B : Type 0} (h : A → B) (rows new : List A) (row : A) → new ≡ rows ++ row ∷ [] → map h new ≡ map h rows ++ h row ∷ []
 push_in h rows new row e = ap (map h) e ∙ map-append h rows (row ∷ [])
 
--- six cells with good frames
-pub six_good : (a b c d e f : PageCell) → IsGoodFrame a.frame → IsGoodFrame b.frame → IsGoodFrame c.frame → IsGoodFrame d.frame → IsGoodFrame e.frame → IsGoodFrame f.frame
-    → All (λ (cell : PageCell). IsGoodFrame cell.frame) (a ∷ b ∷ c ∷ d ∷ e ∷ f ∷ [])
+-- six good cells
+pub six_good : (a b c d e f : PageCell) → IsGoodCell a → IsGoodCell b → IsGoodCell c → IsGoodCell d → IsGoodCell e → IsGoodCell f → All IsGoodCell (a ∷ b ∷ c ∷ d ∷ e ∷ f ∷ [])
 six_good a b c d e f ga gb gc gd ge gf zero x l = ga
 six_good a b c d e f ga gb gc gd ge gf (suc zero) x l = gb
 six_good a b c d e f ga gb gc gd ge gf (suc (suc zero)) x l = gc
@@ -96,6 +97,14 @@ six_good a b c d e f ga gb gc gd ge gf (suc (suc (suc zero))) x l = gd
 six_good a b c d e f ga gb gc gd ge gf (suc (suc (suc (suc zero)))) x l = ge
 six_good a b c d e f ga gb gc gd ge gf (suc (suc (suc (suc (suc zero))))) x l = gf
 six_good a b c d e f ga gb gc gd ge gf (suc (suc (suc (suc (suc (suc k)))))) x l = absurd (omega (arith, l))
+
+-- the rows of the names are there, if no more than the one of no name
+pub rows_good : (rules : List PageRule) (names : List (List ℕ)) (rows : List PageRow) → rows ≡ map (row_by rules) (texts_of names) → All AreGoodCells rows → HasGoodRows rows
+rows_good rules names rows is good = record { some = subst (λ (r : List PageRow). 0 < length r) (sym is) (omega arith); cells = good }
+
+-- good page boxes have good frames
+pub frames_good : (rows : List PageRow) → HasGoodRows rows → IsGoodTable rows
+frames_good rows good = record { some = good.some; cells = λ k row at n cell in_row. (good.cells k row at n cell in_row).frame }
 
 -- a list that six are pushed to
 pub six_pushed : {A : Type 0} (old one two three four five six : List A) (a b c d e f : A) → one ≡ old ++ a ∷ [] → two ≡ one ++ b ∷ [] → three ≡ two ++ c ∷ [] → four ≡ three ++ d ∷ []

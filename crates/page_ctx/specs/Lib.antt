@@ -3,6 +3,7 @@ pub mod Weights
 pub mod Winners
 pub mod Settings
 pub mod Cells
+pub mod Bounds
 pub mod Tables
 pub mod Margins
 pub mod Laws

@@ -3,6 +3,7 @@
 ghost use Rattle.std.specs.Prelude.{◌≡◌, ◌≤ℤ◌, ◌+ℤ◌, ◌-ℤ◌, pos, neg_ℤ, map, option_map};
 ghost use Rattle.boxes.specs.Frames.{IsGoodFrame};
 ghost use Rattle.computed_values.specs.Values.{held};
+ghost use Rattle.page_ctx.specs.Bounds.{IsGoodCell};
 ghost use Rattle.page_ctx.specs.Winners.{candidate_in, value_of};
 ghost use Rattle.page_ctx.specs.declared.property.PageProperty.TheVariants as property;
 ghost use Rattle.page_ctx.specs.Cells as spec;
@@ -22,14 +23,16 @@ use style::values::Measure;
 
 /// A length of the page's font size, not negative.
 fn length_by(font: Px, measure: &Measure) -> Px
-    ensures { result ≡ spec.length_by font measure.now }
+    ensures value { result ≡ spec.length_by font measure.now }
+    ensures low { pos 0 ≤ℤ result }
 {
     held(units_of(font, medium_size(), px(0), measure))
 }
 
 /// The width of the page box.
 fn width_by(font: Px, found: Option<&PageLong>) -> Px
-    ensures { result ≡ spec.width_by font (option_map (λ l. l.now) found.entry) }
+    ensures value { result ≡ spec.width_by font (option_map (λ l. l.now) found.entry) }
+    ensures low { pos 0 ≤ℤ result }
 {
     match found {
         Some(PageLong::Size(Given::Value(size))) => length_by(font, &size.width),
@@ -39,7 +42,8 @@ fn width_by(font: Px, found: Option<&PageLong>) -> Px
 
 /// Its height.
 fn height_by(font: Px, found: Option<&PageLong>) -> Px
-    ensures { result ≡ spec.height_by font (option_map (λ l. l.now) found.entry) }
+    ensures value { result ≡ spec.height_by font (option_map (λ l. l.now) found.entry) }
+    ensures low { pos 0 ≤ℤ result }
 {
     match found {
         Some(PageLong::Size(Given::Value(size))) => length_by(font, &size.height),
@@ -175,8 +179,10 @@ fn frame_with(width: Px, height: Px, margins: &Sides<Px>) -> Frame
 
 /// A page box with its margins and its frame.
 fn cell_with(width: Px, height: Px, margins: &Sides<Px>) -> PageCell
+    requires width { pos 0 ≤ℤ width }
+    requires height { pos 0 ≤ℤ height }
     ensures cell { result ≡ spec.cell_with width height margins.now }
-    ensures good { IsGoodFrame result.frame }
+    ensures good { IsGoodCell result }
 {
     PageCell {
         width: units(width),
@@ -191,7 +197,7 @@ fn cell_with(width: Px, height: Px, margins: &Sides<Px>) -> PageCell
 pub(crate) fn cell_by(font: Px, declared: &[PageCandidate<'_>]) -> PageCell
     requires { font ≡ spec.font_size_of (map candidate_in declared.now) }
     ensures cell { result ≡ spec.cell_by (map candidate_in declared.now) }
-    ensures good { IsGoodFrame result.frame }
+    ensures good { IsGoodCell result }
 {
     let size = value_of(PageProperty::Size, declared);
     let width = width_by(font, size);

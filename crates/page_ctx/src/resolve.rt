@@ -5,10 +5,10 @@ ghost use Rattle.std.specs.List.{All, list_any};
 ghost use Rattle.std.specs.Str.{bytes_eq};
 ghost use Rattle.std.specs.String.{string_bytes};
 ghost use Rattle.style.specs.Styles.{initial_style};
-ghost use Rattle.boxes.specs.Frames.{IsGoodFrame};
 ghost use Rattle.boxes.specs.Table.{cell_in, cell_of, row_of};
-ghost use Rattle.page_seq.specs.Frames.{HasGoodCells, IsGoodTable};
+ghost use Rattle.page_seq.specs.Frames.{IsGoodTable};
 ghost use Rattle.bk_num.specs.Names.{with_name};
+ghost use Rattle.page_ctx.specs.Bounds.{AreGoodCells, HasGoodRows, IsGoodCell};
 ghost use Rattle.page_ctx.specs.Selectors.{all_asked};
 ghost use Rattle.page_ctx.specs.Margins.{AreMarginStyles, boxes_by, boxes_of_name, cells_in, filled, margin_style};
 ghost use Rattle.page_ctx.specs.Tables as spec;
@@ -44,7 +44,7 @@ fn add_page<'s>(
     ensures cell { IfOk result (λ cell. cell ≡ spec.page_cell (map (λ r. r.now) rules.now) name.now classes) }
     ensures boxes { IfOk result (λ cell. cells_in boxes.new ≡
         cells_in boxes.old ++ boxes_by (margin_style (map (λ r. r.now) rules.now) name.now classes) ∷ []) }
-    ensures good { IfOk result (λ cell. IsGoodFrame cell.frame) }
+    ensures good { IfOk result (λ cell. IsGoodCell cell) }
 {
     let applied = applied_to(alloc, name, classes, rules)?;
     let declared = page_declared(alloc, &applied)?;
@@ -103,7 +103,7 @@ fn add_name<'s>(
     ensures row { IfOk result (λ row. row ≡ spec.row_by (map (λ r. r.now) rules.now) name.now) }
     ensures boxes { IfOk result (λ row. cells_in boxes.new ≡
         cells_in boxes.old ++ boxes_of_name (map (λ r. r.now) rules.now) name.now) }
-    ensures good { IfOk result (λ row. HasGoodCells row) }
+    ensures good { IfOk result (λ row. AreGoodCells row) }
 {
     let first = add_page(alloc, boxes, rules, initial, name, PAGE_1)?;
     let left = add_page(alloc, boxes, rules, initial, name, A_LEFT_PAGE)?;
@@ -148,8 +148,8 @@ fn push_row<'s>(
         rows.old.table ++ spec.row_by rules.entry.now name.now ∷ []) }
     ensures boxes { IfOk result (λ row. map cells_in rows.new.boxes ≡
         map cells_in rows.old.boxes ++ boxes_of_name rules.entry.now name.now ∷ []) }
-    ensures good { All HasGoodCells rows.old.table → IfOk result (λ row. All HasGoodCells rows.new.table) }
-    ensures good_row { IfOk result (λ row. HasGoodCells row) }
+    ensures good { All AreGoodCells rows.old.table → IfOk result (λ row. All AreGoodCells rows.new.table) }
+    ensures good_row { IfOk result (λ row. AreGoodCells row) }
 {
     let own = rules_of(alloc, name, rules)?;
     let mut boxes = Items::new(alloc);
@@ -174,7 +174,7 @@ fn push_own<'s>(
         filled (map cells_in rows.old.boxes) ++ boxes_of_name rules.entry.now name.now ∷ []) }
     ensures first { OnOk result (slice_get (map cells_in rows.new.boxes) 0 ≡
         Some (boxes_of_name rules.entry.now [])) }
-    ensures good { All HasGoodCells rows.old.table → OnOk result (All HasGoodCells rows.new.table) }
+    ensures good { All AreGoodCells rows.old.table → OnOk result (All AreGoodCells rows.new.table) }
 {
     push_row(alloc, rows, rules, initial, name)?;
     Ok(())
@@ -211,14 +211,14 @@ fn push_name<'s>(
     requires initial { initial.now ≡ initial_style.font_family }
     requires asked { map (λ k. string_bytes k) asked.now.keys ≡ fold with_name [] (all_asked rules.now) }
     requires row { row ≡ spec.row_by rules.now [] }
-    requires good { HasGoodCells row }
+    requires good { AreGoodCells row }
     requires first { slice_get (map cells_in rows.old.boxes) 0 ≡ Some (boxes_of_name rules.now []) }
     ensures table { OnOk result (rows.new.table ≡ rows.old.table ++ spec.row_by rules.entry.now name.now ∷ []) }
     ensures boxes { OnOk result (filled (map cells_in rows.new.boxes) ≡
         filled (map cells_in rows.old.boxes) ++ boxes_of_name rules.entry.now name.now ∷ []) }
     ensures first { OnOk result (slice_get (map cells_in rows.new.boxes) 0 ≡
         Some (boxes_of_name rules.entry.now [])) }
-    ensures good { All HasGoodCells rows.old.table → OnOk result (All HasGoodCells rows.new.table) }
+    ensures good { All AreGoodCells rows.old.table → OnOk result (All AreGoodCells rows.new.table) }
 {
     if has_rules(asked, name) {
         return push_own(alloc, rows, rules, initial, name);
@@ -237,7 +237,7 @@ fn rows_by<'s>(
     ensures table { IfOk result (λ rows. rows.table ≡ map (spec.row_by rules.entry.now) (spec.texts_of names.now)) }
     ensures boxes { IfOk result (λ rows. filled (map cells_in rows.boxes) ≡
         map (boxes_of_name rules.entry.now) (spec.texts_of names.now)) }
-    ensures good { IfOk result (λ rows. All HasGoodCells rows.table) }
+    ensures good { IfOk result (λ rows. All AreGoodCells rows.table) }
 {
     let asked = asked_names(alloc, rules)?;
     let table = Items::new(alloc);
@@ -251,18 +251,20 @@ fn rows_by<'s>(
     Ok(rows)
 }
 
-/// The page box of each page, and the styles of its margin boxes, which borrow from the page rules.
+/// The page box of each page, and the styles of its margin boxes, which borrow from the page rules. Page boxes are at
+/// most 2^40 units wide and high.
 #[derive(Drop)]
 pub struct PageStyles<'s> {
     pub table: PageTable,
     pub boxes: MarginStyles<'s>,
+    pub ghost good: { HasGoodRows table.rows },
 }
 
 impl PageStyles<'_> {
     /// The page box of an index, a name and a kind, its margins and its frame. It takes no memory.
     pub fn cell(&self, index: u32, name: NameId, kind: PageKind) -> PageCell
-        requires { IsGoodTable self.now.table.rows }
-        ensures { cell_in (row_of self.now.table.rows name) (cell_of index kind) ≡ Some result }
+        ensures cell { cell_in (row_of self.now.table.rows name) (cell_of index kind) ≡ Some result }
+        ensures good { IsGoodCell result }
     {
         *self.table.cell(index, name, kind)
     }

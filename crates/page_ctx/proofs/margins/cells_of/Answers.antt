@@ -1,4 +1,4 @@
-use Rattle.std.proofs.Common.{◌∙◌, Bor, Option, List, ap, map, option_map, slice_get}
+use Rattle.std.proofs.Common.{◌∙◌, Bor, List, ap, map, option_map, slice_get}
 use Rattle.page_ctx.specs.declared.margin_style.MarginBox.{MarginBox}
 use Rattle.page_ctx.specs.Margins.{cells_in, found_cells}
 use Rattle.page_ctx.proofs.FilledLemmas.{are-found, seen}

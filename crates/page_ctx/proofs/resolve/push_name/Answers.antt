@@ -1,10 +1,10 @@
-use Rattle.std.proofs.Common.{◌≡◌, ◌++◌, ◌∷◌, [], ◌∙◌, false, ap, map, slice_get, sym, subst}
+use Rattle.std.proofs.Common.{◌++◌, ◌∷◌, [], ◌∙◌, ap, map, slice_get, sym, subst}
 use Rattle.std.specs.String.{string_bytes}
 use Rattle.std.specs.List.{All}
 use Rattle.std.proofs.lemmas.List.Elements.{All-push}
 use Rattle.bk_num.proofs.ListLemmas.{get-keep}
 use Rattle.named_lists.proofs.ListLemmas.{on-ok}
-use Rattle.page_seq.specs.Frames.{HasGoodCells}
+use Rattle.page_ctx.specs.Bounds.{AreGoodCells}
 use Rattle.page_ctx.specs.Margins.{boxes_of_name, cells_in, filled}
 use Rattle.page_ctx.proofs.AskedLemmas.{neither, unasked-boxes, unasked-row}
 use Rattle.page_ctx.proofs.FilledLemmas.{filled-more}
@@ -24,4 +24,4 @@ pub returns-clause-first : goal.returns-clause-first
 returns-clause-first c = on-ok c.push_same.result (λ e. ap (λ z. slice_get z 0) e ∙ get-keep (map cells_in c.args.rows.now.boxes) _ 0 _ c.requires.first) c.push_same.ensures.boxes
 
 pub returns-clause-good : goal.returns-clause-good
-returns-clause-good c = λ good. on-ok c.push_same.result (λ e. subst (All HasGoodCells) (sym e) (All-push HasGoodCells c.args.rows.now.table c.args.row good c.requires.good)) c.push_same.ensures.table
+returns-clause-good c = λ good. on-ok c.push_same.result (λ e. subst (All AreGoodCells) (sym e) (All-push AreGoodCells c.args.rows.now.table c.args.row good c.requires.good)) c.push_same.ensures.table

@@ -3,7 +3,7 @@ use Rattle.std.specs.Prelude.{filter}
 use Rattle.std.specs.List.{All}
 use Rattle.std.proofs.lemmas.List.Elements.{All-push}
 use Rattle.css_page.specs.declared.rules.PageRule.{PageRule}
-use Rattle.page_seq.specs.Frames.{HasGoodCells}
+use Rattle.page_ctx.specs.Bounds.{AreGoodCells}
 use Rattle.page_ctx.specs.Selectors.{may_take}
 use Rattle.page_ctx.specs.Margins.{boxes_of_name, cells_in}
 use Rattle.page_ctx.proofs.AskedLemmas.{own-boxes, own-row}
@@ -27,4 +27,4 @@ returns-clause-boxes c =
     ∙ ap (λ z. map cells_in c.args.rows.now.boxes ++ z ∷ []) (c.in_ok-row.ensures.boxes ∙ ap (λ z. cells_in z ++ boxes_of_name (map (λ (r : Bor PageRule). r.now) c.deref.result.now) c.args.name.now) c.new-boxes.ensures ∙ own-boxes c.args.rules.now _ c.args.name.now own)
 
 pub returns-clause-good : goal.returns-clause-good
-returns-clause-good c = λ good. subst (All HasGoodCells) (sym c.in_ok-push-2.ensures.ok) (All-push HasGoodCells c.args.rows.now.table _ good c.in_ok-row.ensures.good)
+returns-clause-good c = λ good. subst (All AreGoodCells) (sym c.in_ok-push-2.ensures.ok) (All-push AreGoodCells c.args.rows.now.table _ good c.in_ok-row.ensures.good)

@@ -1,6 +1,6 @@
 use Rattle.std.proofs.Common.{◌≡◌, ◌++◌, [], ◌∷◌, ap, ◌∙◌, map, refl, slice_get, sym, subst, rules}
 use Rattle.std.specs.List.{All}
-use Rattle.page_seq.specs.Frames.{HasGoodCells}
+use Rattle.page_ctx.specs.Bounds.{AreGoodCells}
 use Rattle.page_ctx.specs.Tables.{row_by}
 use Rattle.page_ctx.specs.Margins.{boxes_of_name, cells_in, filled}
 use Rattle.page_ctx.proofs.TableLemmas.{rows_first, rows_more}
@@ -11,7 +11,7 @@ loop-number-init c =
     let boxes : map cells_in c.push_row.new.rows.boxes ≡ boxes_of_name c.args.rules.now [] ∷ [] = c.in_ok-row.ensures.boxes ∙ ap (λ z. map cells_in z ++ boxes_of_name c.args.rules.now [] ∷ []) c.new-boxes.ensures in (
       rows_first (row_by c.args.rules.now) _ c.args.names.now _ refl (c.in_ok-row.ensures.table ∙ ap (λ z. z ++ row_by c.args.rules.now [] ∷ []) c.new-table.ensures),
       rows_first (boxes_of_name c.args.rules.now) _ c.args.names.now _ refl (ap filled boxes),
-      c.in_ok-row.ensures.good (subst (All HasGoodCells) (sym c.new-table.ensures) (λ k d h. absurd (search rules))),
+      c.in_ok-row.ensures.good (subst (All AreGoodCells) (sym c.new-table.ensures) (λ k d h. absurd (search rules))),
       ap (λ z. slice_get z 0) boxes,
     )
 
