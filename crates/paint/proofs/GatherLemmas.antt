@@ -150,8 +150,8 @@ pub opened_same : (t : Tree) (m : ℤ) (old new : List Fragment) → map place_o
 opened_same t m old new e opened j p there =
     let back = same_place old new e j p there in
     let was : IsOpened t m back.0 = opened j back.0 back.1 in
-    let is : IsOpened t m (place_of p) = opened_as t m back.0 p back.2 (record { opens = was.opens; around_is = was.around_is; content_is = was.content_is }) in
-    record { opens = is.opens; around_is = is.around_is; content_is = is.content_is }
+    let is : IsOpened t m (place_of p) = opened_as t m back.0 p back.2 (record { opens = was.opens; around_is = was.around_is; content_is = was.content_is; around_bounded = was.around_bounded; content_bounded = was.content_bounded }) in
+    record { opens = is.opens; around_is = is.around_is; content_is = is.content_is; around_bounded = is.around_bounded; content_bounded = is.content_bounded }
 
 pub at_same : (t : Tree) (m : ℤ) (old new : List Fragment) (r : Reached) → map place_of new ≡ map place_of old → IsAt t m old r → IsAt t m new r
 at_same t m old new r e a = record {

@@ -1,3 +1,4 @@
+pub mod BoundLemmas
 pub mod GatherLemmas
 pub mod Lists
 pub mod NoteLemmas

@@ -1,15 +1,19 @@
 -- Open boxes as a list that grows and falls at its end.
-use Rattle.std.proofs.Common.{◌≡◌, ◌<◌, ◌+◌, ◌-◌, ℕ, zero, suc, ℤ, pos, Bool, true, false, cond, ◌==◌, List, [], ◌∷◌, ◌++◌, Option, None, Some, length, take, get_or, slice_get, refl, sym, ap, ◌∙◌, arith, length-append}
+use Rattle.std.proofs.Common.{◌≡◌, ◌<◌, ◌≤◌, ◌+◌, ◌-◌, ◌^◌, ◌≤ℤ◌, ◌+ℤ◌, ℕ, zero, suc, ℤ, pos, Bool, true, false, cond, ◌==◌, List, [], ◌∷◌, ◌++◌, Option, None, Some, length, take, get_or, slice_get, refl, sym, ap, ◌∙◌, subst, arith, length-append, ◌⊎◌, inl, inr}
 use Rattle.std.proofs.Math.Seq.{take-append_seam, take-suc}
-use Rattle.std.proofs.lemmas.List.{length-take-le}
-use Rattle.std.proofs.lemmas.Option.{same_Some}
-use Rattle.boxes.proofs.ListLemmas.{get-end}
-use Rattle.boxes.specs.Tree.{Tree, rest_of}
+use Rattle.std.proofs.lemmas.Int.{ints}
+use Rattle.std.proofs.lemmas.List.{length-take, length-take-le}
+use Rattle.std.proofs.lemmas.Option.{same_Some, slice_get-get_or}
+use Rattle.bk_num.specs.Limits.{most_open}
+use Rattle.bk_num.specs.Numbers.{IsWithin}
+use Rattle.boxes.proofs.ListLemmas.{get-end, get-push, get-take}
+use Rattle.boxes.proofs.SpanLemmas.{most_open_at}
+use Rattle.boxes.specs.Tree.{Tree, depth_of, open_before, rest_of}
 use Rattle.boxes.specs.Spans.{span_in, span_or, span_along}
 use Rattle.boxes.specs.declared.props.BoxProps.{BoxProps}
 use Rattle.boxes.specs.declared.span.Content.{Content}
 use Rattle.paint.specs.declared.opens.OpenBox.{OpenBox}
-use Rattle.paint.specs.Opens.{content_along, content_of, pair_of, opens_of, boxes_from}
+use Rattle.paint.specs.Opens.{AreBounded, IsBounded, IsNear, IsWide, content_along, content_of, pair_of, opens_of, boxes_from}
 
 abbrev open_along : Tree → ℤ → ℕ → List ℕ → OpenBox
 open_along t m b boxes = record { number = b; content = content_along t m (b ∷ boxes) }
@@ -119,3 +123,63 @@ not_found t m opens number boxes u = go u.rest u.are ∙ sym (ap (λ (l : List �
     go : (rest : List ℕ) → take 0 opens ≡ opens_of t m rest → pos 0 ≡ (content_along t m (boxes_from number rest)).left
     go [] same = refl
     go (b ∷ rest) same = absurd (let n = ap length same ∙ opens_size t m (b ∷ rest) in omega arith)
+
+-- ---- bounds
+
+-- the content of the innermost of at most 2,048 boxes is wide and near
+pub bounded_wide : (n : ℕ) (c : Content) → n ≤ 2048 → IsBounded n c → IsWide c
+bounded_wide n c few b = let low = b.low in let high = b.high in record { low = low; high = omega (arith, ints) }
+
+pub bounded_near : (n : ℕ) (c : Content) → n ≤ 2048 → IsBounded n c → IsNear c
+bounded_near n c few b = let low = b.left_low in let high = b.left_high in record { low = omega (arith, ints); high = omega (arith, ints) }
+
+pub bounded_push : (opens new : List OpenBox) (o : OpenBox) → AreBounded opens → length opens < most_open → IsBounded (suc (length opens)) o.content → new ≡ opens ++ o ∷ [] → AreBounded new
+bounded_push opens new o b room is new_is = subst AreBounded (sym new_is) (record {
+  few = (let size = length-append opens (o ∷ []) in omega (arith, size));
+  each = λ k p e. by k p (get-push opens o p k e);
+})
+  where
+    by : (k : ℕ) (p : OpenBox) → ((k ≡ length opens) × (p ≡ o)) ⊎ (slice_get opens k ≡ Some p) → IsBounded (suc k) p.content
+    by k p (inl (place, same)) = subst (λ (n : ℕ). IsBounded (suc n) p.content) (sym place) (subst (λ (x : OpenBox). IsBounded (suc (length opens)) x.content) (sym same) is)
+    by k p (inr there) = b.each k p there
+
+pub bounded_take : (opens : List OpenBox) (n : ℕ) → AreBounded opens → AreBounded (take n opens)
+bounded_take opens n b = record {
+  few = (let size = length-take n opens in let few = b.few in omega (arith, size));
+  each = λ k p e. b.each k p (get-take opens n k p e).1;
+}
+
+pub bounded_none : (opens : List OpenBox) → opens ≡ [] → AreBounded opens
+bounded_none opens none = subst AreBounded (sym none) (record { few = omega arith; each = λ k p e. absurd (cc) })
+
+-- the innermost one is as bounded as its place tells
+pub last_bounded : (opens : List OpenBox) (o : OpenBox) → AreBounded opens → slice_get opens (length opens - 1) ≡ Some o → IsBounded (length opens) o.content
+last_bounded [] o b there = absurd (cc)
+last_bounded (x ∷ opens) o b there =
+    let same : suc (length (x ∷ opens) - 1) ≡ length (x ∷ opens) = omega arith in
+    subst (λ (n : ℕ). IsBounded n o.content) same (b.each (length (x ∷ opens) - 1) o there)
+
+-- a box inside the innermost one
+pub inside_bounded : (n : ℕ) (around c : Content) → IsBounded n around → pos 0 ≤ℤ c.width → c.width ≤ℤ (around.width +ℤ pos (2 ^ 28)) → around.left ≤ℤ (c.left +ℤ pos (2 ^ 42)) → c.left ≤ℤ (around.left +ℤ pos (2 ^ 42)) → IsBounded (suc n) c
+inside_bounded n around c b low high left_low left_high =
+    let h = b.high in
+    let l = b.left_low in
+    let r = b.left_high in
+    record { low = low; high = omega (arith, ints, h, high); left_low = omega (arith, ints, l, left_low); left_high = omega (arith, ints, r, left_high) }
+
+-- the box that is sought is near
+pub left_near : (opens : List OpenBox) (number n : ℕ) (d : OpenBox) → n < length opens → ((get_or opens n d).number == number) ≡ true → AreBounded opens → IsWithin (2 ^ 60) (get_or opens n d).content.left
+left_near opens number n d less here b =
+    let few = b.few in
+    let there : slice_get opens n ≡ Some (get_or opens n d) = slice_get-get_or opens n d less in
+    let near : IsNear (get_or opens n d).content = bounded_near (suc n) (get_or opens n d).content (omega arith) (b.each n (get_or opens n d) there) in
+    let low = near.low in
+    let high = near.high in
+    omega (arith, ints, low, high)
+
+-- fewer boxes are open before an event that opens one
+pub few_open : (t : Tree) (m : ℤ) (opens : List OpenBox) (k : ℕ) → depth_of t.events ≤ most_open → opens ≡ opens_of t m (open_before t.events k) → length opens ≤ most_open
+few_open t m opens k few is =
+    let size = ap length is ∙ opens_size t m (open_before t.events k) in
+    let most : length (open_before t.events k) ≤ depth_of t.events = most_open_at [] t.events k in
+    omega arith

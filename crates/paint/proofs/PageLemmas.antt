@@ -1,25 +1,31 @@
 -- The rectangles of a page, by the boxes that were met and by the events that open them.
 use Rattle.std.proofs.Common.{◌≡◌, ◌<◌, ◌≤◌, ℕ, zero, suc, ◌+◌, List, [], ◌∷◌, ◌++◌, Option, None, Some, Bool, true, false, cond, not, ◌&&◌, ◌||◌, ◌==◌, length, get_or, slice_get, refl, sym, ap, ap₂, ◌∙◌, subst, arith, ◌⊎◌, inl, inr}
+use Rattle.std.specs.Option.{ForSome}
 use Rattle.std.specs.List.{All, flat_map, list_any, range_with_len}
 use Rattle.std.proofs.lemmas.Bool.{cases_order, cases_eq, le-ltb, eq-eqb, ne_eqb}
-use Rattle.boxes.specs.Tree.{Tree, IsTree, open_before, first_of, is_opening}
+use Rattle.bk_num.specs.Limits.{most_open}
+use Rattle.boxes.specs.Tree.{Tree, IsTree, depth_of, open_before, first_of, is_opening}
 use Rattle.boxes.specs.declared.item.Item.{Item}
 use Rattle.boxes.specs.declared.place.Event.{Event}
 use Rattle.boxes.specs.declared.place.Event.TheVariants.{Opens, Closes, Leaf}
 use Rattle.boxes.specs.declared.page.Placed.{Placed}
 use Rattle.boxes.specs.declared.props.BoxProps.{BoxProps}
+use Rattle.boxes.proofs.SpanLemmas.{most_open_at}
 use Rattle.boxes.proofs.TreeFacts.{box_there, closes_innermost, opens_once}
 use Rattle.paint.specs.declared.extent.VerticalExtent.{VerticalExtent}
 use Rattle.paint.specs.declared.item.SolidOrigin.{SolidOrigin}
 use Rattle.boxes.specs.declared.span.Content.{Content}
 use Rattle.paint.specs.declared.parts.Fragment.{Fragment}
+use Rattle.paint.specs.Bounds.{IsNearExtent, IsNearPart, IsNearSolid}
 use Rattle.paint.specs.Fragments.{boxes_at, boxes_with, closes_box, extent_of, here, is_lower, is_upper, join, opens_box, reach_by, stands_in}
 use Rattle.paint.specs.Items.{for_some}
 use Rattle.paint.specs.Opens.{content_along}
 use Rattle.paint.specs.Pages.{opened_rects, rects_at, rects_of}
 use Rattle.paint.specs.Parts.{AreGathered, AreMarks, AreMarksOf, AreMerged, ArePlaces, AscendTo, HaveFrom, HaveOpened, IsAt, IsBelow, IsOpened, Mark, any_event, bare, bare_of, is_at, is_closing, over_marks, part_rects, reaches, solids_by, spine_of}
 use Rattle.paint.specs.Rects.{fragment_rects}
+use Rattle.paint.proofs.BoundLemmas.{reach_near}
 use Rattle.paint.proofs.GatherLemmas.{at_same, places_bare}
+use Rattle.paint.proofs.OpenLemmas.{bounded_near, bounded_wide}
 use Rattle.paint.proofs.PartLemmas.{first_within, get-map-back, spine_at, spine_size}
 use Rattle.paint.proofs.ReachLemmas.{after_last, get-map, over_same, spine_same}
 
@@ -274,3 +280,21 @@ pub page_boxes : (t : Tree) → IsTree t → (o : SolidOrigin) (solids : List Pl
 page_boxes t tree o solids parts new g rest merged = λ k d low.
     let opened : HaveOpened t o.width new = (at_same t o.width parts new g.at (places_bare parts new rest) g.is_at).opened in
     box_there t tree (get_or new k d).event (get_or new k d).number (opened k (get_or new k d) (get_at new k d low)).opens
+
+-- no box reaches far
+pub page_near : (t : Tree) → IsTree t → (o : SolidOrigin) (solids : List Placed) (parts new : List Fragment) → depth_of t.events ≤ most_open → All IsNearSolid solids → AreGathered t o.width solids parts → bare_of new ≡ bare_of parts → AreMerged parts new → All IsNearPart new
+page_near t tree o solids parts new few near g rest merged = λ k d low.
+    let p : Fragment = get_or new k d in
+    let there : slice_get new k ≡ Some p = get_at new k d low in
+    let r : AreReached t o solids new = merged_reached t tree o solids parts new g rest merged in
+    let is : IsOpened t o.width p = r.met.opened k p there in
+    let boxes : List ℕ = open_before t.events p.event in
+    let most : length boxes ≤ depth_of t.events = most_open_at [] t.events p.event in
+    let less : length boxes ≤ 2048 = omega arith in
+    record {
+      wide = bounded_wide (length boxes) p.around less is.around_bounded;
+      near = bounded_near (length boxes) p.around less is.around_bounded;
+      reach = subst (λ (e : Option VerticalExtent). ForSome e IsNearExtent) (sym (r.reach k p there)) (reach_near (stands_in t.events p.number) solids near);
+      upper = subst (λ (e : Option VerticalExtent). ForSome e IsNearExtent) (sym (r.upper k p there)) (reach_near (is_upper t.events p.number) solids near);
+      lower = subst (λ (e : Option VerticalExtent). ForSome e IsNearExtent) (sym (r.lower k p there)) (reach_near (is_lower t.events p.number) solids near);
+    }

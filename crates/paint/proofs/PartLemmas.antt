@@ -1,18 +1,23 @@
 -- Boxes that are met on the way along the events of a tree.
 use Rattle.std.proofs.Common.{◌≡◌, ◌<◌, ◌≤◌, ℕ, zero, suc, ℤ, ◌+◌, List, [], ◌∷◌, ◌++◌, Option, None, Some, map, length, drop, slice_get, refl, sym, ap, ◌∙◌, subst, arith, append_assoc, append-nil, length-append, ◌⊎◌, inl, inr}
+use Rattle.std.proofs.lemmas.Int.{ints}
 use Rattle.std.proofs.lemmas.List.{drop_all, length-map, map-append}
 use Rattle.std.proofs.lemmas.Option.{slice_get_within}
 use Rattle.std.specs.Option.{ForSome}
 use Rattle.boxes.specs.Spans.{span_or}
-use Rattle.boxes.specs.Tree.{Tree, IsTree, open_with, open_before, first_of, rest_of}
+use Rattle.boxes.specs.Tree.{Tree, IsTree, depth_of, open_with, open_before, first_of, rest_of}
 use Rattle.boxes.specs.declared.place.Event.{Event}
 use Rattle.boxes.specs.declared.place.Event.TheVariants.{Opens, Closes, Leaf}
 use Rattle.boxes.proofs.ListLemmas.{get-push, get-keep, get-end, slice_get_at}
+use Rattle.boxes.proofs.SpanLemmas.{most_open_at}
 use Rattle.boxes.proofs.TreeLemmas.{open-step}
 use Rattle.boxes.proofs.TreeFacts.{box_there, opens_once, closes_innermost}
 use Rattle.boxes.specs.declared.span.Content.{Content}
 use Rattle.paint.specs.declared.parts.Fragment.{Fragment}
-use Rattle.paint.specs.Opens.{content_along, content_of, pair_of}
+use Rattle.bk_num.specs.Limits.{most_open}
+use Rattle.paint.specs.Bounds.{IsGoodOrigin}
+use Rattle.paint.specs.Opens.{IsBounded, content_along, content_of, pair_of}
+use Rattle.paint.specs.declared.item.SolidOrigin.{SolidOrigin}
 use Rattle.paint.specs.Parts.{ArePlaces, IsBelow, AscendTo, IsOn, IsOpened, HaveOpened, IsAt, HaveNone, IsGrown, LeavesTo, content_at, content_or, last_of, part_in, spine_of}
 use Rattle.paint.proofs.ReachLemmas.{get-map}
 
@@ -97,6 +102,29 @@ content_is t tree m parts boxes inner at n on opened w = ap (content_at m parts)
         ap (content_or m) back.1 ∙ is.content_is ∙ ap (λ (x : ℕ). content_along t m (x ∷ open_before t.events q.event)) back.2
         ∙ ap (λ (k : ℕ). content_along t m (b ∷ open_before t.events k)) place ∙ ap (λ (l : List ℕ). content_along t m (b ∷ l)) v.3
 
+-- and it is bounded
+pub content_bounded : (t : Tree) → IsTree t → (o : SolidOrigin) (parts : List Fragment) (boxes : List ℕ) (inner : Option ℕ) (at n : ℕ) → IsGoodOrigin o → IsOn parts boxes inner at → HaveOpened t o.width parts → WereBefore t.events n boxes → IsBounded (length boxes) (content_at o.width parts inner)
+content_bounded t tree o parts boxes inner at n good on opened w = subst (λ i. IsBounded (length boxes) (content_at o.width parts i)) (sym on.inner_is) (by on.places boxes on.are w)
+  where
+    by : (places bs : List ℕ) → ArePlaces (spine_of parts) places bs → WereBefore t.events n bs → IsBounded (length bs) (content_at o.width parts (first_of places))
+    by [] [] are v = let low = good.low in let high = good.high in record { low = low; high = omega (arith, ints); left_low = omega (arith, ints); left_high = omega (arith, ints) }
+    by [] (b ∷ bs) are v = absurd are
+    by (i ∷ places) [] are v = absurd are
+    by (i ∷ places) (b ∷ bs) are v =
+        let back = spine_at parts i b (first_of places) are.0 in
+        let q : Fragment = back.0 in
+        let is : IsOpened t o.width q = opened i q back.1 in
+        let place : q.event ≡ v.0 = opens_once t tree q.event v.0 b (is.opens ∙ ap (λ (x : ℕ). Some (Opens x)) back.2) v.2 in
+        let boxes_is : open_before t.events q.event ≡ bs = ap (open_before t.events) place ∙ v.3 in
+        subst (λ (p : Option Fragment). IsBounded (length (b ∷ bs)) (content_or o.width p)) (sym back.1) (subst (λ (l : List ℕ). IsBounded (suc (length l)) q.content) boxes_is is.content_bounded)
+
+-- as long as a box more may open
+pub room_before : (es : List Event) (k b : ℕ) → depth_of es ≤ most_open → slice_get es k ≡ Some (Opens b) → length (open_before es k) < most_open
+room_before es k b few there =
+    let more : length (open_before es (suc k)) ≤ depth_of es = most_open_at [] es (suc k) in
+    let next : length (open_before es (suc k)) ≡ suc (length (open_before es k)) = ap (λ (l : List ℕ). length l) (open-step es k (Opens b) there) in
+    omega arith
+
 -- ---- a box more, a box less
 
 ascend_push : (a at : ℕ) (parts : List Fragment) (q : Fragment) → AscendTo a parts at → at ≤ q.event → AscendTo a (parts ++ q ∷ []) (suc q.event)
@@ -152,18 +180,24 @@ opened_push t m parts q opened is j p e = by (get-push parts q p j e)
     by (inl (at_end, same)) = subst (IsOpened t m) (sym same) is
     by (inr old) = opened j p old
 
-part_opened : (t : Tree) (m : ℤ) (parts : List Fragment) (inner : Option ℕ) (event b : ℕ) → slice_get t.events event ≡ Some (Opens b) → content_at m parts inner ≡ content_along t m (open_before t.events event) → IsOpened t m (part_in t m parts inner event b)
-part_opened t m parts inner event b at is = record {
+-- the content of a box and that of the box around it are bounded
+abbrev pub ArePartBounds : Tree → ℤ → List Fragment → Option ℕ → ℕ → ℕ → Type 0
+ArePartBounds t m parts inner event b = IsBounded (length (open_before t.events event)) (content_at m parts inner) × IsBounded (suc (length (open_before t.events event))) (part_in t m parts inner event b).content
+
+part_opened : (t : Tree) (m : ℤ) (parts : List Fragment) (inner : Option ℕ) (event b : ℕ) → slice_get t.events event ≡ Some (Opens b) → content_at m parts inner ≡ content_along t m (open_before t.events event) → ArePartBounds t m parts inner event b → IsOpened t m (part_in t m parts inner event b)
+part_opened t m parts inner event b at is bounds = record {
   opens = at;
   around_is = is;
   content_is = ap (λ (c : Content). content_of (span_or (slice_get t.boxes b) (pair_of c))) is;
+  around_bounded = bounds.0;
+  content_bounded = bounds.1;
 }
 
 -- ---- an event
 
 pub pass_opens : (t : Tree) → IsTree t → (m : ℤ) (parts new : List Fragment) (at b : ℕ) (inner : Option ℕ) → at ≤ length t.events → slice_get t.events at ≡ Some (Opens b) → IsAt t m parts (record { event = at; inner = inner }) →
-    new ≡ parts ++ part_in t m parts inner at b ∷ [] → IsAt t m new (record { event = at + 1; inner = Some (length parts) })
-pass_opens t tree m parts new at b inner low there a new_is =
+    new ≡ parts ++ part_in t m parts inner at b ∷ [] → ArePartBounds t m parts inner at b → IsAt t m new (record { event = at + 1; inner = Some (length parts) })
+pass_opens t tree m parts new at b inner low there a new_is bounds =
     let q : Fragment = part_in t m parts inner at b in
     let next : suc at ≡ at + 1 = omega arith in
     let content : content_at m parts inner ≡ content_along t m (open_before t.events at) = content_is t tree m parts (open_before t.events at) inner at at a.on a.opened (were_before t.events at low) in
@@ -172,7 +206,7 @@ pass_opens t tree m parts new at b inner low there a new_is =
     let pushed : IsOn (parts ++ q ∷ []) (open_before t.events (suc at)) (Some (length parts)) (suc at) = subst (λ l. IsOn (parts ++ q ∷ []) l (Some (length parts)) (suc at)) boxes on in
     record {
       on = subst (λ ps. IsOn ps (open_before t.events (at + 1)) (Some (length parts)) (at + 1)) (sym new_is) (subst (λ (n : ℕ). IsOn (parts ++ q ∷ []) (open_before t.events n) (Some (length parts)) n) next pushed);
-      opened = subst (HaveOpened t m) (sym new_is) (opened_push t m parts q a.opened (part_opened t m parts inner at b there content));
+      opened = subst (HaveOpened t m) (sym new_is) (opened_push t m parts q a.opened (part_opened t m parts inner at b there content bounds));
     }
 
 pub pass_closes : (t : Tree) → IsTree t → (m : ℤ) (parts : List Fragment) (at b : ℕ) (inner now : Option ℕ) → slice_get t.events at ≡ Some (Closes b) → IsAt t m parts (record { event = at; inner = inner }) → LeavesTo parts inner now → IsAt t m parts (record { event = at + 1; inner = now })
@@ -234,8 +268,8 @@ started_none t m chain [] none =
     }
 
 pub started_step : (t : Tree) → IsTree t → (m : ℤ) (event left k b : ℕ) (chain : List ℕ) (parts new : List Fragment) → event ≤ length t.events → chain ≡ open_before t.events event → drop left chain ≡ b ∷ drop (suc left) chain → slice_get t.events k ≡ Some (Opens b) →
-    new ≡ parts ++ part_in t m parts (last_of (length parts)) k b ∷ [] → IsStarted t m chain (suc left) parts → IsStarted t m chain left new
-started_step t tree m event left k b chain parts new low chain_is cons there new_is s = by (before_drop t.events left event chain (subst (WereBefore t.events event) (sym chain_is) (were_before t.events event low)))
+    new ≡ parts ++ part_in t m parts (last_of (length parts)) k b ∷ [] → ArePartBounds t m parts (last_of (length parts)) k b → IsStarted t m chain (suc left) parts → IsStarted t m chain left new
+started_step t tree m event left k b chain parts new low chain_is cons there new_is bounds s = by (before_drop t.events left event chain (subst (WereBefore t.events event) (sym chain_is) (were_before t.events event low)))
   where
     rest : List ℕ
     rest = drop (suc left) chain
@@ -257,13 +291,25 @@ started_step t tree m event left k b chain parts new low chain_is cons there new
             record {
               next = suc k;
               on = subst (λ ps. IsOn ps (drop left chain) (last_of (length ps)) (suc k)) (sym new_is) on_all;
-              opened = subst (HaveOpened t m) (sym new_is) (opened_push t m parts q s.opened (part_opened t m parts (last_of (length parts)) k b there content));
+              opened = subst (HaveOpened t m) (sym new_is) (opened_push t m parts q s.opened (part_opened t m parts (last_of (length parts)) k b there content bounds));
               low = λ n w. least n (subst (WereBefore t.events n) cons w);
               fresh = subst HaveNone (sym new_is) (none_append parts (q ∷ []) s.fresh (record { no_reach = refl; no_upper = refl; no_lower = refl }, tt));
             }
           where
             least : (n : ℕ) → WereBefore t.events n (b ∷ drop (suc left) chain) → suc k ≤ n
             least n w = let place : w.0 ≡ k = opens_once t tree w.0 k b w.2 there in let l = w.1 in omega arith
+
+-- the content around the next box is bounded
+pub started_bounded : (t : Tree) → IsTree t → (o : SolidOrigin) (event left k b : ℕ) (chain : List ℕ) (parts : List Fragment) → IsGoodOrigin o → event ≤ length t.events → chain ≡ open_before t.events event → drop left chain ≡ b ∷ drop (suc left) chain → slice_get t.events k ≡ Some (Opens b) →
+    IsStarted t o.width chain (suc left) parts → IsBounded (length (open_before t.events k)) (content_at o.width parts (last_of (length parts)))
+started_bounded t tree o event left k b chain parts good low chain_is cons there s = by (before_drop t.events left event chain (subst (WereBefore t.events event) (sym chain_is) (were_before t.events event low)))
+  where
+    by : ((n : ℕ) × WereBefore t.events n (drop left chain)) → IsBounded (length (open_before t.events k)) (content_at o.width parts (last_of (length parts)))
+    by d =
+        let v : WereBefore t.events d.0 (b ∷ drop (suc left) chain) = subst (WereBefore t.events d.0) cons d.1 in
+        let place : v.0 ≡ k = opens_once t tree v.0 k b v.2 there in
+        let boxes : drop (suc left) chain ≡ open_before t.events k = sym v.3 ∙ ap (open_before t.events) place in
+        subst (λ (l : List ℕ). IsBounded (length l) (content_at o.width parts (last_of (length parts)))) boxes (content_bounded t tree o parts (drop (suc left) chain) (last_of (length parts)) s.next v.0 good s.on s.opened v.4)
 
 pub started_all : (t : Tree) (m : ℤ) (event : ℕ) (chain : List ℕ) (parts : List Fragment) → event ≤ length t.events → chain ≡ open_before t.events event → IsStarted t m chain 0 parts → IsAt t m parts (record { event = event; inner = last_of (length parts) })
 started_all t m event chain parts low is s = record {

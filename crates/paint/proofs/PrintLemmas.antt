@@ -1,5 +1,5 @@
 -- The text that a page prints.
-use Rattle.std.proofs.Common.{◌≡◌, ◌∙◌, ◌-◌, ℕ, ℤ, pos, ◌+ℤ◌, List, [], ◌∷◌, ◌++◌, map, Option, None, Some, Bool, true, false, cond, ◌==◌, length, slice_get, refl, sym, ap₂, append-nil, subst}
+use Rattle.std.proofs.Common.{◌≡◌, ◌∙◌, ℕ, ℤ, pos, ◌+ℤ◌, List, [], ◌∷◌, ◌++◌, map, Option, None, Some, Bool, true, false, cond, ◌==◌, length, slice_get, refl, sym, ap₂, append-nil, subst}
 use Rattle.std.specs.Prelude.{slice_range}
 use Rattle.std.specs.Ordering.{int_eq}
 use Rattle.std.specs.List.{flat_map, range_with_len}

@@ -1,6 +1,5 @@
 -- Where a solid and a text stand on a page, in units from its top left.
-use Rattle.std.specs.Prelude.{ℤ, ◌+ℤ◌, FitsSigned}
-use Rattle.std.specs.Int.{w64}
+use Rattle.std.specs.Prelude.{ℤ, ◌+ℤ◌}
 use Rattle.boxes.specs.declared.leaf.Span.{Span}
 use Rattle.boxes.specs.declared.page.Placed.{Placed}
 use Rattle.paint.specs.declared.item.Area.{Area}
@@ -11,11 +10,6 @@ use Rattle.boxes.specs.declared.span.Content.{Content}
 -- the area of a solid whose content or border box has a left and a width
 abbrev pub area_of : SolidOrigin → Content → Placed → Area
 area_of o content s = record { x = o.left +ℤ content.left; y = o.top +ℤ s.top; w = content.width; h = s.height }
-
--- the left and the top of an area are within 64 bits
-pub record BeginsInRange (a : Area) : Type 0 where
-  pub left : FitsSigned w64 a.x
-  pub top : FitsSigned w64 a.y
 
 -- a span's style at a left, on a baseline
 abbrev pub style_of : ℤ → ℤ → Span → TextPlace

@@ -1,6 +1,5 @@
 -- The items of a solid on a page, with their places in units from the page's top left.
-use Rattle.std.specs.Prelude.{◌<◌, FitsSigned, ℕ, ℤ, pos, ◌+ℤ◌, ◌-ℤ◌, List, [], ◌∷◌, ◌++◌, map, length, Bool, true, false, Option, Some, None, ◌==◌, slice_get, slice_index_or, slice_range, if◌then◌else◌}
-use Rattle.std.specs.Int.{w64}
+use Rattle.std.specs.Prelude.{◌<◌, ℕ, ℤ, pos, ◌+ℤ◌, ◌-ℤ◌, List, [], ◌∷◌, ◌++◌, map, length, Bool, true, false, Option, Some, None, ◌==◌, slice_get, slice_index_or, slice_range, if◌then◌else◌}
 use Rattle.std.specs.Str.{IsCharBoundary}
 use Rattle.metrics.specs.Face.{FontFace}
 use Rattle.boxes.specs.Lines.{LineView}
@@ -20,7 +19,7 @@ use Rattle.line_place.specs.Extents.{extent_of}
 use Rattle.line_place.specs.Placing.{runs_of}
 use Rattle.line_place.specs.declared.place.Run.{Run}
 use Rattle.paint.specs.Areas.{area_of, style_of}
-use Rattle.paint.specs.Opens.{IsWide, content_along, border_in, boxes_from}
+use Rattle.paint.specs.Opens.{content_along, border_in, boxes_from}
 use Rattle.boxes.specs.declared.span.Content.{Content}
 use Rattle.paint.specs.declared.item.SolidOrigin.{SolidOrigin}
 use Rattle.paint.specs.Views.{area_item, edge_item, hyphen_item, text_item}
@@ -43,12 +42,6 @@ abbrev pub lead_left : List FontFace → Tree → SolidOrigin → List ℕ → L
 lead_left faces t o boxes lead =
     lead_right t o boxes lead -ℤ pos (text_width (pen_of faces lead.span) lead.text)
 
--- its right edge and its left one are within 64 bits
-pub record IsLeadInRange (faces : List FontFace) (t : Tree) (o : SolidOrigin) (boxes : List ℕ) (lead : Lead) : Type 0
-  where
-    pub right : FitsSigned w64 (lead_right t o boxes lead)
-    pub left : FitsSigned w64 (lead_left faces t o boxes lead)
-
 -- a marker: its right edge stands at the left of its item's content (CSS 2.1, 12.5.1: outside), the item being one of
 -- some open boxes; spaces at its end count in its width
 unfoldable pub lead_item : List FontFace → Tree → SolidOrigin → List ℕ → ℤ → Lead → Item
@@ -64,7 +57,6 @@ line_of leaf s = line_between leaf s.at.offset (if s.end.event == s.at.event the
 
 -- a solid is a line of a leaf in a content: it begins at a character, and ends where the line that begins there does
 pub record IsLineOf (faces : List FontFace) (leaf : LeafData) (s : Placed) (content : Content) : Type 0 where
-  pub wide : IsWide content
   pub before : s.at.offset < length leaf.text
   pub begins : IsCharBoundary leaf.text s.at.offset
   pub fills : IsLine faces leaf s.at.offset content.width (line_of leaf s)

@@ -1,4 +1,5 @@
 pub mod Areas
+pub mod Bounds
 pub mod Conditions
 pub mod Faces
 pub mod Fragments

@@ -1,5 +1,6 @@
 -- The boxes that are open at a place of a tree, with the places of their contents and border boxes (CSS 2.1, 10.3.3).
-use Rattle.std.specs.Prelude.{◌≡◌, ◌^◌, ◌≤ℤ◌, pos, neg_ℤ, ℕ, ℤ, ◌+ℤ◌, List, [], ◌∷◌, ◌++◌, ◌==◌, if◌then◌else◌}
+use Rattle.std.specs.Prelude.{◌≡◌, ◌≤◌, ◌^◌, ◌*◌, ◌+◌, ◌≤ℤ◌, pos, neg_ℤ, ℕ, suc, ℤ, ◌+ℤ◌, List, [], ◌∷◌, ◌++◌, ◌==◌, Some, length, slice_get, if◌then◌else◌}
+use Rattle.bk_num.specs.Limits.{most_open}
 use Rattle.boxes.specs.declared.props.BoxProps.{BoxProps}
 use Rattle.boxes.specs.Spans.{frame_at, left_in_block, span_along, width_in_block}
 use Rattle.boxes.specs.Tree.{Tree, open_before}
@@ -30,6 +31,19 @@ pub record IsNear (c : Content) : Type 0 where
   pub low : neg_ℤ (pos (2 ^ 60)) ≤ℤ c.left
   pub high : c.left ≤ℤ pos (2 ^ 60)
 
+-- the content of the innermost of n boxes in a frame from 0 to 2^30 units wide: each is at most 2^28 units wider than
+-- the one around it, and begins at most 2^42 units beside it
+pub record IsBounded (n : ℕ) (c : Content) : Type 0 where
+  pub low : pos 0 ≤ℤ c.width
+  pub high : c.width ≤ℤ pos (2 ^ 30 + 2 ^ 28 * n)
+  pub left_low : neg_ℤ (pos (2 ^ 42 * n)) ≤ℤ c.left
+  pub left_high : c.left ≤ℤ pos (2 ^ 42 * n)
+
+-- at most 2,048 boxes are open one in another, and the contents of all, the outermost first, are so bounded
+pub record AreBounded (opens : List OpenBox) : Type 0 where
+  pub few : length opens ≤ most_open
+  pub each : (k : ℕ) (open_box : OpenBox) → slice_get opens k ≡ Some open_box → IsBounded (suc k) open_box.content
+
 -- some boxes that are open one in another, the outermost first
 abbrev pub opens_of : Tree → ℤ → List ℕ → List OpenBox
 opens_of t measure [] = []
@@ -37,8 +51,9 @@ opens_of t measure (b ∷ boxes) =
     opens_of t measure boxes ++ record { number = b; content = content_along t measure (b ∷ boxes) } ∷ []
 
 -- the boxes that are open before an event, the outermost first
-abbrev pub AreOpen : Tree → SolidOrigin → ℕ → List OpenBox → Type 0
-AreOpen t o at opens = opens ≡ opens_of t o.width (open_before t.events at)
+pub record AreOpen (t : Tree) (o : SolidOrigin) (at : ℕ) (opens : List OpenBox) : Type 0 where
+  pub are : opens ≡ opens_of t o.width (open_before t.events at)
+  pub bounded : AreBounded opens
 
 -- the boxes from one of them on, which is then the innermost; none where it isn't among them
 abbrev pub boxes_from : ℕ → List ℕ → List ℕ

@@ -1,6 +1,5 @@
 -- The items of a page, in the order of the listing.
-use Rattle.std.specs.Prelude.{ℕ, ℤ, pos, ◌+ℤ◌, ◌-ℤ◌, List, [], ◌∷◌, ◌++◌, Option, None, Some, ◌==◌, length, slice_get, FitsSigned, if◌then◌else◌}
-use Rattle.std.specs.Int.{w64}
+use Rattle.std.specs.Prelude.{ℕ, pos, ◌+ℤ◌, ◌-ℤ◌, List, [], ◌∷◌, ◌++◌, Option, None, Some, ◌==◌, length, slice_get, if◌then◌else◌}
 use Rattle.std.specs.List.{flat_map, range_with_len}
 use Rattle.bk_num.specs.Units.{floor_div}
 use Rattle.bk_num.specs.declared.values.Color.{Color}
@@ -16,7 +15,7 @@ use Rattle.boxes.specs.declared.page.Placed.{Placed}
 use Rattle.boxes.specs.declared.place.Event.{Event}
 use Rattle.boxes.specs.declared.place.Event.TheVariants.{Opens, Closes, Leaf}
 use Rattle.boxes.specs.declared.props.BoxProps.{BoxProps}
-use Rattle.notes.specs.Notes.{HaveBottoms, placed_height}
+use Rattle.notes.specs.Notes.{placed_height}
 use Rattle.paint.specs.Fragments.{is_lower, is_upper, reach_by, stands_in}
 use Rattle.paint.specs.Items.{for_some, solid_items}
 use Rattle.paint.specs.Opens.{content_along}
@@ -54,12 +53,6 @@ flow_origin f = record { left = f.left; top = f.top; width = f.width }
 -- the note area stands at the frame's foot, and the notes' solids count from its top
 abbrev pub area_origin : Frame → List (ℕ × Placed) → SolidOrigin
 area_origin f notes = record { left = f.left; top = (f.top +ℤ f.height) -ℤ placed_height notes; width = f.width }
-
--- the bottoms of the notes' solids and of the frame, and the top of the area, are within 64 bits
-pub record FitsArea (f : Frame) (notes : List (ℕ × Placed)) : Type 0 where
-  pub bottoms : HaveBottoms notes
-  pub bottom : FitsSigned w64 (f.top +ℤ f.height)
-  pub top : FitsSigned w64 (area_origin f notes).top
 
 -- the colour of the separator
 abbrev pub black : Color

@@ -10,7 +10,7 @@ use Rattle.boxes.specs.declared.place.Event.TheVariants.{Opens, Closes, Leaf}
 use Rattle.boxes.specs.declared.props.BoxProps.{BoxProps}
 use Rattle.paint.specs.Fragments.{boxes_at, extent_of, here, join}
 use Rattle.paint.specs.Items.{for_some}
-use Rattle.paint.specs.Opens.{content_along, content_of, pair_of}
+use Rattle.paint.specs.Opens.{IsBounded, content_along, content_of, pair_of}
 use Rattle.paint.specs.Rects.{fragment_rects}
 use Rattle.paint.specs.declared.extent.VerticalExtent.{VerticalExtent}
 use Rattle.paint.specs.declared.item.SolidOrigin.{SolidOrigin}
@@ -112,6 +112,8 @@ pub record IsOpened (t : Tree) (measure : ℤ) (p : Fragment) : Type 0 where
   pub opens : slice_get t.events p.event ≡ Some (Opens p.number)
   pub around_is : p.around ≡ content_along t measure (open_before t.events p.event)
   pub content_is : p.content ≡ content_along t measure (p.number ∷ open_before t.events p.event)
+  pub around_bounded : IsBounded (length (open_before t.events p.event)) p.around
+  pub content_bounded : IsBounded (suc (length (open_before t.events p.event))) p.content
 
 -- the same of each box that was met
 abbrev pub HaveOpened : Tree → ℤ → List Fragment → Type 0

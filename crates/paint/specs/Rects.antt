@@ -1,7 +1,6 @@
 -- The rectangles of a box on a page: its background, then its borders top, right, bottom and left (CSS 2.1, E.2;
 -- css-break-3, 5.4).
-use Rattle.std.specs.Prelude.{FitsSigned, ℤ, pos, ◌+ℤ◌, ◌-ℤ◌, List, [], ◌∷◌, ◌++◌, Option, None, Some, slice_get, if◌then◌else◌}
-use Rattle.std.specs.Int.{w64}
+use Rattle.std.specs.Prelude.{ℤ, pos, ◌+ℤ◌, ◌-ℤ◌, List, [], ◌∷◌, ◌++◌, Option, None, Some, slice_get, if◌then◌else◌}
 use Rattle.std.specs.Ordering.{int_eq}
 use Rattle.bk_num.specs.declared.values.Color.{Color}
 use Rattle.boxes.specs.Spans.{units_at}
@@ -19,12 +18,6 @@ use Rattle.boxes.specs.declared.span.Content.{Content}
 abbrev pub fragment_area : SolidOrigin → Content → VerticalExtent → Area
 fragment_area o border e =
     record { x = o.left +ℤ border.left; y = o.top +ℤ e.top; w = border.width; h = e.bottom -ℤ e.top }
-
--- the left, the top and the height of a fragment are within 64 bits
-pub record FitsFragment (a : Area) : Type 0 where
-  pub left : FitsSigned w64 a.x
-  pub top : FitsSigned w64 a.y
-  pub height : FitsSigned w64 a.h
 
 -- a transparent background isn't painted
 unfoldable pub background_rects : Option Color → Area → List Item
@@ -54,27 +47,10 @@ abbrev pub upper_top : SolidOrigin → Option VerticalExtent → Option ℤ
 upper_top o None = None
 upper_top o (Some e) = Some (o.top +ℤ e.top)
 
--- it is within 64 bits
-abbrev pub FitsUpper : SolidOrigin → Option VerticalExtent → Type 0
-FitsUpper o None = Unit {0}
-FitsUpper o (Some e) = FitsSigned w64 (o.top +ℤ e.top)
-
 -- the lower border ends at the bottom of the lower edge
 abbrev pub lower_top : SolidOrigin → ℤ → Option VerticalExtent → Option ℤ
 lower_top o thick None = None
 lower_top o thick (Some e) = Some ((o.top +ℤ e.bottom) -ℤ thick)
-
--- that bottom and the top of the border are within 64 bits
-abbrev pub FitsLower : SolidOrigin → ℤ → Option VerticalExtent → Type 0
-FitsLower o thick None = Unit {0}
-FitsLower o thick (Some e) = FitsSigned w64 (o.top +ℤ e.bottom) × FitsSigned w64 ((o.top +ℤ e.bottom) -ℤ thick)
-
--- the places of the borders of a fragment, whose upper and lower edge reach so far, are within 64 bits
-pub record FitsSides (o : SolidOrigin) (p : BoxProps) (a : Area) (upper lower : Option VerticalExtent) : Type 0 where
-  pub edge : FitsSigned w64 (a.x +ℤ a.w)
-  pub right : FitsSigned w64 (right_area a (units_at p.border 1)).x
-  pub top : FitsUpper o upper
-  pub bottom : FitsLower o (units_at p.border 2) lower
 
 -- the borders of a fragment: top, right, bottom and left, each in its colour
 abbrev pub side_rects : BoxProps → Area → Option ℤ → Option ℤ → List Item

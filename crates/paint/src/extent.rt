@@ -1,10 +1,9 @@
 //! How far solids reach down a page.
 
-ghost use Rattle.std.specs.Prelude.{◌≡◌, SomeIff, FitsSigned, ◌+ℤ◌};
-ghost use Rattle.std.specs.Int.{w64};
+ghost use Rattle.std.specs.Prelude.{◌≡◌};
+ghost use Rattle.paint.specs.Bounds.{IsNearSolid};
 ghost use Rattle.paint.specs.Fragments.{extent_of, join};
 
-use crate::item::sum;
 use boxes::page::Placed;
 
 /// From a least top to a greatest bottom, in units from the top that the solids count from.
@@ -28,12 +27,13 @@ pub(crate) fn join(a: Option<VerticalExtent>, b: Option<VerticalExtent>) -> Opti
     }
 }
 
-/// The extent of a solid. None exactly where its bottom is past 64 bits.
-pub(crate) fn extent_of(s: &Placed) -> Option<VerticalExtent>
-    ensures { SomeIff result (FitsSigned w64 (s.now.top +ℤ s.now.height)) (extent_of s.now) }
+/// The extent of a solid.
+pub(crate) fn extent_of(s: &Placed) -> VerticalExtent
+    requires { IsNearSolid s.now }
+    ensures { result ≡ extent_of s.now }
 {
-    Some(VerticalExtent {
+    VerticalExtent {
         top: s.top,
-        bottom: sum(s.top, s.height)?,
-    })
+        bottom: s.top + s.height,
+    }
 }

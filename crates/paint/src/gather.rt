@@ -5,6 +5,7 @@ ghost use Rattle.std.specs.List.{flat_map};
 ghost use Rattle.std.specs.Option.{ForSome};
 ghost use Rattle.bk_num.specs.Limits.{most_open};
 ghost use Rattle.boxes.specs.Tree.{depth_of, open_before};
+ghost use Rattle.paint.specs.Bounds.{IsGoodOrigin, IsNearPart, IsNearSolid};
 ghost use Rattle.paint.specs.Pages.{rects_of};
 ghost use Rattle.paint.specs.Parts.{AddsSolid, AreGathered, HaveNone, IsAt, IsGrown, LeavesTo, end_by, first_event, last_of, part_rects};
 
@@ -37,6 +38,8 @@ fn open_all(
 ) -> Result<(), NoMem>
     requires none { length parts.old.items ≡ 0 }
     requires within { event ≤ length tree.now.events }
+    requires depth { depth_of tree.now.events ≤ most_open }
+    requires origin { IsGoodOrigin origin.now }
     requires chain { chain.now ≡ open_before tree.now.events event }
     ensures at { OnOk result (IsAt tree.now origin.now.width parts.new.items
         (record { event = event; inner = last_of (length parts.new.items) })) }
@@ -80,6 +83,7 @@ fn begin(
     requires none { length parts.old.items ≡ 0 }
     requires within { event ≤ length tree.now.events }
     requires depth { depth_of tree.now.events ≤ most_open }
+    requires origin { IsGoodOrigin origin.now }
     ensures at { IfOk result (λ now. IsAt tree.now origin.now.width parts.new.items now) }
     ensures event { IfOk result (λ now. now.event ≡ event) }
     ensures none { OnOk result (HaveNone parts.new.items) }
@@ -113,6 +117,8 @@ fn pass(
     origin: &SolidOrigin,
 ) -> Result<Option<usize>, NoMem>
     requires within { at < length tree.now.events }
+    requires depth { depth_of tree.now.events ≤ most_open }
+    requires origin { IsGoodOrigin origin.now }
     requires at { IsAt tree.now origin.now.width parts.old.items (record { event = at; inner = inner }) }
     ensures at { IfOk result (λ now. IsAt tree.now origin.now.width parts.new.items
         (record { event = at + 1; inner = now })) }
@@ -141,6 +147,8 @@ fn pass_to(
 ) -> Result<Option<usize>, NoMem>
     requires order { reached.event ≤ to }
     requires within { to ≤ length tree.now.events }
+    requires depth { depth_of tree.now.events ≤ most_open }
+    requires origin { IsGoodOrigin origin.now }
     requires at { IsAt tree.now origin.now.width parts.old.items reached }
     ensures at { IfOk result (λ now. IsAt tree.now origin.now.width parts.new.items
         (record { event = to; inner = now })) }
@@ -179,6 +187,9 @@ fn add_solid(
     solid: &Placed,
     origin: &SolidOrigin,
 ) -> Result<Reached, NoMem>
+    requires depth { depth_of tree.now.events ≤ most_open }
+    requires origin { IsGoodOrigin origin.now }
+    requires solid { IsNearSolid solid.now }
     requires at { IsAt tree.now origin.now.width parts.old.items reached }
     ensures at { IfOk result (λ now. IsAt tree.now origin.now.width parts.new.items now) }
     ensures within { IfOk result (λ now. now.event ≤ length tree.now.events) }
@@ -192,14 +203,11 @@ fn add_solid(
     }
     let event = tree.event(at);
     let to = end_at(event, at);
-    let Some(extent) = extent_of(solid) else {
-        return Err(NoMem);
-    };
     if !is_ahead(reached, to) {
         return Err(NoMem);
     }
     let inner = pass_to(parts, tree, reached, to, origin)?;
-    extend(parts, inner, event, extent);
+    extend(parts, inner, event, extent_of(solid));
     Ok(Reached { event: to, inner })
 }
 
@@ -221,6 +229,8 @@ fn gather(
     solids: &[Placed],
 ) -> Result<Vec<Fragment>, NoMem>
     requires depth { depth_of tree.now.events ≤ most_open }
+    requires origin { IsGoodOrigin origin.now }
+    requires solids { All IsNearSolid solids.now }
     ensures { IfOk result (λ v. AreGathered tree.now origin.now.width solids.now v.items) }
 {
     let first = first_event(solids).min(tree.count());
@@ -241,9 +251,12 @@ pub(crate) fn parts_of(
     solids: &[Placed],
 ) -> Result<Vec<Fragment>, NoMem>
     requires depth { depth_of tree.now.events ≤ most_open }
+    requires origin { IsGoodOrigin origin.now }
+    requires solids { All IsNearSolid solids.now }
     ensures rects { IfOk result (λ v. flat_map (part_rects tree.now origin.now) v.items
         ≡ rects_of tree.now origin.now solids.now) }
     ensures there { IfOk result (λ v. All (λ p. p.number < length tree.now.boxes) v.items) }
+    ensures near { IfOk result (λ v. All IsNearPart v.items) }
 {
     // a tree is known to be one by its count
     let _count = tree.count();

@@ -1,8 +1,10 @@
 //! Items of a page with borrowed texts.
 
-ghost use Rattle.std.specs.Prelude.{◌≡◌, SomeIff, FitsSigned, ◌+ℤ◌, ◌-ℤ◌};
+ghost use Rattle.std.specs.Prelude.{◌≡◌, ◌^◌, SomeIff, FitsSigned, ◌+ℤ◌};
 ghost use Rattle.std.specs.Int.{w64};
-ghost use Rattle.paint.specs.Areas.{BeginsInRange, area_of, style_of};
+ghost use Rattle.bk_num.specs.Numbers.{IsWithin};
+ghost use Rattle.paint.specs.Areas.{area_of, style_of};
+ghost use Rattle.paint.specs.Bounds.{IsGoodOrigin, IsNearSolid};
 
 use bk_num::ids::FaceId;
 use bk_num::px::Px;
@@ -58,13 +60,6 @@ pub(crate) fn sum(a: i64, b: i64) -> Option<i64>
     a.checked_add(b)
 }
 
-/// A difference of units. None exactly where it is past 64 bits.
-pub(crate) fn difference(a: i64, b: i64) -> Option<i64>
-    ensures { SomeIff result (FitsSigned w64 (a -ℤ b)) (a -ℤ b) }
-{
-    a.checked_sub(b)
-}
-
 /// The style of a span at a left, on a baseline.
 pub(crate) fn style_at(span: &Span, x: i64, y: i64) -> TextPlace
     ensures { result ≡ style_of x y span.now }
@@ -78,17 +73,19 @@ pub(crate) fn style_at(span: &Span, x: i64, y: i64) -> TextPlace
     }
 }
 
-/// The area of a solid whose content or border box has a left and a width. None exactly where it begins past 64 bits.
-pub(crate) fn area_at(origin: &SolidOrigin, content: &Content, s: &Placed) -> Option<Area>
-    ensures { SomeIff result (BeginsInRange (area_of origin.now content.now s.now))
-        (area_of origin.now content.now s.now) }
+/// The area of a solid whose content or border box has a left and a width.
+pub(crate) fn area_at(origin: &SolidOrigin, content: &Content, s: &Placed) -> Area
+    requires origin { IsGoodOrigin origin.now }
+    requires left { IsWithin (2 ^ 61) content.now.left }
+    requires solid { IsNearSolid s.now }
+    ensures { result ≡ area_of origin.now content.now s.now }
 {
-    Some(Area {
-        x: sum(origin.left, content.left)?,
-        y: sum(origin.top, s.top)?,
+    Area {
+        x: origin.left + content.left,
+        y: origin.top + s.top,
         w: content.width,
         h: s.height,
-    })
+    }
 }
 
 /// What is painted: a tree whose solids stand from an origin, in the faces of its texts.

@@ -1,15 +1,17 @@
 //! Items of markers.
 
-ghost use Rattle.std.specs.Prelude.{◌≡◌, ◌<◌, ◌≤◌, ◌∷◌, [], ◌^◌, pos, ◌≤ℤ◌, map, length, All, OnOk, SomeIff};
+ghost use Rattle.std.specs.Prelude.{◌≡◌, ◌<◌, ◌≤◌, ◌∷◌, [], ◌^◌, pos, ◌≤ℤ◌, map, length, All, OnOk};
+ghost use Rattle.bk_num.specs.Numbers.{IsWithin};
 ghost use Rattle.boxes.specs.Contents.{IsGoodSpan};
 ghost use Rattle.boxes.specs.Tree.{open_before};
 ghost use Rattle.metrics.specs.Widths.{text_width};
 ghost use Rattle.line_fill.specs.Widths.{pen_of};
-ghost use Rattle.paint.specs.Items.{IsLeadInRange, lead_item, lead_left};
+ghost use Rattle.paint.specs.Bounds.{IsGoodOrigin};
+ghost use Rattle.paint.specs.Items.{lead_item, lead_left};
 ghost use Rattle.paint.specs.Opens.{AreOpen, open_left};
 ghost use Rattle.paint.specs.Views.{Adds, HaveItemFaces};
 
-use crate::item::{Canvas, ItemRef, difference, style_at, sum};
+use crate::item::{Canvas, ItemRef, style_at};
 use crate::opens::{OpenBox, left_of};
 use bk_num::name::NoMem;
 use boxes::leaf::Lead;
@@ -31,7 +33,8 @@ fn lead_width(faces: &Faces, lead: &Lead) -> u64
 /// The left of the content of a marker's item, which is one of the boxes that are open at an event.
 fn left_in(canvas: &Canvas<'_>, opens: &[OpenBox], at: u32, owner: u32) -> i64
     requires { AreOpen canvas.now.tree.now canvas.now.origin at opens.now }
-    ensures { result ≡ open_left canvas.now.tree.now canvas.now.origin at owner }
+    ensures value { result ≡ open_left canvas.now.tree.now canvas.now.origin at owner }
+    ensures within { IsWithin (2 ^ 60) result }
 {
     // named by the clauses alone
     let _canvas = canvas;
@@ -39,20 +42,17 @@ fn left_in(canvas: &Canvas<'_>, opens: &[OpenBox], at: u32, owner: u32) -> i64
     left_of(opens, owner)
 }
 
-/// Where a marker of the leaf at an event begins, in units from the page's left. None exactly where it or its right
-/// edge is past 64 bits.
-fn lead_left(canvas: &Canvas<'_>, opens: &[OpenBox], at: u32, lead: &Lead) -> Option<i64>
+/// Where a marker of the leaf at an event begins, in units from the page's left.
+fn lead_left(canvas: &Canvas<'_>, opens: &[OpenBox], at: u32, lead: &Lead) -> i64
+    requires origin { IsGoodOrigin canvas.now.origin }
     requires opens { AreOpen canvas.now.tree.now canvas.now.origin at opens.now }
     requires face { lead.now.span.face.0 < length canvas.now.faces.now }
     requires size { pos 0 ≤ℤ lead.now.span.size }
-    ensures { SomeIff result (IsLeadInRange canvas.now.faces.now canvas.now.tree.now canvas.now.origin
-        (open_before canvas.now.tree.now.events at) lead.now)
-        (lead_left canvas.now.faces.now canvas.now.tree.now canvas.now.origin
-        (open_before canvas.now.tree.now.events at) lead.now) }
+    ensures { result ≡ lead_left canvas.now.faces.now canvas.now.tree.now canvas.now.origin
+        (open_before canvas.now.tree.now.events at) lead.now }
 {
-    let right = sum(canvas.origin.left, left_in(canvas, opens, at, lead.owner))?;
-    let width = lead_width(canvas.faces, lead) as i64;
-    Some(difference(right, width)?)
+    let right = canvas.origin.left + left_in(canvas, opens, at, lead.owner);
+    right - lead_width(canvas.faces, lead) as i64
 }
 
 /// Adds a marker of the leaf at an event, on a baseline.
@@ -65,6 +65,7 @@ fn push_lead<'a>(
     baseline: i64,
     lead: &'a Lead,
 ) -> Result<(), NoMem>
+    requires origin { IsGoodOrigin canvas.now.origin }
     requires opens { AreOpen canvas.now.tree.now canvas.now.origin at opens.now }
     requires face { lead.now.span.face.0 < length canvas.now.faces.now }
     requires span { IsGoodSpan lead.now.span }
@@ -74,9 +75,7 @@ fn push_lead<'a>(
         (open_before canvas.now.tree.now.events at) baseline lead.now ∷ []) out.new.items) }
     ensures faces { OnOk result (HaveItemFaces canvas.now.faces.now out.new.items) }
 {
-    let Some(x) = lead_left(canvas, opens, at, lead) else {
-        return Err(NoMem);
-    };
+    let x = lead_left(canvas, opens, at, lead);
     let style = style_at(&lead.span, x, baseline);
     let text = lead.text.as_str();
     if out.push(ItemRef::Text { style, text }).is_err() {
@@ -94,6 +93,7 @@ pub(crate) fn push_leads<'a>(
     baseline: i64,
     leads: &'a [Lead],
 ) -> Result<(), NoMem>
+    requires origin { IsGoodOrigin canvas.now.origin }
     requires opens { AreOpen canvas.now.tree.now canvas.now.origin at opens.now }
     requires lead_faces { All (λ lead. lead.span.face.0 < length canvas.now.faces.now) leads.now }
     requires spans { All (λ lead. IsGoodSpan lead.span) leads.now }

@@ -1,21 +1,23 @@
 //! Items of lines.
 
-ghost use Rattle.std.specs.Prelude.{◌≡◌, ◌+◌, ◌≤◌, ◌∷◌, [], ◌+ℤ◌, ◌==◌, if◌then◌else◌, map, length, MatchBool, MatchOption, OnOk, IfSome, IsSome, SomeIff, FitsSigned, ◌<◌};
+ghost use Rattle.std.specs.Prelude.{◌≡◌, ◌+◌, ◌≤◌, ◌∷◌, [], ◌^◌, ◌+ℤ◌, ◌==◌, if◌then◌else◌, map, length, MatchBool, MatchOption, OnOk, IfSome, SomeIff, FitsSigned, ◌<◌};
 ghost use Rattle.std.specs.Int.{w64};
 ghost use Rattle.std.specs.Str.{IsCharBoundary};
+ghost use Rattle.bk_num.specs.Numbers.{IsWithin};
 ghost use Rattle.boxes.specs.Contents.{IsGoodLeaf};
 ghost use Rattle.boxes.specs.Tree.{open_before};
 ghost use Rattle.line_place.specs.Conditions.{IsInLeaf};
 ghost use Rattle.line_place.specs.Extents.{extent_of};
 ghost use Rattle.paint.specs.Areas.{area_of};
+ghost use Rattle.paint.specs.Bounds.{IsGoodOrigin, IsNearSolid};
 ghost use Rattle.paint.specs.Conditions.{IsFaced};
 ghost use Rattle.paint.specs.Items.{IsLineOf, lead_item, line_items, line_of, words_items};
-ghost use Rattle.paint.specs.Opens.{AreOpen, IsWide};
+ghost use Rattle.paint.specs.Opens.{AreOpen, IsNear, IsWide};
 ghost use Rattle.paint.specs.Views.{Adds, HaveItemFaces, area_item};
 
 use crate::item::{Canvas, ItemRef, area_at, sum};
 use crate::leads::push_leads;
-use crate::opens::{OpenBox, innermost, is_wide};
+use crate::opens::{OpenBox, innermost};
 use crate::runs::push_runs;
 use bk_num::name::NoMem;
 use bk_num::steps::Steps;
@@ -37,14 +39,15 @@ fn push_area<'a>(
     s: &Placed,
     content: &Content,
 ) -> Result<(), NoMem>
+    requires origin { IsGoodOrigin canvas.now.origin }
+    requires solid { IsNearSolid s.now }
+    requires left { IsWithin (2 ^ 61) content.now.left }
     requires faces { HaveItemFaces canvas.now.faces.now out.old.items }
     ensures items { OnOk result (Adds canvas.now.faces.now out.old.items
         (area_item (area_of canvas.now.origin content.now s.now) ∷ []) out.new.items) }
     ensures faces { OnOk result (HaveItemFaces canvas.now.faces.now out.new.items) }
 {
-    let Some(area) = area_at(&canvas.origin, content, s) else {
-        return Err(NoMem);
-    };
+    let area = area_at(&canvas.origin, content, s);
     if out.push(ItemRef::Line { area }).is_err() {
         return Err(NoMem);
     }
@@ -63,6 +66,7 @@ fn push_first<'a>(
 ) -> Result<(), NoMem>
     requires good { IsGoodLeaf leaf.now }
     requires faced { IsFaced canvas.now.faces.now leaf.now }
+    requires origin { IsGoodOrigin canvas.now.origin }
     requires opens { AreOpen canvas.now.tree.now canvas.now.origin at opens.now }
     requires faces { HaveItemFaces canvas.now.faces.now out.old.items }
     ensures items { OnOk result (Adds canvas.now.faces.now out.old.items
@@ -91,18 +95,18 @@ fn push_words<'a>(
 ) -> Result<(), NoMem>
     requires good { IsGoodLeaf leaf.now }
     requires faced { IsFaced canvas.now.faces.now leaf.now }
+    requires origin { IsGoodOrigin canvas.now.origin }
     requires opens { AreOpen canvas.now.tree.now canvas.now.origin at opens.now }
     requires line { IsInLeaf leaf.now line }
     requires wide { IsWide content.now }
+    requires near { IsNear content.now }
     requires faces { HaveItemFaces canvas.now.faces.now out.old.items }
     ensures items { OnOk result (Adds canvas.now.faces.now out.old.items
         (words_items canvas.now.faces.now canvas.now.tree.now canvas.now.origin
         (open_before canvas.now.tree.now.events at) leaf.now line content.now baseline) out.new.items) }
     ensures faces { OnOk result (HaveItemFaces canvas.now.faces.now out.new.items) }
 {
-    let Some(left) = sum(canvas.origin.left, content.left) else {
-        return Err(NoMem);
-    };
+    let left = canvas.origin.left + content.left;
     push_first(out, canvas, opens, at, baseline, leaf, line)?;
     let runs = runs(alloc, canvas.faces, leaf, line, content.width)?;
     push_runs(out, canvas, leaf, left, baseline, runs.as_slice())?;
@@ -153,14 +157,14 @@ fn line_at<L: Ledger>(
 ) -> Option<Line>
     requires good { IsGoodLeaf leaf.now }
     requires faced { IsFaced faces.now leaf.now }
+    requires wide { IsWide content.now }
     ensures line { MatchOption result (¬ (IsLineOf faces.now leaf.now s.now content.now))
         (λ line. line ≡ line_of leaf.now s.now) }
     ensures inside { IfSome result (λ line. IsInLeaf leaf.now line) }
-    ensures wide { IsSome result → IsWide content.now }
     ensures steps { steps.new ≤ steps.old + 1 }
 {
     let from = s.at.offset;
-    if !is_wide(content) || !has_character(leaf.text.as_str(), from) {
+    if !has_character(leaf.text.as_str(), from) {
         return None;
     }
     let line = next_line(faces, leaf, from, content.width, steps);
@@ -185,6 +189,8 @@ pub(crate) fn push_line<'a, L: Ledger>(
 ) -> Result<(), NoMem>
     requires good { IsGoodLeaf leaf.now }
     requires faced { IsFaced canvas.now.faces.now leaf.now }
+    requires origin { IsGoodOrigin canvas.now.origin }
+    requires solid { IsNearSolid s.now }
     requires opens { AreOpen canvas.now.tree.now canvas.now.origin s.now.at.event opens.now }
     requires faces { HaveItemFaces canvas.now.faces.now out.old.items }
     ensures items { OnOk result (Adds canvas.now.faces.now out.old.items

@@ -1,16 +1,18 @@
 //! Items of the note area of a page.
 
-ghost use Rattle.std.specs.Prelude.{◌≡◌, ◌+◌, ◌≤◌, ◌∷◌, [], OnOk, SomeIff, FitsSigned, Some, length, slice_get, option_map};
-ghost use Rattle.std.specs.Int.{w64};
+ghost use Rattle.std.specs.Prelude.{◌≡◌, ◌+◌, ◌≤◌, ◌∷◌, [], OnOk, Some, All, pos, ◌≤ℤ◌, ◌^◌, length, slice_get, option_map};
 ghost use Rattle.std.specs.List.{flat_map, range_with_len};
+ghost use Rattle.boxes.specs.Frames.{IsGoodFrame};
+ghost use Rattle.notes.specs.Notes.{placed_height};
 ghost use Rattle.boxes.specs.declared.flow.Note.{Note};
+ghost use Rattle.paint.specs.Bounds.{IsGoodOrigin, IsNearSolid};
 ghost use Rattle.paint.specs.Conditions.{CanNotesBePainted};
 ghost use Rattle.paint.specs.Groups.{GoesOn};
 ghost use Rattle.paint.specs.Items.{for_some};
-ghost use Rattle.paint.specs.Pages.{FitsArea, area_items, area_origin, note_items, separator_area, separator_at, tree_items};
+ghost use Rattle.paint.specs.Pages.{area_items, area_origin, note_items, separator_area, separator_at, tree_items};
 ghost use Rattle.paint.specs.Views.{Adds, HaveItemFaces, items_in};
 
-use crate::item::{Area, Canvas, ItemRef, SolidOrigin, difference, sum};
+use crate::item::{Area, Canvas, ItemRef, SolidOrigin};
 use crate::rects::push_rect;
 use crate::trees::push_tree;
 use bk_num::limits::SEPARATOR;
@@ -31,29 +33,42 @@ const BLACK: Color = Color {
     blue: 0,
 };
 
-/// What the places of a page's note solids count from. None exactly where it, the frame's bottom or the bottom of one
-/// of these solids is past 64 bits.
-fn area_origin(frame: &Frame, notes: &[PlacedNote]) -> Option<SolidOrigin>
-    ensures { SomeIff result (FitsArea frame.now notes.now) (area_origin frame.now notes.now) }
+/// The height of the note area in which solids are placed, in units.
+fn area_height(notes: &[PlacedNote]) -> i64
+    requires { All (λ note. IsNearSolid note.1) notes.now }
+    ensures value { result ≡ placed_height notes.now }
+    ensures low { pos 0 ≤ℤ result }
+    ensures high { result ≤ℤ pos (2 ^ 60 + 2 ^ 32) }
 {
-    let bottom = sum(frame.top, frame.height)?;
-    Some(SolidOrigin {
-        left: frame.left,
-        top: difference(bottom, placed_height(notes)?)?,
-        width: frame.width,
-    })
+    placed_height(notes).unwrap()
 }
 
-/// Where the separator stands. None exactly where its top is past 64 bits.
-fn separator_area(origin: &SolidOrigin) -> Option<Area>
-    ensures { SomeIff result (FitsSigned w64 (separator_area origin.now).y) (separator_area origin.now) }
+/// What the places of a page's note solids count from.
+fn area_origin(frame: &Frame, notes: &[PlacedNote]) -> SolidOrigin
+    requires frame { IsGoodFrame frame.now }
+    requires solids { All (λ note. IsNearSolid note.1) notes.now }
+    ensures value { result ≡ area_origin frame.now notes.now }
+    ensures good { IsGoodOrigin result }
 {
-    Some(Area {
+    let height = area_height(notes);
+    SolidOrigin {
+        left: frame.left,
+        top: frame.top + frame.height - height,
+        width: frame.width,
+    }
+}
+
+/// Where the separator stands.
+fn separator_area(origin: &SolidOrigin) -> Area
+    requires { IsGoodOrigin origin.now }
+    ensures { result ≡ separator_area origin.now }
+{
+    Area {
         x: origin.left,
-        y: sum(origin.top, SEPARATOR.div_euclid(2))?,
+        y: origin.top + SEPARATOR.div_euclid(2),
         w: origin.width.div_euclid(3),
         h: 64,
-    })
+    }
 }
 
 /// Adds the separator.
@@ -62,14 +77,12 @@ fn push_separator<'a>(
     faces: &Faces,
     origin: &SolidOrigin,
 ) -> Result<(), NoMem>
+    requires origin { IsGoodOrigin origin.now }
     requires faces { HaveItemFaces faces.now out.old.items }
     ensures items { OnOk result (Adds faces.now out.old.items (separator_at origin.now ∷ []) out.new.items) }
     ensures faces { OnOk result (HaveItemFaces faces.now out.new.items) }
 {
-    let Some(area) = separator_area(origin) else {
-        return Err(NoMem);
-    };
-    push_rect(out, faces, area, BLACK)
+    push_rect(out, faces, separator_area(origin), BLACK)
 }
 
 /// The note of a number.
@@ -101,6 +114,8 @@ fn push_note<'a, L: Ledger>(
     steps: &mut Steps<L>,
 ) -> Result<(), NoMem>
     requires bodies { CanNotesBePainted faces.now notes.now }
+    requires origin { IsGoodOrigin origin }
+    requires solids { All IsNearSolid group.now.solids.items }
     requires faces { HaveItemFaces faces.now out.old.items }
     ensures items { OnOk result (Adds faces.now out.old.items
         (for_some (λ (note : Note). tree_items faces.now note.body origin group.now.solids.items)
@@ -133,11 +148,14 @@ fn turn_to<'a, L: Ledger>(
     steps: &mut Steps<L>,
 ) -> Result<(), NoMem>
     requires bodies { CanNotesBePainted faces.now notes.now }
+    requires origin { IsGoodOrigin origin }
+    requires solids { All IsNearSolid group.old.solids.items }
     requires faces { HaveItemFaces faces.now out.old.items }
     ensures items { OnOk result (GoesOn faces.now notes.now origin
         (items_in faces.now out.old.items) group.old.number group.old.solids.items
         (items_in faces.now out.new.items) group.new.number group.new.solids.items) }
     ensures number { OnOk result (group.new.number ≡ next) }
+    ensures solids { OnOk result (All IsNearSolid group.new.solids.items) }
     ensures faces { OnOk result (HaveItemFaces faces.now out.new.items) }
     ensures steps { steps.new ≤ steps.old + length group.old.solids.items }
     ensures rest { OnOk result (steps.new + length group.new.solids.items ≤ steps.old + length group.old.solids.items) }
@@ -165,6 +183,8 @@ fn push_notes<'a, L: Ledger>(
     steps: &mut Steps<L>,
 ) -> Result<(), NoMem>
     requires bodies { CanNotesBePainted faces.now notes.now }
+    requires origin { IsGoodOrigin origin }
+    requires solids { All (λ note. IsNearSolid note.1) placed.now }
     requires faces { HaveItemFaces faces.now out.old.items }
     ensures items { OnOk result (Adds faces.now out.old.items
         (flat_map (note_items faces.now notes.now origin placed.now)
@@ -213,6 +233,8 @@ pub(crate) fn push_area<'a, L: Ledger>(
     steps: &mut Steps<L>,
 ) -> Result<(), NoMem>
     requires bodies { CanNotesBePainted faces.now notes.now }
+    requires frame { IsGoodFrame frame.now }
+    requires solids { All (λ note. IsNearSolid note.1) placed.now }
     requires faces { HaveItemFaces faces.now out.old.items }
     ensures items { OnOk result (Adds faces.now out.old.items
         (area_items faces.now notes.now frame.now placed.now) out.new.items) }
@@ -222,9 +244,7 @@ pub(crate) fn push_area<'a, L: Ledger>(
     if placed.is_empty() {
         return Ok(());
     }
-    let Some(origin) = area_origin(frame, placed) else {
-        return Err(NoMem);
-    };
+    let origin = area_origin(frame, placed);
     push_separator(out, faces, &origin)?;
     push_notes(alloc, out, faces, notes, origin, placed, steps)?;
     Ok(())

@@ -1,15 +1,17 @@
 //! The boxes in which a page's solids stand, each with the place of the box around it.
 
-ghost use Rattle.std.specs.Prelude.{◌≡◌, ◌<◌, ◌++◌, ◌∷◌, [], length, Some, OnOk};
+ghost use Rattle.std.specs.Prelude.{◌≡◌, ◌<◌, ◌++◌, ◌∷◌, [], suc, length, Some, OnOk};
 ghost use Rattle.std.specs.Option.{ForSome};
+ghost use Rattle.bk_num.specs.Limits.{most_open};
+ghost use Rattle.boxes.specs.Tree.{open_before};
+ghost use Rattle.paint.specs.Opens.{IsBounded};
 ghost use Rattle.paint.specs.Parts.{AreMerged, Extends, HaveOuters, IsHandedOn, bare_of, content_at, part_in, with_solid};
 
 use crate::extent::{VerticalExtent, join};
 use crate::item::SolidOrigin;
-use crate::opens::checked_content;
 use bk_num::name::NoMem;
 use boxes::place::Event;
-use boxes::span::Content;
+use boxes::span::{Content, content_in};
 use boxes::tree::BoxTree;
 
 /// A box: the event that opens it, its number, the place of the box around it and that one's content, and its own
@@ -58,21 +60,23 @@ pub(crate) fn open_part(
 ) -> Result<(), NoMem>
     requires number { number < length tree.now.boxes }
     requires inner { ForSome inner (λ i. i < length parts.old.items) }
-    ensures { OnOk result (parts.new.items ≡ parts.old.items
+    requires few { length (open_before tree.now.events event) < most_open }
+    requires around { IsBounded (length (open_before tree.now.events event))
+        (content_at origin.now.width parts.old.items inner) }
+    ensures part { OnOk result (parts.new.items ≡ parts.old.items
         ++ part_in tree.now origin.now.width parts.old.items inner event number ∷ []) }
+    ensures content { OnOk result (IsBounded (suc (length (open_before tree.now.events event)))
+        (part_in tree.now origin.now.width parts.old.items inner event number).content) }
 {
     // a tree is known to be one by its count
     let _count = tree.count();
     let around = content_at(parts, inner, origin);
-    let Some(content) = checked_content(tree.props(number), &around) else {
-        return Err(NoMem);
-    };
     parts.push(Fragment {
         event,
         number,
         outer: inner,
         around,
-        content,
+        content: content_in(tree.props(number), around),
         reach: None,
         upper: None,
         lower: None,

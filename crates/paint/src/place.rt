@@ -5,6 +5,7 @@ ghost use Rattle.paint.specs.Conditions.{CanFlowBePainted};
 ghost use Rattle.paint.specs.Pages.{items_of};
 ghost use Rattle.paint.specs.Views.{HaveItemFaces, items_in};
 
+use crate::bounds::is_bounded_page;
 use crate::item::{Canvas, ItemRef, SolidOrigin};
 use crate::note_area::push_area;
 use crate::trees::push_tree;
@@ -19,9 +20,9 @@ use std::sync::ledger::Ledger;
 /// The items of a page of a flow, in the order of the listing: the backgrounds and borders of the main tree's boxes,
 /// its edges and lines, each line with its markers, runs and hyphen, and then the note area: its separator, and note
 /// after note the like of its body. Places are sums of units from the page's top left. Want of memory is answered too
-/// for a page that isn't one of the flow's, whose solids aren't in order or whose lines its leaves don't have, and
-/// where a sum is past 64 bits. It takes at most a step for each solid; its time goes with the page's solids, the
-/// events between them and their text.
+/// for a page that isn't one of the flow's, which isn't within bounds, whose solids aren't in order or whose lines its
+/// leaves don't have, and where a baseline or a run's left is past 64 bits. It takes at most a step for each solid; its
+/// time goes with the page's solids, the events between them and their text.
 pub fn place<'a, L: Ledger>(
     alloc: Global,
     flow: &'a Flow,
@@ -34,6 +35,9 @@ pub fn place<'a, L: Ledger>(
     ensures faces { IfOk result (λ v. HaveItemFaces faces.now v.items) }
     ensures steps { steps.new ≤ steps.old + (length page.now.solids + length page.now.notes) }
 {
+    if !is_bounded_page(page) {
+        return Err(NoMem);
+    }
     let frame = &page.frame;
     let canvas = Canvas {
         faces,

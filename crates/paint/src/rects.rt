@@ -1,21 +1,23 @@
 //! Items of backgrounds and borders.
 
-ghost use Rattle.std.specs.Prelude.{◌≡◌, ◌<◌, ◌∷◌, [], length, All, OnOk, OkIff, IfOk, IfErr, SomeIff, Some, FitsSigned, ◌+ℤ◌, ◌-ℤ◌, slice_get};
-ghost use Rattle.std.specs.Int.{w64};
+ghost use Rattle.std.specs.Prelude.{◌≡◌, ◌<◌, ◌∷◌, [], ◌^◌, length, All, OnOk, Some, slice_get};
 ghost use Rattle.std.specs.List.{flat_map};
+ghost use Rattle.std.specs.Option.{ForSome};
+ghost use Rattle.bk_num.specs.Numbers.{IsWithin};
 ghost use Rattle.boxes.specs.Contents.{IsGoodBox};
 ghost use Rattle.boxes.specs.Spans.{units_at};
+ghost use Rattle.paint.specs.Bounds.{IsGoodOrigin, IsNearArea, IsNearExtent, IsNearPart, IsNearSolid};
 ghost use Rattle.paint.specs.Conditions.{CanBePainted};
 ghost use Rattle.paint.specs.Opens as spec;
 ghost use Rattle.paint.specs.Pages.{rects_of};
 ghost use Rattle.paint.specs.Parts.{part_rects};
-ghost use Rattle.paint.specs.Rects.{FitsFragment, FitsLower, FitsSides, FitsUpper, background_rects, border_rects, box_rects, edge_rects, fragment_area, left_area, lower_top, right_area, side_rects, upper_top};
+ghost use Rattle.paint.specs.Rects.{background_rects, border_rects, box_rects, edge_rects, fragment_area, left_area, lower_top, right_area, side_rects, upper_top};
 ghost use Rattle.paint.specs.Views.{Adds, HaveItemFaces, rect_item};
 
 use crate::extent::VerticalExtent;
 use crate::gather::parts_of;
-use crate::item::{Area, Canvas, ItemRef, SolidOrigin, difference, sum};
-use crate::opens::checked_border;
+use crate::item::{Area, Canvas, ItemRef, SolidOrigin};
+use crate::opens::border_in;
 use crate::parts::Fragment;
 use bk_num::name::NoMem;
 use bk_num::values::Color;
@@ -116,7 +118,8 @@ fn push_edge<'a>(
 /// The width of a border, in units.
 fn border_at(props: &BoxProps, side: usize) -> i64
     requires { side < 4 }
-    ensures { result ≡ units_at props.now.border side }
+    ensures value { result ≡ units_at props.now.border side }
+    ensures within { IsWithin (2 ^ 27) result }
 {
     i64::from(props.border[side].units())
 }
@@ -140,18 +143,18 @@ fn left_area(area: Area, width: i64) -> Area
     }
 }
 
-/// The area of a right border of a fragment. None exactly where its left or its right is past 64 bits.
-fn right_area(area: Area, width: i64) -> Option<Area>
-    ensures { SomeIff result (FitsSigned w64 (area.x +ℤ area.w) × FitsSigned w64 (right_area area width).x)
-        (right_area area width) }
+/// The area of a right border of a fragment.
+fn right_area(area: Area, width: i64) -> Area
+    requires area { IsNearArea area }
+    requires width { IsWithin (2 ^ 27) width }
+    ensures { result ≡ right_area area width }
 {
-    let right = sum(area.x, area.w)?;
-    Some(Area {
-        x: difference(right, width)?,
+    Area {
+        x: area.x + area.w - width,
         y: area.y,
         w: width,
         h: area.h,
-    })
+    }
 }
 
 /// Where the borders of a fragment stand: itself, the right border, and the tops of the upper and the lower one, each
@@ -207,99 +210,64 @@ fn push_sides<'a>(
     Ok(())
 }
 
-/// The area of a fragment of a box. None exactly where it is past 64 bits.
-fn fragment_area(origin: &SolidOrigin, border: &Content, extent: VerticalExtent) -> Option<Area>
-    ensures { SomeIff result (FitsFragment (fragment_area origin.now border.now extent))
-        (fragment_area origin.now border.now extent) }
+/// The area of a fragment of a box.
+fn fragment_area(origin: &SolidOrigin, border: &Content, extent: VerticalExtent) -> Area
+    requires origin { IsGoodOrigin origin.now }
+    requires left { IsWithin (2 ^ 61) border.now.left }
+    requires width { IsWithin (2 ^ 42) border.now.width }
+    requires extent { IsNearExtent extent }
+    ensures value { result ≡ fragment_area origin.now border.now extent }
+    ensures near { IsNearArea result }
 {
-    Some(Area {
-        x: sum(origin.left, border.left)?,
-        y: sum(origin.top, extent.top)?,
+    Area {
+        x: origin.left + border.left,
+        y: origin.top + extent.top,
         w: border.width,
-        h: difference(extent.bottom, extent.top)?,
-    })
+        h: extent.bottom - extent.top,
+    }
 }
 
-/// The top of an upper border, if its edge stands on the page. Refused exactly where it is past 64 bits.
-fn upper_top(origin: &SolidOrigin, upper: Option<VerticalExtent>) -> Result<Option<i64>, NoMem>
-    ensures { OkIff result (FitsUpper origin.now upper) (upper_top origin.now upper) }
+/// The top of an upper border, if its edge stands on the page.
+fn upper_top(origin: &SolidOrigin, upper: Option<VerticalExtent>) -> Option<i64>
+    requires origin { IsGoodOrigin origin.now }
+    requires near { ForSome upper IsNearExtent }
+    ensures { result ≡ upper_top origin.now upper }
 {
     match upper {
-        None => Ok(None),
-        Some(edge) => match sum(origin.top, edge.top) {
-            None => Err(NoMem),
-            Some(top) => Ok(Some(top)),
-        },
+        None => None,
+        Some(edge) => Some(origin.top + edge.top),
     }
 }
 
-/// Where a lower border begins, which ends at the bottom of its edge. None exactly where it or the bottom is past 64
-/// bits.
-fn top_above(origin: &SolidOrigin, width: i64, edge: VerticalExtent) -> Option<i64>
-    ensures { SomeIff result (FitsSigned w64 (origin.now.top +ℤ edge.bottom) × FitsSigned w64
-        ((origin.now.top +ℤ edge.bottom) -ℤ width)) ((origin.now.top +ℤ edge.bottom) -ℤ width) }
-{
-    let bottom = sum(origin.top, edge.bottom)?;
-    difference(bottom, width)
-}
-
-/// The top of a lower border, if its edge stands on the page. Refused exactly where it or the edge's bottom is past 64
-/// bits.
-fn lower_top(
-    origin: &SolidOrigin,
-    width: i64,
-    lower: Option<VerticalExtent>,
-) -> Result<Option<i64>, NoMem>
-    ensures { OkIff result (FitsLower origin.now width lower) (lower_top origin.now width lower) }
+/// The top of a lower border, which ends at the bottom of its edge, if that stands on the page.
+fn lower_top(origin: &SolidOrigin, width: i64, lower: Option<VerticalExtent>) -> Option<i64>
+    requires origin { IsGoodOrigin origin.now }
+    requires width { IsWithin (2 ^ 27) width }
+    requires near { ForSome lower IsNearExtent }
+    ensures { result ≡ lower_top origin.now width lower }
 {
     match lower {
-        None => Ok(None),
-        Some(edge) => match top_above(origin, width, edge) {
-            None => Err(NoMem),
-            Some(top) => Ok(Some(top)),
-        },
+        None => None,
+        Some(edge) => Some(origin.top + edge.bottom - width),
     }
 }
 
-/// Where the borders of a part of a box stand. Refused exactly where one of these places is past 64 bits.
-fn sides_of(
-    origin: &SolidOrigin,
-    props: &BoxProps,
-    part: &Fragment,
-    area: Area,
-) -> Result<BorderPlaces, NoMem>
-    ensures refused { IfErr result (λ _. ¬ (FitsSides origin.now props.now area part.now.upper part.now.lower)) }
-    ensures area { IfOk result (λ s. s.area ≡ area) }
-    ensures right { IfOk result (λ s. s.right ≡ right_area area (units_at props.now.border 1)) }
-    ensures upper { IfOk result (λ s. s.upper ≡ upper_top origin.now part.now.upper) }
-    ensures lower { IfOk result (λ s. s.lower ≡ lower_top origin.now (units_at props.now.border 2) part.now.lower) }
+/// Where the borders of a part of a box stand.
+fn sides_of(origin: &SolidOrigin, props: &BoxProps, part: &Fragment, area: Area) -> BorderPlaces
+    requires origin { IsGoodOrigin origin.now }
+    requires part { IsNearPart part.now }
+    requires near { IsNearArea area }
+    ensures area { result.area ≡ area }
+    ensures right { result.right ≡ right_area area (units_at props.now.border 1) }
+    ensures upper { result.upper ≡ upper_top origin.now part.now.upper }
+    ensures lower { result.lower ≡ lower_top origin.now (units_at props.now.border 2) part.now.lower }
 {
-    let Some(right) = right_area(area, border_at(props, 1)) else {
-        return Err(NoMem);
-    };
-    Ok(BorderPlaces {
+    BorderPlaces {
         area,
-        right,
-        upper: upper_top(origin, part.upper)?,
-        lower: lower_top(origin, border_at(props, 2), part.lower)?,
-    })
-}
-
-/// The area of a part of a box that reaches so far. None exactly where the content around isn't from 0 to 2^40 units
-/// wide, or the area is past 64 bits.
-fn area_of_part(
-    origin: &SolidOrigin,
-    props: &BoxProps,
-    around: &Content,
-    extent: VerticalExtent,
-) -> Option<Area>
-    requires { IsGoodBox props.now }
-    ensures { SomeIff result (spec.IsWide around.now × FitsSigned w64 (spec.border_in props.now around.now).left ×
-        FitsFragment (fragment_area origin.now (spec.border_in props.now around.now) extent))
-        (fragment_area origin.now (spec.border_in props.now around.now) extent) }
-{
-    let border = checked_border(props, around)?;
-    fragment_area(origin, &border, extent)
+        right: right_area(area, border_at(props, 1)),
+        upper: upper_top(origin, part.upper),
+        lower: lower_top(origin, border_at(props, 2), part.lower),
+    }
 }
 
 /// Adds the rectangles of a box that reaches so far: its background, then its borders.
@@ -312,6 +280,9 @@ fn push_fragment<'a>(
     extent: VerticalExtent,
 ) -> Result<(), NoMem>
     requires good { IsGoodBox props.now }
+    requires origin { IsGoodOrigin canvas.now.origin }
+    requires part { IsNearPart part.now }
+    requires extent { IsNearExtent extent }
     requires faces { HaveItemFaces canvas.now.faces.now out.old.items }
     ensures items { OnOk result (Adds canvas.now.faces.now out.old.items
         (box_rects props.now (fragment_area canvas.now.origin (spec.border_in props.now part.now.around) extent)
@@ -319,10 +290,8 @@ fn push_fragment<'a>(
         (units_at props.now.border 2) part.now.lower)) out.new.items) }
     ensures faces { OnOk result (HaveItemFaces canvas.now.faces.now out.new.items) }
 {
-    let Some(area) = area_of_part(&canvas.origin, props, &part.around, extent) else {
-        return Err(NoMem);
-    };
-    let sides = sides_of(&canvas.origin, props, part, area)?;
+    let area = fragment_area(&canvas.origin, &border_in(props, &part.around), extent);
+    let sides = sides_of(&canvas.origin, props, part, area);
     push_background(out, canvas.faces, props.background, area)?;
     push_sides(out, canvas.faces, props, &sides)?;
     Ok(())
@@ -336,6 +305,8 @@ fn push_part<'a>(
     part: &Fragment,
 ) -> Result<(), NoMem>
     requires there { part.now.number < length canvas.now.tree.now.boxes }
+    requires origin { IsGoodOrigin canvas.now.origin }
+    requires part { IsNearPart part.now }
     requires faces { HaveItemFaces canvas.now.faces.now out.old.items }
     ensures items { OnOk result (Adds canvas.now.faces.now out.old.items
         (part_rects canvas.now.tree.now canvas.now.origin part.now) out.new.items) }
@@ -357,6 +328,8 @@ fn push_parts<'a>(
     parts: &[Fragment],
 ) -> Result<(), NoMem>
     requires there { All (λ p. p.number < length canvas.now.tree.now.boxes) parts.now }
+    requires origin { IsGoodOrigin canvas.now.origin }
+    requires near { All IsNearPart parts.now }
     requires faces { HaveItemFaces canvas.now.faces.now out.old.items }
     ensures items { OnOk result (Adds canvas.now.faces.now out.old.items
         (flat_map (part_rects canvas.now.tree.now canvas.now.origin) parts.now) out.new.items) }
@@ -376,6 +349,8 @@ pub(crate) fn push_rects<'a>(
     solids: &[Placed],
 ) -> Result<(), NoMem>
     requires tree { CanBePainted canvas.now.faces.now canvas.now.tree.now }
+    requires origin { IsGoodOrigin canvas.now.origin }
+    requires solids { All IsNearSolid solids.now }
     requires faces { HaveItemFaces canvas.now.faces.now out.old.items }
     ensures items { OnOk result (Adds canvas.now.faces.now out.old.items
         (rects_of canvas.now.tree.now canvas.now.origin solids.now) out.new.items) }

@@ -1,8 +1,9 @@
 //! Items of the solids of a tree.
 
-ghost use Rattle.std.specs.Prelude.{◌+◌, ◌≤◌, ◌<◌, length, OnOk};
+ghost use Rattle.std.specs.Prelude.{◌+◌, ◌≤◌, ◌<◌, length, All, OnOk};
 ghost use Rattle.std.specs.Option.{ForSome};
 ghost use Rattle.std.specs.List.{flat_map};
+ghost use Rattle.paint.specs.Bounds.{IsGoodOrigin, IsNearSolid};
 ghost use Rattle.paint.specs.Conditions.{CanBePainted};
 ghost use Rattle.paint.specs.Items.{solid_items};
 ghost use Rattle.paint.specs.Opens.{AreOpen};
@@ -31,6 +32,8 @@ fn push_solid<'a, L: Ledger>(
     steps: &mut Steps<L>,
 ) -> Result<(), NoMem>
     requires tree { CanBePainted canvas.now.faces.now canvas.now.tree.now }
+    requires origin { IsGoodOrigin canvas.now.origin }
+    requires solid { IsNearSolid s.now }
     requires within { s.now.at.event < length canvas.now.tree.now.events }
     requires opens { AreOpen canvas.now.tree.now canvas.now.origin s.now.at.event opens.now }
     requires faces { HaveItemFaces canvas.now.faces.now out.old.items }
@@ -73,6 +76,8 @@ pub(crate) fn push_next<'a, L: Ledger>(
     steps: &mut Steps<L>,
 ) -> Result<(), NoMem>
     requires tree { CanBePainted canvas.now.faces.now canvas.now.tree.now }
+    requires origin { IsGoodOrigin canvas.now.origin }
+    requires solid { IsNearSolid s.now }
     requires opens { ForSome reached (λ at. AreOpen canvas.now.tree.now canvas.now.origin at opens.old.items) }
     requires faces { HaveItemFaces canvas.now.faces.now out.old.items }
     ensures items { OnOk result (Adds canvas.now.faces.now out.old.items
@@ -99,6 +104,8 @@ pub(crate) fn push_solids<'a, L: Ledger>(
     steps: &mut Steps<L>,
 ) -> Result<(), NoMem>
     requires tree { CanBePainted canvas.now.faces.now canvas.now.tree.now }
+    requires origin { IsGoodOrigin canvas.now.origin }
+    requires solids { All IsNearSolid solids.now }
     requires faces { HaveItemFaces canvas.now.faces.now out.old.items }
     ensures items { OnOk result (Adds canvas.now.faces.now out.old.items
         (flat_map (solid_items canvas.now.faces.now canvas.now.tree.now canvas.now.origin) solids.now) out.new.items) }

@@ -1,6 +1,7 @@
 //! Items of a tree on a page.
 
-ghost use Rattle.std.specs.Prelude.{◌+◌, ◌≤◌, length, OnOk};
+ghost use Rattle.std.specs.Prelude.{◌+◌, ◌≤◌, length, All, OnOk};
+ghost use Rattle.paint.specs.Bounds.{IsGoodOrigin, IsNearSolid};
 ghost use Rattle.paint.specs.Conditions.{CanBePainted};
 ghost use Rattle.paint.specs.Pages.{tree_items};
 ghost use Rattle.paint.specs.Views.{Adds, HaveItemFaces};
@@ -23,6 +24,8 @@ pub(crate) fn push_tree<'a, L: Ledger>(
     steps: &mut Steps<L>,
 ) -> Result<(), NoMem>
     requires tree { CanBePainted canvas.now.faces.now canvas.now.tree.now }
+    requires origin { IsGoodOrigin canvas.now.origin }
+    requires solids { All IsNearSolid solids.now }
     requires faces { HaveItemFaces canvas.now.faces.now out.old.items }
     ensures items { OnOk result (Adds canvas.now.faces.now out.old.items
         (tree_items canvas.now.faces.now canvas.now.tree.now canvas.now.origin solids.now) out.new.items) }

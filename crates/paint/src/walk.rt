@@ -1,17 +1,18 @@
 //! Goes along a tree from event to event, with the boxes that are open there.
 
-ghost use Rattle.std.specs.Prelude.{◌≡◌, ℕ, ℤ, List, ◌+◌, ◌<◌, ◌≤◌, ◌∷◌, [], length, MatchBool, OnOk, All};
+ghost use Rattle.std.specs.Prelude.{◌≡◌, ℕ, ℤ, List, suc, ◌+◌, ◌<◌, ◌≤◌, ◌∷◌, [], length, MatchBool, OnOk, All};
 ghost use Rattle.std.specs.Option.{ForSome};
 ghost use Rattle.bk_num.specs.Limits.{most_open};
 ghost use Rattle.boxes.specs.Tree.{Tree, depth_of, rest_of};
-ghost use Rattle.paint.specs.Opens.{AreOpen, opens_of};
+ghost use Rattle.paint.specs.Bounds.{IsGoodOrigin};
+ghost use Rattle.paint.specs.Opens.{AreBounded, AreOpen, opens_of};
 
 use crate::item::SolidOrigin;
-use crate::opens::{OpenBox, checked_content, innermost};
+use crate::opens::{OpenBox, innermost};
 use bk_num::limits::MOST_OPEN;
 use bk_num::name::NoMem;
 use boxes::place::Event;
-use boxes::span::write_chain;
+use boxes::span::{content_in, write_chain};
 use boxes::tree::BoxTree;
 
 /// Whether a tree has an event of a number.
@@ -28,27 +29,31 @@ fn open_box(
     index: u32,
     origin: &SolidOrigin,
 ) -> Result<(), NoMem>
-    requires { index < length tree.now.boxes }
-    ensures { OnOk result ((boxes : List ℕ) → opens.old.items ≡ opens_of tree.now origin.now.width boxes →
+    requires number { index < length tree.now.boxes }
+    requires origin { IsGoodOrigin origin.now }
+    requires bounded { AreBounded opens.old.items }
+    requires few { length opens.old.items < most_open }
+    ensures are { OnOk result ((boxes : List ℕ) → opens.old.items ≡ opens_of tree.now origin.now.width boxes →
         opens.new.items ≡ opens_of tree.now origin.now.width (index ∷ boxes)) }
+    ensures bounded { OnOk result (AreBounded opens.new.items) }
+    ensures count { OnOk result (length opens.new.items ≡ suc (length opens.old.items)) }
 {
     // a tree is known to be one by its count
     let _count = tree.count();
     let around = innermost(opens, origin);
-    let Some(content) = checked_content(tree.props(index), &around) else {
-        return Err(NoMem);
-    };
     opens.push(OpenBox {
         number: index,
-        content,
+        content: content_in(tree.props(index), around),
     })?;
     Ok(())
 }
 
 /// Closes the innermost open box.
 fn close_box(opens: &mut Vec<OpenBox>)
-    ensures { (t : Tree) (measure : ℤ) (boxes : List ℕ) → opens.old.items ≡ opens_of t measure boxes →
+    requires { AreBounded opens.old.items }
+    ensures are { (t : Tree) (measure : ℤ) (boxes : List ℕ) → opens.old.items ≡ opens_of t measure boxes →
         opens.new.items ≡ opens_of t measure (rest_of boxes) }
+    ensures bounded { AreBounded opens.new.items }
 {
     opens.pop();
 }
@@ -61,6 +66,8 @@ fn pass(
     origin: &SolidOrigin,
 ) -> Result<(), NoMem>
     requires within { at < length tree.now.events }
+    requires depth { depth_of tree.now.events ≤ most_open }
+    requires origin { IsGoodOrigin origin.now }
     requires opens { AreOpen tree.now origin.now at opens.old.items }
     ensures { OnOk result (AreOpen tree.now origin.now (at + 1) opens.new.items) }
 {
@@ -89,6 +96,8 @@ fn pass_to(
 ) -> Result<(), NoMem>
     requires order { at ≤ to }
     requires within { to ≤ length tree.now.events }
+    requires depth { depth_of tree.now.events ≤ most_open }
+    requires origin { IsGoodOrigin origin.now }
     requires opens { AreOpen tree.now origin.now at opens.old.items }
     ensures { OnOk result (AreOpen tree.now origin.now to opens.new.items) }
 {
@@ -107,7 +116,10 @@ fn open_all(
 ) -> Result<(), NoMem>
     requires none { opens.old.items ≡ [] }
     requires boxes { All (λ b. b < length tree.now.boxes) chain.now }
-    ensures { OnOk result (opens.new.items ≡ opens_of tree.now origin.now.width chain.now) }
+    requires few { length chain.now ≤ most_open }
+    requires origin { IsGoodOrigin origin.now }
+    ensures are { OnOk result (opens.new.items ≡ opens_of tree.now origin.now.width chain.now) }
+    ensures bounded { OnOk result (AreBounded opens.new.items) }
 {
     let mut at = chain.len();
     while at > 0 {
@@ -126,6 +138,7 @@ fn begin(
 ) -> Result<(), NoMem>
     requires within { event ≤ length tree.now.events }
     requires depth { depth_of tree.now.events ≤ most_open }
+    requires origin { IsGoodOrigin origin.now }
     ensures { OnOk result (AreOpen tree.now origin.now event opens.new.items) }
 {
     // a tree is known to be one by its count
@@ -152,6 +165,7 @@ pub(crate) fn go_to(
 ) -> Result<(), NoMem>
     requires within { to ≤ length tree.now.events }
     requires depth { depth_of tree.now.events ≤ most_open }
+    requires origin { IsGoodOrigin origin.now }
     requires opens { ForSome reached (λ at. AreOpen tree.now origin.now at opens.old.items) }
     ensures { OnOk result (AreOpen tree.now origin.now to opens.new.items) }
 {

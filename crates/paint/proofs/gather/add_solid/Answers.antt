@@ -8,9 +8,9 @@ extend-requires c = inner_within c.pass_to.new.parts.items (open_before c.args.t
 
 pub returns-clause-at : goal.returns-clause-at
 returns-clause-at c =
-    at_solid c.args.tree.now c.args.origin.now.width c.pass_to.new.parts.items c.extend.new.parts.items c.end_at-to.result c.in_ok-inner.inner c.event-event.result c.in-Some.extent c.in_ok-inner.ensures.at c.extend.ensures
+    at_solid c.args.tree.now c.args.origin.now.width c.pass_to.new.parts.items c.extend.new.parts.items c.end_at-to.result c.in_ok-inner.inner c.event-event.result c.extent_of.result c.in_ok-inner.ensures.at c.extend.ensures
 
 pub returns-clause-solid : goal.returns-clause-solid
 returns-clause-solid c =
-    adds_solid c.args.tree.now c.args.origin.now.width c.args.solid.now c.args.parts.now.items c.pass_to.new.parts.items c.extend.new.parts.items c.end_at-to.result c.in_ok-inner.inner c.event-event.result c.in-Some.extent
-    c.in_ok-inner.ensures.grown c.end_at-to.ensures c.in_ok-inner.ensures.at c.event-event.ensures c.in-Some.ensures.1 c.extend.ensures
+    adds_solid c.args.tree.now c.args.origin.now.width c.args.solid.now c.args.parts.now.items c.pass_to.new.parts.items c.extend.new.parts.items c.end_at-to.result c.in_ok-inner.inner c.event-event.result c.extent_of.result
+    c.in_ok-inner.ensures.grown c.end_at-to.ensures c.in_ok-inner.ensures.at c.event-event.ensures c.extent_of.ensures c.extend.ensures

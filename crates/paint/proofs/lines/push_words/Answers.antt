@@ -16,8 +16,7 @@ returns-clause-items c =
     let boxes = open_before t.events c.args.at in
     let leaf = c.args.leaf.now in
     let exact : to_z w64 (of_z w64 c.args.baseline) ≡ c.args.baseline = omega (arith, ints) in
-    let sum = c.in-Some.ensures.1 in
-    let left : to_z w64 (of_z w64 c.in-Some.left) ≡ c.args.canvas.now.origin.left +ℤ c.args.content.now.left = omega (arith, ints, sum) in
+    let left : to_z w64 (of_z w64 (to_z w64 (of_z w64 o.left) +ℤ to_z w64 (of_z w64 c.args.content.now.left))) ≡ o.left +ℤ c.args.content.now.left = omega (arith, ints) in
     let width : to_z w64 (of_z w64 c.args.content.now.width) ≡ c.args.content.now.width = omega (arith, ints) in
     words_joined faces t o boxes leaf c.args.line c.args.content.now _ _ _ _ _ _ c.in_ok-push_first.ensures.items c.in_ok-push_runs.ensures.items left (c.as_slice.ensures ∙ c.in_ok-runs.ensures.value ∙ ap (runs_of faces leaf c.args.line) width)
     ∙ ap (λ (y : ℤ). items_in faces c.args.out.now.items ++ words_items faces t o boxes leaf c.args.line c.args.content.now y) exact

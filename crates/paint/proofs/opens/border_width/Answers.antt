@@ -4,8 +4,8 @@ use mir.Syntax.{w64}
 use Rattle.boxes.specs.Spans.{frame_at, width_in_block}
 use Rattle.paint.proofs.opens.border_width.Goals as goal
 
-pub returns : goal.returns
-returns c =
+pub returns-clause-value : goal.returns-clause-value
+returns-clause-value c =
     let p = c.args.props.now in
     let exact : to_z w64 (of_z w64 c.args.width) ≡ c.args.width = omega (arith, ints) in
     let inner : c.content_width_in.result ≡ width_in_block p c.args.width = c.content_width_in.ensures.value ∙ ap (width_in_block p) exact in

@@ -1,7 +1,20 @@
 use Rattle.std.proofs.Common.{◌≡◌, ◌<◌, ◌∙◌, ℕ, suc, ◌-◌, List, ◌∷◌, length, drop, get_or, sym, ap, arith}
 use Rattle.std.proofs.Math.Seq.{drop-cons}
+use Rattle.std.proofs.lemmas.List.{drop_all}
 use Rattle.paint.specs.Opens.{opens_of}
+use Rattle.paint.specs.declared.opens.OpenBox.{OpenBox}
+use Rattle.paint.proofs.OpenLemmas.{bounded_none}
 use Rattle.paint.proofs.walk.open_all.Goals as goal
+
+pub loop-at-init : goal.loop-at-init
+loop-at-init c =
+    let none = c.requires.none in
+    record {
+      within = omega arith;
+      opens = none ∙ ap (opens_of c.args.tree.now c.args.origin.now.width) (sym (drop_all (length c.args.chain.now) c.args.chain.now (omega arith)));
+      count = (let size = ap (λ (l : List OpenBox). length l) none in omega arith);
+      bounded = bounded_none _ none;
+    }
 
 pub loop-at-preserved : goal.loop-at-preserved
 loop-at-preserved c =
@@ -14,5 +27,7 @@ loop-at-preserved c =
     let all : drop at chain ≡ get_or chain at 0 ∷ drop c.loop-at.at chain = drop-cons chain at 0 low ∙ ap (λ (n : ℕ). get_or chain at 0 ∷ drop n chain) next in
     record {
       within = omega arith;
-      opens = c.in_ok-open_box.ensures (drop c.loop-at.at chain) c.loop-at.invariant.opens ∙ ap (opens_of t c.args.origin.now.width) (sym all);
+      opens = c.in_ok-open_box.ensures.are (drop c.loop-at.at chain) c.loop-at.invariant.opens ∙ ap (opens_of t c.args.origin.now.width) (sym all);
+      count = (let more = c.in_ok-open_box.ensures.count in let before = c.loop-at.invariant.count in omega arith);
+      bounded = c.in_ok-open_box.ensures.bounded;
     }

@@ -1,0 +1,77 @@
+-- How far boxes and note areas reach, by the bounds of the solids on a page.
+use Rattle.std.proofs.Common.{◌≡◌, ◌<◌, ◌^◌, ◌+◌, ◌≤ℤ◌, ℕ, zero, suc, ℤ, pos, Bool, true, false, List, [], ◌∷◌, Option, None, Some, length, slice_get, refl, subst, arith, w64}
+use Rattle.std.proofs.lemmas.Int.{clamps, fits_signed_from_abs, ints}
+use Rattle.std.proofs.lemmas.List.Elements.{All-head, All-tail}
+use Rattle.std.proofs.lemmas.Option.{same_Some}
+use Rattle.std.specs.List.{All}
+use Rattle.std.specs.Option.{ForSome}
+use Rattle.std.specs.Int.{int_max, int_min}
+use Rattle.bk_num.specs.Limits.{separator}
+use Rattle.bk_num.specs.Numbers.{IsWithin}
+use Rattle.boxes.specs.declared.page.Placed.{Placed}
+use Rattle.notes.specs.Notes.{HaveBottoms, placed_bottom, placed_height}
+use Rattle.notes.specs.Stacked.{greatest_of}
+use Rattle.paint.specs.Bounds.{IsNearExtent, IsNearSolid}
+use Rattle.paint.specs.Fragments.{extent_of, here, join, reach_by}
+use Rattle.paint.specs.declared.extent.VerticalExtent.{VerticalExtent}
+
+-- ---- how far a box reaches
+
+extent_near : (s : Placed) → IsNearSolid s → IsNearExtent (extent_of s)
+extent_near s near =
+    let top = near.top in
+    let height = near.height in
+    record { top = top; bottom = omega (arith, ints, top, height) }
+
+abbrev join_of : VerticalExtent → VerticalExtent → VerticalExtent
+join_of a b = record { top = int_min a.top b.top; bottom = int_max a.bottom b.bottom }
+
+joined_near : (a b : VerticalExtent) → IsNearExtent a → IsNearExtent b → (e : VerticalExtent) → join (Some a) (Some b) ≡ Some e → IsNearExtent e
+joined_near a b x y e is =
+    let same : join_of a b ≡ e = same_Some _ _ is in
+    let xt = x.top in
+    let yt = y.top in
+    let xb = x.bottom in
+    let yb = y.bottom in
+    subst IsNearExtent same (record { top = omega (arith, ints, clamps, xt, yt); bottom = omega (arith, ints, clamps, xb, yb) })
+
+join_near : (a b : Option VerticalExtent) → ForSome a IsNearExtent → ForSome b IsNearExtent → ForSome (join a b) IsNearExtent
+join_near None b x y = y
+join_near (Some a) None x y = x
+join_near (Some a) (Some b) x y = λ e is. joined_near a b (x a refl) (y b refl) e is
+
+here_near : (b : Bool) (e : VerticalExtent) → IsNearExtent e → ForSome (here b e) IsNearExtent
+here_near true e near = λ x is. let same : e ≡ x = cc in subst IsNearExtent same near
+here_near false e near = λ x is. absurd (cc)
+
+pub reach_near : (test : Placed → Bool) (solids : List Placed) → All IsNearSolid solids → ForSome (reach_by test solids) IsNearExtent
+reach_near test [] near = λ x is. absurd (cc)
+reach_near test (s ∷ solids) near =
+    join_near (here (test s) (extent_of s)) (reach_by test solids) (here_near (test s) (extent_of s) (extent_near s (All-head IsNearSolid s solids near))) (reach_near test solids (All-tail IsNearSolid s solids near))
+
+-- ---- how far notes reach
+
+bottom_near : (notes : List (ℕ × Placed)) → All (λ note. IsNearSolid note.1) notes → (k : ℕ) → k < length notes → IsWithin (2 ^ 60 + 2 ^ 32) (placed_bottom (slice_get notes k))
+bottom_near [] near k low = absurd (omega arith)
+bottom_near (n ∷ notes) near zero low =
+    let first : IsNearSolid n.1 = All-head (λ note. IsNearSolid note.1) n notes near in
+    let top = first.top in
+    let height = first.height in
+    omega (arith, ints, top, height)
+bottom_near (n ∷ notes) near (suc k) low = bottom_near notes (All-tail (λ note. IsNearSolid note.1) n notes near) k (omega arith)
+
+pub have_bottoms : (notes : List (ℕ × Placed)) → All (λ note. IsNearSolid note.1) notes → HaveBottoms notes
+have_bottoms notes near k low = let within = bottom_near notes near k low in fits_signed_from_abs w64 (placed_bottom (slice_get notes k)) (omega (arith, within))
+
+greatest_near : (bottom : ℕ → ℤ) (n : ℕ) → ((k : ℕ) → k < n → IsWithin (2 ^ 60 + 2 ^ 32) (bottom k)) → (pos 0 ≤ℤ greatest_of separator bottom n) × (greatest_of separator bottom n ≤ℤ pos (2 ^ 60 + 2 ^ 32))
+greatest_near bottom zero near = (omega (arith, ints), omega (arith, ints))
+greatest_near bottom (suc n) near =
+    let before = greatest_near bottom n (λ k low. near k (omega arith)) in
+    let least = before.0 in
+    let most = before.1 in
+    let last = near n (omega arith) in
+    (omega (arith, ints, clamps, least, last), omega (arith, ints, clamps, most, last))
+
+-- a note area is at most so high
+pub height_near : (notes : List (ℕ × Placed)) → All (λ note. IsNearSolid note.1) notes → (pos 0 ≤ℤ placed_height notes) × (placed_height notes ≤ℤ pos (2 ^ 60 + 2 ^ 32))
+height_near notes near = greatest_near (λ k. placed_bottom (slice_get notes k)) (length notes) (λ k low. bottom_near notes near k low)

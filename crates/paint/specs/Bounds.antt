@@ -1,0 +1,50 @@
+-- How far out solids, and what is painted of them, may stand: all their sums are within 64 bits.
+use Rattle.std.specs.Prelude.{◌^◌, ◌≤ℤ◌, pos}
+use Rattle.std.specs.List.{All}
+use Rattle.std.specs.Option.{ForSome}
+use Rattle.bk_num.specs.Numbers.{IsWithin}
+use Rattle.boxes.specs.Frames.{IsGoodFrame}
+use Rattle.boxes.specs.declared.page.Page.{Page}
+use Rattle.boxes.specs.declared.page.Placed.{Placed}
+use Rattle.paint.specs.Opens.{IsNear, IsWide}
+use Rattle.paint.specs.declared.extent.VerticalExtent.{VerticalExtent}
+use Rattle.paint.specs.declared.item.Area.{Area}
+use Rattle.paint.specs.declared.item.SolidOrigin.{SolidOrigin}
+use Rattle.paint.specs.declared.parts.Fragment.{Fragment}
+
+-- a solid's top is within 2^60 units, and its height from 0 to 2^32
+pub record IsNearSolid (s : Placed) : Type 0 where
+  pub top : IsWithin (2 ^ 60) s.top
+  pub height : IsWithin (2 ^ 32) s.height
+  pub some : pos 0 ≤ℤ s.height
+
+-- solids stand in a frame from 0 to 2^30 units wide, from a left within 2^40 and from a top within 2^61
+pub record IsGoodOrigin (o : SolidOrigin) : Type 0 where
+  pub left : IsWithin (2 ^ 40) o.left
+  pub top : IsWithin (2 ^ 61) o.top
+  pub low : pos 0 ≤ℤ o.width
+  pub high : o.width ≤ℤ pos (2 ^ 30)
+
+-- from a top within 2^60 units to a bottom within 2^61
+pub record IsNearExtent (e : VerticalExtent) : Type 0 where
+  pub top : IsWithin (2 ^ 60) e.top
+  pub bottom : IsWithin (2 ^ 61) e.bottom
+
+-- the left of an area is within 2^62 units, and its width within 2^42
+pub record IsNearArea (a : Area) : Type 0 where
+  pub left : IsWithin (2 ^ 62) a.x
+  pub width : IsWithin (2 ^ 42) a.w
+
+-- the content around a box is wide and near, and how far it and its edges reach is near
+pub record IsNearPart (p : Fragment) : Type 0 where
+  pub wide : IsWide p.around
+  pub near : IsNear p.around
+  pub reach : ForSome p.reach IsNearExtent
+  pub upper : ForSome p.upper IsNearExtent
+  pub lower : ForSome p.lower IsNearExtent
+
+-- a page within bounds: its frame is a good one, and its solids are near
+pub record IsBoundedPage (page : Page) : Type 0 where
+  pub frame : IsGoodFrame page.frame
+  pub solids : All IsNearSolid page.solids
+  pub notes : All (λ note. IsNearSolid note.1) page.notes
