@@ -6,7 +6,6 @@ use Rattle.listing.specs.Pages.{page_records}
 use Rattle.margin_box.specs.Margins.{HasFace}
 use Rattle.metrics.specs.Face.{FontFace}
 use Rattle.page_ctx.specs.Margins.{style_of}
-use Rattle.page_seq.specs.Frames.{IsGoodTable}
 use Rattle.page_seq.specs.Numbers.{numbers_of}
 use Rattle.paint.specs.Conditions.{CanFlowBePainted}
 use Rattle.paint.specs.Views.{HasItemFace}
@@ -26,11 +25,9 @@ view_of p = record {
   style = λ index name kind place. style_of p.styles.now.boxes index name kind place;
 }
 
--- the flow can be painted, the table has good frames, the numbers and the running strings are those of the pages, and a
--- listing counts them
+-- the flow can be painted, the numbers and the running strings are those of the pages, and a listing counts them
 pub record CanPrint (p : Printer) : Type 0 where
   pub painted : CanFlowBePainted p.faces.now p.flow.now
-  pub table : IsGoodTable p.styles.now.table.rows
   pub numbers : p.numbers.now ≡ numbers_of p.flow.now.main p.list.now.pages p.flow.now.resets
   pub strings : AreStrings p.flow.now.main p.list.now.pages p.flow.now.strings p.strings.now
   pub few : length p.list.now.pages < 2 ^ 31

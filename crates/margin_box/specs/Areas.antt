@@ -1,6 +1,6 @@
 -- Where the margin boxes of a page stand (css-page-3, page-margin boxes), in units from the page's top left.
-use Rattle.std.specs.Prelude.{FitsSigned, ℤ, pos, ◌-ℤ◌, List, [], ◌∷◌}
-use Rattle.std.specs.Int.{w64}
+use Rattle.std.specs.Prelude.{ℤ, pos, ◌-ℤ◌, ◌^◌, List, [], ◌∷◌}
+use Rattle.bk_num.specs.Numbers.{IsWithin}
 use Rattle.boxes.specs.declared.table.PageCell.{PageCell}
 use Rattle.paint.specs.declared.item.Area.{Area}
 
@@ -39,7 +39,9 @@ areas_by width height top right bottom left across down =
 abbrev pub areas_of : PageCell → List Area
 areas_of c = areas_by c.width c.height c.frame.top c.right c.bottom c.frame.left c.frame.width c.frame.height
 
--- the right and the bottom margin of a page box begin within 64 bits, from its left and from its top
-pub record BeginInRange (c : PageCell) : Type 0 where
-  pub right : FitsSigned w64 (c.width -ℤ c.right)
-  pub bottom : FitsSigned w64 (c.height -ℤ c.bottom)
+-- where an area stands, and its size, are within 2^41 units
+pub record IsGoodArea (a : Area) : Type 0 where
+  pub x : IsWithin (2 ^ 41) a.x
+  pub y : IsWithin (2 ^ 41) a.y
+  pub w : IsWithin (2 ^ 41) a.w
+  pub h : IsWithin (2 ^ 41) a.h

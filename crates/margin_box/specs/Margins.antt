@@ -19,7 +19,7 @@ use Rattle.paint.specs.Views.{text_item}
 use Rattle.paint.specs.declared.item.Area.{Area}
 use Rattle.paint.specs.declared.item.TextPlace.{TextPlace}
 use Rattle.margin_box.specs.Areas.{areas_of}
-use Rattle.margin_box.specs.Placing.{BaselineInRange, LeftInRange, line_baseline, line_left}
+use Rattle.margin_box.specs.Placing.{line_baseline, line_left}
 use Rattle.margin_box.specs.Texts.{MarginsOf, box_text}
 use Rattle.margin_box.specs.declared.items.Margins.{Margins}
 use Rattle.margin_box.specs.declared.items.MarginText.{MarginText}
@@ -47,11 +47,6 @@ placed_by faces area s strut text =
 -- where a text stands in its box, by the style of the box
 abbrev pub placed_in : List FontFace → Area → MarginStyleOf → List ℕ → TextPlace
 placed_in faces area s text = placed_by faces area s (strut_of faces s) text
-
--- that place is within 64 bits
-pub record IsPlaceInRange (faces : List FontFace) (area : Area) (s : MarginStyleOf) (text : List ℕ) : Type 0 where
-  pub left : LeftInRange area s.align (text_width (pen_of faces (strut_of faces s)) text)
-  pub baseline : BaselineInRange area s.upright (span_extent faces (strut_of faces s))
 
 -- the item of a text in its box; an empty text has none
 abbrev pub shown_in : List FontFace → Area → MarginStyleOf → List ℕ → List Item

@@ -1,6 +1,5 @@
 -- Where the one line of a margin box stands in it.
-use Rattle.std.specs.Prelude.{FitsSigned, ℕ, ℤ, pos, ◌+ℤ◌, ◌-ℤ◌}
-use Rattle.std.specs.Int.{w64}
+use Rattle.std.specs.Prelude.{ℕ, ℤ, pos, ◌+ℤ◌, ◌-ℤ◌}
 use Rattle.bk_num.specs.Units.{floor_div}
 use Rattle.bk_num.specs.declared.values.Align.{Align}
 use Rattle.bk_num.specs.declared.values.Align.TheVariants as align
@@ -21,11 +20,6 @@ slack_before End slack = slack
 abbrev pub begin_in : Along → ℤ → ℤ → ℤ → ℤ
 begin_in along at room size = at +ℤ slack_before along (room -ℤ size)
 
--- the slack, and where it begins, are within 64 bits
-pub record BeginsInRange (along : Along) (at room size : ℤ) : Type 0 where
-  pub slack : FitsSigned w64 (room -ℤ size)
-  pub begin : FitsSigned w64 (begin_in along at room size)
-
 -- how a line stands across its box (CSS 2.1, 16.2: text-align); no line of a margin box is justified
 abbrev pub along_width : Align → Along
 along_width align.Left = Start
@@ -43,15 +37,6 @@ along_height upright.Bottom = End
 abbrev pub line_left : Area → Align → ℕ → ℤ
 line_left area align width = begin_in (along_width align) area.x area.w (pos width)
 
--- where it begins is within 64 bits
-abbrev pub LeftInRange : Area → Align → ℕ → Type 0
-LeftInRange area align width = BeginsInRange (along_width align) area.x area.w (pos width)
-
 -- the baseline of a line in its box, from the page's top
 abbrev pub line_baseline : Area → Upright → Extent → ℤ
 line_baseline area upright e = begin_in (along_height upright) area.y area.h e.height +ℤ e.baseline
-
--- it and the top of the line are within 64 bits
-pub record BaselineInRange (area : Area) (upright : Upright) (e : Extent) : Type 0 where
-  pub top : BeginsInRange (along_height upright) area.y area.h e.height
-  pub baseline : FitsSigned w64 (line_baseline area upright e)

@@ -1,6 +1,7 @@
 //! Where the margin boxes of a page stand.
 
-ghost use Rattle.std.specs.Prelude.{◌≡◌, ◌-ℤ◌, MatchOption};
+ghost use Rattle.std.specs.Prelude.{◌≡◌, ◌-ℤ◌, All};
+ghost use Rattle.page_ctx.specs.Bounds.{IsGoodCell};
 ghost use Rattle.margin_box.specs.Areas as spec;
 
 use boxes::table::PageCell;
@@ -46,11 +47,11 @@ fn areas_by(cell: &PageCell, right: i64, bottom: i64) -> [Area; MARGIN_BOXES]
 }
 
 /// The areas of the margin boxes of a page, from its top left corner clockwise as they are listed, in units from the
-/// page's top left (css-page-3, page-margin boxes). None exactly where one begins past 64 bits.
-pub fn areas_of(cell: &PageCell) -> Option<[Area; MARGIN_BOXES]>
-    ensures { MatchOption result (¬ (spec.BeginInRange cell.now)) (λ areas. areas ≡ spec.areas_of cell.now) }
+/// page's top left (css-page-3, page-margin boxes). They and their places are within 2^41 units.
+pub fn areas_of(cell: &PageCell) -> [Area; MARGIN_BOXES]
+    requires { IsGoodCell cell.now }
+    ensures value { result ≡ spec.areas_of cell.now }
+    ensures good { All spec.IsGoodArea result }
 {
-    let right = cell.width.checked_sub(cell.right)?;
-    let bottom = cell.height.checked_sub(cell.bottom)?;
-    Some(areas_by(cell, right, bottom))
+    areas_by(cell, cell.width - cell.right, cell.height - cell.bottom)
 }

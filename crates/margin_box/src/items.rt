@@ -1,7 +1,8 @@
 //! The items of the margin boxes of a page.
 
-ghost use Rattle.std.specs.Prelude.{◌≡◌, ◌<◌, ◌≤ℤ◌, ◌++◌, pos, length, option_map, string_bytes, All, IfOk, OnOk, IfSome, SomeIff};
+ghost use Rattle.std.specs.Prelude.{◌≡◌, ◌<◌, ◌≤ℤ◌, ◌++◌, pos, length, option_map, string_bytes, All, IfOk, OnOk, IfSome};
 ghost use Rattle.page_ctx.specs.Margins.{style_in};
+ghost use Rattle.margin_box.specs.Areas.{IsGoodArea};
 ghost use Rattle.margin_box.specs.Conditions.{CanShowMargins};
 ghost use Rattle.margin_box.specs.Margins as spec;
 ghost use Rattle.margin_box.specs.Margins.{HasFace, items_of, margins_in};
@@ -59,23 +60,21 @@ fn strut_of(faces: &Faces, style: &MarginStyle<'_>) -> Span
     }
 }
 
-/// Where a text stands in its box, and how it is painted. None exactly where its place is past 64 bits.
-fn placed_in(faces: &Faces, area: &Area, style: &MarginStyle<'_>, text: &str) -> Option<TextPlace>
-    requires { pos 0 ≤ℤ style.now.size }
-    ensures style { SomeIff result (spec.IsPlaceInRange faces.now area.now (style_in style.now) text.now)
-        (spec.placed_in faces.now area.now (style_in style.now) text.now) }
-    ensures face { IfSome result (λ s. s.face.0 < length faces.now) }
+/// Where a text stands in its box, and how it is painted.
+fn placed_in(faces: &Faces, area: &Area, style: &MarginStyle<'_>, text: &str) -> TextPlace
+    requires area { IsGoodArea area.now }
+    requires size { pos 0 ≤ℤ style.now.size }
+    ensures style { result ≡ spec.placed_in faces.now area.now (style_in style.now) text.now }
+    ensures face { result.face.0 < length faces.now }
 {
     let strut = strut_of(faces, style);
-    let x = line_left(faces, &strut, area, style.align, text)?;
-    let y = line_baseline(faces, &strut, area, style.upright)?;
-    Some(TextPlace {
-        x,
-        y,
+    TextPlace {
+        x: line_left(faces, &strut, area, style.align, text),
+        y: line_baseline(faces, &strut, area, style.upright),
         face: strut.face,
         size: strut.size,
         color: strut.color,
-    })
+    }
 }
 
 /// Adds a text in its box; an empty one is not printed.
@@ -86,6 +85,7 @@ fn push_text(
     style: &MarginStyle<'_>,
     text: String,
 ) -> Result<(), NoMem>
+    requires area { IsGoodArea area.now }
     requires size { pos 0 ≤ℤ style.now.size }
     requires faces { All (HasFace faces.now) items.old.items }
     ensures items { OnOk result (items_of faces.now items.new.items ≡ items_of faces.now items.old.items ++
@@ -95,11 +95,8 @@ fn push_text(
     if text.is_empty() {
         return Ok(());
     }
-    let Some(style) = placed_in(faces, area, style, text.as_str()) else {
-        return Err(NoMem);
-    };
     items.push(MarginText {
-        style,
+        style: placed_in(faces, area, style, text.as_str()),
         text: Name::from_string(text),
     })?;
     Ok(())
@@ -116,6 +113,7 @@ fn push_box(
 ) -> Result<(), NoMem>
     requires can { CanShowMargins margins.now }
     requires page { page < length margins.now.list.now.pages }
+    requires area { IsGoodArea area.now }
     requires size { IfSome style (λ s. pos 0 ≤ℤ s.now.size) }
     requires faces { All (HasFace margins.now.faces.now) items.old.items }
     ensures items { OnOk result (items_of margins.now.faces.now items.new.items
@@ -142,6 +140,7 @@ fn push_numbered(
 ) -> Result<(), NoMem>
     requires can { CanShowMargins margins.now }
     requires number { number < length margins.now.list.now.pages }
+    requires areas { All IsGoodArea areas.now }
     requires place { place < MARGIN_BOXES }
     requires faces { All (HasFace margins.now.faces.now) items.old.items }
     ensures items { OnOk result (items_of margins.now.faces.now items.new.items
@@ -164,6 +163,7 @@ fn boxes_items(
 ) -> Result<Vec<MarginText>, NoMem>
     requires can { CanShowMargins margins.now }
     requires number { number < length margins.now.list.now.pages }
+    requires areas { All IsGoodArea areas.now }
     ensures items { IfOk result (λ v. items_of margins.now.faces.now v.items ≡
         spec.boxes_items (margins_in margins.now) number page.now areas.now) }
     ensures faces { IfOk result (λ v. All (HasFace margins.now.faces.now) v.items) }
@@ -181,7 +181,7 @@ fn boxes_items(
 ///
 /// # Errors
 ///
-/// `NoMem`, also where a place is past 64 bits.
+/// `NoMem`.
 #[tactic(auto, unfolding(crate::specs::Margins::margin_items))]
 pub fn margin_items(
     alloc: Global,
@@ -196,8 +196,5 @@ pub fn margin_items(
 {
     let shown = &margins.list.pages.as_slice()[page];
     let cell = margins.styles.cell(shown.index, shown.name, shown.kind);
-    let Some(areas) = areas_of(&cell) else {
-        return Err(NoMem);
-    };
-    boxes_items(alloc, margins, page, shown, &areas)
+    boxes_items(alloc, margins, page, shown, &areas_of(&cell))
 }

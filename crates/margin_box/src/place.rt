@@ -1,8 +1,8 @@
 //! Where the one line of a margin box stands in it.
 
-ghost use Rattle.std.specs.Prelude.{◌≡◌, SomeIff};
+ghost use Rattle.std.specs.Prelude.{◌≡◌, ◌-ℤ◌, ◌^◌};
+ghost use Rattle.bk_num.specs.Numbers.{IsWithin};
 ghost use Rattle.margin_box.specs.Placing as spec;
-ghost use Rattle.margin_box.specs.Placing.{BeginsInRange};
 
 use bk_num::values::Align;
 use css_page::values::Upright;
@@ -17,7 +17,9 @@ pub enum Along {
 
 /// The part of a slack that stands before a line. The slack is negative where the line overflows its box.
 fn slack_before(along: Along, slack: i64) -> i64
-    ensures { result ≡ spec.slack_before along slack }
+    requires { IsWithin (2 ^ 61) slack }
+    ensures value { result ≡ spec.slack_before along slack }
+    ensures bound { IsWithin (2 ^ 61) result }
 {
     match along {
         Along::Start => 0,
@@ -26,12 +28,25 @@ fn slack_before(along: Along, slack: i64) -> i64
     }
 }
 
-/// Where what has a size begins in a room that begins at a place. None exactly where it or the slack is past 64 bits.
-pub fn begin_in(along: Along, at: i64, room: i64, size: i64) -> Option<i64>
-    ensures { SomeIff result (BeginsInRange along at room size) (spec.begin_in along at room size) }
+/// What a size leaves of a room; it is negative where the size is the greater one.
+fn slack_of(room: i64, size: i64) -> i64
+    requires room { IsWithin (2 ^ 41) room }
+    requires size { IsWithin (2 ^ 60) size }
+    ensures value { result ≡ room -ℤ size }
+    ensures bound { IsWithin (2 ^ 61) result }
 {
-    let slack = room.checked_sub(size)?;
-    at.checked_add(slack_before(along, slack))
+    room - size
+}
+
+/// Where what has a size begins in a room that begins at a place, in units, within 2^62 either way.
+pub fn begin_in(along: Along, at: i64, room: i64, size: i64) -> i64
+    requires at { IsWithin (2 ^ 41) at }
+    requires room { IsWithin (2 ^ 41) room }
+    requires size { IsWithin (2 ^ 60) size }
+    ensures value { result ≡ spec.begin_in along at room size }
+    ensures bound { IsWithin (2 ^ 62) result }
+{
+    at + slack_before(along, slack_of(room, size))
 }
 
 /// How a line stands across its box (CSS 2.1, 16.2: `text-align`). No line of a margin box is justified.

@@ -2,7 +2,6 @@
 //! have a line each, and the first, the fifth and the sixth set the string `s`.
 
 ghost use Rattle.std.specs.Prelude.{◌≡◌, ◌<◌, length, map, IfOk};
-ghost use Rattle.page_seq.specs.Frames.{IsGoodTable};
 ghost use Rattle.page_seq.specs.Places.{NeverFall};
 ghost use Rattle.strings.specs.Assigned.{AreStrings};
 ghost use Rattle.margin_box.specs.Conditions.{CanShowMargins};
@@ -82,7 +81,6 @@ fn book_of(alloc: Global) -> Result<Book, NoMem>
 }
 
 fn margins_of<'a>(book: &'a Book, strings: &'a Strings, styles: &'a PageStyles<'a>) -> Margins<'a>
-    requires table { IsGoodTable styles.now.table.rows }
     requires strings { AreStrings book.now.flow.main book.now.list.pages book.now.flow.strings strings.now }
     requires pages { length book.now.list.pages ≡ 3 }
     ensures can { CanShowMargins result }
@@ -135,7 +133,6 @@ fn printed_of(
     styles: &PageStyles<'_>,
     page: usize,
 ) -> Result<String, NoMem>
-    requires table { IsGoodTable styles.now.table.rows }
     requires strings { NeverFall (map (λ a. a.at) book.now.flow.strings) }
     requires pages { length book.now.list.pages ≡ 3 }
     requires page { page < 3 }
@@ -147,7 +144,6 @@ fn printed_of(
 
 /// What the margin boxes of a page of the book print in these styles.
 fn printed_in(alloc: Global, styles: &PageStyles<'_>, page: usize) -> Result<String, NoMem>
-    requires table { IsGoodTable styles.now.table.rows }
     requires page { page < 3 }
 {
     let book = book_of(alloc)?;

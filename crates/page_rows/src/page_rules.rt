@@ -1,7 +1,5 @@
 //! Pages by their rules: frames, page boxes, and the styles of margin boxes.
 
-ghost use Rattle.page_seq.specs.Frames.{IsGoodTable};
-
 use crate::notation::{count, unknown};
 use bk_num::ids::NameId;
 use bk_num::items::Items;
@@ -53,9 +51,7 @@ fn page_of(page: &str) -> (u32, NameId, PageKind) {
     }
 }
 
-fn cell_at(styles: &PageStyles<'_>, page: &str) -> PageCell
-    requires { IsGoodTable styles.now.table.rows }
-{
+fn cell_at(styles: &PageStyles<'_>, page: &str) -> PageCell {
     let (index, name, kind) = page_of(page);
     styles.cell(index, name, kind)
 }
@@ -68,9 +64,7 @@ fn push_top(line: &mut String, top: i64) -> Result<(), AllocError> {
 }
 
 /// The tops of the frames of pages, in px where they have no fraction.
-fn tops(alloc: Global, styles: &PageStyles<'_>, pages: &str) -> Result<String, NoMem>
-    requires { IsGoodTable styles.now.table.rows }
-{
+fn tops(alloc: Global, styles: &PageStyles<'_>, pages: &str) -> Result<String, NoMem> {
     let mut line = String::new(alloc);
     for page in pages.split(' ') {
         push_top(&mut line, cell_at(styles, page).frame.top)?;
@@ -80,9 +74,7 @@ fn tops(alloc: Global, styles: &PageStyles<'_>, pages: &str) -> Result<String, N
 
 /// The width and height of a page, its margins from the top round to the left, and the width and height of its frame,
 /// in units.
-fn page_box(alloc: Global, styles: &PageStyles<'_>, page: &str) -> Result<String, NoMem>
-    requires { IsGoodTable styles.now.table.rows }
-{
+fn page_box(alloc: Global, styles: &PageStyles<'_>, page: &str) -> Result<String, NoMem> {
     let cell = cell_at(styles, page);
     Ok(format!(in alloc;
         "{} {} {} {} {} {} {} {}",
@@ -148,9 +140,7 @@ fn at_box(alloc: Global, styles: &PageStyles<'_>, parts: &[&str]) -> Result<Stri
 }
 
 /// What is asked of pages in these styles.
-fn in_styles(alloc: Global, styles: &PageStyles<'_>, parts: &[&str]) -> Result<String, NoMem>
-    requires { IsGoodTable styles.now.table.rows }
-{
+fn in_styles(alloc: Global, styles: &PageStyles<'_>, parts: &[&str]) -> Result<String, NoMem> {
     match parts {
         ["tops_of", _, pages] => tops(alloc, styles, pages),
         ["page_box", _, page] => page_box(alloc, styles, page),

@@ -48,7 +48,7 @@ fn push(named: &mut Named, name: &str, mark: Mark) -> Result<(), NoMem>
         marks_in named.new q ≡ with_mark (marks_in named.old q) mark (bytes_eq name.now q)) }
 {
     let Some(marks) = named.get_mut(name) else {
-        return Err(NoMem);
+        unreachable!();
     };
     marks.push(mark)?;
     Ok(())

@@ -4,7 +4,6 @@ use Rattle.listing.proofs.pages.margins_of.Goals as goal
 
 pub returns-clause-can : goal.returns-clause-can
 returns-clause-can c = record {
-  table = c.requires.table;
   strings = c.requires.strings;
   numbers = ap length c.requires.numbers ∙ numbers-many c.args.printer.now.flow.now.main c.args.printer.now.list.now.pages c.args.printer.now.flow.now.resets;
 }
