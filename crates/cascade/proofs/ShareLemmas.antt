@@ -1,5 +1,5 @@
 -- What wins for nodes to which the same rules apply.
-use Rattle.std.proofs.Common.{◌≡◌, ℕ, ◌+◌, List, [], ◌∷◌, ◌++◌, Some, Result, Ok, Err, OnOk, length, length-append, slice_get, refl, sym, ◌∙◌, ap, subst, arith, ◌⊎◌, inl, inr}
+use Rattle.std.proofs.Common.{◌≡◌, ℕ, ◌+◌, List, [], ◌∷◌, ◌++◌, Option, None, Some, Result, Ok, Err, OnOk, length, length-append, slice_get, refl, sym, ◌∙◌, ap, subst, arith, ◌⊎◌, inl, inr}
 use Rattle.std.proofs.lemmas.Option.{slice_get_within, same_Some}
 use Rattle.bk_num.proofs.ListLemmas.{get-push, slice_get_at}
 use Rattle.selectors.specs.Match.{Tree}
@@ -9,8 +9,8 @@ use Rattle.cascade.specs.declared.sheet.ReadSheet.{ReadSheet}
 use Rattle.cascade.specs.declared.table.NodeWinners.{NodeWinners}
 use Rattle.cascade.specs.Document.{rules_of, decls_in, style_decls, AreNodeWinners, AreAllWinners}
 use Rattle.cascade.specs.Selected.{SelectedOf, selected_from, selectors_of, AreChosen}
-use Rattle.cascade.specs.Sharing.{IsLike, IsChosenAt, AreChosenAt, AddsChosen}
-use Rattle.cascade.specs.Table.{WinnersOf, AddsLike, no_winners}
+use Rattle.cascade.specs.Sharing.{IsLike, IsChosenAt, AreChosenAt, AddsChosen, SharesFound, found_for, mark_of, noted_as}
+use Rattle.cascade.specs.Table.{WinnersOf, AddsLike, no_winners, with_node}
 use Rattle.cascade.proofs.PlaceLemmas.{listed_places, of_chosen}
 
 pub on-ok : {A E P : Type 0} (res : Result A E) → P → OnOk res P
@@ -33,6 +33,20 @@ adds-like dom ss matched e n all more like adds = record { winners = adds.wins; 
 
 pub adds-new : (dom : Tree) (ss : List SelectedOf) (matched : List (List ℕ)) (n : ℕ) (all more : List NodeWinners) (w : NodeWinners) → IsChosenAt dom ss matched n w → more ≡ all ++ w ∷ [] → AddsChosen dom ss matched n all more
 adds-new dom ss matched n all more w c e = record { winners = w; added = e; chosen = λ h. c }
+
+-- ---- which nodes share
+
+pub shares-like : (dom : Tree) (matched : List (List ℕ)) (n e : ℕ) (noted later : List ((List ℕ × Option (List ℕ)) × ℕ)) (all more : WinnersOf) → Some e ≡ found_for dom matched noted n → later ≡ noted → AddsLike all e more → SharesFound dom matched n noted later all more
+shares-like dom matched n e noted later all more is same adds = record {
+  found = λ f at. (subst (λ k. AddsLike all k more) (same_Some e f (is ∙ at)) adds, same);
+  none = λ h. let no : Some e ≡ None = is ∙ h in cc;
+}
+
+pub shares-new : (dom : Tree) (matched : List (List ℕ)) (n : ℕ) (noted later : List ((List ℕ × Option (List ℕ)) × ℕ)) (all more : WinnersOf) (w : NodeWinners) → None ≡ found_for dom matched noted n → length all.winners ≡ n → more ≡ with_node all w (length all.winners) → later ≡ noted_as (mark_of dom matched n) n noted → SharesFound dom matched n noted later all more
+shares-new dom matched n noted later all more w is len adds notes = record {
+  found = λ f at. let no : None ≡ Some f = is ∙ at in cc;
+  none = λ h. (ap (λ (t : WinnersOf). t.firsts) adds ∙ ap (λ k. all.firsts ++ k ∷ []) len, notes);
+}
 
 pub chosen-turn : (dom : Tree) (ss : List SelectedOf) (matched : List (List ℕ)) (n : ℕ) (all more : List NodeWinners) → length all ≡ n → AreChosenAt dom ss matched all → AddsChosen dom ss matched n all more → AreChosenAt dom ss matched more
 chosen-turn dom ss matched n all more len old adds k w at = by (get-push all adds.winners w k (subst (λ l. slice_get l k ≡ Some w) adds.added at))

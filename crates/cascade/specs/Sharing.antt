@@ -11,6 +11,7 @@ use Rattle.selectors.specs.Match.{Tree}
 use Rattle.cascade.specs.declared.table.NodeWinners.{NodeWinners}
 use Rattle.cascade.specs.Document.{style_decls}
 use Rattle.cascade.specs.Selected.{SelectedOf, AreChosen}
+use Rattle.cascade.specs.Table.{WinnersOf, AddsLike}
 
 -- the same selectors match an earlier node, and its style attribute is the same
 pub record IsLike (dom : Tree) (matched : List (List ℕ)) (e n : ℕ) : Type 0 where
@@ -50,6 +51,15 @@ abbrev pub noted_as :
     List ((List ℕ × Option (List ℕ)) × ℕ)
 noted_as None n noted = noted
 noted_as (Some m) n noted = insert_entry is_same noted m n
+
+-- a node is added like the earlier one that is found for it; where none is found, it is the first of its like, and is
+-- noted for those after it
+pub record SharesFound (dom : Tree) (matched : List (List ℕ)) (n : ℕ)
+    (noted later : List ((List ℕ × Option (List ℕ)) × ℕ)) (all more : WinnersOf) : Type 0 where
+  pub found : (e : ℕ) → found_for dom matched noted n ≡ Some e → AddsLike all e more × (later ≡ noted)
+  pub none :
+      found_for dom matched noted n ≡ None →
+      (more.firsts ≡ all.firsts ++ n ∷ []) × (later ≡ noted_as (mark_of dom matched n) n noted)
 
 -- what wins at a node by the selectors that match it and by its style attribute
 abbrev pub IsChosenAt : Tree → List SelectedOf → List (List ℕ) → ℕ → NodeWinners → Type 0

@@ -4,7 +4,7 @@ ghost use Rattle.std.specs.Prelude.{◌≡◌, ◌<◌, length, map, IfOk, OnOk}
 ghost use Rattle.match_table.specs.All.{AreMatchLists};
 ghost use Rattle.cascade.specs.Document.{style_decls, IsDeclaredAt, AreAllWinners};
 ghost use Rattle.cascade.specs.Winners.{AreWinners};
-ghost use Rattle.cascade.specs.Sharing.{AddsChosen, AreChosenAt};
+ghost use Rattle.cascade.specs.Sharing.{AddsChosen, AreChosenAt, SharesFound};
 ghost use Rattle.cascade.specs.Selected as spec;
 
 use crate::alike::SameMatches;
@@ -149,8 +149,9 @@ fn add_winners<'a>(
     requires node { node.0 < length dom.now }
     requires count { length matched.now ≡ length dom.now }
     requires rows { length all.old.winners ≡ node.0 }
-    ensures { OnOk result (AddsChosen dom.now (map spec.selected_in selected.now) matched.now node.0 all.old.winners
-        all.new.winners) }
+    ensures chosen { OnOk result (AddsChosen dom.now (map spec.selected_in selected.now) matched.now node.0
+        all.old.winners all.new.winners) }
+    ensures shares { OnOk result (SharesFound dom.now matched.now node.0 alike.old alike.new all.old all.new) }
 {
     if let Some(earlier) = alike.earlier(dom, matched, node) {
         return all.push_like(earlier);

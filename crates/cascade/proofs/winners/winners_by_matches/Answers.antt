@@ -10,8 +10,8 @@ loop-index-init c =
 
 pub loop-index-preserved : goal.loop-index-preserved
 loop-index-preserved c = record {
-  count = count-turn c.args.dom.now (map selected_in c.args.selected.now) c.args.matched.now c.loop-index.index c.loop-index.all.winners c.add_winners.new.all.winners c.loop-index.invariant.count c.in_ok-add_winners.ensures;
-  chosen = chosen-turn c.args.dom.now (map selected_in c.args.selected.now) c.args.matched.now c.loop-index.index c.loop-index.all.winners c.add_winners.new.all.winners c.loop-index.invariant.count c.loop-index.invariant.chosen c.in_ok-add_winners.ensures;
+  count = count-turn c.args.dom.now (map selected_in c.args.selected.now) c.args.matched.now c.loop-index.index c.loop-index.all.winners c.add_winners.new.all.winners c.loop-index.invariant.count c.in_ok-add_winners.ensures.chosen;
+  chosen = chosen-turn c.args.dom.now (map selected_in c.args.selected.now) c.args.matched.now c.loop-index.index c.loop-index.all.winners c.add_winners.new.all.winners c.loop-index.invariant.count c.loop-index.invariant.chosen c.in_ok-add_winners.ensures.chosen;
 }
 
 pub returns : goal.returns
