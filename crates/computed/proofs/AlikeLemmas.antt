@@ -1,13 +1,14 @@
 -- Nodes that share their styles.
-use Rattle.std.proofs.Common.{◌≡◌, ℕ, ◌+◌, List, [], ◌∷◌, ◌++◌, Some, Result, Ok, Err, OnOk, is_some, length, length-append, slice_get, refl, sym, ◌∙◌, ap, subst, ◌⊎◌, inl, inr}
+use Rattle.std.proofs.Common.{◌≡◌, ℕ, ◌+◌, List, [], ◌∷◌, ◌++◌, None, Some, Result, Ok, Err, OnOk, is_some, length, length-append, slice_get, refl, sym, ◌∙◌, ap, subst, ◌⊎◌, inl, inr}
 use Rattle.std.proofs.lemmas.Option.{same_Some}
 use Rattle.bk_num.proofs.ListLemmas.{get-push, get-keep, get-end}
 use Rattle.dom.specs.Nodes.{Node, parents_of, parent_at, name_at}
 use Rattle.style.specs.Nodes.{NodeStyles, AddsLike}
 use Rattle.cascade.specs.declared.table.NodeWinners.{NodeWinners}
+use Rattle.cascade.specs.Table.{WinnersOf}
 use Rattle.computed.specs.Names.{node_names, with_names}
 use Rattle.computed.specs.Walk.{IsElement, IsNode, AreNodes, Adds}
-use Rattle.computed.specs.Alike.{IsLike, HaveRow, AreFirsts, AddsNext}
+use Rattle.computed.specs.Alike.{KeptStyles, IsLike, HaveRow, AreFirsts, AddsNext, NotesFound, deciding_of, found_for, noted_as}
 use Rattle.computed.proofs.NameLemmas.{element-known}
 
 -- what holds below one parent holds below another with the same row
@@ -58,6 +59,20 @@ adds-new (Ok a) names more nodes winners k w firsts noted rows next len at adds 
   numbered = λ v wins all same. subst (λ x. more ≡ with_names names (node_names x adds.row)) (same_Some _ _ (sym at ∙ wins)) adds.numbered;
 }
 adds-new (Err a) names more nodes winners k w firsts noted rows next len at adds ok = tt
+
+pub notes-like : {A E : Type 0} (res : Result A E) (nodes : List Node) (winners : WinnersOf) (n e : ℕ) (kept later : KeptStyles) → Some e ≡ found_for nodes winners kept n → OnOk res (later.firsts ≡ kept.firsts ++ e ∷ []) → later.known ≡ kept.known → OnOk res (NotesFound nodes winners n kept later)
+notes-like (Ok a) nodes winners n e kept later is first known = record {
+  found = λ f at. (first ∙ ap (λ k. kept.firsts ++ k ∷ []) (same_Some e f (is ∙ at)), known);
+  none = λ h. let no : Some e ≡ None = is ∙ h in cc;
+}
+notes-like (Err a) nodes winners n e kept later is first known = tt
+
+pub notes-new : {A E : Type 0} (res : Result A E) (nodes : List Node) (winners : WinnersOf) (n : ℕ) (kept later : KeptStyles) → None ≡ found_for nodes winners kept n → OnOk res (later.firsts ≡ kept.firsts ++ n ∷ []) → OnOk res (later.known ≡ noted_as (deciding_of nodes winners kept.firsts n) n kept.known) → OnOk res (NotesFound nodes winners n kept later)
+notes-new (Ok a) nodes winners n kept later is first known = record {
+  found = λ f at. let no : None ≡ Some f = is ∙ at in cc;
+  none = λ h. (first, known);
+}
+notes-new (Err a) nodes winners n kept later is first known = tt
 
 pub to-adds : (names more : List (List ℕ)) (nodes : List Node) (winners : List NodeWinners) (k : ℕ) (w : NodeWinners) (firsts noted : List ℕ) (rows next : List NodeStyles) → AddsNext names more nodes winners k firsts noted rows next → slice_get winners k ≡ Some w → AreNodes names nodes winners rows → AreFirsts rows firsts → Adds names more nodes k w rows next
 to-adds names more nodes winners k w firsts noted rows next n at all same = record { row = n.row; added = n.added; fits = n.fits w at all same; numbered = n.numbered w at all same }

@@ -68,6 +68,17 @@ abbrev pub noted_as : Option Deciding → ℕ → List (Deciding × ℕ) → Lis
 noted_as None n known = known
 noted_as (Some d) n known = insert_entry is_same known d n
 
+-- a node is noted like the earlier one that is found for it; where none is found, it is like none before it, and is
+-- noted for what decides its styles
+pub record NotesFound (nodes : List Node) (winners : WinnersOf) (n : ℕ) (kept later : KeptStyles) : Type 0 where
+  pub found :
+      (e : ℕ) → found_for nodes winners kept n ≡ Some e →
+      (later.firsts ≡ kept.firsts ++ e ∷ []) × (later.known ≡ kept.known)
+  pub none :
+      found_for nodes winners kept n ≡ None →
+      (later.firsts ≡ kept.firsts ++ n ∷ []) ×
+      (later.known ≡ noted_as (deciding_of nodes winners kept.firsts n) n kept.known)
+
 -- ---- nodes that are alike
 
 -- the same decides the styles of an earlier element

@@ -5,7 +5,7 @@ ghost use Rattle.style.specs.Nodes.{change_last};
 ghost use Rattle.style.specs.Styles.{initial_style};
 ghost use Rattle.computed.specs.Names.{with_names};
 ghost use Rattle.computed.specs.Walk.{parent_row, style_above, root_above, is_shown_below, is_note_below, is_in_note_below, font_of, AreStyles, Extends, Adds, AddsElement};
-ghost use Rattle.computed.specs.Alike.{AddsNext};
+ghost use Rattle.computed.specs.Alike.{AddsNext, NotesFound};
 ghost use Rattle.computed.specs.Rows.{with_option, styles_in, all_put, AreGenerated, generated_names};
 
 use crate::alike::SameStyles;
@@ -77,6 +77,7 @@ fn add_next(
     requires initial { initial.now ≡ initial_style }
     ensures adds { OnOk result (AddsNext names.old names.new dom.now winners.now.winners node.0 alike.old.firsts
         alike.new.firsts styles.old styles.new) }
+    ensures notes { OnOk result (NotesFound dom.now winners.now node.0 alike.old alike.new) }
     ensures names { Extends names.old names.new }
 {
     if let Some(earlier) = alike.earlier(dom, winners, node) {
