@@ -1,5 +1,5 @@
 -- What is expected of files by their texts, or by the first that gives none.
-use Rattle.std.proofs.Common.{◌≡◌, ◌⊎◌, ℕ, zero, suc, ◌+◌, ◌<◌, ◌≤◌, List, [], ◌∷◌, length, nat_lt, slice_get, string_bytes, true, false, inl, inr, refl, ap, sym, arith, subst, Option, Some, String}
+use Rattle.std.proofs.Common.{◌≡◌, ◌≢◌, ℕ, zero, suc, ◌+◌, ◌<◌, List, [], ◌∷◌, length, nat_lt, slice_get, string_bytes, true, false, inl, inr, refl, ap, sym, arith, subst, Option, Some, String}
 use Rattle.std.specs.Global.{Global}
 use Rattle.std.specs.List.{AllZip}
 use Rattle.std.proofs.lemmas.Bool.Decides.{nat_tests}
@@ -18,10 +18,10 @@ use Rattle.named_files.specs.declared.file.FileOf.TheVariants as file
 use Rattle.named_files.specs.declared.read.FileTexts.{FileTexts}
 use Rattle.sheets.specs.Files.{file_texts}
 use Rattle.words.specs.Asked.{FormatWords}
-use Rattle.book.specs.Expect.{Expect, free, refused, given, IsGiven, IsRefused, ◌>>=◌}
+use Rattle.book.specs.Expect.{IsGiven, IsRefused}
 use Rattle.book.specs.FilesView.{listed_texts}
 use Rattle.book.specs.Refusals.{file_refusal}
-use Rattle.book.specs.Run.{IsFaultOf, IsOfFiles, Stops, StopsAt, sheets_from, text_of, texts_named}
+use Rattle.book.specs.Run.{IsFaultOf, IsOfFiles, KeepsFaults, Stops, StopsAt, sheets_from, text_of, texts_named}
 use Rattle.book.specs.declared.outcome.Outcome.{Outcome}
 use Rattle.book.specs.declared.outcome.Outcome.TheVariants as out
 use Rattle.book.proofs.Stopping.{after_given, later_bind, later_names, later_text, stops_at, stops_at_html, stops_at_metrics, stops_at_sheets, stops_in, texts_given}
@@ -137,3 +137,10 @@ cause_of told names f text.NoMemory name before now last is h = tt
 
 pub cause_files : (told : List ℕ → Told) (names : FormatWords) (before now : ℕ) (last : Option (List ℕ)) (e : FileFault) → IsFirstFault names told before now last e → IsOfFiles names told before now last (file_refusal e.file e.why)
 cause_files told names before now last e h = cause_of told names e.file e.why h.name before now last h.is h.cause
+
+-- the refusal of a file keeps the count of faults, unless the file can't be read
+pub kept_file : (f : FileOf) (why : TextErr) (before now : ℕ) → (why ≢ text.Failed → now ≡ before) → KeepsFaults before now (file_refusal f why)
+kept_file f text.Failed before now h = tt
+kept_file f text.TooLarge before now h = h (λ e. absurd (cc))
+kept_file f (text.NotUtf8 at) before now h = h (λ e. absurd (cc))
+kept_file f text.NoMemory before now h = h (λ e. absurd (cc))

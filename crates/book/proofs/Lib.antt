@@ -5,6 +5,7 @@ pub mod Conditions
 pub mod Documents
 pub mod FileLemmas
 pub mod KeepLemmas
+pub mod NoteLemmas
 pub mod OneAnswer
 pub mod OneBook
 pub mod PassLemmas

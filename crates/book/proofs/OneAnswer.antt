@@ -1,5 +1,5 @@
 -- Of words over a shelf one end of the passes is expected and one book, and the end decides the answer.
-use Rattle.std.proofs.Common.{◌≡◌, ◌∙◌, ℕ, ◌<◌, zero, suc, List, [], ◌∷◌, Option, Result, Ok, Err, length, map, refl, sym, ap, subst, arith}
+use Rattle.std.proofs.Common.{◌≡◌, ◌∙◌, ℕ, ◌<◌, List, [], ◌∷◌, Option, Result, Ok, Err, length, map, refl, sym, ap, subst, arith}
 use Rattle.bk_io.specs.Shelf.{Told}
 use Rattle.bk_num.specs.declared.ids.NodeId.{NodeId}
 use Rattle.dom.specs.Nodes.{IsTree, Node}
@@ -14,7 +14,6 @@ use Rattle.passes.specs.Work.{Work}
 use Rattle.css_page.specs.declared.rules.PageRule.{PageRule}
 use Rattle.sheets.specs.Readings.{SheetOf}
 use Rattle.sheets.specs.Sheets.{author_texts, element_sheets}
-use Rattle.style.specs.Nodes.{NodeStyles}
 use Rattle.book.specs.Answer.{Book, IsBookOf}
 use Rattle.book.specs.Document.{Document, Texts, document_of, faces_expected, nodes_expected, sheets_expected}
 use Rattle.book.specs.Expect.{Expect, free, refused, given, ◌>>=◌}

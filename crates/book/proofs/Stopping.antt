@@ -20,7 +20,7 @@ use Rattle.named_files.specs.Names.{file_stage}
 use Rattle.book.specs.Request.{Task, files, chapters}
 use Rattle.words.specs.Asked.{FormatWords}
 use Rattle.book.specs.Document.{Texts, Document, document_of, faces_expected, nodes_expected, sheets_expected}
-use Rattle.book.specs.Run.{text_of, StopsAt, Stops, Ends, ComesBefore, IsReadBefore, IsUnforeseen, Meets, PutsOnlyABook, Writes, document_for, sheets_from, texts_for, texts_named, HasFileCause, HasReadCause, HasTaskCause, HasWordsCause, IsOfBook, IsOfFiles, IsOfTexts, IsOfWords}
+use Rattle.book.specs.Run.{text_of, StopsAt, Stops, Ends, ComesBefore, IsReadBefore, IsUnforeseen, Meets, PutsOnlyABook, Writes, document_for, sheets_from, texts_for, texts_named, HasFileCause, HasReadCause, HasTaskCause, HasWordsCause, IsOfBook, IsOfFiles, IsOfTexts, IsOfWords, KeepsFaults}
 use Rattle.book.specs.declared.document.Output.TheVariants as output
 use Rattle.named_files.specs.declared.file.FileOf.{FileOf}
 use Rattle.named_files.specs.declared.file.FileOf.TheVariants as file
@@ -162,6 +162,19 @@ of_book (out.BadMetrics line why) h = tt
 of_book (out.NotSettled target one other) h = tt
 of_book (out.Limit what) h = tt
 of_book out.NoMemory h = tt
+
+-- with any answer the count of faults may stay
+pub kept_count : (before now : ℕ) (o : Outcome) → now ≡ before → KeepsFaults before now o
+kept_count before now (out.ReadFault k) e = tt
+kept_count before now (out.NotRead k) e = e
+kept_count before now (out.Done pages passes) e = e
+kept_count before now out.WriteFault e = e
+kept_count before now (out.TooLarge k) e = e
+kept_count before now (out.NotUtf8 k at) e = e
+kept_count before now (out.BadMetrics line why) e = e
+kept_count before now (out.NotSettled target one other) e = e
+kept_count before now (out.Limit what) e = e
+kept_count before now out.NoMemory e = e
 
 -- nothing was put
 pub keeps_same : (a : Option (List ℕ)) → Keeps a a

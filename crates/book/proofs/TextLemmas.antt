@@ -261,6 +261,10 @@ lines_text t at (p ∷ lines) st r =
     let rest = lines_text t r.0 lines (subst (Stands t) (sym r.1.1) took.stands) r.2 in
     ap (λ (more : List ℕ). text_on t p ++ more) (rest ∙ ap (text_from t) r.1.1) ∙ took.text ∙ sym (text_before t at p st n)
 
+-- the solids of a tree have the text of its leaves, once and in order
+pub tree_text : (t : Tree) (solids : List Placed) → IsTree t → HoldsAll t solids → solids_text t solids ≡ flat_map leaf_text t.leaves
+tree_text t solids tree all = lines_text t (place 0 0) solids (start_stands t) all ∙ tree_texts t tree
+
 pages_text : (t : Tree) (pages : List Page) → flat_map (λ (p : Page). solids_text t p.solids) pages ≡ solids_text t (solids_of pages)
 pages_text t [] = refl
 pages_text t (p ∷ pages) =
@@ -271,5 +275,4 @@ pub prints_main : (faces : List FontFace) (flow : Flow) (pages : List Page) → 
 prints_main faces flow pages tree all =
     flat_same (λ (p : Page). texts_in (tree_items faces flow.main (flow_origin p.frame) p.solids)) (λ (p : Page). solids_text flow.main p.solids) (λ (p : Page). tree_prints faces flow.main (flow_origin p.frame) p.solids tree) pages
     ∙ pages_text flow.main pages
-    ∙ lines_text flow.main (place 0 0) (solids_of pages) (start_stands flow.main) all
-    ∙ tree_texts flow.main tree
+    ∙ tree_text flow.main (solids_of pages) tree all

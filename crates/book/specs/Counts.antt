@@ -1,10 +1,9 @@
 -- The line that tells the counts of a sample book.
-use Rattle.std.specs.Prelude.{ℕ, ◌+◌, Bool, true, false, List, [], ◌∷◌, codes, count_by}
+use Rattle.std.specs.Prelude.{ℕ, ◌+◌, Bool, true, false, List, [], ◌∷◌, codes, count_by, decimal}
 use Rattle.std.specs.List.{flat_map, sum_by}
 use Rattle.boxes.specs.declared.page.Page.{Page}
 use Rattle.boxes.specs.declared.page.SolidKind.{SolidKind}
 use Rattle.boxes.specs.declared.page.SolidKind.TheVariants as kind
-use Rattle.book.specs.Message.{decimal}
 
 -- whether a solid is a line
 abbrev pub is_line : SolidKind → Bool

@@ -1,19 +1,27 @@
 -- What a book keeps of its document: the promise of this program, clause by clause.
-use Rattle.std.specs.Prelude.{◌≡◌, List}
-use Rattle.std.specs.List.{All}
+use Rattle.std.specs.Prelude.{◌≡◌, ℕ, List, Some, slice_get}
+use Rattle.std.specs.List.{All, flat_map}
 use Rattle.boxes.specs.declared.flow.Flow.{Flow}
+use Rattle.boxes.specs.declared.flow.Note.{Note}
 use Rattle.boxes.specs.declared.page.Page.{Page}
+use Rattle.box_gen.specs.Notes.{AreNotesOf}
 use Rattle.gen_text.specs.declared.table.Entry.{Entry}
 use Rattle.page_list.specs.Inside.{EndInside}
 use Rattle.page_list.specs.Laws.{HoldsMain}
 use Rattle.page_list.specs.Noted.{BeginInTime, HoldsNotes}
 use Rattle.page_list.specs.Pages.{IsPaged}
 use Rattle.page_list.specs.Parted.{HoldsBreaks}
-use Rattle.paint.specs.Printed.{PrintsItsText, PrintsMainText}
-use Rattle.passes.specs.Work.{IsFlowUnder, Work}
+use Rattle.paint.specs.Printed.{PrintsItsText, PrintsMainText, leaf_text, note_text}
+use Rattle.passes.specs.Work.{IsFlowUnder, Work, source_for}
 use Rattle.refs.specs.Tables.{table_of}
 use Rattle.book.specs.Answer.{Book, IsBookOf}
 use Rattle.book.specs.Document.{Document}
+
+-- over all pages the text of each note's solids is that of the leaves of its body, once and in order, each leaf's
+-- markers before it
+abbrev pub HoldsNoteTexts : Flow → List Page → Type 0
+HoldsNoteTexts flow pages = (k : ℕ) (note : Note) → slice_get flow.notes k ≡ Some note →
+    flat_map (λ p. note_text flow.notes p.notes k) pages ≡ flat_map leaf_text note.body.leaves
 
 -- what a book's pages keep of the document: its text, its notes and its references
 pub record Keeps (w : Work) (flow : Flow) (pages : List Page) (table : List Entry) : Type 0 where
@@ -33,8 +41,13 @@ pub record Keeps (w : Work) (flow : Flow) (pages : List Page) (table : List Entr
   -- printed once and in order, each leaf's markers before it
   pub texts : All (PrintsItsText w.faces flow) pages
   pub text : PrintsMainText w.faces flow pages
-  -- the texts of the flow print the numbers of a table, and it is the table that these very pages show
+  -- the text that pages have of a note is that of its body's leaves, once and in order over all pages
+  pub noted : HoldsNoteTexts flow pages
+  -- the texts of the flow print the numbers of a table
   pub printed : IsFlowUnder w table flow
+  -- the notes of the flow are those of the note elements that are shown, one each, in tree order
+  pub elements : AreNotesOf (source_for w printed.texts) flow.notes
+  -- the table is the one that these very pages show
   pub shown : table ≡ table_of flow pages w.targets
 
 -- the book of a document, which keeps all of this

@@ -1,5 +1,5 @@
 -- Laws of books and of answers.
-use Rattle.std.specs.Prelude.{◌≡◌, ℕ, List, Option, length}
+use Rattle.std.specs.Prelude.{◌≡◌, ℕ, List, Option, length, ◌⊎◌}
 use Rattle.bk_io.specs.Shelf.{Told}
 use Rattle.boxes.specs.declared.flow.Flow.{Flow}
 use Rattle.boxes.specs.declared.page.Page.{Page}
@@ -9,12 +9,14 @@ use Rattle.page_list.specs.Laws.{BreaksHold, MainStandsOnce, NotesBeginInTime, N
 use Rattle.passes.specs.Passes.{End, settled, unsettled, long, many}
 use Rattle.book.specs.Answer.{Book, IsBookOf}
 use Rattle.book.specs.Document.{Document}
-use Rattle.book.specs.Expect.{given}
+use Rattle.book.specs.Expect.{given, refused}
 use Rattle.book.specs.Flow.{HasEnd}
+use Rattle.book.specs.Request.{asked}
 use Rattle.book.specs.Run.{Answers, IsExpected, IsUnforeseen}
 use Rattle.book.specs.declared.outcome.LimitOf.TheVariants as limit
 use Rattle.book.specs.declared.outcome.Outcome.{Outcome}
 use Rattle.book.specs.declared.outcome.Outcome.TheVariants as out
+use Rattle.words.specs.declared.fault.WordsFault.{WordsFault}
 
 -- what holds of all page lists
 pub record PageLaws : Type 0 where
@@ -75,3 +77,20 @@ IsAnswerAt end o = IsUnforeseen o
 abbrev pub AnswersFollowEnds : Type 0
 AnswersFollowEnds = (ws : List (List ℕ)) (told : List ℕ → Told) (old new : Option (List ℕ)) (d : Document) (end : End)
     (o : Outcome) → IsExpected ws told (given d) → HasEnd d end → Answers ws told old new o → IsAnswerAt end o
+
+-- ---- the answer by the words
+
+-- words that ask for nothing are answered with their fault, or memory ran out
+abbrev pub AnswersFollowWords : Type 0
+AnswersFollowWords = (ws : List (List ℕ)) (told : List ℕ → Told) (old new : Option (List ℕ)) (kind : WordsFault)
+    (o : Outcome) → asked ws ≡ refused (out.NotRead kind) → Answers ws told old new o →
+    (o ≡ out.NotRead kind) ⊎ (o ≡ out.NoMemory)
+
+-- this answers all words, over any shelf and sink
+abbrev pub AnswersAll : Outcome → Type 0
+AnswersAll o = (ws : List (List ℕ)) (told : List ℕ → Told) (old : Option (List ℕ)) →
+    (new : Option (List ℕ)) × Answers ws told old new o
+
+-- nothing but want of memory does
+abbrev pub OnlyMemoryAnswersAll : Type 0
+OnlyMemoryAnswersAll = (o : Outcome) → AnswersAll o → o ≡ out.NoMemory

@@ -1,5 +1,5 @@
 -- The line that a run puts on its second sink, and the status that the program ends with.
-use Rattle.std.specs.Prelude.{ℕ, List, [], ◌∷◌, codes, pos}
+use Rattle.std.specs.Prelude.{ℕ, List, [], ◌∷◌, codes, decimal}
 use Rattle.std.specs.Fmt.{signed_decimal}
 use Rattle.std.specs.List.{flat_map}
 use Rattle.bk_io.specs.Escapes.{shown_byte}
@@ -13,10 +13,6 @@ use Rattle.book.specs.declared.outcome.LimitOf.TheVariants as limit
 use Rattle.named_files.specs.Names.{file_words}
 use Rattle.words.specs.Statuses as status
 use Rattle.words.specs.declared.fault.WordsFault.TheVariants as words
-
--- a number in decimal digits
-unfoldable pub decimal : ℕ → List ℕ
-decimal n = signed_decimal (pos n)
 
 -- the word for what is wrong in a metrics text
 unfoldable pub why_text : MetricsWhy → List ℕ

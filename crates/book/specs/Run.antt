@@ -174,6 +174,12 @@ HasReadCause (given task) told before now last (out.ReadFault f) = IsTaskFault t
 HasReadCause (refused o) told before now last (out.ReadFault f) = ⊥
 HasReadCause task told before now last o = Unit {0}
 
+-- the shelf's count of faults stays, but with a read fault. Any fetch may fail, so none is made but those of the files
+-- that the words name, up to the first that can't be read
+abbrev pub KeepsFaults : ℕ → ℕ → Outcome → Type 0
+KeepsFaults before now (out.ReadFault f) = Unit {0}
+KeepsFaults before now o = now ≡ before
+
 -- the read of a file stops with the refusal that is expected, or as no input explains
 abbrev pub StopsAt : FileOf → Expect (List ℕ) → Outcome → Type 0
 StopsAt f e o = IsRefused e o ⊎ ((o ≡ out.ReadFault f) ⊎ (o ≡ out.NoMemory))

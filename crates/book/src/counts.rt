@@ -49,7 +49,7 @@ fn lines_of(pages: &[Page]) -> u128
 /// # Errors
 ///
 /// `Failed` where a put failed. Then a prefix of the line was put.
-#[tactic(auto, unfolding(crate::specs::Counts::counts_line, crate::specs::Message::decimal))]
+#[tactic(auto, unfolding(crate::specs::Counts::counts_line))]
 pub(crate) fn put_counts<O: Sink>(out: &mut O, chapters: u32, laid: &Settled) -> Result<(), Failed>
     requires { length laid.now.pages.pages ≤ most_pages }
     ensures bytes { AppendsAllOrPrefix (O.taken out.old) (O.taken out.new)

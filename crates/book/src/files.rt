@@ -1,10 +1,10 @@
 //! Reads the texts of files.
 
-ghost use Rattle.std.specs.Prelude.{◌≤◌, MatchResult, IfErr, IfOk, string_len};
+ghost use Rattle.std.specs.Prelude.{◌≡◌, ◌≤◌, MatchResult, IfErr, IfOk, string_len};
 ghost use Rattle.bk_num.specs.Limits.{most_file_bytes};
 ghost use Rattle.book.specs.Expect.{IsGiven};
 ghost use Rattle.book.specs.FilesView.{listed_texts};
-ghost use Rattle.book.specs.Run.{texts_named, Stops, IsOfFiles};
+ghost use Rattle.book.specs.Run.{texts_named, Stops, IsOfFiles, KeepsFaults};
 ghost use Rattle.words.specs.Asked.{format_view};
 
 use crate::outcome::Outcome;
@@ -22,6 +22,8 @@ pub(crate) fn texts_of_files<F: Shelf>(
     ensures texts { let texts = texts_named (format_view names.now) (F.told shelf.old) in
         MatchResult result (λ t. IsGiven texts (listed_texts names.now.passes t)) (λ o. Stops texts o) }
     ensures small { IfOk result (λ t. string_len t.metrics ≤ most_file_bytes) }
+    ensures count { MatchResult result (λ _. F.faults shelf.new ≡ F.faults shelf.old)
+        (KeepsFaults (F.faults shelf.old) (F.faults shelf.new)) }
     ensures cause { IfErr result (λ o. IsOfFiles (format_view names.now) (F.told shelf.old) (F.faults shelf.old)
         (F.faults shelf.new) (F.last_fault shelf.new) o) }
 {

@@ -1,7 +1,7 @@
 //! Laws of what is expected of words over a shelf: that it is one, and that it decides the answer. Each function
 //! carries laws, and changes nothing.
 
-ghost use Rattle.book.specs.Laws.{AnswersFollowEnds, ExpectedIsTree, HasOneBook, HasOneEnd, OneBookIsExpected, OneEndIsExpected};
+ghost use Rattle.book.specs.Laws.{AnswersFollowEnds, AnswersFollowWords, ExpectedIsTree, HasOneBook, HasOneEnd, OneBookIsExpected, OneEndIsExpected, OnlyMemoryAnswersAll};
 ghost use Rattle.book.specs.Run.{OneIsExpected};
 
 use computed::laws::styles_are_one;
@@ -50,3 +50,10 @@ pub fn answers_follow_ends()
     one_is_expected();
     one_book_is_expected();
 }
+
+/// Words that ask for nothing are answered with their fault, want of memory aside. So no other answer is that of all
+/// words: a run that always answers the same isn't one.
+pub fn answers_follow_words()
+    ensures refused { AnswersFollowWords }
+    ensures all { OnlyMemoryAnswersAll }
+{}

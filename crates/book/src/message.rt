@@ -1,12 +1,12 @@
 //! Puts the line of an answer.
 
-ghost use Rattle.std.specs.Prelude.{◌≡◌, ◌∷◌, [], codes};
+ghost use Rattle.std.specs.Prelude.{◌≡◌, ◌∷◌, [], codes, decimal};
 ghost use Rattle.std.specs.Fmt.{signed_decimal};
 ghost use Rattle.std.specs.List.{flat_map};
 ghost use Rattle.bk_io.specs.Buffers.{Gives};
 ghost use Rattle.bk_io.specs.Sink.{AppendsAllOrPrefix, HasCause};
 ghost use Rattle.named_files.specs.Names.{file_words};
-ghost use Rattle.book.specs.Message.{message, shown_target, texts_of, why_text, limit_text, decimal};
+ghost use Rattle.book.specs.Message.{message, shown_target, texts_of, why_text, limit_text};
 
 use crate::outcome::{LimitOf, Outcome};
 use crate::target::add_target;
@@ -74,7 +74,6 @@ fn put_unread_line<E: Sink>(err: &mut E, file: FileOf) -> Result<(), Failed>
 }
 
 /// Puts a line that tells of a file and of a number of its bytes.
-#[tactic(auto, unfolding(crate::specs::Message::decimal))]
 fn put_bytes_line<E: Sink>(
     err: &mut E,
     file: FileOf,
@@ -103,7 +102,6 @@ fn put_bytes_line<E: Sink>(
 }
 
 /// Puts the line that tells what is wrong in a metrics text.
-#[tactic(auto, unfolding(crate::specs::Message::decimal))]
 fn put_metrics_line<E: Sink>(err: &mut E, line: u32, why: MetricsWhy) -> Result<(), Failed>
     ensures bytes { AppendsAllOrPrefix (E.taken err.old) (E.taken err.new)
         (flat_map (λ t. t) (codes "bookfmt: metrics line " ∷ decimal line ∷ codes ": " ∷ why_text why ∷ codes "\n"
@@ -124,7 +122,6 @@ fn put_metrics_line<E: Sink>(err: &mut E, line: u32, why: MetricsWhy) -> Result<
 }
 
 /// Puts the line that tells how many pages there are.
-#[tactic(auto, unfolding(crate::specs::Message::decimal))]
 fn put_pages_line<E: Sink>(err: &mut E, pages: u32, passes: u32) -> Result<(), Failed>
     ensures bytes { AppendsAllOrPrefix (E.taken err.old) (E.taken err.new)
         (flat_map (λ t. t) (codes "bookfmt: " ∷ decimal pages ∷ codes " pages, " ∷ decimal passes ∷ codes " passes\n"

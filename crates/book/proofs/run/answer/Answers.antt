@@ -14,3 +14,6 @@ returns-clause-read_fault g c = rw c.answer_of.ensures c.put_asked.ensures.read_
 
 pub returns-clause-write_fault : goal.returns-clause-write_fault
 returns-clause-write_fault g c = rw c.answer_of.ensures c.put_asked.ensures.write_fault
+
+pub returns-clause-count : goal.returns-clause-count
+returns-clause-count g c = rw c.answer_of.ensures c.put_asked.ensures.count

@@ -1,10 +1,10 @@
-use Rattle.std.proofs.Common.{◌≡◌, None, map, string_bytes, subst}
+use Rattle.std.proofs.Common.{◌≡◌, None, map, refl, string_bytes, subst}
 use Rattle.std.proofs.lemmas.Result.{err_from_is_err_and}
 use Rattle.book.specs.Laid.{outcome_of}
 use Rattle.book.specs.Request.{asked, task_in}
 use Rattle.book.specs.Run.{IsOfWords}
 use Rattle.book.specs.declared.outcome.Outcome.TheVariants as out
-use Rattle.book.proofs.Stopping.{halts_meet, puts_nothing, task_cause, task_meets, words_cause, words_halt}
+use Rattle.book.proofs.Stopping.{halts_meet, kept_count, puts_nothing, task_cause, task_meets, words_cause, words_halt}
 use Rattle.book.proofs.run.put_asked.Goals as goal
 
 pub returns-in_err-request-clause-answers : goal.returns-in_err-request-clause-answers
@@ -43,3 +43,8 @@ returns-clause-words g c = (task_cause (asked (map (λ w. string_bytes w) c.args
 
 pub returns-clause-read_fault : goal.returns-clause-read_fault
 returns-clause-read_fault g c = (task_cause (asked (map (λ w. string_bytes w) c.args.words.now)) (task_in c.in_ok-request.request) (g.F.Shelf.told c.args.shelf.now) _ _ _ (outcome_of c.put_request.result) c.in_ok-request.ensures.task c.put_request.ensures.cause).0
+
+pub returns-in_err-request-clause-count : goal.returns-in_err-request-clause-count
+returns-in_err-request-clause-count g c =
+    let p = err_from_is_err_and c.from_residual.result c.from_residual.ensures.1 in
+    rw (p.1, p.2) (kept_count _ _ c.in_err-request.field-0.0 refl)

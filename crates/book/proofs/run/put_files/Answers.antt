@@ -8,7 +8,7 @@ use Rattle.book.specs.FilesView.{listed_texts}
 use Rattle.book.specs.Laid.{outcome_of}
 use Rattle.book.specs.Run.{IsOfFiles, texts_named}
 use Rattle.book.specs.declared.outcome.Outcome.TheVariants as out
-use Rattle.book.proofs.Stopping.{book_cause, halts_meet, puts_nothing, reading_cause, texts_meet, texts_stop}
+use Rattle.book.proofs.Stopping.{book_cause, halts_meet, kept_count, puts_nothing, reading_cause, texts_meet, texts_stop}
 use Rattle.book.proofs.run.put_files.Goals as goal
 
 pub returns-in_err-files-clause-answers : goal.returns-in_err-files-clause-answers
@@ -47,3 +47,11 @@ returns-clause-answers g c = λ reading h.
 
 pub returns-clause-cause : goal.returns-clause-cause
 returns-clause-cause g c = book_cause (format_view c.args.names.now) (g.F.Shelf.told c.args.shelf.now) _ _ _ (outcome_of c.put_book.result) c.put_book.ensures.of_book
+
+pub returns-in_err-files-clause-count : goal.returns-in_err-files-clause-count
+returns-in_err-files-clause-count g c =
+    let p = err_from_is_err_and c.from_residual.result c.from_residual.ensures.1 in
+    rw (p.1, p.2) c.in_err-files.ensures.count
+
+pub returns-clause-count : goal.returns-clause-count
+returns-clause-count g c = kept_count _ _ (outcome_of c.put_book.result) c.in_ok-files.ensures.count

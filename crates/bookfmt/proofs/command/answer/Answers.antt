@@ -9,9 +9,10 @@ returns-in-Ok-clause-answer g c = rw (c.in-Ok.is, ← c.deref.ensures.value) (re
   words = c.run.ensures.words;
   read_fault = c.run.ensures.read_fault;
   write_fault = c.run.ensures.write_fault;
+  count = c.run.ensures.count;
   complete = c.run.ensures.complete;
   at_once = c.run.ensures.at_once;
 })
 
 pub returns-in-Err-clause-answer : goal.returns-in-Err-clause-answer
-returns-in-Err-clause-answer g c = rw c.in-Err.is (record { is = refl; put = keeps_same _ })
+returns-in-Err-clause-answer g c = rw c.in-Err.is (record { is = refl; unread = refl; unwritten = refl; put = keeps_same _ })
