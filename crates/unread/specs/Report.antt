@@ -1,8 +1,7 @@
 -- The lines of a report: one for each thing that is found, in the order of the sheets and of their texts, and then
 -- those of the document.
-use Rattle.std.specs.Prelude.{ℕ, zero, suc, ◌+◌, not, if◌then◌else◌, ◌==◌, List, [], ◌∷◌, ◌++◌, take, map, codes, pos, slice_index, unwrap_or}
+use Rattle.std.specs.Prelude.{ℕ, zero, suc, ◌+◌, not, if◌then◌else◌, ◌==◌, List, [], ◌∷◌, ◌++◌, take, map, codes, decimal, slice_index, unwrap_or}
 use Rattle.css_tok.specs.Lengths.{is_blank}
-use Rattle.std.specs.Fmt.{signed_decimal}
 use Rattle.std.specs.List.{flat_map, prefix_len}
 use Rattle.bk_io.specs.Escapes.{shown_byte}
 use Rattle.dom.specs.Nodes.{Node, attribute_at}
@@ -13,10 +12,6 @@ use Rattle.unread_list.specs.Families.{FindingOf, Unread, Family, findings_of}
 use Rattle.unread_list.specs.Elements.{IdleOf, idle_elements}
 use Rattle.unread_list.specs.declared.elements.Idle.{Idle}
 use Rattle.unread_list.specs.declared.elements.Idle.TheVariants as idle
-
--- a number in decimal digits
-abbrev pub decimal : ℕ → List ℕ
-decimal n = signed_decimal (pos n)
 
 -- how long a text is up to its first line feed, which is 10
 abbrev pub line_len : List ℕ → ℕ

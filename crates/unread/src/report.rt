@@ -1,7 +1,6 @@
 //! The report of a book.
 
-ghost use Rattle.std.specs.Prelude.{◌≡◌, ◌<◌, ◌≤◌, ◌+◌, ◌^◌, ◌++◌, ◌∷◌, [], codes, length, map, unwrap_or, string_bytes, IfOk, OnOk};
-ghost use Rattle.std.specs.List.{flat_map};
+ghost use Rattle.std.specs.Prelude.{◌≡◌, ◌<◌, ◌+◌, ◌++◌, [], codes, map, unwrap_or, string_bytes, IfOk, OnOk};
 ghost use Rattle.dom.specs.Nodes.{attribute_at};
 ghost use Rattle.sheets.specs.Files.{file_texts};
 ghost use Rattle.sheets.specs.List.{sheet_in};

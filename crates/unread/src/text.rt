@@ -1,6 +1,6 @@
 //! Texts of a report.
 
-ghost use Rattle.std.specs.Prelude.{◌≡◌, ◌≤◌, ◌++◌, ◌==◌, not, length, OnOk};
+ghost use Rattle.std.specs.Prelude.{◌≡◌, ◌≤◌, ◌++◌, decimal, length, OnOk};
 ghost use Rattle.std.specs.List.{flat_map};
 ghost use Rattle.bk_io.specs.Escapes.{shown_byte};
 ghost use Rattle.unread.specs.Report as spec;
@@ -19,7 +19,7 @@ pub(crate) fn push(out: &mut Vec<u8>, text: &str) -> Result<(), NoMem>
 
 /// Appends a number.
 pub(crate) fn push_number(out: &mut Vec<u8>, number: u64) -> Result<(), NoMem>
-    ensures { OnOk result (out.new.items ≡ out.old.items ++ spec.decimal number) }
+    ensures { OnOk result (out.new.items ≡ out.old.items ++ decimal number) }
 {
     let mut buffer = Buffer::new();
     push(out, buffer.format(number))

@@ -1,11 +1,12 @@
 -- Elements that do nothing.
-use Rattle.std.specs.Prelude.{ℕ, zero, suc, ◌+◌, Bool, false, not, ◌==◌, if◌then◌else◌, List, [], ◌∷◌, ◌++◌, Option, Some, None, length, codes, is_some}
+use Rattle.std.specs.Prelude.{ℕ, zero, suc, ◌+◌, Bool, false, not, if◌then◌else◌, List, [], ◌∷◌, ◌++◌, Option, Some, None, length, codes, is_some}
 use Rattle.std.specs.Str.{bytes_eq}
 use Rattle.css_tok.specs.Tokens.{tokens_of}
 use Rattle.css_rules.specs.Media.{is_media_list}
 use Rattle.std.specs.List.{list_any}
 use Rattle.dom.specs.Nodes.{Node, name_at, attribute_at, attribute_in}
 use Rattle.dom.specs.Order.{is_text}
+use Rattle.gen_text.specs.Target.{id_of}
 use Rattle.sheets.specs.Sheets.{media_of}
 use Rattle.unread_list.specs.declared.elements.Idle.{Idle}
 use Rattle.unread_list.specs.declared.elements.Idle.TheVariants as idle
@@ -35,11 +36,6 @@ idle_named nodes k name =
 abbrev pub idle_by : List Node → ℕ → Option (List ℕ) → Option Idle
 idle_by nodes k None = None
 idle_by nodes k (Some name) = idle_named nodes k name
-
--- the id that an address names: what comes after a leading `#`, which is 35
-abbrev pub id_of : List ℕ → Option (List ℕ)
-id_of [] = None
-id_of (b ∷ rest) = if b == 35 then Some rest else None
 
 -- a node is an element of this id
 abbrev pub is_of_id : List ℕ → Node → Bool

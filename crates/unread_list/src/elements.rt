@@ -1,7 +1,8 @@
 //! Elements that do nothing.
 
-ghost use Rattle.std.specs.Prelude.{◌≡◌, ◌<◌, ◌++◌, codes, map, length, option_map, IfOk, OnOk};
+ghost use Rattle.std.specs.Prelude.{◌≡◌, ◌<◌, ◌++◌, codes, map, length, IfOk, OnOk};
 ghost use Rattle.dom.specs.Nodes.{attribute_at, name_at};
+ghost use Rattle.gen_text.specs.Target.{id_of};
 ghost use Rattle.sheets.specs.Sheets.{media_of};
 ghost use Rattle.css_tok.specs.Tokens.{tokens_of};
 ghost use Rattle.css_rules.specs.Media.{is_media_list};
@@ -12,6 +13,7 @@ use bk_num::ids::NodeId;
 use bk_num::name::NoMem;
 use css_rules::media::media_read;
 use dom::Dom;
+use gen_text::target::id_of;
 use std::alloc::Global;
 
 /// Why an element does nothing.
@@ -93,9 +95,9 @@ fn has_some(dom: &Dom, id: &str) -> bool
 
 /// Whether an address is `#` and an id that no element has.
 fn is_missing(dom: &Dom, address: &str) -> bool
-    ensures { result ≡ spec.is_missing dom.now (spec.id_of address.now) }
+    ensures { result ≡ spec.is_missing dom.now (id_of address.now) }
 {
-    match address.strip_prefix("#") {
+    match id_of(address) {
         Some(id) => !has_some(dom, id),
         None => false,
     }

@@ -1,6 +1,6 @@
 //! What is found in a sheet: parts without a reading, and families without a face.
 
-ghost use Rattle.std.specs.Prelude.{◌≡◌, ◌++◌, ◌∷◌, [], map, if◌then◌else◌, option_map, OnOk, IfOk, length};
+ghost use Rattle.std.specs.Prelude.{◌≡◌, ◌++◌, ◌∷◌, [], map, if◌then◌else◌, OnOk, IfOk};
 ghost use Rattle.std.specs.List.{flat_map};
 ghost use Rattle.css_rules.specs.Decls.{decl_in};
 ghost use Rattle.unread_list.specs.Steps.{part_in, placed_in};

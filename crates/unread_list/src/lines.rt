@@ -1,7 +1,7 @@
 //! A reader of a sheet's tokens that knows the line on which it stands.
 
-ghost use Rattle.std.specs.Prelude.{◌≡◌, ◌≤◌, ◌<◌, ◌+◌, ◌-◌, ◌^◌, ◌++◌, ◌∷◌, ◌==◌, [], length, count_by, IfOk, IfSome, IfNone, MatchOption};
-ghost use Rattle.css_tok.specs.Tokens.{tokens_of, item_in};
+ghost use Rattle.std.specs.Prelude.{◌≡◌, ◌≤◌, ◌<◌, ◌+◌, ◌++◌, ◌∷◌, [], length, IfOk, IfSome, IfNone, MatchOption};
+ghost use Rattle.css_tok.specs.Tokens.{item_in};
 ghost use Rattle.css_tok.specs.Marks.{first_mark, rest_of};
 ghost use Rattle.css_rules.specs.Views.{items_in};
 ghost use Rattle.css_rules.specs.Brackets.{is_closed};

@@ -1,8 +1,8 @@
 //! Steps along a sheet: each passes a token, or a part that stands there.
 
-ghost use Rattle.std.specs.Prelude.{◌≡◌, ◌∷◌, ◌++◌, ◌<◌, ◌≤◌, ◌&&◌, not, ◌==◌, List, codes, length, option_map, IfOk};
+ghost use Rattle.std.specs.Prelude.{◌≡◌, ◌∷◌, ◌++◌, ◌<◌, ◌≤◌, ◌&&◌, ◌==◌, codes, length, option_map, IfOk};
 ghost use Rattle.std.specs.List.{list_all};
-ghost use Rattle.css_tok.specs.Tokens.{Item, item_in};
+ghost use Rattle.css_tok.specs.Tokens.{item_in};
 ghost use Rattle.css_tok.specs.Marks.{is_gap};
 ghost use Rattle.css_rules.specs.Views.{items_in};
 ghost use Rattle.css_rules.specs.Brackets.{is_closed};
@@ -11,7 +11,7 @@ ghost use Rattle.css_rules.specs.Parts.{joined};
 ghost use Rattle.css_rules.specs.Pages.{is_margin_name};
 ghost use Rattle.css_rules.specs.Sheet.{is_at_word, at_kind as spec_at_kind};
 ghost use Rattle.css_tok.specs.Value.{value_slice};
-ghost use Rattle.unread_list.specs.Lines.{Passes, feeds, left_in};
+ghost use Rattle.unread_list.specs.Lines.{Passes, left_in};
 ghost use Rattle.unread_list.specs.Steps.{BeginsWith, IsStep, part_in, placed_in};
 ghost use Rattle.unread_list.specs.Parts as spec;
 
