@@ -44,14 +44,33 @@ fn push_repeated(bytes: &mut Vec<u8>, alloc: Global, text: &str, times: u32) -> 
     push_times(bytes, text.as_bytes(), times % 1000)
 }
 
-/// Puts a piece of a file at the end: `text TEXT`, `repeat N TEXT` or `bytes HEX HEX..`.
+/// Puts a text at the end so many times, each time with its number, from 1 on, in place of the first `#`.
+fn push_counted(bytes: &mut Vec<u8>, alloc: Global, text: &str, times: u32) -> Result<(), NoMem> {
+    let (before, after) = text.split_once('#').unwrap_or((text, ""));
+    for number in 1..=times {
+        let counted = format!(in alloc; "{before}{number}{after}")?;
+        push_times(bytes, counted.as_bytes(), 1)?;
+    }
+    Ok(())
+}
+
+/// A number of times and the text that comes so often.
+fn times_and_text(alloc: Global, piece: &str) -> Result<(u32, String), NoMem> {
+    let (times, text) = piece.split_once(' ').unwrap_or(("", ""));
+    Ok((times.parse::<u32>().unwrap_or(0), unescaped(alloc, text)?))
+}
+
+/// Puts a piece of a file at the end: `text TEXT`, `repeat N TEXT`, `count N TEXT` or `bytes HEX HEX..`.
 fn push_piece(bytes: &mut Vec<u8>, alloc: Global, piece: &str) -> Result<(), NoMem> {
     match piece.split_once(' ') {
         Some(("text", text)) => push_times(bytes, unescaped(alloc, text)?.as_str().as_bytes(), 1),
         Some(("repeat", rest)) => {
-            let (times, text) = rest.split_once(' ').unwrap_or(("", ""));
-            let times = times.parse::<u32>().unwrap_or(0);
-            push_repeated(bytes, alloc, unescaped(alloc, text)?.as_str(), times)
+            let (times, text) = times_and_text(alloc, rest)?;
+            push_repeated(bytes, alloc, text.as_str(), times)
+        }
+        Some(("count", rest)) => {
+            let (times, text) = times_and_text(alloc, rest)?;
+            push_counted(bytes, alloc, text.as_str(), times)
         }
         Some(("bytes", numbers)) => push_bytes(bytes, numbers),
         _ => push_times(bytes, b"?", 1),
