@@ -16,6 +16,7 @@ use Rattle.style.specs.declared.content.Link.{Link}
 use Rattle.style.specs.declared.content.Link.TheVariants as link
 use Rattle.style.specs.declared.content.Part.{Part}
 use Rattle.style.specs.declared.content.Part.TheVariants as part
+use Rattle.style.specs.Counters.{most_counters}
 use Rattle.css_content.specs.Basics.{word_argument, whole}
 use Rattle.css_content.specs.Numerals.{styles}
 use Rattle.css_content.specs.declared.content.ContentPlace.{ContentPlace}
@@ -195,11 +196,11 @@ next_entry other = do
   t ← peek
   if is_none t then pure None else (entry other >>= (λ e. pure (Some e)))
 
--- the counters after a first one: there are at most 64
+-- the counters after a first one
 abbrev pub further_entries : ℤ → Parser (List (List ℕ × ℤ))
-further_entries other = fewer_than 64 (next_entry other)
+further_entries other = fewer_than most_counters (next_entry other)
 
--- `none` alone, or one to 64 entries
+-- `none` alone, or one entry and more
 unfoldable pub counter_list : ℤ → Parser (List (List ℕ × ℤ))
 counter_list other = do
   t ← peek

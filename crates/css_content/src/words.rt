@@ -1,6 +1,7 @@
 //! Values that several properties have: words of a table, whole numbers, styles of numerals.
 
 ghost use Rattle.std.specs.Prelude.{◌≡◌, ◌≤◌, length, map, option_map, unsigned_abs, IfOk, IfSome};
+ghost use Rattle.bk_num.specs.Written.{most_whole};
 ghost use Rattle.css_tok.specs.Tokens.{item_in};
 ghost use Rattle.css_words.specs.Parser.{Reads};
 ghost use Rattle.css_content.specs.Basics as spec;
@@ -54,7 +55,7 @@ pub(crate) fn word_argument<T: Copy>(
 #[tactic(auto, unfolding(crate::specs::Basics::whole_of), using(crate::proofs::WholeLemmas::whole_small))]
 fn whole_of(token: Option<CssToken<'_>>) -> Option<i64>
     ensures value { result ≡ spec.whole_of (option_map item_in token.entry) }
-    ensures small { IfSome result (λ n. unsigned_abs n ≤ 999999999) }
+    ensures small { IfSome result (λ n. unsigned_abs n ≤ most_whole) }
 {
     let found = token?;
     if !matches!(found.kind, CssKind::Number) {
@@ -68,12 +69,12 @@ fn whole_of(token: Option<CssToken<'_>>) -> Option<i64>
     }
 }
 
-/// Reads a whole number, at most 999,999,999 either way.
+/// Reads a whole number, at most `MOST_WHOLE` either way.
 #[tactic(auto, unfolding(crate::specs::Basics::whole))]
 pub fn whole(reader: &mut Reader<'_>) -> Result<i64, Unread>
     ensures reads { Reads (λ x. x) (spec.whole reader.old) result reader.new }
     ensures within { length reader.new ≤ length reader.old }
-    ensures small { IfOk result (λ n. unsigned_abs n ≤ 999999999) }
+    ensures small { IfOk result (λ n. unsigned_abs n ≤ most_whole) }
 {
     let Some(number) = whole_of(reader.peek()) else {
         return Err(Unread::NoReading);

@@ -3,6 +3,7 @@ use Rattle.std.specs.Prelude.{ℕ, ◌-◌, ◌*◌, ◌+◌, min, Bool, false, 
 use Rattle.std.specs.Prelude.{ℤ, pos, neg_ℤ, List, [], ◌∷◌, take, drop, length, slice_index, codes, Option, Some, None}
 use Rattle.std.specs.Char.{is_ascii_digit}
 use Rattle.std.specs.List.{list_all, list_any}
+use Rattle.bk_num.specs.Written.{most_whole}
 use Rattle.css_tok.specs.declared.kind.CssKind.TheVariants as kind
 use Rattle.css_tok.specs.Lengths.{sign_len, number_len}
 use Rattle.css_tok.specs.Numbers.{unit_of}
@@ -13,10 +14,10 @@ use Rattle.css_words.specs.Words.{is_kind, of_kind, is_mark, is_named, value}
 use Rattle.selectors.specs.declared.an_plus_b.AfterN.{AfterN}
 use Rattle.selectors.specs.declared.an_plus_b.AfterN.TheVariants as after
 
--- the number that digits write, where one above 999999999 is that
+-- the number that digits write, where one above the greatest whole number is that
 unfoldable pub number_from : ℕ → List ℕ → ℕ
 number_from n [] = n
-number_from n (d ∷ ds) = number_from (min 999999999 (n * 10 + (d - 48))) ds
+number_from n (d ∷ ds) = number_from (min most_whole (n * 10 + (d - 48))) ds
 
 -- the whole number of a sign, if there is one, and digits
 abbrev pub size_of : List ℕ → ℕ

@@ -3,11 +3,13 @@
 ghost use Rattle.std.specs.Prelude.{◌≡◌, ◌≤◌, ◌<◌, ◌+◌, ◌*◌, length, min, ◌==◌, option_map, pos, neg_ℤ};
 ghost use Rattle.std.specs.Char.{is_ascii_digit};
 ghost use Rattle.std.specs.List.{list_all};
+ghost use Rattle.bk_num.specs.Written.{most_whole};
 ghost use Rattle.css_tok.specs.Tokens.{item_in};
 ghost use Rattle.css_words.specs.Parser.{Reads, Owns};
 ghost use Rattle.selectors.specs.AnPlusB as spec;
 
 use bk_num::name::Name;
+use bk_num::written::MOST_WHOLE;
 use css_tok::kind::CssKind;
 use css_tok::lengths::{byte, number_len, sign_len};
 use css_tok::plain::plain;
@@ -31,7 +33,7 @@ pub enum AfterN {
 #[tactic(auto, using(crate::proofs::NthLemmas::number_step, crate::proofs::NthLemmas::number_end))]
 fn number(digits: &[u8]) -> u32
     ensures value { result ≡ spec.number_from 0 digits.now }
-    ensures few { result ≤ 999999999 }
+    ensures few { result ≤ most_whole }
 {
     let mut number = 0;
     for at in 0..digits.len() {
@@ -42,16 +44,12 @@ fn number(digits: &[u8]) -> u32
 }
 
 fn next_number(number: u32, digit: u8) -> u32
-    requires { number ≤ 999999999 }
-    ensures value { result ≡ min 999999999 (number * 10 + digit) }
-    ensures few { result ≤ 999999999 }
+    requires { number ≤ most_whole }
+    ensures value { result ≡ min most_whole (number * 10 + digit) }
+    ensures few { result ≤ most_whole }
 {
-    let next = number as u64 * 10 + digit as u64;
-    if next < 999_999_999 {
-        next as u32
-    } else {
-        999_999_999
-    }
+    let next = u64::from(number) * 10 + u64::from(digit);
+    next.min(MOST_WHOLE) as u32
 }
 
 fn minus(number: u32) -> i64

@@ -1,7 +1,7 @@
 //! Whether an element fits a compound.
 
 ghost use Rattle.std.specs.Prelude.{◌≡◌, ◌<◌, ◌+◌, ◌^◌, ◌&&◌, unsigned_abs, true, false, not, length, option_map, is_some, drop, int_lt};
-ghost use Rattle.std.specs.Prelude.{if◌then◌else◌, slice_index, pos, ◌-ℤ◌, ◌==◌, codes};
+ghost use Rattle.std.specs.Prelude.{if◌then◌else◌, pos, ◌-ℤ◌, ◌==◌, codes};
 ghost use Rattle.std.specs.List.{list_any, list_all, starts_with};
 ghost use Rattle.css_tok.specs.Lengths.{is_blank};
 ghost use Rattle.dom.specs.Nodes.{name_at, attribute_at};

@@ -1,6 +1,6 @@
 //! How specific a selector is.
 
-ghost use Rattle.std.specs.Prelude.{◌≡◌, ◌<◌, ◌≤◌, ◌+◌, count_by};
+ghost use Rattle.std.specs.Prelude.{◌≡◌, ◌<◌, ◌+◌, count_by};
 ghost use Rattle.selectors.specs.Specificity as spec;
 
 use crate::types::{Compound, Plain, Selector, Test};

@@ -1,10 +1,19 @@
 -- The longhands in their order, and which of them are inherited (CSS 2.1, 6.2.1 and appendix F).
-use Rattle.std.specs.Prelude.{ℕ, ◌+◌, Bool, true, false}
+use Rattle.std.specs.Prelude.{◌≡◌, ℕ, ◌+◌, Bool, true, false}
 use Rattle.bk_num.specs.Sides.{place_of}
 use Rattle.style.specs.declared.longhand.Longhand.{Longhand}
 use Rattle.style.specs.declared.longhand.Longhand.TheVariants as longhand
+use Rattle.style.specs.declared.longhand.TheConstants.{LONGHANDS}
 
--- the place of each among all 45, those of a box by side: top, right, bottom, left
+-- how many longhands there are, those of a box by each side
+abbrev pub longhand_count : ℕ
+longhand_count = 45
+
+-- the code has as many
+abbrev pub LonghandsAgree : Type 0
+LonghandsAgree = LONGHANDS ≡ longhand_count
+
+-- the place of each among all, those of a box by side: top, right, bottom, left
 abbrev pub number_of : Longhand → ℕ
 number_of longhand.Display = 0
 number_of longhand.Float = 1

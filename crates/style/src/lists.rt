@@ -1,12 +1,21 @@
 //! Lists that longhands hold: families, counters, named strings.
 
 ghost use Rattle.std.specs.Prelude.{◌≡◌, ◌<◌, ◌≤◌, [], ◌∷◌, ◌++◌, IfOk, OnOk, OnErr, codes, length, unsigned_abs};
-ghost use Rattle.style.specs.Counters.{AreCounters};
+ghost use Rattle.bk_num.specs.Written.{most_whole};
+ghost use Rattle.style.specs.Counters.{AreCounters, LimitAgrees, most_counters};
 
 use crate::content::Content;
 use bk_num::name::{Name, NoMem};
 use std::alloc::Global;
 use std::marker::Model;
+
+/// The most counters of a list.
+pub const MOST_COUNTERS: u32 = 64;
+
+/// The limit is the one that specs name.
+pub fn limit_agrees()
+    ensures { LimitAgrees }
+{}
 
 /// The families of a font, the wanted one first. Contracts see the list of their names.
 #[derive(Drop)]
@@ -58,9 +67,8 @@ impl Families {
     }
 }
 
-/// Counters with numbers, as `counter-reset` and `counter-increment` have them: at most 64, each number within plus or
-/// minus 999999999.
-/// Contracts see the list.
+/// Counters with numbers, as `counter-reset` and `counter-increment` have them: at most `MOST_COUNTERS`, each number
+/// within `MOST_WHOLE` either way. Contracts see the list.
 #[derive(Drop)]
 pub struct CounterList {
     entries: Vec<(Name, i64)>,
@@ -97,8 +105,8 @@ impl CounterList {
 
     /// Adds a counter at the end.
     pub fn push(&mut self, name: Name, number: i64) -> Result<(), NoMem>
-        requires room { length self.old < 64 }
-        requires number { unsigned_abs number ≤ 999999999 }
+        requires room { length self.old < most_counters }
+        requires number { unsigned_abs number ≤ most_whole }
         ensures ok { OnOk result (self.new ≡ self.old ++ (name, number) ∷ []) }
         ensures err { OnErr result (self.new ≡ self.old) }
     {

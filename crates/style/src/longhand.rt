@@ -1,9 +1,17 @@
 //! The longhands that this program has.
 
 ghost use Rattle.std.specs.Prelude.{◌≡◌};
-ghost use Rattle.style.specs.Longhands.{number_of};
+ghost use Rattle.style.specs.Longhands.{LonghandsAgree, number_of};
 
 use bk_num::sides::BoxSide;
+
+/// How many longhands there are, those of a box by each side.
+pub const LONGHANDS: usize = 45;
+
+/// They are as many as specs say.
+pub fn longhands_agree()
+    ensures { LonghandsAgree }
+{}
 
 /// A property that isn't a shorthand. Those that there are for each side of a box have the side.
 #[derive(Clone, Copy, Debug, PartialEq, Eq)]
@@ -41,7 +49,7 @@ pub enum Longhand {
 }
 
 impl Longhand {
-    /// Its place in the list of all 45, from 0: first the display and the box by its sides, then the rest.
+    /// Its place in the list of all `LONGHANDS`, from 0: first the display and the box by its sides, then the rest.
     pub fn number(self) -> u8
         ensures { result ≡ number_of self }
     {
