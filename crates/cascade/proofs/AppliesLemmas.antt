@@ -1,5 +1,5 @@
 -- What is listed for a node is what applies to it.
-use Rattle.std.proofs.Common.{◌≡◌, ℕ, suc, zero, ◌+◌, Bool, true, false, List, [], ◌∷◌, Option, None, Some, map, option_map, slice_get, cond, refl, sym, ◌∙◌, ap, subst, arith, ◌⊎◌, inl, inr}
+use Rattle.std.proofs.Common.{◌≡◌, ℕ, suc, zero, ◌+◌, ◌==◌, Bool, true, false, List, [], ◌∷◌, Option, None, Some, length, map, option_map, slice_get, cond, refl, sym, ◌∙◌, ap, subst, arith, ◌⊎◌, inl, inr}
 use Rattle.bk_num.proofs.ListLemmas.{contains-get, get-contains, contains-none, contains-one, contains-map}
 use Rattle.std.specs.List.{Contains, filter_map, cons_option}
 use Rattle.std.proofs.lemmas.List.Elements.{Contains-push, Contains-append_left, Contains-append_right, Contains-append_cases}
@@ -14,7 +14,7 @@ use Rattle.cascade.specs.declared.sheet.ReadSheet.{ReadSheet}
 use Rattle.cascade.specs.Candidates.{Declared, AppliedDeclsOf, DeclaredBy}
 use Rattle.cascade.specs.Winners.{IsWinner, AreWinners}
 use Rattle.cascade.specs.Document.{RuleIn, rules_of, weight_of, style_decls, IsRuleApplied, IsStyleApplied, Applies, IsDeclaredAt}
-use Rattle.cascade.specs.Selected.{SelectedOf, selected_by, selected_from, selectors_of, is_same, named, named_at, style_rule, style_rules, rules_at, ArePlaces}
+use Rattle.cascade.specs.Selected.{SelectedOf, offered, offered_by, selected_by, selected_from, selectors_of, is_same, named, named_at, style_rule, style_rules, rules_at, ArePlaces}
 
 -- ---- elements of lists
 
@@ -61,6 +61,22 @@ in_filter {B = B} h (w ∷ xs) x y c e = by (Contains-append_cases (w ∷ []) xs
 
 -- ---- the selectors of rules
 
+pub offered_none : (decls : List ReadDecl) (ss : List SelectorView) → length decls ≡ 0 → offered_by decls ss ≡ []
+offered_none [] ss e = refl
+offered_none (d ∷ decls) ss e = absurd (omega arith)
+
+pub offered_some : (decls : List ReadDecl) (ss : List SelectorView) → (length decls == 0) ≡ false → offered_by decls ss ≡ ss
+offered_some [] ss e = cc
+offered_some (d ∷ decls) ss e = refl
+
+of_offered : (decls : List ReadDecl) (ss : List SelectorView) (s : SelectorView) → Contains (offered_by decls ss) s → Contains ss s
+of_offered [] ss s h = absurd (contains-none s h)
+of_offered (d ∷ decls) ss s h = h
+
+in_offered : (decls : List ReadDecl) (ss : List SelectorView) (s : SelectorView) (k : ℕ) (d : ReadDecl) → slice_get decls k ≡ Some d → Contains ss s → Contains (offered_by decls ss) s
+in_offered [] ss s k d at h = cc
+in_offered (x ∷ decls) ss s k d at h = h
+
 record IsSelected (q : ℕ) (rs : List RuleIn) (s : SelectedOf) : Type 0 where
   place : ℕ
   rule : RuleIn
@@ -71,31 +87,31 @@ record IsSelected (q : ℕ) (rs : List RuleIn) (s : SelectedOf) : Type 0 where
 
 of_selected : (q : ℕ) (rs : List RuleIn) (s : SelectedOf) → Contains (selected_from q rs) s → IsSelected q rs s
 of_selected q [] s h = absurd (contains-none s h)
-of_selected q (r ∷ rs) s h = by (Contains-append_cases (map (selected_by q r.origin r.read.decls) r.read.selectors.items) (selected_from (q + 1) rs) s h) (λ g. of_selected (q + 1) rs s g)
+of_selected q (r ∷ rs) s h = by (Contains-append_cases (map (selected_by q r.origin r.read.decls) (offered r.read)) (selected_from (q + 1) rs) s h) (λ g. of_selected (q + 1) rs s g)
   where
-    by : Contains (map (selected_by q r.origin r.read.decls) r.read.selectors.items) s ⊎ Contains (selected_from (q + 1) rs) s → (Contains (selected_from (q + 1) rs) s → IsSelected (q + 1) rs s) → IsSelected q (r ∷ rs) s
+    by : Contains (map (selected_by q r.origin r.read.decls) (offered r.read)) s ⊎ Contains (selected_from (q + 1) rs) s → (Contains (selected_from (q + 1) rs) s → IsSelected (q + 1) rs s) → IsSelected q (r ∷ rs) s
     by (inl a) rest =
-        let m = of_map (selected_by q r.origin r.read.decls) r.read.selectors.items s a in
+        let m = of_map (selected_by q r.origin r.read.decls) (offered r.read) s a in
         let n : q ≡ q + 0 = omega arith in
-        record { place = 0; rule = r; there = refl; selector = m.0; of_rule = m.1; is = sym m.2 ∙ ap (λ k. selected_by k r.origin r.read.decls m.0) n }
+        record { place = 0; rule = r; there = refl; selector = m.0; of_rule = of_offered r.read.decls r.read.selectors.items m.0 m.1; is = sym m.2 ∙ ap (λ k. selected_by k r.origin r.read.decls m.0) n }
     by (inr b) rest =
         let x = rest b in
         let n : q + 1 + x.place ≡ q + suc x.place = omega arith in
         record { place = suc x.place; rule = x.rule; there = x.there; selector = x.selector; of_rule = x.of_rule; is = x.is ∙ ap (λ k. selected_by k x.rule.origin x.rule.read.decls x.selector) n }
 
-in_selected : (q : ℕ) (rs : List RuleIn) (k : ℕ) (r : RuleIn) (v : SelectorView) → slice_get rs k ≡ Some r → Contains r.read.selectors.items v → Contains (selected_from q rs) (selected_by (q + k) r.origin r.read.decls v)
+in_selected : (q : ℕ) (rs : List RuleIn) (k : ℕ) (r : RuleIn) (v : SelectorView) → slice_get rs k ≡ Some r → Contains (offered r.read) v → Contains (selected_from q rs) (selected_by (q + k) r.origin r.read.decls v)
 in_selected q [] k r v at has = cc
 in_selected q (x ∷ rs) zero r v at has =
     let same : x ≡ r = same_Some _ _ at in
     let n : q ≡ q + 0 = omega arith in
     subst (λ j. Contains (selected_from q (x ∷ rs)) (selected_by j r.origin r.read.decls v)) n
     (subst (λ (y : RuleIn). Contains (selected_from q (x ∷ rs)) (selected_by q y.origin y.read.decls v)) same
-    (Contains-append_left (map (selected_by q x.origin x.read.decls) x.read.selectors.items) (selected_from (q + 1) rs) (selected_by q x.origin x.read.decls v)
-    (contains-map (selected_by q x.origin x.read.decls) x.read.selectors.items v (subst (λ (y : RuleIn). Contains y.read.selectors.items v) (sym same) has))))
+    (Contains-append_left (map (selected_by q x.origin x.read.decls) (offered x.read)) (selected_from (q + 1) rs) (selected_by q x.origin x.read.decls v)
+    (contains-map (selected_by q x.origin x.read.decls) (offered x.read) v (subst (λ (y : RuleIn). Contains (offered y.read) v) (sym same) has))))
 in_selected q (x ∷ rs) (suc k) r v at has =
     let n : q + 1 + k ≡ q + suc k = omega arith in
     subst (λ j. Contains (selected_from q (x ∷ rs)) (selected_by j r.origin r.read.decls v)) n
-    (Contains-append_right (map (selected_by q x.origin x.read.decls) x.read.selectors.items) (selected_from (q + 1) rs) (selected_by (q + 1 + k) r.origin r.read.decls v) (in_selected (q + 1) rs k r v at has))
+    (Contains-append_right (map (selected_by q x.origin x.read.decls) (offered x.read)) (selected_from (q + 1) rs) (selected_by (q + 1 + k) r.origin r.read.decls v) (in_selected (q + 1) rs k r v at has))
 
 -- ---- pseudo-elements
 
@@ -191,22 +207,23 @@ of_rules dom sheets ss n places p all found a h = by (Contains-append_cases (fil
     by (inr c) = inr (styles_by dom n p a c)
 
 in_rules : (dom : Tree) (sheets : List ReadSheet) (ss : List SelectedOf) (n : ℕ) (places : List ℕ) (p : Pseudo) → ss ≡ selected_from 0 (rules_of sheets) → ArePlaces dom ss n places
-    → (a : AppliedDeclsOf) → Applies dom sheets n p a → Contains (rules_at ss places (style_decls dom n) p) a
-in_rules dom sheets ss n places p all found a (inl r) =
+    → (a : AppliedDeclsOf) (j : ℕ) (d : ReadDecl) → slice_get a.decls j ≡ Some d → Applies dom sheets n p a → Contains (rules_at ss places (style_decls dom n) p) a
+in_rules dom sheets ss n places p all found a j d own (inl r) =
     let k : 0 + r.place ≡ r.place = omega arith in
+    let some : Contains (offered r.rule.read) r.selector = in_offered r.rule.read.decls r.rule.read.selectors.items r.selector j d (ap (λ ds. slice_get ds j) (sym r.decls) ∙ own) r.of_rule in
     let s : SelectedOf = selected_by (0 + r.place) r.rule.origin r.rule.read.decls r.selector in
-    let there : Contains ss s = subst (λ l. Contains l s) (sym all) (in_selected 0 (rules_of sheets) r.place r.rule r.selector r.there r.of_rule) in
+    let there : Contains ss s = subst (λ l. Contains l s) (sym all) (in_selected 0 (rules_of sheets) r.place r.rule r.selector r.there some) in
     let g = contains-get ss s there in
     let at : slice_get (selectors_of ss) g.0 ≡ Some r.selector = slice_get-map (λ (x : SelectedOf). x.selector) ss g.0 ∙ ap (option_map (λ (x : SelectedOf). x.selector)) g.1 in
     let place : Contains places g.0 = (found g.0).1 (r.selector, at, r.matches) in
     let is : named_at ss p g.0 ≡ Some s.rule = ap (named p) g.1 ∙ in_named p s r.pseudo in
     let same : s.rule ≡ a = ap (λ j. record { weight = weight_of r.rule.origin j r.selector; decls = r.rule.read.decls }) k ∙ ap (λ w. record { weight = w; decls = r.rule.read.decls }) (sym r.weight) ∙ ap (λ ds. record { weight = a.weight; decls = ds }) (sym r.decls) in
     Contains-append_left (filter_map (named_at ss p) places) (style_rules (style_decls dom n) p) a (in_filter (named_at ss p) places g.0 a place (is ∙ ap (λ x. Some x) same))
-in_rules dom sheets ss n places p all found a (inr r) =
+in_rules dom sheets ss n places p all found a j d own (inr r) =
     let same : style_rule (style_decls dom n) ≡ a = ap (λ w. record { weight = w; decls = style_decls dom n }) (sym r.weight) ∙ ap (λ ds. record { weight = a.weight; decls = ds }) (sym r.decls) in
-    let own : is_same p pseudo.Element ≡ true = ap (λ q. is_same q pseudo.Element) r.element in
+    let element : is_same p pseudo.Element ≡ true = ap (λ q. is_same q pseudo.Element) r.element in
     Contains-append_right (filter_map (named_at ss p) places) (style_rules (style_decls dom n) p) a
-    (subst (λ b. Contains (cond b (style_rule (style_decls dom n) ∷ []) []) a) (sym own) (subst (λ x. Contains (style_rule (style_decls dom n) ∷ []) x) same (here (style_rule (style_decls dom n)) [])))
+    (subst (λ b. Contains (cond b (style_rule (style_decls dom n) ∷ []) []) a) (sym element) (subst (λ x. Contains (style_rule (style_decls dom n) ∷ []) x) same (here (style_rule (style_decls dom n)) [])))
 
 -- ---- the same winners
 
@@ -230,7 +247,7 @@ at_node dom sheets ss n places styled p longs all found same w =
     to d h = record { source = h.rule; applies = of_rules dom sheets ss n places p all found h.rule (get-contains (rules_at ss places (style_decls dom n) p) h.place h.rule h.there); is = h.is }
 
     from : (d : Declared) → IsDeclaredAt dom sheets n p d → DeclaredBy (rules_at ss places (style_decls dom n) p) d
-    from d g = let k = contains-get (rules_at ss places (style_decls dom n) p) g.source (in_rules dom sheets ss n places p all found g.source g.applies) in record { place = k.0; rule = g.source; there = k.1; is = g.is }
+    from d g = let k = contains-get (rules_at ss places (style_decls dom n) p) g.source (in_rules dom sheets ss n places p all found g.source g.is.decl g.is.source g.is.there g.applies) in record { place = k.0; rule = g.source; there = k.1; is = g.is }
 
 -- no rule, no winner
 pub none_wins : (rules : List AppliedDeclsOf) → rules ≡ [] → AreWinners (DeclaredBy rules) []

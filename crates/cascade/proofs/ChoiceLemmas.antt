@@ -9,7 +9,7 @@ use Rattle.bk_num.specs.declared.sides.BoxSide.{BoxSide}
 use Rattle.bk_num.specs.declared.sides.BoxSide.TheVariants as side
 use Rattle.style.specs.declared.longhand.Longhand.{Longhand}
 use Rattle.style.specs.declared.longhand.Longhand.TheVariants as longhand
-use Rattle.style.specs.Longhands.{number_of}
+use Rattle.style.specs.Longhands.{longhand_count, number_of}
 use Rattle.style.specs.declared.long.Long.{Long}
 use Rattle.cascade.specs.declared.weight.DeclWeight.{DeclWeight}
 use Rattle.cascade.specs.declared.choice.Candidate.{Candidate}
@@ -24,8 +24,8 @@ place_small side.Right = omega arith
 place_small side.Bottom = omega arith
 place_small side.Left = omega arith
 
--- there are 45 longhands
-pub number_small : (h : Longhand) → number_of h < 45
+-- each longhand has its place among all
+pub number_small : (h : Longhand) → number_of h < longhand_count
 number_small (longhand.Margin s) = let low = place_small s in omega (arith, low)
 number_small (longhand.Padding s) = let low = place_small s in omega (arith, low)
 number_small (longhand.BorderWidth s) = let low = place_small s in omega (arith, low)

@@ -7,7 +7,7 @@ use Rattle.std.proofs.lemmas.List.{map-append}
 use Rattle.std.proofs.lemmas.Grind.{common_steps}
 use Rattle.cascade.specs.declared.sheet.ReadSheet.{ReadSheet}
 use Rattle.cascade.specs.Document.{RuleIn, from_origin, rules_of}
-use Rattle.cascade.specs.Selected.{SelectedOf, selected_by, selected_from}
+use Rattle.cascade.specs.Selected.{SelectedOf, offered, selected_by, selected_from}
 
 pub item_drop : {A : Type 0} (xs : List A) (i : ℕ) (x : A) → i < length xs → x ≡ get_or xs i x → drop i xs ≡ x ∷ drop (i + 1) xs
 item_drop xs i x low is =
@@ -57,9 +57,9 @@ pub rules_done : (out whole : List RuleIn) (sheets : List ReadSheet) (i : ℕ) �
 rules_done out whole sheets i low e = sym (append-nil out) ∙ sym (ap (λ ys. out ++ rules_of ys) (none_left sheets i low)) ∙ e
 
 pub selected_turn : {A : Type 0} (v : A → RuleIn) (out : List SelectedOf) (xs : List A) (i : ℕ) (x : A) → i < length xs → x ≡ get_or xs i x
-    → (out ++ map (selected_by i (v x).origin (v x).read.decls) (v x).read.selectors.items) ++ selected_from (i + 1) (map v (drop (i + 1) xs)) ≡ out ++ selected_from i (map v (drop i xs))
+    → (out ++ map (selected_by i (v x).origin (v x).read.decls) (offered (v x).read)) ++ selected_from (i + 1) (map v (drop (i + 1) xs)) ≡ out ++ selected_from i (map v (drop i xs))
 selected_turn v out xs i x low is =
-    append_assoc out (map (selected_by i (v x).origin (v x).read.decls) (v x).read.selectors.items) (selected_from (i + 1) (map v (drop (i + 1) xs)))
+    append_assoc out (map (selected_by i (v x).origin (v x).read.decls) (offered (v x).read)) (selected_from (i + 1) (map v (drop (i + 1) xs)))
     ∙ ap (λ z. out ++ z) (sym (ap (λ ys. selected_from i (map v ys)) (item_drop xs i x low is)))
 
 pub selected_done : {A : Type 0} (v : A → RuleIn) (out whole : List SelectedOf) (xs : List A) (i : ℕ) → length xs ≤ i → out ++ selected_from i (map v (drop i xs)) ≡ whole → out ≡ whole

@@ -2,6 +2,7 @@
 use Rattle.std.proofs.Common.{◌≡◌, ℕ, suc, zero, ◌<◌, Bool, true, false, List, [], ◌∷◌, Option, None, Some, length, slice_get, cond, refl, sym, ◌∙◌, ap, subst, arith, ◌⊎◌, inl, inr}
 use Rattle.std.specs.List.{fold}
 use Rattle.bk_num.proofs.ListLemmas.{get-set, slice_get_at}
+use Rattle.style.specs.Longhands.{longhand_count}
 use Rattle.style.specs.Longs.{longhand_of}
 use Rattle.style.specs.declared.long.Long.{Long}
 use Rattle.style.proofs.RankingLemmas.{above-self, above-over}
@@ -146,7 +147,7 @@ won-order (Some d ∷ best) j zero a b l h g = absurd (omega arith)
 won-order (Some d ∷ best) zero (suc k) a b l h g = let w = won-at best k b g in (0, suc w.0, d, w.1, omega arith, refl, cc, w.2, w.3)
 won-order (Some d ∷ best) (suc j) (suc k) a b l h g = let w = won-order best j k a b (omega arith) h g in let less = w.4 in (suc w.0, suc w.1, w.2, w.3, omega arith, w.5, w.6, w.7, w.8)
 
-pub are-winners : (P : Set) (best : List (Option Declared)) → length best ≡ 45 → AllBest P best → AreWinners P (longs_in best)
+pub are-winners : (P : Set) (best : List (Option Declared)) → length best ≡ longhand_count → AllBest P best → AreWinners P (longs_in best)
 are-winners P best count all = record {
   each = λ k long h. let w = won-at best k long h in let b = all w.0 (Some w.1) w.2 in (w.1, w.3, subst (λ s. IsWinner P s w.1) (sym b.of_slot ∙ ap slot_of w.3) b);
   all = λ e h. by e h (slice_get_at best (slot_of e.long) (let l = number_small (longhand_of e.long) in omega (arith, count, l)));

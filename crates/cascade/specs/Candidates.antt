@@ -13,7 +13,7 @@ pub record Declared : Type 0 where
   pub weight : DeclWeight
   pub long : Long
 
--- the place of a declaration's longhand in the list of all 45
+-- the place of a declaration's longhand in the list of all
 abbrev pub slot_of : Long → ℕ
 slot_of long = number_of (longhand_of long)
 

@@ -8,6 +8,7 @@ use Rattle.selectors.specs.Match.{Tree}
 use Rattle.match_table.specs.All.{MatchesAt}
 use Rattle.cascade.specs.declared.decl.ReadDecl.{ReadDecl}
 use Rattle.cascade.specs.declared.sheet.Origin.{Origin}
+use Rattle.cascade.specs.declared.sheet.ReadRule.{ReadRule}
 use Rattle.cascade.specs.declared.selected.Ruled.{Ruled}
 use Rattle.cascade.specs.declared.selected.Selected.{Selected}
 use Rattle.cascade.specs.declared.table.NodeWinners.{NodeWinners}
@@ -33,11 +34,20 @@ selected_in s = record { selector = s.selector.now; rule = applied_in s.rule }
 abbrev pub selected_by : ℕ → Origin → List ReadDecl → SelectorView → SelectedOf
 selected_by place o decls s = record { selector = s; rule = record { weight = weight_of o place s; decls = decls } }
 
--- the selectors of the rules, which stand from a place on
+-- some selectors, where there are declarations, and none where there are none
+abbrev pub offered_by : List ReadDecl → List SelectorView → List SelectorView
+offered_by [] ss = []
+offered_by (d ∷ decls) ss = ss
+
+-- the selectors of a rule that declares something; a rule that declares nothing makes nothing apply
+abbrev pub offered : ReadRule → List SelectorView
+offered r = offered_by r.decls r.selectors.items
+
+-- the selectors of the rules that declare something, which stand from a place on
 abbrev pub selected_from : ℕ → List RuleIn → List SelectedOf
 selected_from place [] = []
 selected_from place (r ∷ rs) =
-    map (selected_by place r.origin r.read.decls) r.read.selectors.items ++ selected_from (place + 1) rs
+    map (selected_by place r.origin r.read.decls) (offered r.read) ++ selected_from (place + 1) rs
 
 -- the same pseudo-element
 abbrev pub is_same : Pseudo → Pseudo → Bool

@@ -2,6 +2,7 @@
 
 ghost use Rattle.std.specs.Prelude.{◌≡◌, ◌++◌, ◌∷◌, [], length, map, option_map, IsTrue, IfOk, OnOk};
 ghost use Rattle.std.specs.List.{fold};
+ghost use Rattle.style.specs.Longhands.{longhand_count};
 ghost use Rattle.cascade.specs.Candidates.{applied_in, DeclaredBy};
 ghost use Rattle.cascade.specs.Winners.{AreWinners};
 ghost use Rattle.cascade.specs.Choice as spec;
@@ -12,6 +13,7 @@ use bk_num::items::Items;
 use bk_num::name::NoMem;
 use std::alloc::Global;
 use style::long::Long;
+use style::longhand::LONGHANDS;
 
 /// A longhand that is declared, with what decides.
 #[derive(Clone, Copy)]
@@ -44,16 +46,16 @@ fn better<'s>(candidate: &Candidate<'s>, best: Option<Candidate<'s>>) -> Option<
     }
 }
 
-/// No winners yet, of 45 longhands.
-fn none_yet<'s>() -> [Option<Candidate<'s>>; 45]
+/// No winners yet, of all longhands.
+fn none_yet<'s>() -> [Option<Candidate<'s>>; LONGHANDS]
     ensures { IsTrue (spec.are_none (spec.views result)) }
 {
-    [None; 45]
+    [None; LONGHANDS]
 }
 
 /// Lets a declaration win where it is better.
 #[tactic(auto, using(crate::proofs::ChoiceLemmas::number_small, crate::proofs::ChoiceLemmas::offer_is))]
-fn offer<'s>(best: &mut [Option<Candidate<'s>>; 45], candidate: &Candidate<'s>)
+fn offer<'s>(best: &mut [Option<Candidate<'s>>; LONGHANDS], candidate: &Candidate<'s>)
     ensures { spec.views best.new ≡ spec.offered (spec.views best.old) (spec.candidate_in candidate.now) }
 {
     let slot = candidate.long.longhand().number() as usize;
@@ -61,7 +63,11 @@ fn offer<'s>(best: &mut [Option<Candidate<'s>>; 45], candidate: &Candidate<'s>)
 }
 
 /// Lets the longhands of a declaration win where they are better.
-fn offer_longs<'s>(best: &mut [Option<Candidate<'s>>; 45], weight: &DeclWeight, longs: &'s [Long])
+fn offer_longs<'s>(
+    best: &mut [Option<Candidate<'s>>; LONGHANDS],
+    weight: &DeclWeight,
+    longs: &'s [Long],
+)
     ensures { spec.views best.new ≡ fold spec.offered (spec.views best.old) (spec.longs_from weight.now 0 longs.now) }
 {
     for index in 0..longs.len() {
@@ -75,7 +81,7 @@ fn offer_longs<'s>(best: &mut [Option<Candidate<'s>>; 45], weight: &DeclWeight, 
 
 /// Lets the declarations of a rule win where they are better.
 fn offer_decls<'s>(
-    best: &mut [Option<Candidate<'s>>; 45],
+    best: &mut [Option<Candidate<'s>>; LONGHANDS],
     weight: &DeclWeight,
     decls: &'s [ReadDecl],
 )
@@ -110,9 +116,9 @@ fn push_long(
 }
 
 /// The longhands that won, in their order.
-fn longs_of(alloc: Global, best: &[Option<Candidate<'_>>; 45]) -> Result<Items<Long>, NoMem>
+fn longs_of(alloc: Global, best: &[Option<Candidate<'_>>; LONGHANDS]) -> Result<Items<Long>, NoMem>
     ensures longs { IfOk result (λ v. v ≡ spec.longs_in (spec.views best.now)) }
-    ensures count { length best.now ≡ 45 }
+    ensures count { length best.now ≡ longhand_count }
 {
     let mut longs = Vec::new(alloc);
     for index in 0..best.len() {

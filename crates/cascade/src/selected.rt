@@ -102,7 +102,17 @@ fn push_selected<'s>(
     Ok(())
 }
 
-/// The selectors of the rules.
+/// The selectors of a rule that declares something. A rule that declares nothing makes nothing apply.
+fn offered(rule: &ReadRule) -> &[Selector]
+    ensures { result.now ≡ spec.offered rule.now }
+{
+    if rule.decls.as_slice().is_empty() {
+        return &[];
+    }
+    rule.selectors.items.as_slice()
+}
+
+/// The selectors of the rules that declare something.
 fn selected_of<'s>(alloc: Global, rules: &[Ruled<'s>]) -> Result<Vec<Selected<'s>>, NoMem>
     ensures { IfOk result (λ v. map spec.selected_in v.items ≡ spec.selected_from 0 (map spec.ruled_in rules.now)) }
 {
@@ -114,7 +124,7 @@ fn selected_of<'s>(alloc: Global, rules: &[Ruled<'s>]) -> Result<Vec<Selected<'s
             place as u64,
             origin,
             rule.decls.as_slice(),
-            rule.selectors.items.as_slice(),
+            offered(rule),
         )?;
     }
     Ok(selected)
@@ -170,7 +180,7 @@ fn named<'s: 't, 't>(
     Ok(rules)
 }
 
-/// The selectors of the rules of all sheets.
+/// The selectors of the rules of all sheets that declare something.
 pub(crate) fn selected_in<'s>(
     alloc: Global,
     sheets: &'s [ReadSheet],

@@ -1,5 +1,6 @@
 use Rattle.std.proofs.Common.{[], ◌≡◌, ◌+◌, ◌≤◌, option_map, length, take, map, ◌∙◌, sym, subst}
 use Rattle.std.proofs.lemmas.List.{length-map, take_all}
+use Rattle.style.specs.Longhands.{longhand_count}
 use Rattle.cascade.specs.Candidates.{applied_in, DeclaredBy}
 use Rattle.cascade.specs.Choice.{candidate_in, views, longs_in}
 use Rattle.cascade.specs.Winners.{AreWinners}
@@ -20,6 +21,6 @@ returns c =
     let all : length c.args.rules.now ≤ c.loop-rule.rule-index = c.loop-rule-test.false in
     let taken : take c.loop-rule.rule-index (map applied_in c.args.rules.now) ≡ map applied_in c.args.rules.now = take_all c.loop-rule.rule-index (map applied_in c.args.rules.now) (rw (length-map c.args.rules.now applied_in) all) in
     let best : AllBest (DeclaredBy (map applied_in c.args.rules.now)) (views c.loop-rule.best) = subst (λ rs. AllBest (DeclaredBy rs) (views c.loop-rule.best)) taken c.loop-rule.invariant in
-    let count : length (views c.loop-rule.best) ≡ 45 = length-map c.loop-rule.best (option_map candidate_in) ∙ c.longs_of.ensures.count in
+    let count : length (views c.loop-rule.best) ≡ longhand_count = length-map c.loop-rule.best (option_map candidate_in) ∙ c.longs_of.ensures.count in
     let won : AreWinners (DeclaredBy (map applied_in c.args.rules.now)) (longs_in (views c.loop-rule.best)) = are-winners (DeclaredBy (map applied_in c.args.rules.now)) (views c.loop-rule.best) count best in
     if_ok c.longs_of.result (λ v. v ≡ longs_in (views c.loop-rule.best)) (AreWinners (DeclaredBy (map applied_in c.args.rules.now))) (λ v e. subst (AreWinners (DeclaredBy (map applied_in c.args.rules.now))) (sym e) won) c.longs_of.ensures.longs
