@@ -1,6 +1,6 @@
 -- The properties that pages and margin boxes take (css-page-3, 4 and 5), and the values of those that elements don't
 -- have so.
-use Rattle.std.specs.Prelude.{ℕ, if◌then◌else◌, List, [], ◌∷◌, codes}
+use Rattle.std.specs.Prelude.{ℕ, if◌then◌else◌, List, [], ◌∷◌, ◌++◌, codes}
 use Rattle.bk_num.specs.declared.values.Align.{Align}
 use Rattle.bk_num.specs.declared.values.Align.TheVariants as align
 use Rattle.css_words.specs.Parser.{Parser, ◌>>=◌, ◌>>◌, pure, refuse, on_some, peek, second, advance}
@@ -25,29 +25,34 @@ use Rattle.css_page.specs.declared.properties.PageGrammar.TheVariants as grammar
 use Rattle.css_page.specs.declared.properties.OwnProperty.{OwnProperty}
 use Rattle.css_page.specs.declared.properties.OwnProperty.TheVariants as own
 
--- what a page takes
-unfoldable pub page_properties : List (List ℕ × PageGrammar)
-page_properties =
-    (codes "size", grammar.Own own.Size) ∷ (codes "margin", grammar.Shared) ∷
-    (codes "margin-top", grammar.Shared) ∷ (codes "margin-right", grammar.Shared) ∷
-    (codes "margin-bottom", grammar.Shared) ∷ (codes "margin-left", grammar.Shared) ∷
+-- what pages and margin boxes both take: how their texts are set
+unfoldable pub text_properties : List (List ℕ × PageGrammar)
+text_properties =
     (codes "color", grammar.Shared) ∷ (codes "font-family", grammar.Shared) ∷
     (codes "font-size", grammar.Shared) ∷ (codes "font-style", grammar.Shared) ∷
     (codes "font-weight", grammar.Shared) ∷ (codes "line-height", grammar.Shared) ∷ []
 
--- what a margin box takes
+-- what a page takes besides
+unfoldable pub page_properties : List (List ℕ × PageGrammar)
+page_properties =
+    (codes "size", grammar.Own own.Size) ∷ (codes "margin", grammar.Shared) ∷
+    (codes "margin-top", grammar.Shared) ∷ (codes "margin-right", grammar.Shared) ∷
+    (codes "margin-bottom", grammar.Shared) ∷ (codes "margin-left", grammar.Shared) ∷ []
+
+-- what a margin box takes besides
 unfoldable pub box_properties : List (List ℕ × PageGrammar)
 box_properties =
     (codes "content", grammar.Own own.Content) ∷ (codes "text-align", grammar.Own own.TextAlign) ∷
-    (codes "vertical-align", grammar.Own own.VerticalAlign) ∷ (codes "color", grammar.Shared) ∷
-    (codes "font-family", grammar.Shared) ∷ (codes "font-size", grammar.Shared) ∷
-    (codes "font-style", grammar.Shared) ∷ (codes "font-weight", grammar.Shared) ∷
-    (codes "line-height", grammar.Shared) ∷ []
+    (codes "vertical-align", grammar.Own own.VerticalAlign) ∷ []
+
+-- what a page or a margin box takes that the other doesn't
+abbrev pub other_properties : PageContext → List (List ℕ × PageGrammar)
+other_properties context.Page = page_properties
+other_properties context.MarginBox = box_properties
 
 -- what a page or a margin box takes
 abbrev pub properties : PageContext → List (List ℕ × PageGrammar)
-properties context.Page = page_properties
-properties context.MarginBox = box_properties
+properties c = other_properties c ++ text_properties
 
 -- the values of `text-align` in a margin box
 unfoldable pub aligns : List (List ℕ × Align)

@@ -44,6 +44,24 @@ pub enum OwnProperty {
     VerticalAlign,
 }
 
+/// What pages and margin boxes both take: how their texts are set.
+#[tactic(auto, unfolding(crate::specs::Properties::text_properties))]
+fn property_of_text(name: &str) -> Option<PageGrammar>
+    ensures { result ≡ find_word spec.text_properties name.now }
+{
+    find_word(
+        &[
+            ("color", PageGrammar::Shared),
+            ("font-family", PageGrammar::Shared),
+            ("font-size", PageGrammar::Shared),
+            ("font-style", PageGrammar::Shared),
+            ("font-weight", PageGrammar::Shared),
+            ("line-height", PageGrammar::Shared),
+        ],
+        name,
+    )
+}
+
 #[tactic(auto, unfolding(crate::specs::Properties::page_properties))]
 fn property_of_page(name: &str) -> Option<PageGrammar>
     ensures { result ≡ find_word spec.page_properties name.now }
@@ -56,12 +74,6 @@ fn property_of_page(name: &str) -> Option<PageGrammar>
             ("margin-right", PageGrammar::Shared),
             ("margin-bottom", PageGrammar::Shared),
             ("margin-left", PageGrammar::Shared),
-            ("color", PageGrammar::Shared),
-            ("font-family", PageGrammar::Shared),
-            ("font-size", PageGrammar::Shared),
-            ("font-style", PageGrammar::Shared),
-            ("font-weight", PageGrammar::Shared),
-            ("line-height", PageGrammar::Shared),
         ],
         name,
     )
@@ -79,25 +91,30 @@ fn property_of_box(name: &str) -> Option<PageGrammar>
                 "vertical-align",
                 PageGrammar::Own(OwnProperty::VerticalAlign),
             ),
-            ("color", PageGrammar::Shared),
-            ("font-family", PageGrammar::Shared),
-            ("font-size", PageGrammar::Shared),
-            ("font-style", PageGrammar::Shared),
-            ("font-weight", PageGrammar::Shared),
-            ("line-height", PageGrammar::Shared),
         ],
         name,
     )
 }
 
-/// The grammar of a property by its name, ASCII case aside, where pages or margin boxes have it.
-pub(crate) fn grammar_of(context: PageContext, name: &str) -> Option<PageGrammar>
-    ensures { result ≡ find_word (spec.properties context) name.now }
+/// The grammar of a property that pages have and margin boxes don't, or the other way round.
+fn other_property(context: PageContext, name: &str) -> Option<PageGrammar>
+    ensures { result ≡ find_word (spec.other_properties context) name.now }
 {
     match context {
         PageContext::Page => property_of_page(name),
         PageContext::MarginBox => property_of_box(name),
     }
+}
+
+/// The grammar of a property by its name, ASCII case aside, where pages or margin boxes have it.
+#[tactic(auto, using(crate::proofs::TableLemmas::found_in))]
+pub(crate) fn grammar_of(context: PageContext, name: &str) -> Option<PageGrammar>
+    ensures { result ≡ find_word (spec.properties context) name.now }
+{
+    if let Some(grammar) = other_property(context, name) {
+        return Some(grammar);
+    }
+    property_of_text(name)
 }
 
 /// Reads `left`, `center` or `right`.

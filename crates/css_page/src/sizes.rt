@@ -1,7 +1,6 @@
 //! Sizes of page boxes (css-page-3, `size`).
 
 ghost use Rattle.std.specs.Prelude.{◌≡◌};
-ghost use Rattle.bk_num.specs.Limits.{page_height, page_width};
 ghost use Rattle.css_words.specs.Parser.{Reads};
 ghost use Rattle.css_content.specs.Basics.{word_in};
 ghost use Rattle.css_values.specs.Measures.{read_measure, lengths};
@@ -79,13 +78,6 @@ fn sheet(width: i64, height: i64) -> PageSize
     }
 }
 
-/// A sheet of the default page: a5.
-fn default_sheet() -> PageSize
-    ensures { result ≡ spec.sheet page_width page_height }
-{
-    sheet(PAGE_WIDTH as i64, PAGE_HEIGHT as i64)
-}
-
 /// A sheet with the side across that the orientation asks for.
 fn turned(orientation: Orientation, shorter: i64, longer: i64) -> PageSize
     ensures { result ≡ spec.turned orientation shorter longer }
@@ -96,17 +88,20 @@ fn turned(orientation: Orientation, shorter: i64, longer: i64) -> PageSize
     }
 }
 
+/// A5, which is the default page, with the side across that the orientation asks for.
+fn a5_turned(orientation: Orientation) -> PageSize
+    ensures { result ≡ spec.a5_turned orientation }
+{
+    turned(orientation, PAGE_WIDTH as i64, PAGE_HEIGHT as i64)
+}
+
 /// The size that a word gives alone. An orientation alone is of a5.
 fn alone(word: PaperWord) -> PageSize
     ensures { result ≡ spec.alone word }
 {
     match word {
         PaperWord::Sheet(shorter, longer) => sheet(shorter, longer),
-        PaperWord::Turned(orientation) => turned(
-            orientation,
-            PAGE_WIDTH as i64,
-            PAGE_HEIGHT as i64,
-        ),
+        PaperWord::Turned(orientation) => a5_turned(orientation),
     }
 }
 
@@ -182,7 +177,7 @@ pub fn size(reader: &mut Reader<'_>) -> Result<PageSize, Unread>
     let token = reader.peek();
     if is_named(CssKind::Ident, token, "auto") {
         reader.advance();
-        return Ok(default_sheet());
+        return Ok(a5_turned(Orientation::Portrait));
     }
     if of_kind(CssKind::Ident, token) {
         return named(reader);

@@ -1,6 +1,7 @@
 -- Weights are ordered, and the specificity of a rule is the greatest one.
 use Rattle.std.proofs.Common.{◌≡◌, ℕ, zero, suc, Bool, true, false, List, [], ◌∷◌, Option, None, Some, slice_get, slice_index, cond, refl, sym, ◌∙◌, ap, subst}
 use Rattle.std.specs.List.{fold}
+use Rattle.std.proofs.lemmas.Bool.{true≢false}
 use Rattle.style.proofs.RankingLemmas.{above-not, above-self, above-trans, same-ranks, same-rank}
 use Rattle.css_page.specs.declared.selectors.PageSelector.{PageSelector}
 use Rattle.page_ctx.specs.Selectors.{takes}
@@ -50,12 +51,9 @@ held_more : (name : List ℕ) (c : PageClasses) (x : PageSelector) (ss : List Pa
 held_more name c x ss o first all zero s h t = let e : x ≡ s = cc in subst (λ (y : PageSelector). Holds o y) e (first (subst (λ (y : PageSelector). takes y name c ≡ true) (sym e) t))
 held_more name c x ss o first all (suc k) s h t = all k s h t
 
-not_taken : {A : Type 0} (b : Bool) → b ≡ false → b ≡ true → A
-not_taken b f t = absurd (let w : true ≡ false = sym t ∙ f in cc)
-
 more_other : (name : List ℕ) (c : PageClasses) (x : PageSelector) (ss : List PageSelector) (o r : Option PageWeight) → takes x name c ≡ false → Comes name c ss o r → Comes name c (x ∷ ss) o r
-more_other name c x ss o r f (stays e all) = stays e (held_more name c x ss o (λ t. not_taken (takes x name c) f t) all)
-more_other name c x ss o r f (won place s e h t all y) = won (suc place) s e h t (held_more name c x ss (Some (specificity s)) (λ t. not_taken (takes x name c) f t) all) y
+more_other name c x ss o r f (stays e all) = stays e (held_more name c x ss o (λ t. absurd (true≢false (sym t ∙ f))) all)
+more_other name c x ss o r f (won place s e h t all y) = won (suc place) s e h t (held_more name c x ss (Some (specificity s)) (λ t. absurd (true≢false (sym t ∙ f))) all) y
 
 more_first : (name : List ℕ) (c : PageClasses) (x : PageSelector) (ss : List PageSelector) (o r : Option PageWeight) → takes x name c ≡ true → Exceeds o x → ((s : PageSelector) → is_above (specificity s) (specificity x) ≡ true → Exceeds o s)
     → Comes name c ss (Some (specificity x)) r → Comes name c (x ∷ ss) o r

@@ -1,6 +1,7 @@
 -- Winning declarations are greatest, and there is one.
 use Rattle.std.proofs.Common.{◌≡◌, ◌≤◌, ℕ, zero, suc, Bool, true, false, List, [], ◌∷◌, Option, None, Some, slice_get, cond, refl, sym, ◌∙◌, subst, arith}
 use Rattle.std.specs.List.{fold}
+use Rattle.std.proofs.lemmas.Bool.{true≢false}
 use Rattle.page_ctx.specs.declared.property.PageProperty.{PageProperty}
 use Rattle.style.proofs.RankingLemmas.{above-not, above-self, above-below, not-above}
 use Rattle.page_ctx.specs.Weights.{ranks_of, is_above}
@@ -53,12 +54,9 @@ all_more : (p : PageProperty) (x : Declared) (ds : List Declared) (o : Option De
 all_more p x ds o first all zero e h t = let s : x ≡ e = cc in subst (λ (c : Declared). Loses o c) s (first (subst (λ (c : Declared). is_of p c.long ≡ true) (sym s) t))
 all_more p x ds o first all (suc k) e h t = all k e h t
 
-not_of : {A : Type 0} (b : Bool) → b ≡ false → b ≡ true → A
-not_of b f t = absurd (let w : true ≡ false = sym t ∙ f in cc)
-
 more_other : (p : PageProperty) (x : Declared) (ds : List Declared) (o r : Option Declared) → is_of p x.long ≡ false → Comes p ds o r → Comes p (x ∷ ds) o r
-more_other p x ds o r f (stays e all) = stays e (all_more p x ds o (λ t. not_of (is_of p x.long) f t) all)
-more_other p x ds o r f (won place d e w y) = won (suc place) d e (shift p x ds place d (λ t. not_of (is_of p x.long) f t) w) y
+more_other p x ds o r f (stays e all) = stays e (all_more p x ds o (λ t. absurd (true≢false (sym t ∙ f))) all)
+more_other p x ds o r f (won place d e w y) = won (suc place) d e (shift p x ds place d (λ t. absurd (true≢false (sym t ∙ f))) w) y
 
 more_first : (p : PageProperty) (x : Declared) (ds : List Declared) (r : Option Declared) → is_of p x.long ≡ true → Comes p ds (Some x) r → Comes p (x ∷ ds) None r
 more_first p x ds r t (stays e all) = won 0 x e (head_wins p x ds t all) tt

@@ -1,6 +1,7 @@
 //! Page boxes, their margins and their frames.
 
 ghost use Rattle.std.specs.Prelude.{◌≡◌, ◌≤ℤ◌, ◌+ℤ◌, ◌-ℤ◌, pos, neg_ℤ, map, option_map};
+ghost use Rattle.std.specs.Option.{option_and_then};
 ghost use Rattle.boxes.specs.Frames.{IsGoodFrame};
 ghost use Rattle.computed_values.specs.Values.{held};
 ghost use Rattle.page_ctx.specs.Bounds.{IsGoodCell};
@@ -64,6 +65,14 @@ fn margin_of(long: &PageLong) -> Option<&Given<Measure>>
     }
 }
 
+/// The declared value of the margin that wins, if one does.
+fn declared_margin(found: Option<&PageLong>) -> Option<&Given<Measure>>
+    ensures { option_map (λ g. g.now) result ≡
+        option_and_then spec.margin_of (option_map (λ l. l.now) found.entry) }
+{
+    margin_of(found?)
+}
+
 /// A used margin.
 fn used_margin(font: Px, base: Px, measure: &Measure) -> Px
     ensures { result ≡ spec.used_margin font base measure.now }
@@ -88,10 +97,7 @@ fn given_margin(font: Px, base: Px, given: Option<&Given<Measure>>) -> Px
 fn margin_by(font: Px, base: Px, found: Option<&PageLong>) -> Px
     ensures { result ≡ spec.margin_by font base (option_map (λ l. l.now) found.entry) }
 {
-    match found {
-        Some(long) => given_margin(font, base, margin_of(long)),
-        None => px(PAGE_MARGIN),
-    }
+    given_margin(font, base, declared_margin(found))
 }
 
 /// What a percentage of a margin is of.

@@ -14,7 +14,7 @@ use bk_num::values::Color;
 use computed_values::fonts::{chosen_height, chosen_size, chosen_weight};
 use computed_values::given::chosen;
 use css_page::values::PageLong;
-use style::initial::{INITIAL_COLOR, medium_size, normal_height, normal_weight};
+use style::initial::{INITIAL_COLOR, INITIAL_ITALIC, medium_size, normal_height, normal_weight};
 use style::long::Given;
 use style::values::LineHeight;
 
@@ -37,7 +37,7 @@ fn italic_by(parent: bool, found: Option<&PageLong>) -> bool
     ensures { result ≡ spec.italic_by parent (option_map (λ l. l.now) found.entry) }
 {
     match found {
-        Some(PageLong::FontStyle(given)) => chosen(given, parent, false),
+        Some(PageLong::FontStyle(given)) => chosen(given, parent, INITIAL_ITALIC),
         _ => parent,
     }
 }
@@ -108,7 +108,7 @@ fn initial_setting<'s>(initial: &'s [Name]) -> PageSetting<'s>
 {
     PageSetting {
         families: initial,
-        italic: false,
+        italic: INITIAL_ITALIC,
         weight: normal_weight(),
         size: medium_size(),
         line_height: LineHeight::Number(normal_height()),
