@@ -11,7 +11,7 @@ use Rattle.boxes.specs.declared.leaf.Leaf.{Leaf}
 use Rattle.boxes.specs.declared.leaf.Span.{Span}
 use Rattle.line_place.specs.declared.pieces.Piece.{Piece}
 use Rattle.line_place.specs.declared.place.Setting.{Setting}
-use Rattle.line_place.specs.Placing.{IsRunIn}
+use Rattle.line_place.specs.Placing.{IsNearRun, IsRunIn}
 use Rattle.line_place.specs.Sums.{IsInside, run_of}
 use Rattle.line_place.specs.Runs.{IsPieceOf, is_free, cut_pieces, part_pieces, line_pieces}
 use Rattle.line_place.proofs.CoverLemmas.{no_part}
@@ -89,10 +89,10 @@ pub pieces_chars : (text : List ℕ) → IsUtf8 text → (end from to : ℕ) (sp
 pieces_chars text utf8 end from to spans are begins ends = line_chars text end from to 0 0 spans utf8 begins ends (IsCharBoundary-start text utf8) are
 
 -- so do the runs that are made of them
-pub runs_in : (faces : List FontFace) (leaf : Leaf) (end from : ℕ) (s : Setting) (pieces : List Piece) → All (IsInside leaf.spans) pieces → All (IsPieceOf leaf.text) pieces → All (IsRunIn leaf) (map (run_of faces leaf end from s) pieces)
-runs_in faces leaf end from s [] inside chars = All-nil (IsRunIn leaf)
-runs_in faces leaf end from s (p ∷ pieces) inside chars =
+pub runs_in : (faces : List FontFace) (leaf : Leaf) (end from : ℕ) (s : Setting) (pieces : List Piece) → All (IsInside leaf.spans) pieces → All (IsPieceOf leaf.text) pieces → All IsNearRun (map (run_of faces leaf end from s) pieces) → All (IsRunIn leaf) (map (run_of faces leaf end from s) pieces)
+runs_in faces leaf end from s [] inside chars near = All-nil (IsRunIn leaf)
+runs_in faces leaf end from s (p ∷ pieces) inside chars near =
     let i : IsInside leaf.spans p = All-head (IsInside leaf.spans) p pieces inside in
     let h : IsPieceOf leaf.text p = All-head (IsPieceOf leaf.text) p pieces chars in
-    All-cons (IsRunIn leaf) (run_of faces leaf end from s p) (map (run_of faces leaf end from s) pieces) (record { there = i.there; order = h.order; begins = h.begins; ends = h.ends })
-    (runs_in faces leaf end from s pieces (All-tail (IsInside leaf.spans) p pieces inside) (All-tail (IsPieceOf leaf.text) p pieces chars))
+    All-cons (IsRunIn leaf) (run_of faces leaf end from s p) (map (run_of faces leaf end from s) pieces) (record { near = All-head IsNearRun (run_of faces leaf end from s p) (map (run_of faces leaf end from s) pieces) near; there = i.there; order = h.order; begins = h.begins; ends = h.ends })
+    (runs_in faces leaf end from s pieces (All-tail (IsInside leaf.spans) p pieces inside) (All-tail (IsPieceOf leaf.text) p pieces chars) (All-tail IsNearRun (run_of faces leaf end from s p) (map (run_of faces leaf end from s) pieces) near))

@@ -2,6 +2,7 @@
 
 ghost use Rattle.std.specs.Prelude.{◌≡◌, ◌<◌, ◌≤◌, ◌+◌, ◌-◌, ◌*◌, ◌^◌, pos, neg_ℤ, ◌≤ℤ◌, ◌+ℤ◌, ◌-ℤ◌, length, unsigned_abs, slice_index_or, Some, true, ◌∷◌, [], ◌++◌, map, All, OnOk, if◌then◌else◌, IfOk};
 ghost use Rattle.std.specs.Int.{int_max};
+ghost use Rattle.bk_num.specs.Numbers.{IsWithin};
 ghost use Rattle.bk_num.specs.declared.values.Align.TheVariants as align;
 ghost use Rattle.boxes.specs.Contents.{IsGoodLeaf};
 ghost use Rattle.boxes.specs.declared.leaf.Span.{Span};
@@ -222,6 +223,7 @@ fn setting_at(leaf: &Leaf, line: Line, measure: i64, ends: Ends, slack: u64, pas
 fn push_hyphen(runs: &mut Items<Run>, leaf: &Leaf, line: Line, x: i64) -> Result<(), NoMem>
     requires good { IsGoodLeaf leaf.now }
     requires line { IsInLeaf leaf.now line }
+    requires near { IsWithin (2 ^ 61) x }
     requires inside { All (IsRunIn leaf.now) runs.old }
     ensures value { OnOk result (runs.new ≡ runs.old ++ (if line.hyphen then
         record { x = x; from = line.to; to = line.to; span = number_at leaf.now.spans (line.to - 2); hyphen = true }
@@ -331,7 +333,7 @@ fn measured_runs(
 /// its slack where it is aligned right, by half of it where it is centred (CSS 2.1, 16.1 and 16.2). A justified line
 /// with slack that ends neither with a newline nor at the leaf's end is cut after each space that doesn't hang, and
 /// shares the slack over these, the odd units to the first ones. A shown hyphen is the last run, without text. Each run
-/// stands in a span of the leaf, and begins and ends at characters.
+/// stands in a span of the leaf, within 2^61 units of the left of the measure, and begins and ends at characters.
 pub fn runs(
     alloc: Global,
     faces: &Faces,
