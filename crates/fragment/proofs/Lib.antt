@@ -8,5 +8,6 @@ pub mod NotesLemmas
 pub mod PlaceLemmas
 pub mod ReadLemmas
 pub mod RunLemmas
+pub mod SettledLemmas
 pub mod SolidLemmas
 pub mod TopLemmas

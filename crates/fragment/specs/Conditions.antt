@@ -12,7 +12,7 @@ use Rattle.cuts.specs.Areas.{IsArea}
 use Rattle.cuts.specs.Rows.{AreForcedBetween}
 use Rattle.cuts.specs.declared.row.PageRoom.{PageRoom}
 use Rattle.metrics.specs.Face.{FontFace}
-use Rattle.note_list.specs.Conditions.{CanBePaged, IsHeld, NotesAscend}
+use Rattle.note_list.specs.Conditions.{CanBePaged, IsAtSolid, IsHeld, NotesAscend}
 use Rattle.note_list.specs.Reads.{EndInNotes, IsReady}
 use Rattle.note_list.specs.declared.carried.Carried.{Carried}
 use Rattle.page_list.specs.Cuts.{rows_of}
@@ -30,12 +30,14 @@ pub record ArePageSolids (t : Tree) (read : PageSolids) : Type 0 where
   pub between : AreForcedBetween (rows_of t (map solid_view read.solids.items))
   pub rows_are : read.rows.items ≡ rows_of t (map solid_view read.solids.items)
 
--- the notes of a page are read, and what is carried to it is of notes below the first that is called on it, in order
+-- the notes of a page are read, and what is carried to it is of notes below the first that is called on it, in order,
+-- and goes on at solids
 pub record CanCut (flow : Flow) (parts : List Carried) (from : ℕ) (notes : PageNotes) (room : PageRoom) : Type 0 where
   pub areas : All IsArea notes.areas.items
   pub ready : IsReady notes.list
   pub ends : EndInNotes flow.notes notes.list
   pub carried : All (IsHeld flow.notes) parts
+  pub stands : All (IsAtSolid flow.notes) parts
   pub order : NotesAscend parts
   pub before : All (λ c. c.note < from) parts
   pub count : length flow.notes ≤ most_entries

@@ -30,7 +30,7 @@ use cursor::solid::Solid;
 use cuts::cut::{CutLevel, RowCut, cut_noted};
 use cuts::row::PageRoom;
 use note_list::calls::called_before;
-use note_list::carried::Carried;
+use note_list::carried::CarriedNotes;
 use note_list::list::NoteRoom;
 use page_list::cut::Cut;
 use seams::level::Dropped;
@@ -89,18 +89,18 @@ pub(crate) fn cut_solids(
     alloc: Global,
     flow: &Flow,
     read: &PageSolids<'_>,
-    carried: &[Carried],
+    carried: CarriedNotes,
     called: u32,
     notes: &PageNotes,
     room: &PageRoom,
 ) -> Result<Cut, NoMem>
     requires solids { ArePageSolids flow.now.main read.now }
-    requires cut { CanCut flow.now carried.now called notes.now room.now }
+    requires cut { CanCut flow.now carried called notes.now room.now }
     requires area { IsArea room.now.carried }
     requires called { (j : ℕ) → 0 < j → called ≤ called_before flow.now.main flow.now.notes
         (place_after flow.now.main (slice_get (map solid_view read.now.solids.items) j)) }
     requires calls { NeverFall (map (λ n. n.call) flow.now.notes) }
-    ensures cut { IfOk result (CutsAt flow.now room.now.kept room.now.height carried.now called
+    ensures cut { IfOk result (CutsAt flow.now room.now.kept room.now.height carried called
         (λ list. AreAreas room.now.height list notes.now.list.own (length read.now.solids.items) notes.now.areas.items
         room.now.carried)
         notes.now.list (map solid_view read.now.solids.items)) }
@@ -152,15 +152,15 @@ fn end_level(area: i64, room: &PageRoom) -> CutLevel
 pub(crate) fn cut_end(
     alloc: Global,
     flow: &Flow,
-    carried: &[Carried],
+    carried: CarriedNotes,
     called: u32,
     notes: &PageNotes,
     room: &PageRoom,
 ) -> Result<Cut, NoMem>
-    requires cut { CanCut flow.now carried.now called notes.now room.now }
+    requires cut { CanCut flow.now carried called notes.now room.now }
     requires all { notes.now.called ≡ length flow.now.notes }
     requires called { called ≤ length flow.now.notes }
-    ensures cut { IfOk result (CutsAt flow.now room.now.kept room.now.height carried.now called
+    ensures cut { IfOk result (CutsAt flow.now room.now.kept room.now.height carried called
         (λ list. AreTold room.now.height list notes.now.list.own 0
         (area_after notes.now.areas.items (length notes.now.areas.items)) room.now.carried)
         notes.now.list []) }

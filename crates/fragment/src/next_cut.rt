@@ -19,10 +19,47 @@ use boxes::flow::Flow;
 use boxes::frames::Frame;
 use cuts::row::PageRoom;
 use metrics::Faces;
-use note_list::carried::Carried;
+use note_list::carried::{Carried, CarriedNotes};
 use page_list::cut::{Cut, CutFrom};
 use std::alloc::Global;
 use std::sync::ledger::Ledger;
+
+/// The cut of a page, what is carried to which goes on at solids.
+pub(crate) fn cut_page<L: Ledger>(
+    alloc: Global,
+    flow: &Flow,
+    faces: &Faces,
+    from: CutFrom,
+    carried: CarriedNotes,
+    frame: Frame,
+    steps: &mut Steps<L>,
+) -> Result<Cut, NoMem>
+    requires flow { CanBePaged faces.now flow.now }
+    requires holds { Holds flow.now.main from.at }
+    requires carried { AreCarried flow.now from.at carried }
+    requires stands { All (IsAtSolid flow.now.notes) carried }
+    requires frame { IsGoodFrame frame }
+    ensures cut { IfOk result (λ cut. IsFlowCut faces.now flow.now frame from carried cut) }
+    ensures holds { IfOk result (λ cut. Holds flow.now.main cut.to) }
+    ensures carried { IfOk result (λ cut. AreCarried flow.now cut.to cut.carried) }
+    ensures stands { IfOk result (λ cut. All (IsAtSolid flow.now.notes) cut.carried) }
+    ensures near { IfOk result (λ cut. AreNear cut.solids cut.notes) }
+    ensures inside { IfOk result (λ cut. cut.level ≤ 2 → AreInside frame.height cut.notes cut.solids) }
+{
+    let mut notes = PageNotes::start(alloc, flow, faces, from.at, &carried, frame, steps)?;
+    let called = notes.called;
+    let room = PageRoom {
+        kept: from.kept,
+        height: frame.height,
+        carried: notes.list.own_area(),
+    };
+    let read = prefix(alloc, flow, faces, from, frame, &room, &mut notes, steps)?;
+    if read.solids.is_empty() {
+        notes.take(flow, faces, from.at, frame, steps)?;
+        return cut_end(alloc, flow, carried, called, &notes, &room);
+    }
+    cut_solids(alloc, flow, &read, carried, called, &notes, &room)
+}
 
 /// The cut of the next page of a flow, whose page has a frame and has to place what is carried to it: where it ends, at
 /// which level, what it places, with tops within 2^60 units and heights from 0 to 2^32, and what it carries on. At
@@ -49,17 +86,6 @@ pub fn next_cut<L: Ledger>(
     ensures misses { NoLaterFits faces.now flow.now frame from carried.now }
 {
     no_later_point_fits();
-    let mut notes = PageNotes::start(alloc, flow, faces, from.at, carried, frame, steps)?;
-    let called = notes.called;
-    let room = PageRoom {
-        kept: from.kept,
-        height: frame.height,
-        carried: notes.list.own_area(),
-    };
-    let read = prefix(alloc, flow, faces, from, frame, &room, &mut notes, steps)?;
-    if read.solids.is_empty() {
-        notes.take(flow, faces, from.at, frame, steps)?;
-        return cut_end(alloc, flow, carried, called, &notes, &room);
-    }
-    cut_solids(alloc, flow, &read, carried, called, &notes, &room)
+    let settled = CarriedNotes::settled(alloc, flow, carried)?;
+    cut_page(alloc, flow, faces, from, settled, frame, steps)
 }

@@ -13,7 +13,7 @@ use boxes::flow::Flow;
 use boxes::frames::Frame;
 use cuts::cut::CutLevel;
 use metrics::Faces;
-use note_list::carried::Carried;
+use note_list::carried::CarriedNotes;
 use note_list::list::{NoteList, NoteRoom, PlacedList};
 use std::alloc::Global;
 use std::sync::ledger::Ledger;
@@ -24,22 +24,22 @@ pub fn next_notes<L: Ledger>(
     alloc: Global,
     flow: &Flow,
     faces: &Faces,
-    carried: &[Carried],
+    carried: CarriedNotes,
     frame: Frame,
     steps: &mut Steps<L>,
 ) -> Result<PlacedList, NoMem>
     requires flow { CanBePaged faces.now flow.now }
-    requires carried { AreCarried flow.now (place_after flow.now.main None) carried.now }
-    requires stands { All (IsAtSolid flow.now.notes) carried.now }
-    requires some { 0 < length carried.now }
+    requires carried { AreCarried flow.now (place_after flow.now.main None) carried }
+    requires stands { All (IsAtSolid flow.now.notes) carried }
+    requires some { 0 < length carried }
     requires frame { IsGoodFrame frame }
-    ensures cut { IfOk result (λ p. IsNotesCut faces.now flow.now frame carried.now p.notes p.left) }
+    ensures cut { IfOk result (λ p. IsNotesCut faces.now flow.now frame carried p.notes p.left) }
     ensures carried { IfOk result (λ p. AreCarried flow.now (place_after flow.now.main None) p.left) }
     ensures stands { IfOk result (λ p. All (IsAtSolid flow.now.notes) p.left) }
     ensures near { IfOk result (λ p. AreNear [] p.notes) }
-    ensures lines { IfOk result (λ p. LooksAtNotes faces.now flow.now frame carried.now steps.old steps.new) }
+    ensures lines { IfOk result (λ p. LooksAtNotes faces.now flow.now frame carried steps.old steps.new) }
 {
-    let list = NoteList::carried(alloc, flow, faces, carried, frame, steps)?;
+    let list = NoteList::carried(alloc, flow, faces, &carried, frame, steps)?;
     let all = flow.notes.as_slice().len() as u32;
     let room = NoteRoom {
         level: CutLevel::Over,

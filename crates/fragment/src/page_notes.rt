@@ -18,7 +18,7 @@ use boxes::frames::Frame;
 use boxes::place::Position;
 use metrics::Faces;
 use note_list::calls::{called_before, called_by};
-use note_list::carried::Carried;
+use note_list::carried::CarriedNotes;
 use note_list::list::NoteList;
 use seams::run::solid_after;
 use std::alloc::Global;
@@ -53,7 +53,7 @@ impl PageNotes {
         flow: &Flow,
         faces: &Faces,
         at: Position,
-        carried: &[Carried],
+        carried: &CarriedNotes,
         frame: Frame,
         steps: &mut Steps<L>,
     ) -> Result<PageNotes, NoMem>

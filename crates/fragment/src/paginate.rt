@@ -13,7 +13,7 @@ ghost use Rattle.page_list.specs.Pages.{AddsBlanks, HaveNearTops, IsPaged, Leave
 ghost use Rattle.page_list.specs.Parted.{HoldsBreaks};
 
 use crate::laws::no_later_point_fits;
-use crate::next_cut::next_cut;
+use crate::next_cut::cut_page;
 use crate::next_notes::next_notes;
 use bk_num::ids::NameId;
 use bk_num::items::Items;
@@ -25,7 +25,7 @@ use boxes::page::{Page, PageList, PlacedNote};
 use boxes::place::{Event, Position};
 use boxes::tree::BoxTree;
 use metrics::Faces;
-use note_list::carried::Carried;
+use note_list::carried::CarriedNotes;
 use note_list::list::PlacedList;
 use page_list::cut::{Cut, CutFrom};
 use page_list::laws::{
@@ -52,11 +52,11 @@ pub enum PageErr {
 pub(crate) struct FlowPages {
     pub(crate) pages: Vec<Page>,
     pub(crate) name: NameId,
-    pub(crate) carried: Items<Carried>,
+    pub(crate) carried: CarriedNotes,
 }
 
 /// A flow page, from its cut, and what is carried on.
-fn page_of(index: u32, name: NameId, frame: Frame, cut: Cut) -> (Page, Items<Carried>)
+fn page_of(index: u32, name: NameId, frame: Frame, cut: Cut) -> (Page, CarriedNotes)
     ensures page { result.0 ≡ flow_page_of index name frame cut }
     ensures carried { result.1 ≡ cut.carried }
 {
@@ -235,7 +235,7 @@ fn flow_pages<Fr: Frames, L: Ledger>(
     };
     let mut index = 1;
     let mut demand = seam(tree, from.at, 0).forced;
-    let mut carried = Items::new(alloc);
+    let mut carried = CarriedNotes::new(alloc);
     for turn in 0..MOST_PAGES {
         // the invariant counts the turns
         let _turn = turn;
@@ -245,7 +245,7 @@ fn flow_pages<Fr: Frames, L: Ledger>(
             Err(err) => return Err(err),
         };
         let frame = frames.frame(index, name, PageKind::Flow);
-        let Ok(cut) = next_cut(alloc, flow, faces, from, carried.as_slice(), frame, steps) else {
+        let Ok(cut) = cut_page(alloc, flow, faces, from, carried, frame, steps) else {
             return Err(PageErr::NoMemory);
         };
         let ended = cut.ended;
@@ -298,7 +298,7 @@ fn with_notes<Fr: Frames, L: Ledger>(
     for turn in 0..=MOST_PAGES {
         // the invariant counts the turns
         let _turn = turn;
-        if carried.as_slice().is_empty() {
+        if carried.is_empty() {
             return Ok(PageList {
                 pages: Items::of(pages),
             });
@@ -308,7 +308,7 @@ fn with_notes<Fr: Frames, L: Ledger>(
         }
         let index = pages.len() as u32 + 1;
         let frame = frames.frame(index, name, PageKind::Notes);
-        let Ok(placed) = next_notes(alloc, flow, faces, carried.as_slice(), frame, steps) else {
+        let Ok(placed) = next_notes(alloc, flow, faces, carried, frame, steps) else {
             return Err(PageErr::NoMemory);
         };
         let PlacedList { notes, left } = placed;

@@ -1,26 +1,27 @@
 -- How a note is read on, solid after solid, and what is read of a list then.
-use Rattle.std.proofs.Common.{◌≡◌, ℕ, zero, suc, add-one, get_or, take, ◌+◌, ◌<◌, ◌≤◌, ⊎_elim, max, ℤ, ◌<ℤ◌, ◌&&◌, ◌||◌, Bool, true, false, List, [], ◌∷◌, ◌++◌, Some, None, All, is_some, length, map, slice_get, refl, sym, ap, ◌∙◌, subst, arith}
+use Rattle.std.proofs.Common.{◌≡◌, ℕ, zero, suc, add-one, get_or, take, ◌+◌, ◌<◌, ◌≤◌, ⊎_elim, max, ℤ, ◌<ℤ◌, ◌&&◌, ◌||◌, Bool, true, false, List, [], ◌∷◌, ◌++◌, Some, None, All, is_some, length, map, drop, slice_get, refl, sym, ap, ◌∙◌, subst, arith}
 use Rattle.std.proofs.lemmas.Bool.{cases_lt}
-use Rattle.std.proofs.lemmas.List.{append_assoc, append-nil, map-append}
-use Rattle.std.proofs.lemmas.List.Elements.{All-push}
+use Rattle.std.proofs.lemmas.List.{append_assoc, append-nil, map-append, take-append-drop}
+use Rattle.std.proofs.lemmas.List.Elements.{All-drop, All-push}
 use Rattle.std.proofs.lemmas.List.Folds.{list_any-append}
+use Rattle.std.proofs.lemmas.Option.{get_or_from_slice_get, slice_get_within}
 use Rattle.metrics.specs.Face.{FontFace}
 use Rattle.boxes.specs.Tree.{Tree, IsTree, Holds}
 use Rattle.boxes.specs.declared.flow.Note.{Note}
 use Rattle.boxes.specs.declared.place.Position.{Position}
 use Rattle.cursor.specs.Remainder.{IsRemainder, IsSolid, SolidView}
-use Rattle.cursor.proofs.RemLemmas.{Stands, remainder_from, solid_stands}
+use Rattle.cursor.proofs.RemLemmas.{Stands, remainder_from, solid_stands, stands}
 use Rattle.notes.specs.Notes.{area_of}
 use Rattle.seams.specs.Runs.{solid_after}
 use Rattle.note_list.specs.Calls.{start_place}
-use Rattle.note_list.specs.Conditions.{IsHeld}
+use Rattle.note_list.specs.Conditions.{CanBeCut, IsHeld}
 use Rattle.note_list.specs.Lists.{AreNoted, NotePart, called_parts, carried_parts, noted, note_rows}
 use Rattle.note_list.specs.Reads.{HasReadOn, IsReadOf, has_begin}
 use Rattle.note_list.specs.declared.carried.Carried.{Carried}
 use Rattle.note_list.specs.declared.list.NoteList.{NoteList}
 use Rattle.note_list.specs.declared.solid.NotedSolid.{NotedSolid}
 use Rattle.note_list.proofs.BeginLemmas.{end_not_first, none_carried, none_later, one_begins}
-use Rattle.note_list.proofs.NotedLemmas.{called_next, called_none, noted_join, noted_one}
+use Rattle.note_list.proofs.NotedLemmas.{all_get, called_next, called_none, noted_join, noted_one}
 
 -- what is read of a note so far: its solids up to a place
 pub record Reads (faces : List FontFace) (body : Tree) (width : ℤ) (p : NotePart) (at : Position) (old new : List NotedSolid) : Type 0 where
@@ -151,38 +152,7 @@ call_end faces notes width height from to note old new low high end calls =
     (λ (h : to ≤ from). called_none from note (omega arith) ∙ sym (called_none from to h))
     (cases_lt from to)) calls
 
--- what is read of the first of the carried notes
-abbrev pub ReadsCarried : List FontFace → List Note → ℤ → ℤ → List Carried → NoteList → Type 0
-ReadsCarried faces notes width height carried l = (list : List NotedSolid) × AreNoted faces notes width (carried_parts carried) list × IsReadOf height list l
-
-pub carry_start : (faces : List FontFace) (notes : List Note) (width height : ℤ) (l : NoteList) → l.solids.items ≡ [] → l.over ≡ false → l.begun ≡ false → ReadsCarried faces notes width height [] l
-carry_start faces notes width height l none room begun = (
-  [],
-  refl,
-  record {
-    more = [];
-    is = sym (ap (λ (xs : List NotedSolid). xs ++ []) none);
-    all = λ e. refl;
-    past = λ e. absurd (let f : true ≡ false = sym e ∙ room in cc);
-    begun = begun;
-  },
-)
-
-pub carry_next : (faces : List FontFace) (notes : List Note) (width height : ℤ) (carried : List Carried) (c : Carried) (old new : NoteList) → ReadsCarried faces notes width height carried old → Calls faces notes width height (record { note = c.note; at = c.at; called = false } ∷ []) old new → ReadsCarried faces notes width height (carried ++ c ∷ []) new
-carry_next faces notes width height carried c old new h next =
-    let b = next h.0 h.2 in
-    (h.0 ++ b.0, subst (λ (ps : List NotePart). AreNoted faces notes width ps (h.0 ++ b.0)) (sym (map-append (λ (x : Carried). record { note = x.note; at = x.at; called = false }) carried (c ∷ []))) (noted_join faces notes width (carried_parts carried) (record { note = c.note; at = c.at; called = false } ∷ []) h.0 b.0 h.1 b.1), b.2)
-
--- a list of which nothing else was read
-pub read_same : (height : ℤ) (list : List NotedSolid) (old new : NoteList) → new.solids.items ≡ old.solids.items → new.over ≡ old.over → new.begun ≡ old.begun → IsReadOf height list old → IsReadOf height list new
-read_same height list old new items over begun r = record {
-  more = r.more;
-  is = r.is ∙ ap (λ (xs : List NotedSolid). xs ++ r.more) (sym items);
-  all = λ e. r.all (sym over ∙ e);
-  past = λ e. subst (λ (xs : List NotedSolid). height <ℤ area_of (note_rows xs) (length xs)) (sym items) (r.past (sym over ∙ e));
-  begun = begun ∙ r.begun;
-}
-
+-- the first of some notes, and one more
 pub take_next : (xs : List Carried) (k : ℕ) (d : Carried) → k < length xs → take (k + 1) xs ≡ take k xs ++ get_or xs k d ∷ []
 take_next xs k d low = ap (λ (n : ℕ). take n xs) (add-one k) ∙ by xs k low
   where
@@ -196,3 +166,72 @@ take_end [] zero h = refl
 take_end [] (suc k) h = refl
 take_end (x ∷ xs) zero h = absurd (omega arith)
 take_end (x ∷ xs) (suc k) h = ap (λ (zs : List Carried). x ∷ zs) (take_end xs k (omega arith))
+
+-- nothing is read where there are no parts
+pub calls_none : (faces : List FontFace) (notes : List Note) (width height : ℤ) (l : NoteList) → Calls faces notes width height [] l l
+calls_none faces notes width height l list r = ([], refl, subst (λ (xs : List NotedSolid). IsReadOf height xs l) (sym (append-nil list)) r)
+
+-- parts are read one after another
+pub calls_join : (faces : List FontFace) (notes : List Note) (width height : ℤ) (ps qs : List NotePart) (old mid new : NoteList) → Calls faces notes width height ps old mid → Calls faces notes width height qs mid new → Calls faces notes width height (ps ++ qs) old new
+calls_join faces notes width height ps qs old mid new first next list r =
+    let a = first list r in
+    let b = next (list ++ a.0) a.2 in (
+      a.0 ++ b.0,
+      noted_join faces notes width ps qs a.0 b.0 a.1 b.1,
+      subst (λ (xs : List NotedSolid). IsReadOf height xs new) (append_assoc list a.0 b.0) b.2,
+    )
+
+carried_join : (cs ds : List Carried) → carried_parts cs ++ carried_parts ds ≡ carried_parts (cs ++ ds)
+carried_join cs ds = sym (map-append (λ (x : Carried). record { note = x.note; at = x.at; called = false }) cs ds)
+
+-- one more of the carried notes is read
+pub carry_next : (faces : List FontFace) (notes : List Note) (width height : ℤ) (carried : List Carried) (k : ℕ) (c : Carried) (old mid new : NoteList) → slice_get carried k ≡ Some c → Calls faces notes width height (carried_parts (take k carried)) old mid → Calls faces notes width height (record { note = c.note; at = c.at; called = false } ∷ []) mid new →
+    Calls faces notes width height (carried_parts (take (k + 1) carried)) old new
+carry_next faces notes width height carried k c old mid new has first next =
+    let more : take (k + 1) carried ≡ take k carried ++ c ∷ [] =
+    take_next carried k c (slice_get_within carried k c has) ∙ ap (λ (x : Carried). take k carried ++ x ∷ []) (get_or_from_slice_get carried k c c has) in
+    subst (λ (cs : List Carried). Calls faces notes width height (carried_parts cs) old new) (sym more)
+    (subst (λ (ps : List NotePart). Calls faces notes width height ps old new) (carried_join (take k carried) (c ∷ [])) (calls_join faces notes width height (carried_parts (take k carried)) (carried_parts (c ∷ [])) old mid new first next))
+
+-- a list that has no room reads no more of them
+carry_full : (faces : List FontFace) (notes : List Note) (width height : ℤ) (carried : List Carried) (l : NoteList) → All (λ n. CanBeCut faces n.body) notes → All (IsHeld notes) carried → l.over ≡ true → Calls faces notes width height (carried_parts carried) l l
+carry_full faces notes width height [] l cut held full = calls_none faces notes width height l
+carry_full faces notes width height (c ∷ cs) l cut held full =
+    calls_join faces notes width height (part ∷ []) (carried_parts cs) l l l (list_full faces notes width height part own.note l l tree.is (stands own.note.body c.at own.holds) own.has (λ e. absurd (cc)) full refl refl refl)
+    (carry_full faces notes width height cs l cut (λ k d low. held (suc k) d (omega arith)) full)
+  where
+    part : NotePart
+    part = record { note = c.note; at = c.at; called = false }
+
+    own : IsHeld notes c
+    own = held 0 c (omega arith)
+
+    tree : CanBeCut faces own.note.body
+    tree = all_get (λ (n : Note). CanBeCut faces n.body) notes c.note own.note cut own.has
+
+-- and so those that were read are all that it reads
+pub carry_rest : (faces : List FontFace) (notes : List Note) (width height : ℤ) (carried : List Carried) (k : ℕ) (old new : NoteList) → All (λ n. CanBeCut faces n.body) notes → All (IsHeld notes) carried → new.over ≡ true → Calls faces notes width height (carried_parts (take k carried)) old new → Calls faces notes width height (carried_parts carried) old new
+carry_rest faces notes width height carried k old new cut held full first =
+    let rest = carry_full faces notes width height (drop k carried) new cut (All-drop (IsHeld notes) k carried held) full in
+    subst (λ (cs : List Carried). Calls faces notes width height (carried_parts cs) old new) (take-append-drop k carried)
+    (subst (λ (ps : List NotePart). Calls faces notes width height ps old new) (carried_join (take k carried) (drop k carried)) (calls_join faces notes width height (carried_parts (take k carried)) (carried_parts (drop k carried)) old new new first rest))
+
+-- a new list has read nothing
+pub read_none : (height : ℤ) (l : NoteList) → l.solids.items ≡ [] → l.over ≡ false → l.begun ≡ false → IsReadOf height [] l
+read_none height l none room begun = record {
+  more = [];
+  is = sym (ap (λ (xs : List NotedSolid). xs ++ []) none);
+  all = λ e. refl;
+  past = λ e. absurd (let f : true ≡ false = sym e ∙ room in cc);
+  begun = begun;
+}
+
+-- a list of which nothing else was read
+pub read_same : (height : ℤ) (list : List NotedSolid) (old new : NoteList) → new.solids.items ≡ old.solids.items → new.over ≡ old.over → new.begun ≡ old.begun → IsReadOf height list old → IsReadOf height list new
+read_same height list old new items over begun r = record {
+  more = r.more;
+  is = r.is ∙ ap (λ (xs : List NotedSolid). xs ++ r.more) (sym items);
+  all = λ e. r.all (sym over ∙ e);
+  past = λ e. subst (λ (xs : List NotedSolid). height <ℤ area_of (note_rows xs) (length xs)) (sym items) (r.past (sym over ∙ e));
+  begun = begun ∙ r.begun;
+}

@@ -41,10 +41,10 @@ part_left faces notes width p note s has holds is =
 none_left : (notes : List Note) (p : NotePart) (note : Note) → slice_get notes p.note ≡ Some note → solid_after note.body p.at.event ≡ None → left_part notes (start_of p) ≡ []
 none_left notes p note has none = ap (left_in (start_of p)) has ∙ ap (left_at (start_of p)) none
 
-from_low : (notes : List Note) (next : ℕ) (c : Carried) → next ≤ c.note → left_from notes next c ≡ left_part notes c
+pub from_low : (notes : List Note) (next : ℕ) (c : Carried) → next ≤ c.note → left_from notes next c ≡ left_part notes c
 from_low notes next c low = let passes : nat_le next c.note ≡ true = grind (arith, nat_tests) in ap (λ (b : Bool). cond b (left_part notes c) []) passes
 
-from_high : (notes : List Note) (next : ℕ) (c : Carried) → c.note < next → left_from notes next c ≡ []
+pub from_high : (notes : List Note) (next : ℕ) (c : Carried) → c.note < next → left_from notes next c ≡ []
 from_high notes next c high = let fails : nat_le next c.note ≡ false = grind (arith, nat_tests) in ap (λ (b : Bool). cond b (left_part notes c) []) fails
 
 abbrev Before : Option ℕ → ℕ → Type 0

@@ -6,7 +6,9 @@ pub mod LeftLemmas
 pub mod NotedLemmas
 pub mod PartLemmas
 pub mod PlaceLemmas
+pub mod QueueLemmas
 pub mod ReadLemmas
 pub mod RowLemmas
+pub mod SettledLemmas
 pub mod ShortLemmas
 pub mod SizeLemmas

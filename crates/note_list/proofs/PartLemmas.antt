@@ -112,7 +112,7 @@ rise_append : (low mid high : ℕ) (cs ds : List Carried) → RiseBy low mid cs 
 rise_append low mid high [] ds r q = rise_lower low mid high ds r q
 rise_append low mid high (c ∷ cs) ds r q = (r.0, rise_append (suc c.note) mid high cs ds r.1 q)
 
-rise_carried : (low high : ℕ) (cs : List Carried) → low ≤ high → ((c : Carried) → slice_get cs 0 ≡ Some c → low ≤ c.note) → NotesAscend cs → All (λ c. c.note < high) cs → RiseBy low high cs
+pub rise_carried : (low high : ℕ) (cs : List Carried) → low ≤ high → ((c : Carried) → slice_get cs 0 ≡ Some c → low ≤ c.note) → NotesAscend cs → All (λ c. c.note < high) cs → RiseBy low high cs
 rise_carried low high [] h first up below = h
 rise_carried low high (c ∷ cs) h first up below =
     let own : c.note < high = below 0 c (omega arith) in
@@ -351,7 +351,7 @@ own_first faces notes width carried from to own list o l =
 -- ---- what is carried on
 
 -- what is left of some notes keeps their order, from a number on
-rise_part : (notes : List Note) (c : Carried) (low high : ℕ) (rest : List Carried) → low ≤ c.note → RiseBy (suc c.note) high rest → RiseBy low high (left_part notes c ++ rest)
+pub rise_part : (notes : List Note) (c : Carried) (low high : ℕ) (rest : List Carried) → low ≤ c.note → RiseBy (suc c.note) high rest → RiseBy low high (left_part notes c ++ rest)
 rise_part notes c low high rest h r = in_note (slice_get notes c.note)
   where
     at_event : (o : Option ℕ) → RiseBy low high (left_at c o ++ rest)
@@ -401,7 +401,7 @@ rise_below low high (c ∷ cs) r = let w = rise_within (suc c.note) high cs r.1 
 abbrev pub GoesOn : List Note → Carried → Type 0
 GoesOn notes c = IsHeld notes c × IsAtSolid notes c
 
-part_goes : (notes : List Note) (c : Carried) → IsHeld notes c → All (GoesOn notes) (left_part notes c)
+pub part_goes : (notes : List Note) (c : Carried) → IsHeld notes c → All (GoesOn notes) (left_part notes c)
 part_goes notes c held = subst (λ (o : Option Note). All (GoesOn notes) (left_in c o)) (sym held.has) (by (solid_after held.note.body c.at.event) refl)
   where
     by : (o : Option ℕ) → solid_after held.note.body c.at.event ≡ o → All (GoesOn notes) (left_at c o)

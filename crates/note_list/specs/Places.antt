@@ -6,7 +6,7 @@ use Rattle.bk_num.specs.Numbers.{IsWithin}
 use Rattle.boxes.specs.declared.flow.Flow.{Flow}
 use Rattle.boxes.specs.declared.page.Placed.{Placed}
 use Rattle.notes.specs.Notes.{IsPlaced, must_of}
-use Rattle.note_list.specs.Conditions.{IsHeld, NotesAscend}
+use Rattle.note_list.specs.Conditions.{IsAtSolid, IsHeld, NotesAscend}
 use Rattle.note_list.specs.Lists.{left_of, placed_notes, note_rows}
 use Rattle.note_list.specs.Reads.{EndInNotes, IsReady}
 use Rattle.note_list.specs.declared.carried.Carried.{Carried}
@@ -30,11 +30,13 @@ pub record IsPlacing (list : List NotedSolid) (level c carried : ℕ) (room : �
   pub left_is : p.left ≡ left_of (drop number list)
 
 -- what is asked where a page places its notes: its list was read of notes of the flow; each part that is carried to it
--- is of a note below the first that is called on it, in order; and its room is at most as high as its frame
+-- is of a note below the first that is called on it, in order, and goes on at a solid; and its room is at most as high
+-- as its frame
 pub record CanPlace (flow : Flow) (parts : List Carried) (from : ℕ) (l : NoteList) (r : NoteRoom) : Type 0 where
   pub ready : IsReady l
   pub ends : EndInNotes flow.notes l
   pub carried : All (IsHeld flow.notes) parts
+  pub stands : All (IsAtSolid flow.notes) parts
   pub order : NotesAscend parts
   pub before : All (λ c. c.note < from) parts
   pub called : from ≤ r.to

@@ -10,7 +10,7 @@ ghost use Rattle.note_list.specs.Short.{IsShortList, lines_in};
 ghost use Rattle.note_list.specs.declared.solid.NotedSolid.{NotedSolid};
 ghost use Rattle.notes.specs.Notes.{area_of, must_of};
 
-use crate::carried::{Carried, whole};
+use crate::carried::{CarriedNotes, whole};
 use crate::solid::NotedSolid;
 use bk_num::items::Items;
 use bk_num::name::NoMem;
@@ -43,7 +43,7 @@ pub struct NoteList {
 #[derive(Drop)]
 pub struct PlacedList {
     pub notes: Items<PlacedNote>,
-    pub left: Items<Carried>,
+    pub left: CarriedNotes,
 }
 
 /// How a page is cut, as far as its notes are concerned: its level, the number of the first note that is called after
@@ -62,7 +62,7 @@ impl NoteList {
         alloc: Global,
         flow: &Flow,
         faces: &Faces,
-        carried: &[Carried],
+        carried: &CarriedNotes,
         frame: Frame,
         steps: &mut Steps<L>,
     ) -> Result<NoteList, NoMem>
@@ -76,9 +76,7 @@ impl NoteList {
         ensures lines { IfOk result (λ l. steps.new ≡ steps.old + lines_in l.solids.items) }
     {
         let mut list = NoteList::new(alloc);
-        for part in carried {
-            list.read(flow, faces, *part, false, frame, steps)?;
-        }
+        list.read_carried(flow, faces, carried, frame, steps)?;
         list.hold(alloc, frame.height)?;
         Ok(list)
     }

@@ -12,7 +12,7 @@ ghost use Rattle.note_list.specs.Reads.{IsReadOf};
 ghost use Rattle.note_list.specs.declared.solid.NotedSolid.{NotedSolid};
 ghost use Rattle.notes.specs.Notes.{IsCarryCount, IsPlaced, IsSmallNote, area_of, must_of};
 
-use crate::carried::Carried;
+use crate::carried::CarriedNotes;
 use crate::left::left_after;
 use crate::list::{NoteList, NoteRoom, PlacedList};
 use crate::solid::{NotedSolid, note_rows};
@@ -140,20 +140,20 @@ fn last_of(solids: &[NotedSolid]) -> Option<NotedSolid>
 }
 
 impl NoteList {
-    /// What a page places of the notes that are carried to it and of those that are called on it, `from` the first and
-    /// up to `room.to`; later ones may have been read.
+    /// What a page places of the notes that are carried to it, which go on at solids, and of those that are called on
+    /// it, `from` the first and up to `room.to`; later ones may have been read.
     pub fn place(
         &self,
         alloc: Global,
         flow: &Flow,
-        carried: &[Carried],
+        carried: CarriedNotes,
         from: u32,
         room: &NoteRoom,
     ) -> Result<PlacedList, NoMem>
-        requires { CanPlace flow.now carried.now from self.now room.now }
+        requires { CanPlace flow.now carried from self.now room.now }
         ensures placed { IfOk result (λ p. (faces : List FontFace) (width : ℤ) (own list later : List NotedSolid) →
-            AreNoted faces flow.now.notes width (carried_parts carried.now) own →
-            AreNoted faces flow.now.notes width (carried_parts carried.now ++ called_parts from room.now.to) list →
+            AreNoted faces flow.now.notes width (carried_parts carried) own →
+            AreNoted faces flow.now.notes width (carried_parts carried ++ called_parts from room.now.to) list →
             All (λ s. room.now.to ≤ s.note) later → IsReadOf room.now.height (list ++ later) self.now →
             IsCarryCount (note_rows own) (length own) room.now.height self.now.own →
             (cut_number room.now.level ≤ 2 →
@@ -172,7 +172,7 @@ impl NoteList {
         let (placed, _) = read.split_at(number);
         Ok(PlacedList {
             notes: place_all(alloc, placed)?,
-            left: left_after(alloc, flow, carried, from, room.to, last_of(placed))?,
+            left: left_after(flow, carried, from, room.to, last_of(placed))?,
         })
     }
 }

@@ -1,6 +1,6 @@
 //! How the list of a page's notes is read.
 
-ghost use Rattle.std.specs.Prelude.{◌≡◌, ◌+◌, ◌<◌, ◌≤◌, ◌<ℤ◌, ◌≤ℤ◌, ◌++◌, ◌∷◌, [], ◌&&◌, ℤ, List, true, false, Some, is_some, length, slice_get, OnOk};
+ghost use Rattle.std.specs.Prelude.{◌≡◌, ◌+◌, ◌<◌, ◌≤◌, ◌<ℤ◌, ◌≤ℤ◌, ◌++◌, ◌∷◌, [], ◌&&◌, ℤ, List, true, false, Some, is_some, length, slice_get, All, OnOk};
 ghost use Rattle.bk_num.specs.Limits.{most_entries};
 ghost use Rattle.boxes.specs.Frames.{IsGoodFrame};
 ghost use Rattle.boxes.specs.Tree.{Holds};
@@ -8,14 +8,14 @@ ghost use Rattle.boxes.specs.declared.flow.Note.{Note};
 ghost use Rattle.cuts.specs.Areas.{IsArea};
 ghost use Rattle.note_list.specs.Calls.{start_place};
 ghost use Rattle.note_list.specs.Conditions.{CanBeCut, CanBePaged, IsHeld};
-ghost use Rattle.note_list.specs.Lists.{AreNoted, note_rows};
+ghost use Rattle.note_list.specs.Lists.{AreNoted, carried_parts, note_rows};
 ghost use Rattle.note_list.specs.Reads.{EndInNotes, HasReadOn, IsReadOf, IsReady};
 ghost use Rattle.note_list.specs.Short.{IsShortList, lines_in};
 ghost use Rattle.note_list.specs.declared.solid.NotedSolid.{NotedSolid};
 ghost use Rattle.notes.specs.Notes.{IsCarryCount, IsSmallNote, area_of};
 ghost use Rattle.seams.specs.Runs.{solid_after};
 
-use crate::carried::{Carried, body_of};
+use crate::carried::{Carried, CarriedNotes, body_of};
 use crate::list::NoteList;
 use crate::solid::{NotedSolid, is_first, note_rows, noted};
 use bk_num::limits::MOST_ENTRIES;
@@ -197,6 +197,39 @@ impl NoteList {
             return Ok(());
         }
         self.read_body(body, faces, part, called, frame, steps)?;
+        Ok(())
+    }
+
+    /// Reads what is carried, no further than the list has room.
+    pub(crate) fn read_carried<L: Ledger>(
+        &mut self,
+        flow: &Flow,
+        faces: &Faces,
+        carried: &CarriedNotes,
+        frame: Frame,
+        steps: &mut Steps<L>,
+    ) -> Result<(), NoMem>
+        requires flow { CanBePaged faces.now flow.now }
+        requires frame { IsGoodFrame frame }
+        requires carried { All (IsHeld flow.now.notes) carried.now }
+        requires ready { IsReady self.old }
+        requires ends { EndInNotes flow.now.notes self.old }
+        ensures ready { OnOk result (IsReady self.new) }
+        ensures ends { OnOk result (EndInNotes flow.now.notes self.new) }
+        ensures list { OnOk result ((list : List NotedSolid) → IsReadOf frame.height list self.old →
+            (more : List NotedSolid) ×
+            AreNoted faces.now flow.now.notes frame.width (carried_parts carried.now) more ×
+            IsReadOf frame.height (list ++ more) self.new) }
+        ensures short { OnOk result (IsShortList frame.height self.old → IsShortList frame.height self.new) }
+        ensures lines { OnOk result (steps.new + lines_in self.old.solids.items
+            ≡ steps.old + lines_in self.new.solids.items) }
+    {
+        for at in 0..carried.len() {
+            if self.over {
+                return Ok(());
+            }
+            self.read(flow, faces, carried.part(at), false, frame, steps)?;
+        }
         Ok(())
     }
 

@@ -4,7 +4,7 @@ use bk_num::items::Items;
 use boxes::frames::Demand;
 use boxes::page::{Placed, PlacedNote};
 use boxes::place::Position;
-use note_list::carried::Carried;
+use note_list::carried::CarriedNotes;
 
 /// Where a page begins, and whether the kept gap stands above its first solid.
 #[derive(Clone, Copy, Debug, PartialEq, Eq)]
@@ -23,5 +23,5 @@ pub struct Cut {
     pub level: u8,
     pub solids: Items<Placed>,
     pub notes: Items<PlacedNote>,
-    pub carried: Items<Carried>,
+    pub carried: CarriedNotes,
 }

@@ -32,9 +32,9 @@ returns-clause-cut c =
       ended_is = refl;
       forced_is = refl;
       solids_is = c.of.ensures ∙ c.new.ensures.items;
-      places = subst (λ (n : ℕ). PlacesNotes c.args.flow.now c.args.carried.now c.args.called (called_before c.args.flow.now.main c.args.flow.now.notes (record { event = c.count.result; offset = 0 })) c.args.room.now.height (c.args.room.now.height -ℤ rows_extent c.args.room.now.kept [] 0) c.args.notes.now.list (cut n)) (sym level) (subst (λ (z : ℤ). PlacesNotes c.args.flow.now c.args.carried.now c.args.called (called_before c.args.flow.now.main c.args.flow.now.notes (record { event = c.count.result; offset = 0 })) c.args.room.now.height z c.args.notes.now.list (cut (cut_number c.end_level.result))) room
-          (subst (λ (to : ℕ). PlacesNotes c.args.flow.now c.args.carried.now c.args.called to c.args.room.now.height c.args.room.now.height c.args.notes.now.list (cut (cut_number c.end_level.result))) all
-          (subst (λ (z : ℤ). PlacesNotes c.args.flow.now c.args.carried.now c.args.called c.args.notes.now.called z z c.args.notes.now.list (cut (cut_number c.end_level.result))) (to_z-of_z w64 c.args.room.now.height tall) c.in_ok-noted.ensures.placed)));
+      places = subst (λ (n : ℕ). PlacesNotes c.args.flow.now c.args.carried c.args.called (called_before c.args.flow.now.main c.args.flow.now.notes (record { event = c.count.result; offset = 0 })) c.args.room.now.height (c.args.room.now.height -ℤ rows_extent c.args.room.now.kept [] 0) c.args.notes.now.list (cut n)) (sym level) (subst (λ (z : ℤ). PlacesNotes c.args.flow.now c.args.carried c.args.called (called_before c.args.flow.now.main c.args.flow.now.notes (record { event = c.count.result; offset = 0 })) c.args.room.now.height z c.args.notes.now.list (cut (cut_number c.end_level.result))) room
+          (subst (λ (to : ℕ). PlacesNotes c.args.flow.now c.args.carried c.args.called to c.args.room.now.height c.args.room.now.height c.args.notes.now.list (cut (cut_number c.end_level.result))) all
+          (subst (λ (z : ℤ). PlacesNotes c.args.flow.now c.args.carried c.args.called c.args.notes.now.called z z c.args.notes.now.list (cut (cut_number c.end_level.result))) (to_z-of_z w64 c.args.room.now.height tall) c.in_ok-noted.ensures.placed)));
     }
 
 pub place-requires : goal.place-requires
@@ -47,6 +47,7 @@ place-requires c =
       ready = c.requires.cut.ready;
       ends = c.requires.cut.ends;
       carried = c.requires.cut.carried;
+      stands = c.requires.cut.stands;
       order = c.requires.cut.order;
       before = c.requires.cut.before;
       called = omega arith;

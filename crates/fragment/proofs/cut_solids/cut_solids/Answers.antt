@@ -54,6 +54,7 @@ place-requires c =
       ready = c.requires.cut.ready;
       ends = c.requires.cut.ends;
       carried = c.requires.cut.carried;
+      stands = c.requires.cut.stands;
       order = c.requires.cut.order;
       before = c.requires.cut.before;
       called = omega arith;
@@ -113,8 +114,8 @@ returns-clause-cut c =
       ended_is = ap (λ (xs : List Solid). nat_eq count (length xs)) c.as_slice-solids.ensures.value ∙ ap (λ (n : ℕ). nat_eq count n) (sym size);
       forced_is = c.forced_after.ensures ∙ ap (λ (xs : List Solid). forced_after (slice_get (map solid_view xs) count)) c.as_slice-solids.ensures.value;
       solids_is = c.of.ensures ∙ solids_is;
-      places = subst (λ (n : ℕ). PlacesNotes c.args.flow.now c.args.carried.now c.args.called (called_before t c.args.flow.now.notes c.place_after-to.result) height (height -ℤ rows_extent kept (rows_of t vs) count) c.args.notes.now.list (cut n)) (sym level)
-          (subst (λ (z : ℤ). PlacesNotes c.args.flow.now c.args.carried.now c.args.called (called_before t c.args.flow.now.notes c.place_after-to.result) height z c.args.notes.now.list (cut (cut_number c.cut_rows-cut.result.level))) room
-          (subst (λ (to : ℕ). PlacesNotes c.args.flow.now c.args.carried.now c.args.called to height (to_z w64 (of_z w64 c.room_below.result)) c.args.notes.now.list (cut (cut_number c.cut_rows-cut.result.level))) c.called_before.ensures
-          (subst (λ (z : ℤ). PlacesNotes c.args.flow.now c.args.carried.now c.args.called c.called_before.result z (to_z w64 (of_z w64 c.room_below.result)) c.args.notes.now.list (cut (cut_number c.cut_rows-cut.result.level))) (to_z-of_z w64 height tall) c.in_ok-noted.ensures.placed)));
+      places = subst (λ (n : ℕ). PlacesNotes c.args.flow.now c.args.carried c.args.called (called_before t c.args.flow.now.notes c.place_after-to.result) height (height -ℤ rows_extent kept (rows_of t vs) count) c.args.notes.now.list (cut n)) (sym level)
+          (subst (λ (z : ℤ). PlacesNotes c.args.flow.now c.args.carried c.args.called (called_before t c.args.flow.now.notes c.place_after-to.result) height z c.args.notes.now.list (cut (cut_number c.cut_rows-cut.result.level))) room
+          (subst (λ (to : ℕ). PlacesNotes c.args.flow.now c.args.carried c.args.called to height (to_z w64 (of_z w64 c.room_below.result)) c.args.notes.now.list (cut (cut_number c.cut_rows-cut.result.level))) c.called_before.ensures
+          (subst (λ (z : ℤ). PlacesNotes c.args.flow.now c.args.carried c.args.called c.called_before.result z (to_z w64 (of_z w64 c.room_below.result)) c.args.notes.now.list (cut (cut_number c.cut_rows-cut.result.level))) (to_z-of_z w64 height tall) c.in_ok-noted.ensures.placed)));
     }

@@ -1,4 +1,4 @@
-use Rattle.std.proofs.Common.{◌≡◌, ◌<◌, ℕ, ℤ, Bool, List, All, arith, take, map, length, subst, sym, ap, ◌∙◌}
+use Rattle.std.proofs.Common.{◌≡◌, ◌<◌, ℕ, ℤ, Bool, List, All, arith, take, map, subst, sym, ap, ◌∙◌}
 use Rattle.std.proofs.lemmas.List.{length-take, length-take-le, take-map}
 use Rattle.std.proofs.lemmas.List.Elements.{All-take}
 use Rattle.cursor.specs.declared.solid.Solid.{Solid}

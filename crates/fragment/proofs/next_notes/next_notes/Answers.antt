@@ -17,8 +17,9 @@ place-requires g c =
       ready = c.in_ok-list.ensures.ready;
       ends = c.in_ok-list.ensures.ends;
       carried = c.requires.carried.held;
+      stands = c.requires.stands;
       order = c.requires.carried.order;
-      before = carried_low c.args.flow.now c.args.carried.now (length c.as_slice.result.now) all c.requires.carried;
+      before = carried_low c.args.flow.now c.args.carried (length c.as_slice.result.now) all c.requires.carried;
       called = omega arith;
       within = omega (arith, all);
       few = c.requires.flow.count;
@@ -31,7 +32,7 @@ pub returns-clause-cut : goal.returns-clause-cut
 returns-clause-cut g c =
     let tall : SFits w64 c.args.frame.height = search rules in
     if_ok _ _ c.place.result
-    (λ p placed. notes_cut c.args.faces.now c.args.flow.now c.args.frame c.args.carried.now c.in_ok-list.list (length c.as_slice.result.now) c.in_ok-list.ensures.list c.requires.some c.requires.stands (to_z w64 (of_z w64 c.args.frame.height)) (to_z-of_z w64 c.args.frame.height tall) p placed)
+    (λ p placed. notes_cut c.args.faces.now c.args.flow.now c.args.frame c.args.carried c.in_ok-list.list (length c.as_slice.result.now) c.in_ok-list.ensures.list c.requires.some c.requires.stands (to_z w64 (of_z w64 c.args.frame.height)) (to_z-of_z w64 c.args.frame.height tall) p placed)
     c.place.ensures.placed
 
 both : {A E : Type 0} (P Q : A → Type 0) (r : Result A E) → IfOk r P → IfOk r Q → IfOk r (λ x. P x × Q x)
@@ -46,7 +47,7 @@ returns-clause-carried g c =
 
 pub returns-clause-lines : goal.returns-clause-lines
 returns-clause-lines g c =
-    let q = looked_carried c.args.faces.now c.args.flow.now c.args.frame c.args.carried.now c.in_ok-list.list c.in_ok-list.ensures.list c.in_ok-list.ensures.short c.requires.frame.height_low in
+    let q = looked_carried c.args.faces.now c.args.flow.now c.args.frame c.args.carried c.in_ok-list.list c.in_ok-list.ensures.list c.in_ok-list.ensures.short c.requires.frame.height_low in
     let most = q.2 in
     let count = c.in_ok-list.ensures.lines in
     if_ok _ _ c.place.result (λ p placed. (q.0, q.1, omega (arith, most, count))) c.place.ensures.placed

@@ -5,8 +5,7 @@ use Rattle.boxes.specs.declared.frames.PageKind.TheVariants as kind
 use Rattle.boxes.specs.declared.page.Page.{Page}
 use Rattle.boxes.specs.declared.frames.Demand.{Demand}
 use Rattle.page_list.specs.declared.cut.Cut.{Cut}
-use Rattle.note_list.specs.Conditions.{AreCarried}
-use Rattle.note_list.specs.declared.carried.Carried.{Carried}
+use Rattle.note_list.specs.Conditions.{AreCarried, IsAtSolid}
 use Rattle.boxes.specs.declared.place.Position.{Position}
 use Rattle.page_list.specs.Cuts.{IsFlowCut, place_after}
 use Rattle.boxes.specs.Frames.{PageFrames}
@@ -28,6 +27,7 @@ loop-turn-init g c = rw c.new-pages.ensures.items (rw c.new-carried.ensures (rec
   turns = omega arith;
   few = omega arith;
   carries = none_carried c.args.flow.now start_place;
+  stands = All-nil (IsAtSolid c.args.flow.now.notes);
   run = (name_at c.args.flow.now.main start_place, ap (λ (d : Option Demand). record (start_of c.args.flow.now.main) { demand = d }) (sym (c.seam-demand.ensures.forced (pos 0))));
   near = All-nil (λ (q : Page). AreNear q.solids q.notes);
 }))
@@ -53,32 +53,32 @@ leads g c = run_added c.args.faces.now c.args.flow.now (g.Fr.Frames.view c.args.
 nears : (g : given.Over) (c : After-page_of-page g) → HaveNearTops c.add_blanks.new.pages.items
 nears g c = near_added (g.Fr.Frames.view c.args.frames.now) c.seam.result.name c.loop-turn.demand c.loop-turn.index c.in-Ok.to c.loop-turn.pages.items c.add_blanks.new.pages.items c.in-Ok.ensures.blanks c.loop-turn.invariant.near
 
-same_page : (g : given.Over) (c : After-page_of-page g) → (c.frame-frame.result ≡ (g.Fr.Frames.view c.args.frames.now).frame_of c.in-Ok.to (name_at c.args.flow.now.main c.loop-turn.from.at) kind.Flow) × (c.page_of-page.result.0 ≡ flow_page (g.Fr.Frames.view c.args.frames.now) c.args.flow.now.main (here g c) c.in-Ok-next_cut.cut)
+same_page : (g : given.Over) (c : After-page_of-page g) → (c.frame-frame.result ≡ (g.Fr.Frames.view c.args.frames.now).frame_of c.in-Ok.to (name_at c.args.flow.now.main c.loop-turn.from.at) kind.Flow) × (c.page_of-page.result.0 ≡ flow_page (g.Fr.Frames.view c.args.frames.now) c.args.flow.now.main (here g c) c.in-Ok-cut_page.cut)
 same_page g c =
-    let same = page_is c.args.faces.now c.args.flow.now (g.Fr.Frames.view c.args.frames.now) c.loop-turn.from.at c.loop-turn.from.kept c.loop-turn.demand c.loop-turn.carried c.loop-turn.invariant.run.0 c.in-Ok.to c.in-Ok-next_cut.cut c.seam.result.name c.frame-frame.result (c.seam.ensures.name (pos 0)) c.frame-frame.ensures.frame in
+    let same = page_is c.args.faces.now c.args.flow.now (g.Fr.Frames.view c.args.frames.now) c.loop-turn.from.at c.loop-turn.from.kept c.loop-turn.demand c.loop-turn.carried c.loop-turn.invariant.run.0 c.in-Ok.to c.in-Ok-cut_page.cut c.seam.result.name c.frame-frame.result (c.seam.ensures.name (pos 0)) c.frame-frame.ensures.frame in
     (same.0, c.page_of-page.ensures.page ∙ same.1)
 
-carried_cut : (g : given.Over) (c : After-page_of-page g) → IsFlowCut c.args.faces.now c.args.flow.now c.frame-frame.result c.loop-turn.from c.loop-turn.carried c.in-Ok-next_cut.cut
-carried_cut g c = subst (λ (cs : List Carried). IsFlowCut c.args.faces.now c.args.flow.now c.frame-frame.result c.loop-turn.from cs c.in-Ok-next_cut.cut) c.as_slice.ensures c.in-Ok-next_cut.ensures.cut
+carried_cut : (g : given.Over) (c : After-page_of-page g) → IsFlowCut c.args.faces.now c.args.flow.now c.frame-frame.result c.loop-turn.from c.loop-turn.carried c.in-Ok-cut_page.cut
+carried_cut g c = c.in-Ok-cut_page.ensures.cut
 
-step : (g : given.Over) (c : After-page_of-page g) → IsStep c.args.faces.now c.args.flow.now (g.Fr.Frames.view c.args.frames.now) (here g c) (flow_page (g.Fr.Frames.view c.args.frames.now) c.args.flow.now.main (here g c) c.in-Ok-next_cut.cut) (after_flow c.args.flow.now.main (here g c) c.in-Ok-next_cut.cut)
-step g c = flows refl c.in-Ok.ensures.meets c.in-Ok-next_cut.cut
-    (frame_cut c.args.faces.now c.args.flow.now c.loop-turn.from c.loop-turn.carried c.in-Ok-next_cut.cut c.frame-frame.result ((g.Fr.Frames.view c.args.frames.now).frame_of c.in-Ok.to (name_at c.args.flow.now.main c.loop-turn.from.at) kind.Flow) (same_page g c).0 (carried_cut g c)) refl refl
+step : (g : given.Over) (c : After-page_of-page g) → IsStep c.args.faces.now c.args.flow.now (g.Fr.Frames.view c.args.frames.now) (here g c) (flow_page (g.Fr.Frames.view c.args.frames.now) c.args.flow.now.main (here g c) c.in-Ok-cut_page.cut) (after_flow c.args.flow.now.main (here g c) c.in-Ok-cut_page.cut)
+step g c = flows refl c.in-Ok.ensures.meets c.in-Ok-cut_page.cut
+    (frame_cut c.args.faces.now c.args.flow.now c.loop-turn.from c.loop-turn.carried c.in-Ok-cut_page.cut c.frame-frame.result ((g.Fr.Frames.view c.args.frames.now).frame_of c.in-Ok.to (name_at c.args.flow.now.main c.loop-turn.from.at) kind.Flow) (same_page g c).0 (carried_cut g c)) refl refl
 
 -- the pages with the last one
-more : (g : given.Over) (c : After-page_of-page g) (now : List Page) → now ≡ c.add_blanks.new.pages.items ++ c.page_of-page.result.0 ∷ [] → Leads c.args.faces.now c.args.flow.now (g.Fr.Frames.view c.args.frames.now) (after_flow c.args.flow.now.main (here g c) c.in-Ok-next_cut.cut) now
+more : (g : given.Over) (c : After-page_of-page g) (now : List Page) → now ≡ c.add_blanks.new.pages.items ++ c.page_of-page.result.0 ∷ [] → Leads c.args.faces.now c.args.flow.now (g.Fr.Frames.view c.args.frames.now) (after_flow c.args.flow.now.main (here g c) c.in-Ok-cut_page.cut) now
 more g c now is =
-    let all : now ≡ c.add_blanks.new.pages.items ++ flow_page (g.Fr.Frames.view c.args.frames.now) c.args.flow.now.main (here g c) c.in-Ok-next_cut.cut ∷ [] = is ∙ ap (λ (q : Page). c.add_blanks.new.pages.items ++ q ∷ []) (same_page g c).1 in
-    subst (Leads c.args.faces.now c.args.flow.now (g.Fr.Frames.view c.args.frames.now) (after_flow c.args.flow.now.main (here g c) c.in-Ok-next_cut.cut)) (sym all)
-    (run_step c.args.faces.now c.args.flow.now (g.Fr.Frames.view c.args.frames.now) (here g c) (after_flow c.args.flow.now.main (here g c) c.in-Ok-next_cut.cut) (flow_page (g.Fr.Frames.view c.args.frames.now) c.args.flow.now.main (here g c) c.in-Ok-next_cut.cut) c.add_blanks.new.pages.items (step g c) (leads g c))
+    let all : now ≡ c.add_blanks.new.pages.items ++ flow_page (g.Fr.Frames.view c.args.frames.now) c.args.flow.now.main (here g c) c.in-Ok-cut_page.cut ∷ [] = is ∙ ap (λ (q : Page). c.add_blanks.new.pages.items ++ q ∷ []) (same_page g c).1 in
+    subst (Leads c.args.faces.now c.args.flow.now (g.Fr.Frames.view c.args.frames.now) (after_flow c.args.flow.now.main (here g c) c.in-Ok-cut_page.cut)) (sym all)
+    (run_step c.args.faces.now c.args.flow.now (g.Fr.Frames.view c.args.frames.now) (here g c) (after_flow c.args.flow.now.main (here g c) c.in-Ok-cut_page.cut) (flow_page (g.Fr.Frames.view c.args.frames.now) c.args.flow.now.main (here g c) c.in-Ok-cut_page.cut) c.add_blanks.new.pages.items (step g c) (leads g c))
 
 near : (g : given.Over) (c : After-page_of-page g) (now : List Page) → now ≡ c.add_blanks.new.pages.items ++ c.page_of-page.result.0 ∷ [] → HaveNearTops now
-near g c now is = subst HaveNearTops (sym is) (near_more c.add_blanks.new.pages.items c.page_of-page.result.0 (nears g c) (subst (λ (q : Page). AreNear q.solids q.notes) (sym c.page_of-page.ensures.page) c.in-Ok-next_cut.ensures.near))
+near g c now is = subst HaveNearTops (sym is) (near_more c.add_blanks.new.pages.items c.page_of-page.result.0 (nears g c) (subst (λ (q : Page). AreNear q.solids q.notes) (sym c.page_of-page.ensures.page) c.in-Ok-cut_page.ensures.near))
 
 pub returns-then-ended-clause-pages : goal.returns-then-ended-clause-pages
 returns-then-ended-clause-pages g c =
     let p = (goal.at.returns-then-ended-clause-pages g c).After-page_of-page in
-    let cut : Cut = c.in-Ok-next_cut.cut in
+    let cut : Cut = c.in-Ok-cut_page.cut in
     let now : c.push.new.self.items ≡ c.add_blanks.new.pages.items ++ c.page_of-page.result.0 ∷ [] = grind (arith, common_steps) in
     let size : length c.push.new.self.items ≡ length c.add_blanks.new.pages.items + 1 = ap length now ∙ length-append c.add_blanks.new.pages.items (c.page_of-page.result.0 ∷ []) in
     let count = c.in-Ok.ensures.count in
@@ -93,8 +93,8 @@ returns-then-ended-clause-pages g c =
       few = omega arith;
       name = sym (c.seam.ensures.name (pos 0));
       carried_is = sym left;
-      carried = rw left (subst (λ (q : Position). AreCarried c.args.flow.now q cut.carried) at c.in-Ok-next_cut.ensures.carried);
-      stands = rw left c.in-Ok-next_cut.ensures.stands;
+      carried = rw left (subst (λ (q : Position). AreCarried c.args.flow.now q cut.carried) at c.in-Ok-cut_page.ensures.carried);
+      stands = rw left c.in-Ok-cut_page.ensures.stands;
     }
 
 pub returns-then-ended-clause-tops : goal.returns-then-ended-clause-tops
@@ -105,7 +105,7 @@ returns-then-ended-clause-tops g c =
 pub loop-turn-preserved : goal.loop-turn-preserved
 loop-turn-preserved g c =
     let p = (goal.at.loop-turn-preserved g c).After-page_of-page in
-    let cut : Cut = c.in-Ok-next_cut.cut in
+    let cut : Cut = c.in-Ok-cut_page.cut in
     let now : c.push.new.self.items ≡ c.add_blanks.new.pages.items ++ c.page_of-page.result.0 ∷ [] = grind (arith, common_steps) in
     let size : length c.push.new.self.items ≡ length c.add_blanks.new.pages.items + 1 = ap length now ∙ length-append c.add_blanks.new.pages.items (c.page_of-page.result.0 ∷ []) in
     let count = c.in-Ok.ensures.count in
@@ -115,11 +115,12 @@ loop-turn-preserved g c =
     let left : c.page_of-page.result.1 ≡ cut.carried = c.page_of-page.ensures.carried in
     let kept : is_forced cut.forced ≡ c.is_some.result = forced_some cut.forced ∙ sym c.is_some.ensures in
     record {
-      holds = c.in-Ok-next_cut.ensures.holds;
+      holds = c.in-Ok-cut_page.ensures.holds;
       count = omega arith;
       turns = omega arith;
       few = omega arith;
-      carries = rw left c.in-Ok-next_cut.ensures.carried;
+      carries = rw left c.in-Ok-cut_page.ensures.carried;
+      stands = rw left c.in-Ok-cut_page.ensures.stands;
       run = (
         name_at c.args.flow.now.main c.loop-turn.from.at,
         subst (λ (s : State). Leads c.args.faces.now c.args.flow.now (g.Fr.Frames.view c.args.frames.now) s c.push.new.self.items)

@@ -1,7 +1,7 @@
-use Rattle.std.proofs.Common.{◌≡◌, ◌+◌, ◌≤◌, length}
+use Rattle.std.proofs.Common.{◌≡◌, ◌+◌, ◌≤◌, All, length}
 use Rattle.boxes.specs.Tree.{Holds}
 use Rattle.bk_num.specs.declared.ids.NameId.{NameId}
-use Rattle.note_list.specs.Conditions.{AreCarried}
+use Rattle.note_list.specs.Conditions.{AreCarried, IsAtSolid}
 use Rattle.page_list.specs.Pages.{HaveNearTops}
 use Rattle.fragment.specs.Runs.{Leads}
 use Rattle.fragment.proofs.RunLemmas.{state_at}
@@ -14,6 +14,7 @@ invariant-loop-turn g l = record {
   turns : l.turn ≤ length l.pages.items;
   few : length l.pages.items ≤ 100000;
   carries : AreCarried l.flow l.from.at l.carried;
+  stands : All (IsAtSolid l.flow.notes) l.carried;
   run : (name : NameId) × Leads l.faces l.flow (g.Fr.Frames.view l.frames) (state_at l.from.at l.from.kept l.index l.demand l.carried name) l.pages.items;
   near : HaveNearTops l.pages.items;
 }

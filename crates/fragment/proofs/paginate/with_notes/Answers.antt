@@ -1,4 +1,4 @@
-use Rattle.std.proofs.Common.{◌≡◌, ◌+◌, ◌==◌, true, false, List, [], ◌∷◌, ◌++◌, length, length-append, refl, sym, ap, ◌∙◌, subst, arith}
+use Rattle.std.proofs.Common.{◌≡◌, ◌+◌, true, false, List, [], ◌∷◌, ◌++◌, length, length-append, refl, sym, ap, ◌∙◌, subst, arith}
 use Rattle.std.proofs.lemmas.Bool.{eqb-true}
 use Rattle.std.proofs.lemmas.Grind.{common_steps}
 use Rattle.boxes.specs.declared.flow.Flow.{Flow}
@@ -29,7 +29,7 @@ loop-turn-init g c =
 pub returns-then-is_empty-clause-pages : goal.returns-then-is_empty-clause-pages
 returns-then-is_empty-clause-pages g c =
     let run = c.loop-turn.invariant.run in
-    let none : has_some c.loop-turn.carried ≡ false = has_none c.loop-turn.carried (ap length (sym c.as_slice.ensures) ∙ eqb-true (length c.as_slice.result.now) 0 (sym c.is_empty.ensures ∙ c.if-is_empty.true)) in
+    let none : has_some c.loop-turn.carried ≡ false = has_none c.loop-turn.carried (eqb-true (length c.loop-turn.carried) 0 (sym c.is_empty.ensures ∙ c.if-is_empty.true)) in
     subst (IsPaged c.args.faces.now c.args.flow.now (g.Fr.Frames.view c.args.frames.now)) (sym c.of.ensures)
     (run_ends c.args.faces.now c.args.flow.now (g.Fr.Frames.view c.args.frames.now) run.0 c.loop-turn.pages.items (record { done = run.2; none = ap has_some run.5 ∙ none }) run.1)
 
@@ -41,7 +41,7 @@ returns-then-len-clause-many g c = λ e.
     let run = c.loop-turn.invariant.run in
     let few = c.loop-turn.invariant.few in
     let full = c.if-len.true in
-    let some : has_some c.loop-turn.carried ≡ true = has_one c.loop-turn.carried (subst (λ (xs : List Carried). (length xs == 0) ≡ false) c.as_slice.ensures (sym c.is_empty.ensures ∙ c.if-is_empty.false)) in
+    let some : has_some c.loop-turn.carried ≡ true = has_one c.loop-turn.carried (sym c.is_empty.ensures ∙ c.if-is_empty.false) in
     leaves_some c.args.faces.now c.args.flow.now (g.Fr.Frames.view c.args.frames.now) run.0 c.loop-turn.pages.items 100000 (some_left run.0 (ap has_some run.5 ∙ some)) (let size = c.len.ensures in omega arith) run.1
 
 pub loop-turn-preserved : goal.loop-turn-preserved
@@ -58,10 +58,10 @@ loop-turn-preserved g c =
     let before = run.3 in
     let index : run.0.index ≡ c.len-in-loop-turn.result + 1 = omega arith in
     let same = notes_frame (g.Fr.Frames.view c.args.frames.now) run.0 c.args.made.name (c.len-in-loop-turn.result + 1) c.frame-frame.result c.in-Ok.placed.notes run.4 index c.frame-frame.ensures.frame in
-    let some : has_some c.loop-turn.carried ≡ true = has_one c.loop-turn.carried (subst (λ (xs : List Carried). (length xs == 0) ≡ false) c.as_slice.ensures (sym c.is_empty.ensures ∙ c.if-is_empty.false)) in
+    let some : has_some c.loop-turn.carried ≡ true = has_one c.loop-turn.carried (sym c.is_empty.ensures ∙ c.if-is_empty.false) in
     let cut : IsNotesCut c.args.faces.now f ((g.Fr.Frames.view c.args.frames.now).frame_of run.0.index run.0.name kind.Notes) run.0.carried c.in-Ok.placed.notes c.in-Ok.placed.left =
     subst (λ (fr : Frame). IsNotesCut c.args.faces.now f fr run.0.carried c.in-Ok.placed.notes c.in-Ok.placed.left) same.0
-    (subst (λ (cs : List Carried). IsNotesCut c.args.faces.now f c.frame-frame.result cs c.in-Ok.placed.notes c.in-Ok.placed.left) (c.as_slice-in-loop-turn.ensures ∙ sym run.5) c.in-Ok.ensures.cut) in
+    (subst (λ (cs : List Carried). IsNotesCut c.args.faces.now f c.frame-frame.result cs c.in-Ok.placed.notes c.in-Ok.placed.left) (sym run.5) c.in-Ok.ensures.cut) in
     let page : c.notes_page_of.result ≡ notes_page (g.Fr.Frames.view c.args.frames.now) run.0 c.in-Ok.placed.notes = c.notes_page_of.ensures ∙ same.1 in
     let step : IsStep c.args.faces.now f (g.Fr.Frames.view c.args.frames.now) run.0 c.notes_page_of.result (after_notes run.0 c.in-Ok.placed.left) = noted run.2 (ap has_some run.5 ∙ some) c.in-Ok.placed.notes c.in-Ok.placed.left cut page refl in
     record {

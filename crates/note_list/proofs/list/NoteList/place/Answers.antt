@@ -55,10 +55,10 @@ returns-clause-placed c = λ faces width own list later owned listed after of co
     let number : IsPlaced (note_rows (take read solids)) (least_of (cut_number c.args.room.now.level) (must_of (note_rows (take read solids)) c.own_of-own.result) c.own_of-own.result c.own_of-own.result) c.args.room.now.room c.in_ok-number.number =
     subst (λ (xs : List NotedSolid). IsPlaced (note_rows xs) (least_of (cut_number c.args.room.now.level) (must_of (note_rows xs) c.own_of-own.result) c.own_of-own.result c.own_of-own.result) c.args.room.now.room c.in_ok-number.number) read_is c.in_ok-number.ensures in
     let number_is = subst (λ (n : ℕ). IsPlaced (note_rows (take read solids)) (least_of (cut_number c.args.room.now.level) (must_of (note_rows (take read solids)) n) n n) c.args.room.now.room c.in_ok-number.number) own_is number in
-    placing faces c.args.flow.now.notes width c.args.room.now.height c.args.self.now c.args.carried.now c.args.from c.args.room.now.to (cut_number c.args.room.now.level) c.args.room.now.room own list later read c.in_ok-number.number _
+    placing faces c.args.flow.now.notes width c.args.room.now.height c.args.self.now c.args.carried c.args.from c.args.room.now.to (cut_number c.args.room.now.level) c.args.room.now.room own list later read c.in_ok-number.number _
     c.requires.ready ends c.requires.carried c.requires.order c.requires.before c.requires.called c.requires.within c.requires.room within under stops number_is
     (c.in_ok-place_all.ensures ∙ ap (placed_notes separator) placed_is)
-    (c.in_ok-left_after.ensures ∙ ap (left_after_last c.args.flow.now.notes c.args.carried.now c.args.from c.args.room.now.to) (c.last_of.ensures ∙ ap (λ (xs : List NotedSolid). slice_get xs (length xs - 1)) placed_is))
+    (c.in_ok-left_after.ensures ∙ ap (left_after_last c.args.flow.now.notes c.args.carried c.args.from c.args.room.now.to) (c.last_of.ensures ∙ ap (λ (xs : List NotedSolid). slice_get xs (length xs - 1)) placed_is))
     owned listed after of counts fits
 
 pub returns-clause-held : goal.returns-clause-held
@@ -70,7 +70,7 @@ returns-clause-held c =
     let placed_is : c.split_at-2.result.0.now ≡ take c.in_ok-number.number (take read solids) = c.split_at-2.ensures.front ∙ ap (take c.in_ok-number.number) read_is in
     let ends : All (EndsIn c.args.flow.now.notes) (take read solids) = All-take (EndsIn c.args.flow.now.notes) read solids c.requires.ends in
     let last_ends : IfSome c.last_of.result (EndsIn c.args.flow.now.notes) = subst (λ (o : Option NotedSolid). IfSome o (EndsIn c.args.flow.now.notes)) (sym c.last_of.ensures) (some_of (EndsIn c.args.flow.now.notes) c.split_at-2.result.0.now (length c.split_at-2.result.0.now - 1) (subst (All (EndsIn c.args.flow.now.notes)) (sym placed_is) (All-take (EndsIn c.args.flow.now.notes) c.in_ok-number.number (take read solids) ends))) in
-    let goes : All (GoesOn c.args.flow.now.notes) c.in_ok-left_after.field-0 = subst (All (GoesOn c.args.flow.now.notes)) (sym c.in_ok-left_after.ensures) (left_goes c.args.flow.now.notes c.args.carried.now c.args.from c.args.room.now.to c.last_of.result c.requires.carried c.requires.called c.requires.within last_ends) in
+    let goes : All (GoesOn c.args.flow.now.notes) c.in_ok-left_after.field-0 = subst (All (GoesOn c.args.flow.now.notes)) (sym c.in_ok-left_after.ensures) (left_goes c.args.flow.now.notes c.args.carried c.args.from c.args.room.now.to c.last_of.result c.requires.carried c.requires.called c.requires.within last_ends) in
     left_held c.args.flow.now.notes c.in_ok-left_after.field-0 goes
 
 pub returns-clause-order : goal.returns-clause-order
@@ -82,7 +82,7 @@ returns-clause-order c =
     let placed_is : c.split_at-2.result.0.now ≡ take c.in_ok-number.number (take read solids) = c.split_at-2.ensures.front ∙ ap (take c.in_ok-number.number) read_is in
     let under : All (λ s. s.note < c.args.room.now.to) (take read solids) = subst (λ (xs : List NotedSolid). All (λ s. s.note < c.args.room.now.to) (take read xs)) items c.count_below.ensures.below in
     let last_under : IfSome c.last_of.result (IsBelow c.args.room.now.to) = subst (λ (o : Option NotedSolid). IfSome o (IsBelow c.args.room.now.to)) (sym c.last_of.ensures) (some_of (IsBelow c.args.room.now.to) c.split_at-2.result.0.now (length c.split_at-2.result.0.now - 1) (subst (All (IsBelow c.args.room.now.to)) (sym placed_is) (All-take (IsBelow c.args.room.now.to) c.in_ok-number.number (take read solids) under))) in
-    let rise : RiseBy 0 c.args.room.now.to c.in_ok-left_after.field-0 = subst (RiseBy 0 c.args.room.now.to) (sym c.in_ok-left_after.ensures) (rise_left c.args.flow.now.notes c.args.carried.now c.args.from c.args.room.now.to c.last_of.result c.requires.called c.requires.order c.requires.before (next_low c.last_of.result c.args.room.now.to last_under)) in
+    let rise : RiseBy 0 c.args.room.now.to c.in_ok-left_after.field-0 = subst (RiseBy 0 c.args.room.now.to) (sym c.in_ok-left_after.ensures) (rise_left c.args.flow.now.notes c.args.carried c.args.from c.args.room.now.to c.last_of.result c.requires.called c.requires.order c.requires.before (next_low c.last_of.result c.args.room.now.to last_under)) in
     rise_ascends 0 c.args.room.now.to c.in_ok-left_after.field-0 rise
 
 pub returns-clause-below : goal.returns-clause-below
@@ -94,7 +94,7 @@ returns-clause-below c =
     let placed_is : c.split_at-2.result.0.now ≡ take c.in_ok-number.number (take read solids) = c.split_at-2.ensures.front ∙ ap (take c.in_ok-number.number) read_is in
     let under : All (λ s. s.note < c.args.room.now.to) (take read solids) = subst (λ (xs : List NotedSolid). All (λ s. s.note < c.args.room.now.to) (take read xs)) items c.count_below.ensures.below in
     let last_under : IfSome c.last_of.result (IsBelow c.args.room.now.to) = subst (λ (o : Option NotedSolid). IfSome o (IsBelow c.args.room.now.to)) (sym c.last_of.ensures) (some_of (IsBelow c.args.room.now.to) c.split_at-2.result.0.now (length c.split_at-2.result.0.now - 1) (subst (All (IsBelow c.args.room.now.to)) (sym placed_is) (All-take (IsBelow c.args.room.now.to) c.in_ok-number.number (take read solids) under))) in
-    let rise : RiseBy 0 c.args.room.now.to c.in_ok-left_after.field-0 = subst (RiseBy 0 c.args.room.now.to) (sym c.in_ok-left_after.ensures) (rise_left c.args.flow.now.notes c.args.carried.now c.args.from c.args.room.now.to c.last_of.result c.requires.called c.requires.order c.requires.before (next_low c.last_of.result c.args.room.now.to last_under)) in
+    let rise : RiseBy 0 c.args.room.now.to c.in_ok-left_after.field-0 = subst (RiseBy 0 c.args.room.now.to) (sym c.in_ok-left_after.ensures) (rise_left c.args.flow.now.notes c.args.carried c.args.from c.args.room.now.to c.last_of.result c.requires.called c.requires.order c.requires.before (next_low c.last_of.result c.args.room.now.to last_under)) in
     let below = rise_below 0 c.args.room.now.to c.in_ok-left_after.field-0 rise in
     λ k d l. let less = below k d l in omega arith
 
@@ -107,7 +107,7 @@ returns-clause-stands c =
     let placed_is : c.split_at-2.result.0.now ≡ take c.in_ok-number.number (take read solids) = c.split_at-2.ensures.front ∙ ap (take c.in_ok-number.number) read_is in
     let ends : All (EndsIn c.args.flow.now.notes) (take read solids) = All-take (EndsIn c.args.flow.now.notes) read solids c.requires.ends in
     let last_ends : IfSome c.last_of.result (EndsIn c.args.flow.now.notes) = subst (λ (o : Option NotedSolid). IfSome o (EndsIn c.args.flow.now.notes)) (sym c.last_of.ensures) (some_of (EndsIn c.args.flow.now.notes) c.split_at-2.result.0.now (length c.split_at-2.result.0.now - 1) (subst (All (EndsIn c.args.flow.now.notes)) (sym placed_is) (All-take (EndsIn c.args.flow.now.notes) c.in_ok-number.number (take read solids) ends))) in
-    let goes : All (GoesOn c.args.flow.now.notes) c.in_ok-left_after.field-0 = subst (All (GoesOn c.args.flow.now.notes)) (sym c.in_ok-left_after.ensures) (left_goes c.args.flow.now.notes c.args.carried.now c.args.from c.args.room.now.to c.last_of.result c.requires.carried c.requires.called c.requires.within last_ends) in
+    let goes : All (GoesOn c.args.flow.now.notes) c.in_ok-left_after.field-0 = subst (All (GoesOn c.args.flow.now.notes)) (sym c.in_ok-left_after.ensures) (left_goes c.args.flow.now.notes c.args.carried c.args.from c.args.room.now.to c.last_of.result c.requires.carried c.requires.called c.requires.within last_ends) in
     left_stands c.args.flow.now.notes c.in_ok-left_after.field-0 goes
 
 pub returns-clause-near : goal.returns-clause-near

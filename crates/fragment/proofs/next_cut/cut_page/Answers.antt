@@ -1,0 +1,213 @@
+use Rattle.std.proofs.Common.{◌≡◌, ◌<◌, ◌++◌, ◌∷◌, [], ℕ, ℤ, true, false, None, List, All, length, map, rules, refl, sym, ap, ◌∙◌, subst, arith, to_z, of_z}
+use Rattle.std.proofs.lemmas.Bool.Decides.{nat_tests}
+use Rattle.std.proofs.lemmas.Int.{ints, to_z-of_z}
+use Rattle.std.proofs.lemmas.List.{length-map}
+use mir.Val.{SFits}
+use mir.Syntax.{w64}
+use Rattle.boxes.specs.Tree.{Holds}
+use Rattle.boxes.specs.declared.flow.Flow.{Flow}
+use Rattle.boxes.specs.declared.frames.Frame.{Frame}
+use Rattle.boxes.specs.declared.place.Position.{Position}
+use Rattle.metrics.specs.Face.{FontFace}
+use Rattle.note_list.specs.declared.carried.Carried.{Carried}
+use Rattle.fragment.specs.declared.page_notes.PageNotes.{PageNotes}
+use Rattle.cursor.specs.declared.solid.Solid.{Solid}
+use Rattle.cursor.specs.Fields.{solid_view}
+use Rattle.cursor.specs.Remainder.{SolidView, IsSmallSolid}
+use Rattle.cuts.specs.Areas.{AreAreas, AreTold, area_after}
+use Rattle.seams.specs.Runs.{solid_after}
+use Rattle.notes.specs.Notes.{area_of}
+use Rattle.note_list.specs.Calls.{called_before}
+use Rattle.note_list.specs.Lists.{note_rows}
+use Rattle.fragment.specs.CutsAt.{CutsAt}
+use Rattle.fragment.specs.Reads.{AreRead, IsPagePrefix, called_by, called_in}
+use Rattle.page_list.proofs.InsideLemmas.{flow_inside}
+use Rattle.fragment.proofs.CutLemmas.{called_low, end_cut, flow_cut, none_left, room_is}
+use Rattle.fragment.proofs.FlowLemmas.{prefix_between, prefix_few}
+use Rattle.fragment.proofs.PlaceLemmas.{before_most, by_all}
+use Rattle.fragment.proofs.SolidLemmas.{all_views, if_ok}
+use Rattle.fragment.proofs.next_cut.cut_page.Given as given
+use Rattle.fragment.proofs.next_cut.cut_page.Goals as goal
+use Rattle.fragment.proofs.next_cut.cut_page.Goals.{After-is_empty}
+
+abbrev ends_of : List Solid → List Position
+ends_of solids = map (λ (s : SolidView). s.end) (map solid_view solids)
+
+-- the notes that are read with the solids
+read : (g : given.Over) (c : After-is_empty g) → AreRead c.args.faces.now c.args.flow.now c.args.frame c.args.from.at c.args.carried (ends_of c.in_ok-read.read.solids.items) c.prefix.new.notes
+read g c = c.in_ok-read.ensures.read c.args.carried c.in_ok-notes.ensures
+
+abbrev room : (g : given.Over) (c : After-is_empty g) → ℤ
+room g c = to_z w64 (of_z w64 c.own_area.result)
+
+tells : (g : given.Over) (c : After-is_empty g) → IsPagePrefix c.args.faces.now c.args.flow.now.main c.args.frame c.args.from.at c.args.from.kept c.prefix.new.notes.list.own c.prefix.new.notes.areas.items (room g c) (map solid_view c.in_ok-read.read.solids.items)
+tells g c = subst (λ (n : ℕ). IsPagePrefix c.args.faces.now c.args.flow.now.main c.args.frame c.args.from.at c.args.from.kept n c.prefix.new.notes.areas.items (room g c) (map solid_view c.in_ok-read.read.solids.items)) (sym c.in_ok-read.ensures.own) c.in_ok-read.ensures.prefix
+
+room_was : (g : given.Over) (c : After-is_empty g) → room g c ≡ area_of (note_rows (read g c).own) c.prefix.new.notes.list.own
+room_was g c =
+    let fits : SFits w64 c.own_area.result = search rules in
+    room_is c.args.faces.now c.args.flow.now c.args.frame c.args.from.at c.args.carried [] (ends_of c.in_ok-read.read.solids.items) c.in_ok-notes.notes c.prefix.new.notes (room g c) c.in_ok-notes.ensures (read g c) c.in_ok-read.ensures.own
+    (λ height list is. to_z-of_z w64 c.own_area.result fits ∙ c.own_area.ensures.area height list is)
+
+-- ---- where no solid is left
+none_of : (xs : List Solid) → length xs ≡ 0 → map solid_view xs ≡ []
+none_of [] e = refl
+none_of (x ∷ xs) e = absurd (omega arith)
+
+pub take-requires-clause-ready : goal.take-requires-clause-ready
+take-requires-clause-ready g c = (read g (goal.at.take-requires-clause-ready g c).After-is_empty).ready
+
+pub take-requires-clause-ends : goal.take-requires-clause-ends
+take-requires-clause-ends g c = (read g (goal.at.take-requires-clause-ends g c).After-is_empty).held
+
+-- nothing is read where nothing is left
+empty : (g : given.Over) (c : After-is_empty g) → c.is_empty.result ≡ true → map solid_view c.in_ok-read.read.solids.items ≡ []
+empty g c e = none_of c.in_ok-read.read.solids.items (let v = c.is_empty.ensures in grind (arith, nat_tests))
+
+ended : (g : given.Over) (c : After-is_empty g) → c.is_empty.result ≡ true → solid_after c.args.flow.now.main c.args.from.at.event ≡ None
+ended g c e =
+    none_left c.args.faces.now c.args.flow.now.main c.args.frame c.args.from.at c.args.from.kept c.prefix.new.notes.list.own c.prefix.new.notes.areas.items (room g c)
+    (subst (IsPagePrefix c.args.faces.now c.args.flow.now.main c.args.frame c.args.from.at c.args.from.kept c.prefix.new.notes.list.own c.prefix.new.notes.areas.items (room g c)) (empty g c e) (tells g c))
+
+all_called : (g : given.Over) (c : After-is_empty g) → c.is_empty.result ≡ true → called_by c.args.flow.now.main c.args.flow.now.notes c.args.from.at ≡ length c.args.flow.now.notes
+all_called g c e = by_all c.args.flow.now.main c.args.flow.now.notes c.args.from.at (ended g c e)
+
+-- the notes that are read once all are called
+all_read : (faces : List FontFace) (flow : Flow) (frame : Frame) (at : Position) (carried : List Carried) (solids : List Solid) (p q : PageNotes) → map solid_view solids ≡ [] →
+    ((from : Position) (carried : List Carried) (ends : List Position) → AreRead faces flow frame from carried ends p → AreRead faces flow frame from carried (ends ++ at ∷ []) q) → AreRead faces flow frame at carried (ends_of solids) p → AreRead faces flow frame at carried (at ∷ []) q
+all_read faces flow frame at carried solids p q e more r = subst (λ (vs : List SolidView). AreRead faces flow frame at carried (map (λ (s : SolidView). s.end) vs ++ at ∷ []) q) e (more at carried (ends_of solids) r)
+
+pub take-requires-clause-called : goal.take-requires-clause-called
+take-requires-clause-called g c =
+    let d = (goal.at.take-requires-clause-called g c).After-is_empty in
+    let all = all_called g d c.if-is_empty.true in
+    let least = (read g d).low in
+    let here : c.prefix.new.notes.called ≡ called_before c.args.flow.now.main c.args.flow.now.notes c.args.from.at =
+    (read g d).called ∙ ap (λ (vs : List SolidView). called_in c.args.flow.now c.args.from.at (map (λ (s : SolidView). s.end) vs) (length (map (λ (s : SolidView). s.end) vs))) (empty g d c.if-is_empty.true) in
+    let most = before_most c.args.flow.now.main c.args.flow.now.notes c.args.from.at in
+    omega arith
+
+pub cut_end-requires-clause-all : goal.cut_end-requires-clause-all
+cut_end-requires-clause-all g c = c.in_ok-take.ensures.called ∙ all_called g (goal.at.cut_end-requires-clause-all g c).After-is_empty c.if-is_empty.true
+
+pub cut_end-requires-clause-cut : goal.cut_end-requires-clause-cut
+cut_end-requires-clause-cut g c =
+    let d = (goal.at.cut_end-requires-clause-cut g c).After-is_empty in
+    let all = all_read c.args.faces.now c.args.flow.now c.args.frame c.args.from.at c.args.carried c.in_ok-read.read.solids.items c.prefix.new.notes c.take.new.self (empty g d c.if-is_empty.true) c.in_ok-take.ensures.read (read g d) in
+    let low = c.requires.frame.height_low in
+    let high = c.requires.frame.height_high in
+    record {
+      areas = all.small;
+      ready = all.ready;
+      ends = all.held;
+      carried = c.requires.carried.held;
+      stands = c.requires.stands;
+      order = c.requires.carried.order;
+      before = subst (λ (n : ℕ). All (λ p. p.note < n) c.args.carried) (sym c.in_ok-notes.ensures.called) c.requires.carried.called;
+      count = c.requires.flow.count;
+      low = omega (arith, ints);
+      high = omega (arith, ints);
+    }
+
+pub cut_end-requires-clause-called : goal.cut_end-requires-clause-called
+cut_end-requires-clause-called g c =
+    let here = c.in_ok-notes.ensures.called in
+    let most = before_most c.args.flow.now.main c.args.flow.now.notes c.args.from.at in
+    omega arith
+
+pub returns-then-is_empty-clause-cut : goal.returns-then-is_empty-clause-cut
+returns-then-is_empty-clause-cut g c =
+    let d = (goal.at.returns-then-is_empty-clause-cut g c).After-is_empty in
+    let fits : SFits w64 c.own_area.result = search rules in
+    let tall : SFits w64 c.args.frame.height = search rules in
+    let all = all_read c.args.faces.now c.args.flow.now c.args.frame c.args.from.at c.args.carried c.in_ok-read.read.solids.items c.prefix.new.notes c.take.new.self (empty g d c.if-is_empty.true) c.in_ok-take.ensures.read (read g d) in
+    let was : room g d ≡ area_of (note_rows all.own) c.take.new.self.list.own =
+    room_is c.args.faces.now c.args.flow.now c.args.frame c.args.from.at c.args.carried [] (c.args.from.at ∷ []) c.in_ok-notes.notes c.take.new.self (room g d) c.in_ok-notes.ensures all (c.in_ok-take.ensures.own ∙ c.in_ok-read.ensures.own)
+    (λ height list is. to_z-of_z w64 c.own_area.result fits ∙ c.own_area.ensures.area height list is) in
+    let first : c.in_ok-notes.notes.called ≡ called_before c.args.flow.now.main c.args.flow.now.notes c.args.from.at = c.in_ok-notes.ensures.called in
+    if_ok _ _ c.cut_end.result
+    (λ cut is. end_cut c.args.faces.now c.args.flow.now c.args.frame c.args.from c.args.carried c.requires.flow c.requires.holds c.requires.carried (ended g d c.if-is_empty.true) c.take.new.self (room g d) all was cut
+    (subst (λ (n : ℕ). CutsAt c.args.flow.now c.args.from.kept c.args.frame.height c.args.carried n (λ list. AreTold c.args.frame.height list c.take.new.self.list.own 0 (area_after c.take.new.self.areas.items (length c.take.new.self.areas.items)) (room g d)) c.take.new.self.list [] cut) first
+    (subst (λ (z : ℤ). CutsAt c.args.flow.now c.args.from.kept z c.args.carried c.in_ok-notes.notes.called (λ list. AreTold z list c.take.new.self.list.own 0 (area_after c.take.new.self.areas.items (length c.take.new.self.areas.items)) (room g d)) c.take.new.self.list [] cut) (to_z-of_z w64 c.args.frame.height tall) is))) c.cut_end.ensures.cut
+
+pub returns-then-is_empty-clause-inside : goal.returns-then-is_empty-clause-inside
+returns-then-is_empty-clause-inside g c = if_ok _ _ c.cut_end.result (λ cut is. flow_inside c.args.faces.now c.args.flow.now c.args.frame c.args.from c.args.carried cut is) (returns-then-is_empty-clause-cut g c)
+
+-- ---- where some are read
+some_read : (g : given.Over) (c : After-is_empty g) → c.is_empty.result ≡ false → 0 < length (map solid_view c.in_ok-read.read.solids.items)
+some_read g c e = rw length-map (let v = c.is_empty.ensures in grind (arith, nat_tests))
+
+pub cut_solids-requires-clause-solids : goal.cut_solids-requires-clause-solids
+cut_solids-requires-clause-solids g c =
+    let d = (goal.at.cut_solids-requires-clause-solids g c).After-is_empty in
+    let items : List Solid = c.in_ok-read.read.solids.items in
+    let size : length (map solid_view items) ≡ length items = rw length-map refl in
+    let some = some_read g d c.if-is_empty.false in
+    let few = prefix_few c.args.faces.now c.args.flow.now.main c.args.frame c.args.from.at c.args.from.kept c.prefix.new.notes.list.own c.prefix.new.notes.areas.items (room g d) c.requires.flow.main.is c.requires.holds (map solid_view items) (tells g d) c.requires.flow.main.bytes in
+    record {
+      some = omega arith;
+      few = omega arith;
+      placed = all_views (λ v. Holds c.args.flow.now.main v.placed_at) items c.in_ok-read.ensures.placed;
+      small = all_views IsSmallSolid items c.in_ok-read.ensures.small;
+      between = prefix_between c.args.faces.now c.args.flow.now.main c.args.frame c.args.from.at c.args.from.kept c.prefix.new.notes.list.own c.prefix.new.notes.areas.items (room g d) c.requires.flow.main.is c.requires.holds (map solid_view items) (tells g d);
+      rows_are = c.in_ok-read.ensures.rows;
+    }
+
+pub cut_solids-requires-clause-cut : goal.cut_solids-requires-clause-cut
+cut_solids-requires-clause-cut g c =
+    let all = read g (goal.at.cut_solids-requires-clause-cut g c).After-is_empty in
+    let low = c.requires.frame.height_low in
+    let high = c.requires.frame.height_high in
+    record {
+      areas = all.small;
+      ready = all.ready;
+      ends = all.held;
+      carried = c.requires.carried.held;
+      stands = c.requires.stands;
+      order = c.requires.carried.order;
+      before = subst (λ (n : ℕ). All (λ p. p.note < n) c.args.carried) (sym c.in_ok-notes.ensures.called) c.requires.carried.called;
+      count = c.requires.flow.count;
+      low = omega (arith, ints);
+      high = omega (arith, ints);
+    }
+
+pub cut_solids-requires-clause-called : goal.cut_solids-requires-clause-called
+cut_solids-requires-clause-called g c j some =
+    let d = (goal.at.cut_solids-requires-clause-called g c).After-is_empty in
+    let first : c.in_ok-notes.notes.called ≡ called_before c.args.flow.now.main c.args.flow.now.notes c.args.from.at = c.in_ok-notes.ensures.called in
+    let low = called_low c.args.faces.now c.args.flow.now c.args.frame c.args.from c.args.carried c.requires.flow c.requires.holds c.requires.carried (map solid_view c.in_ok-read.read.solids.items) c.prefix.new.notes (room g d) (tells g d) (read g d) (room_was g d) j some in omega arith
+
+pub prefix-requires : goal.prefix-requires
+prefix-requires g c =
+    let low = c.requires.frame.height_low in
+    let high = c.requires.frame.height_high in
+    let tall : SFits w64 c.args.frame.height = omega (arith, ints) in
+    let least = c.own_area.ensures.small.low in
+    let most = c.own_area.ensures.small.high in
+    record {
+      flow = c.requires.flow;
+      holds = c.requires.holds;
+      frame = c.requires.frame;
+      kept = refl;
+      height = to_z-of_z w64 c.args.frame.height tall;
+      carried = record { low = omega (arith, ints); high = omega (arith, ints) };
+      read = (c.args.carried, c.in_ok-notes.ensures);
+    }
+
+pub returns-clause-cut : goal.returns-clause-cut
+returns-clause-cut g c =
+    let d = (goal.at.returns-clause-cut g c).After-is_empty in
+    let tall : SFits w64 c.args.frame.height = search rules in
+    let views : List SolidView = map solid_view c.in_ok-read.read.solids.items in
+    let first : c.in_ok-notes.notes.called ≡ called_before c.args.flow.now.main c.args.flow.now.notes c.args.from.at = c.in_ok-notes.ensures.called in
+    let size : length (map solid_view c.in_ok-read.read.solids.items) ≡ length c.in_ok-read.read.solids.items = length-map c.in_ok-read.read.solids.items solid_view in
+    let own = c.prefix.new.notes.list.own in
+    let areas = c.prefix.new.notes.areas.items in
+    if_ok _ _ c.cut_solids.result
+    (λ cut is. flow_cut c.args.faces.now c.args.flow.now c.args.frame c.args.from c.args.carried c.requires.flow c.requires.holds c.requires.carried views c.prefix.new.notes (room g d) (tells g d) (read g d) (room_was g d) cut (some_read g d c.if-is_empty.false)
+    (subst (λ (n : ℕ). CutsAt c.args.flow.now c.args.from.kept c.args.frame.height c.args.carried n (λ list. AreAreas c.args.frame.height list own (length views) areas (room g d)) c.prefix.new.notes.list views cut) first
+    (subst (λ (n : ℕ). CutsAt c.args.flow.now c.args.from.kept c.args.frame.height c.args.carried c.in_ok-notes.notes.called (λ list. AreAreas c.args.frame.height list own n areas (room g d)) c.prefix.new.notes.list views cut) (sym size)
+    (subst (λ (z : ℤ). CutsAt c.args.flow.now c.args.from.kept z c.args.carried c.in_ok-notes.notes.called (λ list. AreAreas z list own (length c.in_ok-read.read.solids.items) areas (room g d)) c.prefix.new.notes.list views cut) (to_z-of_z w64 c.args.frame.height tall) is)))) c.cut_solids.ensures.cut
+
+pub returns-clause-inside : goal.returns-clause-inside
+returns-clause-inside g c = if_ok _ _ c.cut_solids.result (λ cut is. flow_inside c.args.faces.now c.args.flow.now c.args.frame c.args.from c.args.carried cut is) (returns-clause-cut g c)

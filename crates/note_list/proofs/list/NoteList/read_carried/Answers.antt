@@ -1,0 +1,38 @@
+use Rattle.std.proofs.Common.{◌≤◌, List, length, refl, subst, arith}
+use Rattle.note_list.specs.Conditions.{IsHeld}
+use Rattle.note_list.specs.Lists.{carried_parts}
+use Rattle.note_list.specs.declared.carried.Carried.{Carried}
+use Rattle.note_list.proofs.BodyLemmas.{Calls, calls_none, carry_next, carry_rest, take_end}
+use Rattle.note_list.proofs.NotedLemmas.{all_get}
+use Rattle.note_list.proofs.list.NoteList.read_carried.Goals as goal
+
+pub loop-at-init : goal.loop-at-init
+loop-at-init g c = record {
+  ready = c.requires.ready;
+  ends = c.requires.ends;
+  calls = calls_none c.args.faces.now c.args.flow.now.notes c.args.frame.width c.args.frame.height c.args.self.now;
+  short = λ h. h;
+  lines = refl;
+}
+
+pub returns-then-self-clause-list : goal.returns-then-self-clause-list
+returns-then-self-clause-list g c = carry_rest c.args.faces.now c.args.flow.now.notes c.args.frame.width c.args.frame.height c.args.carried.now c.loop-at.at c.args.self.now c.loop-at.self c.requires.flow.notes c.requires.carried c.if-self.true c.loop-at.invariant.calls
+
+pub read-requires-clause-held : goal.read-requires-clause-held
+read-requires-clause-held g c = all_get (IsHeld c.args.flow.now.notes) c.args.carried.now c.loop-at.at c.part.result c.requires.carried c.part.ensures
+
+pub loop-at-preserved : goal.loop-at-preserved
+loop-at-preserved g c = record {
+  ready = c.in_ok-read.ensures.ready;
+  ends = c.in_ok-read.ensures.ends;
+  calls = carry_next c.args.faces.now c.args.flow.now.notes c.args.frame.width c.args.frame.height c.args.carried.now c.loop-at.at c.part.result c.args.self.now c.loop-at.self c.read.new.self c.part.ensures c.loop-at.invariant.calls c.in_ok-read.ensures.list;
+  short = λ h. c.in_ok-read.ensures.short (c.loop-at.invariant.short h);
+  lines = let more = c.in_ok-read.ensures.lines in let count = c.loop-at.invariant.lines in omega (arith, more, count);
+}
+
+pub returns-clause-list : goal.returns-clause-list
+returns-clause-list g c =
+    let end = c.loop-at-test.false in
+    let size = c.len-at-end.ensures in
+    let all : length c.args.carried.now ≤ c.loop-at.at = omega arith in
+    subst (λ (cs : List Carried). Calls c.args.faces.now c.args.flow.now.notes c.args.frame.width c.args.frame.height (carried_parts cs) c.args.self.now c.loop-at.self) (take_end c.args.carried.now c.loop-at.at all) c.loop-at.invariant.calls

@@ -1,0 +1,15 @@
+use Rattle.std.proofs.Common.{◌≡◌, ◌+◌, take}
+use Rattle.note_list.specs.Lists.{carried_parts}
+use Rattle.note_list.specs.Reads.{EndInNotes, IsReady}
+use Rattle.note_list.specs.Short.{IsShortList, lines_in}
+use Rattle.note_list.proofs.BodyLemmas.{Calls}
+use Rattle.note_list.proofs.list.NoteList.read_carried.Given as goal
+
+abbrev pub invariant-loop-at : goal.invariant-loop-at
+invariant-loop-at g l = record {
+  ready : IsReady l.self;
+  ends : EndInNotes l.flow.notes l.self;
+  calls : Calls l.faces l.flow.notes l.fn.frame.width l.fn.frame.height (carried_parts (take l.at l.carried)) l.fn.self l.self;
+  short : IsShortList l.fn.frame.height l.fn.self → IsShortList l.fn.frame.height l.self;
+  lines : l.steps + lines_in l.fn.self.solids.items ≡ l.fn.steps + lines_in l.self.solids.items;
+}
