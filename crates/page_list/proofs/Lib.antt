@@ -13,6 +13,7 @@ pub mod NextLemmas
 pub mod NoteRunLemmas
 pub mod OneLemmas
 pub mod PartLemmas
+pub mod PlaceLemmas
 pub mod RestLemmas
 pub mod StateLemmas
 pub mod TextLemmas

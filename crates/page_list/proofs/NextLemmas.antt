@@ -6,7 +6,7 @@ use Rattle.boxes.specs.Tree.{Tree, IsTree}
 use Rattle.boxes.specs.declared.page.Placed.{Placed}
 use Rattle.boxes.specs.declared.place.Event.{Event}
 use Rattle.boxes.specs.declared.place.Position.{Position}
-use Rattle.line_fill.proofs.EndLemmas.{lines_go_on}
+use Rattle.line_fill.proofs.EndLemmas.{end_place, lines_go_on}
 use Rattle.seams.specs.Runs.{solid_after, solid_from, is_solid_at}
 use Rattle.seams.proofs.RunLemmas.{after_solid, drop_get}
 use Rattle.cursor.specs.Remainder.{SolidView, IsSolid, IsContent, IsRemainder, leaf_measure}
@@ -37,7 +37,7 @@ module _ (faces : List FontFace) (t : Tree) (w : ℤ) (tree : IsTree t) where
       by (of_line l) =
           let f = found_of faces t w from s tree st is.found l in
           let text = lines_go_on faces l.leaf s.placed_at.offset (leaf_measure t w s.placed_at.event) l.line_of f.inside l.fills in
-          line (record { number = l.number; leaf = l.leaf; to = l.line_of.to; names = l.names; has = l.has; after = text.0; within = text.1; ends = l.ends; kind_is = l.kind_is })
+          line (record { number = l.number; leaf = l.leaf; to = l.line_of.to; names = l.names; has = l.has; after = text.0; within = text.1; place = end_place l.leaf s.placed_at.offset l.line_of.to f.inside l.fills.ends; ends = l.ends; kind_is = l.kind_is })
       by (of_open b e l) = upper b e (record { ends = l.ends; kind_is = l.kind_is })
       by (of_close b e l) = lower b e (record { ends = l.ends; kind_is = l.kind_is })
 

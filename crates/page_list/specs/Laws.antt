@@ -1,16 +1,19 @@
 -- What holds of each page list (css-break-3, 2 to 4; css-gcpm-3, 2).
 use Rattle.std.specs.Prelude.{◌≡◌, ℕ, ◌+◌, ◌≤◌, List, Bool, true, length}
+use Rattle.std.specs.List.{All}
 use Rattle.metrics.specs.Face.{FontFace}
+use Rattle.boxes.specs.Tree.{Tree}
 use Rattle.boxes.specs.declared.flow.Flow.{Flow}
 use Rattle.boxes.specs.declared.frames.Demand.{Demand}
 use Rattle.boxes.specs.declared.page.Page.{Page}
+use Rattle.boxes.specs.declared.page.Placed.{Placed}
 use Rattle.note_list.specs.Conditions.{CanBePaged}
 use Rattle.page_list.specs.Bounds.{HasTexts, most_pages_of}
 use Rattle.page_list.specs.Inside.{EndInside}
 use Rattle.page_list.specs.Noted.{BeginInTime, HoldsNotes}
 use Rattle.boxes.specs.Frames.{PageFrames}
 use Rattle.page_list.specs.Pages.{IsPaged}
-use Rattle.page_list.specs.Parted.{HoldsAll, HoldsBreaks, HoldsEdges, HoldsText, solids_of}
+use Rattle.page_list.specs.Parted.{HoldsAll, HoldsBreaks, HoldsEdges, HoldsText, IsLineThere, solids_of}
 
 -- the main tree's solids stand on the pages each once and in order: all edges, and lines that part the text of each
 -- leaf
@@ -30,6 +33,10 @@ abbrev pub NotesStandOnce : Type 0
 NotesStandOnce = (faces : List FontFace) (flow : Flow) (frames : PageFrames) (pages : List Page) →
     CanBePaged faces flow →
     IsPaged faces flow frames pages → HoldsNotes flow pages
+
+-- solids that are all of a tree stand at its leaves where lines may begin and end
+abbrev pub LinesStandAtPlaces : Type 0
+LinesStandAtPlaces = (t : Tree) (solids : List Placed) → HoldsAll t solids → All (IsLineThere t) solids
 
 -- no note begins on a page before its call's, and at levels 0 to 2 it begins on that page
 abbrev pub NotesBeginInTime : Type 0

@@ -14,13 +14,14 @@ use Rattle.boxes.specs.declared.place.Event.{Event}
 use Rattle.boxes.specs.declared.place.Event.TheVariants.{Opens, Closes, Leaf}
 use Rattle.boxes.specs.declared.place.Position.{Position}
 use Rattle.boxes.specs.declared.props.BoxProps.{BoxProps}
+use Rattle.line_fill.specs.LineEnd.{IsEndPlace, IsLineBetween}
 use Rattle.cursor.specs.Remainder.{end_of}
 use Rattle.seams.specs.Runs.{solid_after, is_solid}
 use Rattle.note_list.specs.Calls.{start_place}
 use Rattle.boxes.specs.Frames.{PageFrames}
 use Rattle.page_list.specs.Pages.{meets_at}
 
--- a line ends after it begins and within its leaf
+-- a line ends after it begins, and at a place at which lines of its leaf may end
 pub record IsPartOfLeaf (t : Tree) (p : Placed) : Type 0 where
   pub number : ℕ
   pub leaf : LeafData
@@ -29,6 +30,7 @@ pub record IsPartOfLeaf (t : Tree) (p : Placed) : Type 0 where
   pub has : slice_get t.leaves number ≡ Some leaf
   pub after : p.at.offset < to
   pub within : to ≤ length leaf.text
+  pub place : IsEndPlace leaf to
   pub ends : p.end ≡ end_of p.at.event (length leaf.text) to
   pub kind_is : p.kind ≡ Line
 
@@ -56,6 +58,15 @@ AreNextSolids t = IsRun (λ at p to. IsNextSolid t at p × (to ≡ p.end)) (λ a
 -- each edge once, and lines whose ranges part the text of each leaf, all in order
 abbrev pub HoldsAll : Tree → List Placed → Type 0
 HoldsAll t solids = AreNextSolids t start_place solids
+
+-- where a line that is placed ends in its leaf: inside it, or with it
+abbrev pub stop_in : LeafData → Placed → ℕ
+stop_in leaf p = if p.end.event == p.at.event then p.end.offset else length leaf.text
+
+-- a solid that stands at a leaf is a line of it between two places
+abbrev pub IsLineThere : Tree → Placed → Type 0
+IsLineThere t p = (number : ℕ) (leaf : LeafData) → slice_get t.events p.at.event ≡ Some (Leaf number) →
+    slice_get t.leaves number ≡ Some leaf → IsLineBetween leaf p.at.offset (stop_in leaf p)
 
 -- the edges that are there among some events, in order
 abbrev pub edges_among : List BoxProps → List Event → List SolidKind

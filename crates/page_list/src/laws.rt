@@ -1,6 +1,6 @@
 //! What holds of all page lists. Each function is empty and carries one law.
 
-ghost use Rattle.page_list.specs.Laws.{BreaksHold, MainStandsOnce, NotesBeginInTime, NotesStandOnce, PagesAreFew, PagesEndInside};
+ghost use Rattle.page_list.specs.Laws.{BreaksHold, LinesStandAtPlaces, MainStandsOnce, NotesBeginInTime, NotesStandOnce, PagesAreFew, PagesEndInside};
 ghost use Rattle.page_list.specs.Looked.{HaveOneLooked};
 ghost use Rattle.page_list.specs.Pages.{HasOnePageList, HasSomePageList, LeavesNothing};
 
@@ -27,6 +27,11 @@ pub fn main_stands_once()
 /// Each note stands on the pages once, whole and in the order of calls.
 pub fn notes_stand_once()
     ensures { NotesStandOnce }
+{}
+
+/// What stands of a leaf on the pages begins and ends at places at which its lines may.
+pub fn lines_stand_at_places()
+    ensures { LinesStandAtPlaces }
 {}
 
 /// No note begins on a page before its call's; on pages of the levels 0 to 2 each called note begins.
