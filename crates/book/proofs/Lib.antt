@@ -1,4 +1,5 @@
 pub mod Books
+pub mod BoundLemmas
 pub mod BoxLemmas
 pub mod Complete
 pub mod Conditions
@@ -8,6 +9,7 @@ pub mod KeepLemmas
 pub mod NoteLemmas
 pub mod OneAnswer
 pub mod OneBook
+pub mod OrderLemmas
 pub mod PassLemmas
 pub mod Ranges
 pub mod Samples

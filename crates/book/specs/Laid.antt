@@ -1,5 +1,6 @@
 -- What is laid out of a document, as the arguments have it.
 use Rattle.std.specs.Prelude.{◌≡◌, ℕ, ◌≤◌, List, Option, Result, Ok, Err, length, take}
+use Rattle.std.specs.List.{All}
 use Rattle.std.specs.Io.KnownBytes.{Appends, Keeps}
 use Rattle.bk_num.specs.Limits.{most_pages}
 use Rattle.bk_num.specs.declared.ids.NodeId.{NodeId}
@@ -16,6 +17,7 @@ use Rattle.page_ctx.specs.Margins.{AreMarginStyles}
 use Rattle.page_ctx.specs.Tables.{IsTable}
 use Rattle.page_ctx.specs.declared.resolve.PageStyles.{PageStyles}
 use Rattle.page_seq.specs.Frames.{IsGoodTable}
+use Rattle.paint.specs.Order.{IsPageOf}
 use Rattle.passes.specs.Conditions.{IsGoodFlow}
 use Rattle.passes.specs.Passes.{End, EndsIn, settled, unsettled, long, many}
 use Rattle.passes.specs.Work.{Work}
@@ -55,10 +57,12 @@ pub record AreBoxesOf (s : Styled) (styles : PageStyles) : Type 0 where
   pub good : IsGoodTable styles.table.rows
   pub boxes : AreMarginStyles s.rules s.names styles.boxes
 
--- pages that settled can be put: their flow can be paged, in page boxes that are the document's, and they are few
+-- pages that settled can be put: their flow can be paged, in page boxes that are the document's, they are pages
+-- of it, and they are few
 pub record CanPut (s : Styled) (given : PageStyles) (laid : Settled) : Type 0 where
   pub good : IsGoodFlow s.faces laid.flow
   pub boxes : AreBoxesOf s given
+  pub pages : All (IsPageOf laid.flow) laid.pages.pages
   pub few : length laid.pages.pages ≤ most_pages
 
 -- what a listing of pages that settled is made of

@@ -1,8 +1,9 @@
 //! Lays a document out, and puts what is asked for of its book.
 
-ghost use Rattle.std.specs.Prelude.{◌≡◌, ◌<◌, ◌≤◌, IfOk, IfErr, length};
+ghost use Rattle.std.specs.Prelude.{◌≡◌, ◌<◌, ◌≤◌, All, IfOk, IfErr, length};
 ghost use Rattle.bk_io.specs.Causes.{Rose};
 ghost use Rattle.bk_num.specs.Limits.{most_pages};
+ghost use Rattle.paint.specs.Order.{IsPageOf};
 ghost use Rattle.passes.specs.Conditions.{IsGoodFlow};
 ghost use Rattle.passes.specs.Passes.{settled};
 ghost use Rattle.style.specs.Styles.{initial_style};
@@ -107,6 +108,7 @@ fn settle_passes<L: Ledger>(
     requires boxes { AreBoxesOf styled.now boxes.now }
     ensures settled { IfOk result (λ s. EndSo styled.now (settled s.passes s.flow s.pages.pages s.table)) }
     ensures good { IfOk result (λ s. IsGoodFlow styled.now.faces s.flow) }
+    ensures pages { IfOk result (λ s. All (IsPageOf s.flow) s.pages.pages) }
     ensures few { IfOk result (λ s. length s.pages.pages ≤ most_pages) }
     ensures stops { IfErr result (λ o. StopsBy styled.now o) }
 {
@@ -122,13 +124,12 @@ fn settle_passes<L: Ledger>(
 
 /// Puts the listing of the pages that settled. Their numbers and the running strings along them are found once, for all
 /// pages.
-fn print_settled<O: Sink, L: Ledger>(
+fn print_settled<O: Sink>(
     alloc: Global,
     styled: &Styled,
     boxes: &PageStyles<'_>,
     laid: &Settled,
     out: &mut O,
-    steps: &mut Steps<L>,
 ) -> Result<(), PrintErr>
     requires { CanPut styled.now boxes.now laid.now }
     ensures bytes { Puts (O.taken out.old) (O.taken out.new) (listing_by styled.now laid.now) result }
@@ -146,24 +147,23 @@ fn print_settled<O: Sink, L: Ledger>(
         strings: &strings,
         styles: boxes,
     };
-    print(alloc, &printer, out, steps)
+    print(alloc, &printer, out)
 }
 
 /// Puts what is asked for of the pages that settled.
-fn put_settled<O: Sink, L: Ledger>(
+fn put_settled<O: Sink>(
     alloc: Global,
     styled: &Styled,
     boxes: &PageStyles<'_>,
     laid: &Settled,
     out: &mut O,
-    steps: &mut Steps<L>,
 ) -> Result<(), PrintErr>
     requires { CanPut styled.now boxes.now laid.now }
     ensures bytes { Puts (O.taken out.old) (O.taken out.new) (output_by styled.now laid.now) result }
     ensures cause { HasPutCause (O.faults out.old) (O.faults out.new) result }
 {
     match styled.output {
-        Output::Listing => print_settled(alloc, styled, boxes, laid, out, steps),
+        Output::Listing => print_settled(alloc, styled, boxes, laid, out),
         Output::Counts(chapters) => Ok(put_counts(out, chapters, laid)?),
     }
 }
@@ -192,7 +192,7 @@ fn put_styled<O: Sink, L: Ledger>(
     ensures fault { outcome_of result ≡ Outcome.WriteFault → Rose (O.faults out.old) (O.faults out.new) }
 {
     let laid = settle_passes(alloc, styled, boxes, steps)?;
-    put_settled(alloc, styled, boxes, &laid, out, steps)?;
+    put_settled(alloc, styled, boxes, &laid, out)?;
     Ok(Done {
         pages: count_of(&laid.pages),
         passes: laid.passes,

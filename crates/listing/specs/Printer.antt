@@ -8,6 +8,7 @@ use Rattle.metrics.specs.Face.{FontFace}
 use Rattle.page_ctx.specs.Margins.{style_of}
 use Rattle.page_seq.specs.Numbers.{numbers_of}
 use Rattle.paint.specs.Conditions.{CanFlowBePainted}
+use Rattle.paint.specs.Order.{IsPageOf}
 use Rattle.paint.specs.Views.{HasItemFace}
 use Rattle.strings.specs.Assigned.{AreStrings}
 use Rattle.listing.specs.Printed.{Print, page_bytes}
@@ -25,9 +26,11 @@ view_of p = record {
   style = λ index name kind place. style_of p.styles.now.boxes index name kind place;
 }
 
--- the flow can be painted, the numbers and the running strings are those of the pages, and a listing counts them
+-- the flow can be painted, the pages are pages of it, the numbers and the running strings are those of the pages, and a
+-- listing counts them
 pub record CanPrint (p : Printer) : Type 0 where
   pub painted : CanFlowBePainted p.faces.now p.flow.now
+  pub pages : All (IsPageOf p.flow.now) p.list.now.pages
   pub numbers : p.numbers.now ≡ numbers_of p.flow.now.main p.list.now.pages p.flow.now.resets
   pub strings : AreStrings p.flow.now.main p.list.now.pages p.flow.now.strings p.strings.now
   pub few : length p.list.now.pages < 2 ^ 31

@@ -11,7 +11,6 @@ ghost use Rattle.listing.specs.Printer.{ArePrinted, CanPrint, IsPrinted, view_of
 
 use crate::records::PageHead;
 use bk_num::name::NoMem;
-use bk_num::steps::Steps;
 use boxes::flow::Flow;
 use boxes::frames::side_of;
 use boxes::page::{Page, PageList};
@@ -21,7 +20,6 @@ use page_ctx::resolve::PageStyles;
 use paint::item::ItemRef;
 use paint::place::place as place_items;
 use std::alloc::Global;
-use std::sync::ledger::Ledger;
 use strings::assigned::Strings;
 use style::names::Names;
 
@@ -126,18 +124,13 @@ fn page_at(pages: &[Page], place: usize) -> &Page
 }
 
 /// What the page at a place of the list prints.
-fn printed<'a, L: Ledger>(
-    alloc: Global,
-    printer: &Printer<'a>,
-    place: usize,
-    steps: &mut Steps<L>,
-) -> Result<PrintedPage<'a>, NoMem>
+fn printed<'a>(alloc: Global, printer: &Printer<'a>, place: usize) -> Result<PrintedPage<'a>, NoMem>
     requires printer { CanPrint printer.now }
     requires place { place < length printer.now.list.now.pages }
     ensures { IfOk result (λ q. IsPrinted printer.now place q) }
 {
     let page = page_at(printer.list.pages.as_slice(), place);
-    let items = place_items(alloc, printer.flow, printer.faces, page, steps)?;
+    let items = place_items(alloc, printer.flow, printer.faces, page)?;
     let texts = margin_texts(alloc, printer, place)?;
     Ok(PrintedPage {
         head: head_of(printer, page, place),
@@ -146,11 +139,10 @@ fn printed<'a, L: Ledger>(
     })
 }
 
-/// What the pages print, in order. It takes the steps of `paint::place::place` at each page.
-pub(crate) fn printed_pages<'a, L: Ledger>(
+/// What the pages print, in order.
+pub(crate) fn printed_pages<'a>(
     alloc: Global,
     printer: &Printer<'a>,
-    steps: &mut Steps<L>,
 ) -> Result<Vec<PrintedPage<'a>>, NoMem>
     requires { CanPrint printer.now }
     ensures { IfOk result (λ v. ArePrinted printer.now v.items) }
@@ -158,7 +150,7 @@ pub(crate) fn printed_pages<'a, L: Ledger>(
     let count = printer.list.pages.as_slice().len();
     let mut pages = Vec::new(alloc);
     for place in 0..count {
-        pages.push(printed(alloc, printer, place, steps)?)?;
+        pages.push(printed(alloc, printer, place)?)?;
     }
     Ok(pages)
 }

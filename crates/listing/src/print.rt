@@ -11,10 +11,8 @@ use crate::pages::{PrintedPage, Printer, printed_pages};
 use crate::write::{write_end, write_head, write_page};
 use bk_io::sink::{Failed, Sink};
 use bk_num::name::NoMem;
-use bk_num::steps::Steps;
 use metrics::Faces;
 use std::alloc::Global;
-use std::sync::ledger::Ledger;
 use thiserror::Error;
 
 /// Why a page list isn't printed: a put failed, or memory ran out before the first put.
@@ -102,23 +100,18 @@ fn put_listing<O: Sink>(
 }
 
 /// Puts the listing of a page list, page by page. What the pages print is made before the first put, and nothing takes
-/// memory from then on. It takes the steps of `paint::place::place` at each page.
+/// memory from then on.
 ///
 /// # Errors
 ///
 /// `NoMemory`, and then nothing was put; `Failed` where a put failed, and then a prefix of the listing was.
-pub fn print<O: Sink, L: Ledger>(
-    alloc: Global,
-    printer: &Printer<'_>,
-    out: &mut O,
-    steps: &mut Steps<L>,
-) -> Result<(), PrintErr>
+pub fn print<O: Sink>(alloc: Global, printer: &Printer<'_>, out: &mut O) -> Result<(), PrintErr>
     requires { CanPrint printer.now }
     ensures bytes { Puts (O.taken out.old) (O.taken out.new)
         (listing_of (view_of printer.now) printer.now.list.now.pages) result }
     ensures cause { HasPutCause (O.faults out.old) (O.faults out.new) result }
 {
-    let pages = printed_pages(alloc, printer, steps)?;
+    let pages = printed_pages(alloc, printer)?;
     put_listing(out, printer, &pages)?;
     Ok(())
 }

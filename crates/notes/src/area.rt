@@ -1,6 +1,6 @@
 //! The area of notes, and how many solids of a list stand on a page.
 
-ghost use Rattle.std.specs.Prelude.{◌≡◌, pos, ◌+◌, ◌<◌, ◌≤◌, ◌^◌, ◌≤ℤ◌, ◌+ℤ◌, length, All, SomeIff, FitsSigned, slice_get, Some, ◌⊎◌};
+ghost use Rattle.std.specs.Prelude.{◌≡◌, pos, ◌+◌, ◌<◌, ◌≤◌, ◌^◌, ◌≤ℤ◌, ◌+ℤ◌, length, All, FitsSigned, slice_get, Some, ◌⊎◌};
 ghost use Rattle.std.specs.Int.{int_max, w64};
 ghost use Rattle.bk_num.specs.Limits.{most_entries};
 ghost use Rattle.notes.specs.Notes.{HaveBottoms, IsSmallNote, area_of, must_of, placed_bottom, placed_height, IsCarryCount, IsPlaced};
@@ -47,34 +47,34 @@ pub fn area(list: &[NoteSolid], n: usize) -> i64
     if n == 0 { 0 } else { reach.area() }
 }
 
-/// The bottom of a placed solid. None exactly where that is past 64 bits.
-fn bottom_of(placed: &Placed) -> Option<i64>
-    ensures { SomeIff result (FitsSigned w64 (placed.now.top +ℤ placed.now.height))
-        (placed.now.top +ℤ placed.now.height) }
+/// The bottom of a placed solid.
+fn bottom_of(placed: &Placed) -> i64
+    requires { FitsSigned w64 (placed.now.top +ℤ placed.now.height) }
+    ensures { result ≡ placed.now.top +ℤ placed.now.height }
 {
-    placed.top.checked_add(placed.height)
+    placed.top + placed.height
 }
 
-/// A height of a note area that reaches at least to the bottom of a placed solid. None exactly where that is past 64
-/// bits.
-fn height_with(notes: &[PlacedNote], at: usize, height: i64) -> Option<i64>
-    requires { at < length notes.now }
-    ensures { SomeIff result (FitsSigned w64 (placed_bottom (slice_get notes.now at)))
-        (int_max height (placed_bottom (slice_get notes.now at))) }
+/// A height of a note area that reaches at least to the bottom of a placed solid.
+fn height_with(notes: &[PlacedNote], at: usize, height: i64) -> i64
+    requires at { at < length notes.now }
+    requires fits { FitsSigned w64 (placed_bottom (slice_get notes.now at)) }
+    ensures { result ≡ int_max height (placed_bottom (slice_get notes.now at)) }
 {
-    Some(height.max(bottom_of(&notes[at].1)?))
+    height.max(bottom_of(&notes[at].1))
 }
 
 /// The height of the note area in which solids are placed, in units of 1/64 px: it begins with the separator's room,
-/// and reaches to their greatest bottom. None exactly where a bottom is past 64 bits.
-pub fn placed_height(notes: &[PlacedNote]) -> Option<i64>
-    ensures { SomeIff result (HaveBottoms notes.now) (placed_height notes.now) }
+/// and reaches to their greatest bottom.
+pub fn placed_height(notes: &[PlacedNote]) -> i64
+    requires { HaveBottoms notes.now }
+    ensures { result ≡ placed_height notes.now }
 {
     let mut height = SEPARATOR;
     for at in 0..notes.len() {
-        height = height_with(notes, at, height)?;
+        height = height_with(notes, at, height);
     }
-    Some(height)
+    height
 }
 
 /// How many solids of the first `carried` a page whose frame has this height places at least: the greatest number whose

@@ -11,7 +11,6 @@ use bk_num::items::{Items, Text};
 use bk_num::length::Len;
 use bk_num::limits::{MOST_EVENTS, MOST_OPEN};
 use bk_num::name::{Name, NoMem};
-use bk_num::steps::Steps;
 use bk_num::values::{Align, BreakAt, Color};
 use boxes::flow::{Flow, Note};
 use boxes::frames::{Frame, PageKind};
@@ -22,11 +21,10 @@ use boxes::props::BoxProps;
 use boxes::tree::BoxTree;
 use metrics::Faces;
 use paint::item::{Area, ItemRef};
+use paint::order::is_page_of;
 use paint::place::place;
 use rows::{escaped, number, unescaped};
 use std::alloc::{AllocError, Global};
-use std::marker::Brand;
-use std::sync::ledger::{Blank, Ledger};
 use tree_fixtures::leaf::span_to;
 use tree_fixtures::shape::px;
 
@@ -380,33 +378,17 @@ fn push_items(line: &mut String, items: &[ItemRef<'_>]) -> Result<(), AllocError
     Ok(())
 }
 
-/// The items of a page in short, or `refused`, with a counter of steps.
-fn counted<L: Ledger>(
-    alloc: Global,
-    flow: &Flow,
-    faces: &Faces,
-    page: &Page,
-    token: Blank,
-) -> Result<String, NoMem>
-    requires name { token.name ≡ L.name }
-    requires parts { token.parts ≡ L.parts }
-    requires counted { 0 < L.parts }
-    requires flow { CanFlowBePainted faces.now flow.now }
-{
-    let mut steps = Steps::<L>::zero(token);
-    let Ok(items) = place(alloc, flow, faces, page, &mut steps) else {
-        return Ok(String::from_str(alloc, "refused")?);
-    };
-    let mut out = String::new(alloc);
-    push_items(&mut out, items.as_slice())?;
-    Ok(out)
-}
-
 /// The items of a page in short, or `refused`.
 fn shown(alloc: Global, flow: &Flow, faces: &Faces, page: &Page) -> Result<String, NoMem>
     requires { CanFlowBePainted faces.now flow.now }
 {
-    counted::<Brand>(alloc, flow, faces, page, Blank::new(1))
+    if !is_page_of(flow, page) {
+        return Ok(String::from_str(alloc, "refused")?);
+    }
+    let items = place(alloc, flow, faces, page)?;
+    let mut out = String::new(alloc);
+    push_items(&mut out, items.as_slice())?;
+    Ok(out)
 }
 
 /// The items of a page of such a flow.

@@ -1,8 +1,10 @@
 pub mod BoundLemmas
 pub mod GatherLemmas
+pub mod LineLemmas
 pub mod Lists
 pub mod NoteLemmas
 pub mod OpenLemmas
+pub mod OrderLemmas
 pub mod PageLemmas
 pub mod PartLemmas
 pub mod PrintLemmas

@@ -1,6 +1,5 @@
 -- The items of a solid on a page, with their places in units from the page's top left.
-use Rattle.std.specs.Prelude.{◌<◌, ℕ, ℤ, pos, ◌+ℤ◌, ◌-ℤ◌, List, [], ◌∷◌, ◌++◌, map, length, Bool, true, false, Option, Some, None, ◌==◌, slice_get, slice_index_or, slice_range, if◌then◌else◌}
-use Rattle.std.specs.Str.{IsCharBoundary}
+use Rattle.std.specs.Prelude.{ℕ, ℤ, pos, ◌+ℤ◌, ◌-ℤ◌, List, [], ◌∷◌, ◌++◌, map, length, Bool, true, false, Option, Some, None, ◌==◌, slice_get, slice_index_or, slice_range, if◌then◌else◌}
 use Rattle.metrics.specs.Face.{FontFace}
 use Rattle.boxes.specs.Lines.{LineView}
 use Rattle.boxes.specs.Tree.{Tree, open_before, rest_of}
@@ -13,7 +12,6 @@ use Rattle.boxes.specs.declared.place.Event.{Event}
 use Rattle.boxes.specs.declared.place.Event.TheVariants.{Opens, Closes, Leaf}
 use Rattle.boxes.specs.declared.props.BoxProps.{BoxProps}
 use Rattle.metrics.specs.Widths.{text_width}
-use Rattle.line_fill.specs.LineEnd.{IsLine}
 use Rattle.line_fill.specs.Widths.{is_hyphened, pen_of}
 use Rattle.line_place.specs.Extents.{extent_of}
 use Rattle.line_place.specs.Placing.{runs_of}
@@ -54,12 +52,6 @@ line_between leaf from to = record { from = from; to = to; hyphen = is_hyphened 
 -- the line of a leaf that a placed solid is: it ends inside its leaf or with it
 abbrev pub line_of : LeafData → Placed → LineView
 line_of leaf s = line_between leaf s.at.offset (if s.end.event == s.at.event then s.end.offset else length leaf.text)
-
--- a solid is a line of a leaf in a content: it begins at a character, and ends where the line that begins there does
-pub record IsLineOf (faces : List FontFace) (leaf : LeafData) (s : Placed) (content : Content) : Type 0 where
-  pub before : s.at.offset < length leaf.text
-  pub begins : IsCharBoundary leaf.text s.at.offset
-  pub fills : IsLine faces leaf s.at.offset content.width (line_of leaf s)
 
 -- the markers of a leaf's first line, and the runs of a line, the hyphen among them, where the content begins at a left
 abbrev pub words_items : List FontFace → Tree → SolidOrigin → List ℕ → LeafData → LineView → Content → ℤ → List Item

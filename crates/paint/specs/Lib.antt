@@ -6,6 +6,7 @@ pub mod Fragments
 pub mod Groups
 pub mod Items
 pub mod Opens
+pub mod Order
 pub mod Pages
 pub mod Parts
 pub mod Printed

@@ -65,9 +65,9 @@ fn are_notes_near(notes: &[PlacedNote]) -> bool
     true
 }
 
-/// Whether a page stands within the bounds of what is painted: its frame within those of frames, each solid's top
+/// Whether a page stands within the bounds that `place` asks: its frame within those of frames, each solid's top
 /// within 2^60 units and its height from 0 to 2^32. Its time goes with the solids.
-pub fn is_bounded_page(page: &Page) -> bool
+pub(crate) fn is_bounded_page(page: &Page) -> bool
     ensures { MatchBool result (IsBoundedPage page.now) (¬ (IsBoundedPage page.now)) }
 {
     is_good_frame(&page.frame)

@@ -1,18 +1,18 @@
 //! Goes along a page's solids and writes down the boxes in which they stand.
 
-ghost use Rattle.std.specs.Prelude.{◌≡◌, ◌+◌, ◌<◌, ◌≤◌, ◌-◌, ◌^◌, Some, length, take, All, IfOk, MatchBool, OnOk};
+ghost use Rattle.std.specs.Prelude.{◌≡◌, ◌+◌, ◌<◌, ◌≤◌, ◌-◌, ◌^◌, Some, length, take, All, IfOk, OnOk, slice_get};
 ghost use Rattle.std.specs.List.{flat_map};
 ghost use Rattle.std.specs.Option.{ForSome};
 ghost use Rattle.bk_num.specs.Limits.{most_open};
 ghost use Rattle.boxes.specs.Tree.{depth_of, open_before};
 ghost use Rattle.paint.specs.Bounds.{IsGoodOrigin, IsNearPart, IsNearSolid};
+ghost use Rattle.paint.specs.Order.{AreInOrder};
 ghost use Rattle.paint.specs.Pages.{rects_of};
 ghost use Rattle.paint.specs.Parts.{AddsSolid, AreGathered, HaveNone, IsAt, IsGrown, LeavesTo, end_by, first_event, last_of, part_rects};
 
 use crate::extent::extent_of;
 use crate::item::SolidOrigin;
 use crate::parts::{Fragment, Reached, extend, merge, open_part};
-use crate::walk::has_event;
 use bk_num::limits::MOST_OPEN;
 use bk_num::name::NoMem;
 use boxes::page::Placed;
@@ -172,14 +172,7 @@ fn end_at(event: Event, at: u32) -> u32
     }
 }
 
-/// Whether an event stands no earlier than the one before which one stands.
-fn is_ahead(reached: Reached, to: u32) -> bool
-    ensures { MatchBool result (reached.event ≤ to) (to < reached.event) }
-{
-    reached.event <= to
-}
-
-/// Goes on to a solid, and writes it down. None of this where it isn't one of the tree's, or stands before the event.
+/// Goes on to a solid, and writes it down.
 fn add_solid(
     parts: &mut Vec<Fragment>,
     tree: &BoxTree,
@@ -190,22 +183,20 @@ fn add_solid(
     requires depth { depth_of tree.now.events ≤ most_open }
     requires origin { IsGoodOrigin origin.now }
     requires solid { IsNearSolid solid.now }
+    requires within { solid.now.at.event < length tree.now.events }
+    requires order { reached.event ≤ end_by (slice_get tree.now.events solid.now.at.event) solid.now.at.event }
     requires at { IsAt tree.now origin.now.width parts.old.items reached }
     ensures at { IfOk result (λ now. IsAt tree.now origin.now.width parts.new.items now) }
+    ensures event { IfOk result (λ now. now.event ≡
+        end_by (slice_get tree.now.events solid.now.at.event) solid.now.at.event) }
     ensures within { IfOk result (λ now. now.event ≤ length tree.now.events) }
     ensures solid { OnOk result (AddsSolid tree.now.events solid.now parts.old.items parts.new.items) }
 {
     // an event's number is below its tree's count
     let _count = tree.count();
     let at = solid.at.event;
-    if !has_event(tree, at) {
-        return Err(NoMem);
-    }
     let event = tree.event(at);
     let to = end_at(event, at);
-    if !is_ahead(reached, to) {
-        return Err(NoMem);
-    }
     let inner = pass_to(parts, tree, reached, to, origin)?;
     extend(parts, inner, event, extent_of(solid));
     Ok(Reached { event: to, inner })
@@ -231,11 +222,11 @@ fn gather(
     requires depth { depth_of tree.now.events ≤ most_open }
     requires origin { IsGoodOrigin origin.now }
     requires solids { All IsNearSolid solids.now }
+    requires order { AreInOrder tree.now 0 solids.now }
     ensures { IfOk result (λ v. AreGathered tree.now origin.now.width solids.now v.items) }
 {
-    let first = first_event(solids).min(tree.count());
     let mut parts = Vec::new(alloc);
-    let mut reached = begin(&mut parts, tree, first, origin)?;
+    let mut reached = begin(&mut parts, tree, first_event(solids), origin)?;
     for solid in solids {
         reached = add_solid(&mut parts, tree, reached, solid, origin)?;
     }
@@ -253,6 +244,7 @@ pub(crate) fn parts_of(
     requires depth { depth_of tree.now.events ≤ most_open }
     requires origin { IsGoodOrigin origin.now }
     requires solids { All IsNearSolid solids.now }
+    requires order { AreInOrder tree.now 0 solids.now }
     ensures rects { IfOk result (λ v. flat_map (part_rects tree.now origin.now) v.items
         ≡ rects_of tree.now origin.now solids.now) }
     ensures there { IfOk result (λ v. All (λ p. p.number < length tree.now.boxes) v.items) }

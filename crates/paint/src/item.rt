@@ -1,7 +1,6 @@
 //! Items of a page with borrowed texts.
 
-ghost use Rattle.std.specs.Prelude.{◌≡◌, ◌^◌, SomeIff, FitsSigned, ◌+ℤ◌};
-ghost use Rattle.std.specs.Int.{w64};
+ghost use Rattle.std.specs.Prelude.{◌≡◌, ◌^◌};
 ghost use Rattle.bk_num.specs.Numbers.{IsWithin};
 ghost use Rattle.paint.specs.Areas.{area_of, style_of};
 ghost use Rattle.paint.specs.Bounds.{IsGoodOrigin, IsNearSolid};
@@ -51,13 +50,6 @@ pub struct SolidOrigin {
     pub left: i64,
     pub top: i64,
     pub width: i64,
-}
-
-/// A sum of units. None exactly where it is past 64 bits, which no page within the limits reaches.
-pub(crate) fn sum(a: i64, b: i64) -> Option<i64>
-    ensures { SomeIff result (FitsSigned w64 (a +ℤ b)) (a +ℤ b) }
-{
-    a.checked_add(b)
 }
 
 /// The style of a span at a left, on a baseline.

@@ -1,7 +1,7 @@
 //! The items of a page: what it prints, each at its place.
 #![tactic(auto)]
 
-pub mod bounds;
+mod bounds;
 mod edges;
 pub mod extent;
 mod gather;
@@ -11,6 +11,7 @@ mod leads;
 mod lines;
 mod note_area;
 pub mod opens;
+pub mod order;
 pub mod parts;
 pub mod place;
 mod rects;

@@ -1,36 +1,32 @@
 //! Items of lines.
 
-ghost use Rattle.std.specs.Prelude.{◌≡◌, ◌+◌, ◌≤◌, ◌∷◌, [], ◌^◌, ◌+ℤ◌, ◌==◌, if◌then◌else◌, map, length, MatchBool, MatchOption, OnOk, IfSome, SomeIff, FitsSigned, ◌<◌};
-ghost use Rattle.std.specs.Int.{w64};
-ghost use Rattle.std.specs.Str.{IsCharBoundary};
+ghost use Rattle.std.specs.Prelude.{◌≡◌, ◌∷◌, [], ◌^◌, ◌+ℤ◌, ◌==◌, if◌then◌else◌, map, length, OnOk};
 ghost use Rattle.bk_num.specs.Numbers.{IsWithin};
 ghost use Rattle.boxes.specs.Contents.{IsGoodLeaf};
 ghost use Rattle.boxes.specs.Tree.{open_before};
+ghost use Rattle.line_fill.specs.LineEnd.{IsLineBetween};
 ghost use Rattle.line_place.specs.Conditions.{IsInLeaf};
 ghost use Rattle.line_place.specs.Extents.{extent_of};
 ghost use Rattle.paint.specs.Areas.{area_of};
 ghost use Rattle.paint.specs.Bounds.{IsGoodOrigin, IsNearSolid};
 ghost use Rattle.paint.specs.Conditions.{IsFaced};
-ghost use Rattle.paint.specs.Items.{IsLineOf, lead_item, line_items, line_of, words_items};
+ghost use Rattle.paint.specs.Items.{lead_item, line_items, line_of, words_items};
 ghost use Rattle.paint.specs.Opens.{AreOpen, IsNear, IsWide};
 ghost use Rattle.paint.specs.Views.{Adds, HaveItemFaces, area_item};
 
-use crate::item::{Canvas, ItemRef, area_at, sum};
+use crate::item::{Canvas, ItemRef, area_at};
 use crate::leads::push_leads;
 use crate::opens::{OpenBox, innermost};
 use crate::runs::push_runs;
 use bk_num::name::NoMem;
-use bk_num::steps::Steps;
 use boxes::leaf::Leaf;
 use boxes::line::Line;
 use boxes::page::Placed;
 use boxes::span::Content;
-use line_fill::next_line;
+use line_fill::line_between;
 use line_place::extent::line_height;
 use line_place::runs::runs;
-use metrics::Faces;
 use std::alloc::Global;
-use std::sync::ledger::Ledger;
 
 /// Adds the area of a line, in the content of its block.
 fn push_area<'a>(
@@ -113,98 +109,78 @@ fn push_words<'a>(
     Ok(())
 }
 
-/// The baseline of a line of a leaf, in units from the page's top. None exactly where it or the line's top is past 64
-/// bits.
-fn baseline_of(canvas: &Canvas<'_>, s: &Placed, leaf: &Leaf, line: Line) -> Option<i64>
+/// The baseline of a line of a leaf, in units from the page's top.
+fn baseline_of(canvas: &Canvas<'_>, s: &Placed, leaf: &Leaf, line: Line) -> i64
     requires good { IsGoodLeaf leaf.now }
     requires faced { IsFaced canvas.now.faces.now leaf.now }
     requires line { IsInLeaf leaf.now line }
-    ensures { SomeIff result (FitsSigned w64 (canvas.now.origin.top +ℤ s.now.top) × FitsSigned w64
-        ((canvas.now.origin.top +ℤ s.now.top) +ℤ (extent_of canvas.now.faces.now leaf.now line.from line.to).baseline))
-        ((canvas.now.origin.top +ℤ s.now.top) +ℤ (extent_of canvas.now.faces.now leaf.now line.from line.to).baseline) }
+    requires origin { IsGoodOrigin canvas.now.origin }
+    requires solid { IsNearSolid s.now }
+    ensures { result ≡ ((canvas.now.origin.top +ℤ s.now.top) +ℤ
+        (extent_of canvas.now.faces.now leaf.now line.from line.to).baseline) }
 {
-    let top = sum(canvas.origin.top, s.top)?;
-    sum(top, line_height(canvas.faces, leaf, line).baseline)
+    canvas.origin.top + s.top + line_height(canvas.faces, leaf, line).baseline
+}
+
+/// How many bytes a leaf's text has: where its last span ends.
+fn text_len(leaf: &Leaf) -> u32
+    requires { IsGoodLeaf leaf.now }
+    ensures { result ≡ length leaf.now.text }
+{
+    match leaf.spans.as_slice().last() {
+        Some(span) => span.to,
+        None => 0,
+    }
 }
 
 /// Where a placed line ends: inside its leaf, or with it.
-fn end_in(leaf: &Leaf, s: &Placed) -> usize
-    ensures { result ≡ (if s.now.end.event == s.now.at.event then s.now.end.offset else length leaf.now.text) }
+pub(crate) fn end_in(leaf: &Leaf, s: &Placed) -> u32
+    requires { IsGoodLeaf leaf.now }
+    ensures { result ≡ (line_of leaf.now s.now).to }
 {
     if s.end.event == s.at.event {
-        s.end.offset as usize
+        s.end.offset
     } else {
-        leaf.text.as_str().len()
+        text_len(leaf)
     }
 }
 
-/// Whether a character of a text begins at an offset.
-fn has_character(text: &str, at: u32) -> bool
-    ensures { MatchBool result ((at < length text.now) × IsCharBoundary text.now at)
-        (¬ ((at < length text.now) × IsCharBoundary text.now at)) }
-{
-    (at as usize) < text.len() && text.is_char_boundary(at as usize)
-}
-
-/// The line of a leaf that a solid is, filled in the content of its block. None exactly where the solid is no line of
-/// it. It takes at most a step.
-fn line_at<L: Ledger>(
-    faces: &Faces,
-    leaf: &Leaf,
-    s: &Placed,
-    content: &Content,
-    steps: &mut Steps<L>,
-) -> Option<Line>
+/// The line of a leaf that a solid is, which stands between two places. It fills nothing.
+fn line_at(leaf: &Leaf, s: &Placed) -> Line
     requires good { IsGoodLeaf leaf.now }
-    requires faced { IsFaced faces.now leaf.now }
-    requires wide { IsWide content.now }
-    ensures line { MatchOption result (¬ (IsLineOf faces.now leaf.now s.now content.now))
-        (λ line. line ≡ line_of leaf.now s.now) }
-    ensures inside { IfSome result (λ line. IsInLeaf leaf.now line) }
-    ensures steps { steps.new ≤ steps.old + 1 }
+    requires between { IsLineBetween leaf.now s.now.at.offset (line_of leaf.now s.now).to }
+    ensures line { result ≡ line_of leaf.now s.now }
+    ensures inside { IsInLeaf leaf.now result }
 {
-    let from = s.at.offset;
-    if !has_character(leaf.text.as_str(), from) {
-        return None;
-    }
-    let line = next_line(faces, leaf, from, content.width, steps);
-    if line.to() as usize == end_in(leaf, s) {
-        Some(line)
-    } else {
-        None
-    }
+    // places stand at characters of a text
+    let _text = leaf.text.as_str();
+    line_between(leaf, s.at.offset, end_in(leaf, s))
 }
 
-/// Adds a line of a leaf: its area, then the leaf's markers if it is the first, then its runs with the hyphen. It takes
-/// at most a step.
+/// Adds a line of a leaf: its area, then the leaf's markers if it is the first, then its runs with the hyphen.
 #[tactic(auto, unfolding(crate::specs::Items::line_items))]
-pub(crate) fn push_line<'a, L: Ledger>(
+pub(crate) fn push_line<'a>(
     alloc: Global,
     out: &mut Vec<ItemRef<'a>>,
     canvas: &Canvas<'a>,
     opens: &[OpenBox],
     s: &Placed,
     leaf: &'a Leaf,
-    steps: &mut Steps<L>,
 ) -> Result<(), NoMem>
     requires good { IsGoodLeaf leaf.now }
     requires faced { IsFaced canvas.now.faces.now leaf.now }
     requires origin { IsGoodOrigin canvas.now.origin }
     requires solid { IsNearSolid s.now }
+    requires between { IsLineBetween leaf.now s.now.at.offset (line_of leaf.now s.now).to }
     requires opens { AreOpen canvas.now.tree.now canvas.now.origin s.now.at.event opens.now }
     requires faces { HaveItemFaces canvas.now.faces.now out.old.items }
     ensures items { OnOk result (Adds canvas.now.faces.now out.old.items
         (line_items canvas.now.faces.now canvas.now.tree.now canvas.now.origin s.now leaf.now) out.new.items) }
     ensures faces { OnOk result (HaveItemFaces canvas.now.faces.now out.new.items) }
-    ensures steps { steps.new ≤ steps.old + 1 }
 {
     let content = innermost(opens, &canvas.origin);
-    let Some(line) = line_at(canvas.faces, leaf, s, &content, steps) else {
-        return Err(NoMem);
-    };
-    let Some(baseline) = baseline_of(canvas, s, leaf, line) else {
-        return Err(NoMem);
-    };
+    let line = line_at(leaf, s);
+    let baseline = baseline_of(canvas, s, leaf, line);
     push_area(out, canvas, s, &content)?;
     push_words(
         alloc, out, canvas, opens, s.at.event, baseline, leaf, line, &content,

@@ -1,6 +1,6 @@
 //! Items of the note area of a page.
 
-ghost use Rattle.std.specs.Prelude.{◌≡◌, ◌+◌, ◌≤◌, ◌∷◌, [], OnOk, Some, All, pos, ◌≤ℤ◌, ◌^◌, length, slice_get, option_map};
+ghost use Rattle.std.specs.Prelude.{◌≡◌, ◌+◌, ◌≤◌, ◌∷◌, [], OnOk, Some, All, pos, ◌≤ℤ◌, ◌^◌, length, ◌<◌, slice_get};
 ghost use Rattle.std.specs.List.{flat_map, range_with_len};
 ghost use Rattle.boxes.specs.Frames.{IsGoodFrame};
 ghost use Rattle.notes.specs.Notes.{placed_height};
@@ -9,6 +9,7 @@ ghost use Rattle.paint.specs.Bounds.{IsGoodOrigin, IsNearSolid};
 ghost use Rattle.paint.specs.Conditions.{CanNotesBePainted};
 ghost use Rattle.paint.specs.Groups.{GoesOn};
 ghost use Rattle.paint.specs.Items.{for_some};
+ghost use Rattle.paint.specs.Order.{AreNotesInOrder, HasOrder};
 ghost use Rattle.paint.specs.Pages.{area_items, area_origin, note_items, separator_area, separator_at, tree_items};
 ghost use Rattle.paint.specs.Views.{Adds, HaveItemFaces, items_in};
 
@@ -17,7 +18,6 @@ use crate::rects::push_rect;
 use crate::trees::push_tree;
 use bk_num::limits::SEPARATOR;
 use bk_num::name::NoMem;
-use bk_num::steps::Steps;
 use bk_num::values::Color;
 use boxes::flow::Note;
 use boxes::frames::Frame;
@@ -25,7 +25,6 @@ use boxes::page::{Placed, PlacedNote};
 use metrics::Faces;
 use notes::area::placed_height;
 use std::alloc::Global;
-use std::sync::ledger::Ledger;
 
 const BLACK: Color = Color {
     red: 0,
@@ -40,7 +39,7 @@ fn area_height(notes: &[PlacedNote]) -> i64
     ensures low { pos 0 ≤ℤ result }
     ensures high { result ≤ℤ pos (2 ^ 60 + 2 ^ 32) }
 {
-    placed_height(notes).unwrap()
+    placed_height(notes)
 }
 
 /// What the places of a page's note solids count from.
@@ -86,14 +85,11 @@ fn push_separator<'a>(
 }
 
 /// The note of a number.
-fn note_at(notes: &[Note], number: usize) -> Option<&Note>
-    ensures { option_map (λ note. note.now) result ≡ slice_get notes.now number }
+fn note_at(notes: &[Note], number: usize) -> &Note
+    requires { number < length notes.now }
+    ensures { slice_get notes.now number ≡ Some result.now }
 {
-    if number < notes.len() {
-        Some(&notes[number])
-    } else {
-        None
-    }
+    &notes[number]
 }
 
 /// A note, and those of its solids that were met.
@@ -103,41 +99,38 @@ struct Group {
     solids: Vec<Placed>,
 }
 
-/// Adds what is painted of a note. It takes at most a step for each of its solids.
-fn push_note<'a, L: Ledger>(
+/// Adds what is painted of a note.
+fn push_note<'a>(
     alloc: Global,
     out: &mut Vec<ItemRef<'a>>,
     faces: &'a Faces,
     notes: &'a [Note],
     origin: SolidOrigin,
     group: &Group,
-    steps: &mut Steps<L>,
 ) -> Result<(), NoMem>
     requires bodies { CanNotesBePainted faces.now notes.now }
     requires origin { IsGoodOrigin origin }
     requires solids { All IsNearSolid group.now.solids.items }
+    requires number { group.now.number < length notes.now }
+    requires order { HasOrder notes.now group.now.number group.now.solids.items }
     requires faces { HaveItemFaces faces.now out.old.items }
     ensures items { OnOk result (Adds faces.now out.old.items
         (for_some (λ (note : Note). tree_items faces.now note.body origin group.now.solids.items)
         (slice_get notes.now group.now.number)) out.new.items) }
     ensures faces { OnOk result (HaveItemFaces faces.now out.new.items) }
-    ensures steps { steps.new ≤ steps.old + length group.now.solids.items }
 {
-    let Some(note) = note_at(notes, group.number) else {
-        return Err(NoMem);
-    };
+    let note = note_at(notes, group.number);
     let canvas = Canvas {
         faces,
         tree: &note.body,
         origin,
     };
-    push_tree(alloc, out, &canvas, &group.solids, steps)?;
+    push_tree(alloc, out, &canvas, &group.solids)?;
     Ok(())
 }
 
-/// Turns to a later note, or stays: adds what is painted of the note that was met. Want of memory where it is an
-/// earlier one. It takes at most a step for each solid that goes.
-fn turn_to<'a, L: Ledger>(
+/// Turns to a later note, or stays: adds what is painted of the note that was met.
+fn turn_to<'a>(
     alloc: Global,
     out: &mut Vec<ItemRef<'a>>,
     faces: &'a Faces,
@@ -145,11 +138,13 @@ fn turn_to<'a, L: Ledger>(
     origin: SolidOrigin,
     group: &mut Group,
     next: usize,
-    steps: &mut Steps<L>,
 ) -> Result<(), NoMem>
     requires bodies { CanNotesBePainted faces.now notes.now }
     requires origin { IsGoodOrigin origin }
     requires solids { All IsNearSolid group.old.solids.items }
+    requires later { group.old.number ≤ next }
+    requires most { next ≤ length notes.now }
+    requires order { HasOrder notes.now group.old.number group.old.solids.items }
     requires faces { HaveItemFaces faces.now out.old.items }
     ensures items { OnOk result (GoesOn faces.now notes.now origin
         (items_in faces.now out.old.items) group.old.number group.old.solids.items
@@ -157,40 +152,34 @@ fn turn_to<'a, L: Ledger>(
     ensures number { OnOk result (group.new.number ≡ next) }
     ensures solids { OnOk result (All IsNearSolid group.new.solids.items) }
     ensures faces { OnOk result (HaveItemFaces faces.now out.new.items) }
-    ensures steps { steps.new ≤ steps.old + length group.old.solids.items }
-    ensures rest { OnOk result (steps.new + length group.new.solids.items ≤ steps.old + length group.old.solids.items) }
 {
     if next == group.number {
         return Ok(());
     }
-    if next < group.number {
-        return Err(NoMem);
-    }
-    push_note(alloc, out, faces, notes, origin, group, steps)?;
+    push_note(alloc, out, faces, notes, origin, group)?;
     group.number = next;
     group.solids.clear();
     Ok(())
 }
 
-/// Adds what is painted of notes, in order, from an origin. It takes at most a step for each of their solids.
-fn push_notes<'a, L: Ledger>(
+/// Adds what is painted of notes, in order, from an origin.
+fn push_notes<'a>(
     alloc: Global,
     out: &mut Vec<ItemRef<'a>>,
     faces: &'a Faces,
     notes: &'a [Note],
     origin: SolidOrigin,
     placed: &[PlacedNote],
-    steps: &mut Steps<L>,
 ) -> Result<(), NoMem>
     requires bodies { CanNotesBePainted faces.now notes.now }
     requires origin { IsGoodOrigin origin }
     requires solids { All (λ note. IsNearSolid note.1) placed.now }
+    requires order { AreNotesInOrder notes.now 0 0 placed.now }
     requires faces { HaveItemFaces faces.now out.old.items }
     ensures items { OnOk result (Adds faces.now out.old.items
         (flat_map (note_items faces.now notes.now origin placed.now)
         (range_with_len 0 (length notes.now))) out.new.items) }
     ensures faces { OnOk result (HaveItemFaces faces.now out.new.items) }
-    ensures steps { steps.new ≤ steps.old + length placed.now }
 {
     let mut group = Group {
         number: 0,
@@ -205,47 +194,36 @@ fn push_notes<'a, L: Ledger>(
             origin,
             &mut group,
             *number as usize,
-            steps,
         )?;
         group.solids.push(*s)?;
     }
-    turn_to(
-        alloc,
-        out,
-        faces,
-        notes,
-        origin,
-        &mut group,
-        notes.len(),
-        steps,
-    )?;
+    turn_to(alloc, out, faces, notes, origin, &mut group, notes.len())?;
     Ok(())
 }
 
-/// Adds the items of the note area of a page. It takes at most a step for each of its solids.
-pub(crate) fn push_area<'a, L: Ledger>(
+/// Adds the items of the note area of a page.
+pub(crate) fn push_area<'a>(
     alloc: Global,
     out: &mut Vec<ItemRef<'a>>,
     faces: &'a Faces,
     notes: &'a [Note],
     frame: &Frame,
     placed: &[PlacedNote],
-    steps: &mut Steps<L>,
 ) -> Result<(), NoMem>
     requires bodies { CanNotesBePainted faces.now notes.now }
     requires frame { IsGoodFrame frame.now }
     requires solids { All (λ note. IsNearSolid note.1) placed.now }
+    requires order { AreNotesInOrder notes.now 0 0 placed.now }
     requires faces { HaveItemFaces faces.now out.old.items }
     ensures items { OnOk result (Adds faces.now out.old.items
         (area_items faces.now notes.now frame.now placed.now) out.new.items) }
     ensures faces { OnOk result (HaveItemFaces faces.now out.new.items) }
-    ensures steps { steps.new ≤ steps.old + length placed.now }
 {
     if placed.is_empty() {
         return Ok(());
     }
     let origin = area_origin(frame, placed);
     push_separator(out, faces, &origin)?;
-    push_notes(alloc, out, faces, notes, origin, placed, steps)?;
+    push_notes(alloc, out, faces, notes, origin, placed)?;
     Ok(())
 }

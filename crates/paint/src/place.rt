@@ -1,43 +1,35 @@
 //! The items of a page.
 
-ghost use Rattle.std.specs.Prelude.{◌≡◌, ◌+◌, ◌≤◌, length, IfOk};
+ghost use Rattle.std.specs.Prelude.{◌≡◌, IfOk};
 ghost use Rattle.paint.specs.Conditions.{CanFlowBePainted};
+ghost use Rattle.paint.specs.Order.{IsPageOf};
 ghost use Rattle.paint.specs.Pages.{items_of};
 ghost use Rattle.paint.specs.Views.{HaveItemFaces, items_in};
 
-use crate::bounds::is_bounded_page;
 use crate::item::{Canvas, ItemRef, SolidOrigin};
 use crate::note_area::push_area;
 use crate::trees::push_tree;
 use bk_num::name::NoMem;
-use bk_num::steps::Steps;
 use boxes::flow::Flow;
 use boxes::page::Page;
 use metrics::Faces;
 use std::alloc::Global;
-use std::sync::ledger::Ledger;
 
 /// The items of a page of a flow, in the order of the listing: the backgrounds and borders of the main tree's boxes,
 /// its edges and lines, each line with its markers, runs and hyphen, and then the note area: its separator, and note
-/// after note the like of its body. Places are sums of units from the page's top left. Want of memory is answered too
-/// for a page that isn't one of the flow's, which isn't within bounds, whose solids aren't in order or whose lines its
-/// leaves don't have, and where a baseline or a run's left is past 64 bits. It takes at most a step for each solid; its
-/// time goes with the page's solids, the events between them and their text.
-pub fn place<'a, L: Ledger>(
+/// after note the like of its body. Places are sums of units from the page's top left. No line is filled: each stands
+/// where the page has it. Its time goes with the page's solids, the events between them and their text.
+pub fn place<'a>(
     alloc: Global,
     flow: &'a Flow,
     faces: &'a Faces,
     page: &Page,
-    steps: &mut Steps<L>,
 ) -> Result<Vec<ItemRef<'a>>, NoMem>
-    requires { CanFlowBePainted faces.now flow.now }
+    requires flow { CanFlowBePainted faces.now flow.now }
+    requires page { IsPageOf flow.now page.now }
     ensures items { IfOk result (λ v. items_in faces.now v.items ≡ items_of faces.now flow.now page.now) }
     ensures faces { IfOk result (λ v. HaveItemFaces faces.now v.items) }
-    ensures steps { steps.new ≤ steps.old + (length page.now.solids + length page.now.notes) }
 {
-    if !is_bounded_page(page) {
-        return Err(NoMem);
-    }
     let frame = &page.frame;
     let canvas = Canvas {
         faces,
@@ -49,16 +41,8 @@ pub fn place<'a, L: Ledger>(
         },
     };
     let mut out = Vec::new(alloc);
-    push_tree(alloc, &mut out, &canvas, page.solids.as_slice(), steps)?;
+    push_tree(alloc, &mut out, &canvas, page.solids.as_slice())?;
     let notes = flow.notes.as_slice();
-    push_area(
-        alloc,
-        &mut out,
-        faces,
-        notes,
-        frame,
-        page.notes.as_slice(),
-        steps,
-    )?;
+    push_area(alloc, &mut out, faces, notes, frame, page.notes.as_slice())?;
     Ok(out)
 }

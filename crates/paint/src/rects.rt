@@ -9,6 +9,7 @@ ghost use Rattle.boxes.specs.Spans.{units_at};
 ghost use Rattle.paint.specs.Bounds.{IsGoodOrigin, IsNearArea, IsNearExtent, IsNearPart, IsNearSolid};
 ghost use Rattle.paint.specs.Conditions.{CanBePainted};
 ghost use Rattle.paint.specs.Opens as spec;
+ghost use Rattle.paint.specs.Order.{AreInOrder};
 ghost use Rattle.paint.specs.Pages.{rects_of};
 ghost use Rattle.paint.specs.Parts.{part_rects};
 ghost use Rattle.paint.specs.Rects.{background_rects, border_rects, box_rects, edge_rects, fragment_area, left_area, lower_top, right_area, side_rects, upper_top};
@@ -351,6 +352,7 @@ pub(crate) fn push_rects<'a>(
     requires tree { CanBePainted canvas.now.faces.now canvas.now.tree.now }
     requires origin { IsGoodOrigin canvas.now.origin }
     requires solids { All IsNearSolid solids.now }
+    requires order { AreInOrder canvas.now.tree.now 0 solids.now }
     requires faces { HaveItemFaces canvas.now.faces.now out.old.items }
     ensures items { OnOk result (Adds canvas.now.faces.now out.old.items
         (rects_of canvas.now.tree.now canvas.now.origin solids.now) out.new.items) }

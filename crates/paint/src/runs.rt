@@ -1,15 +1,15 @@
 //! Items of the runs of a line.
 
-ghost use Rattle.std.specs.Prelude.{◌≡◌, ◌<◌, ◌≤◌, ◌∷◌, [], map, length, All, OnOk, IfSome, SomeIff, FitsSigned, slice_range, ◌+ℤ◌};
-ghost use Rattle.std.specs.Int.{w64};
+ghost use Rattle.std.specs.Prelude.{◌≡◌, ◌<◌, ◌≤◌, ◌∷◌, [], ◌^◌, map, length, All, OnOk, slice_range, ◌+ℤ◌};
 ghost use Rattle.std.specs.Str.{IsCharBoundary};
+ghost use Rattle.bk_num.specs.Numbers.{IsWithin};
 ghost use Rattle.line_place.specs.Conditions.{HasFaces};
 ghost use Rattle.line_place.specs.Placing.{IsRunIn};
 ghost use Rattle.paint.specs.Areas.{style_of};
 ghost use Rattle.paint.specs.Items.{run_item, span_of};
 ghost use Rattle.paint.specs.Views.{Adds, HaveItemFaces, hyphen_item, text_item};
 
-use crate::item::{Canvas, ItemRef, TextPlace, style_at, sum};
+use crate::item::{Canvas, ItemRef, TextPlace, style_at};
 use bk_num::name::NoMem;
 use boxes::leaf::Leaf;
 use line_place::place::Run;
@@ -66,25 +66,18 @@ fn push_text<'a>(
     Ok(())
 }
 
-/// The style of a run of a line whose content begins at a left, on a baseline. None exactly where its left is past 64
-/// bits.
-fn style_of_run(
-    faces: &Faces,
-    leaf: &Leaf,
-    left: i64,
-    baseline: i64,
-    run: &Run,
-) -> Option<TextPlace>
+/// The style of a run of a line whose content begins at a left, on a baseline.
+fn style_of_run(faces: &Faces, leaf: &Leaf, left: i64, baseline: i64, run: &Run) -> TextPlace
     requires leaf { HasFaces faces.now leaf.now }
-    requires there { run.now.span < length leaf.now.spans }
-    ensures style { SomeIff result (FitsSigned w64 (left +ℤ run.now.x))
-        (style_of (left +ℤ run.now.x) baseline (span_of leaf.now run.now.span)) }
-    ensures face { IfSome result (λ style. style.face.0 < length faces.now) }
+    requires run { IsRunIn leaf.now run.now }
+    requires left { IsWithin (2 ^ 61) left }
+    ensures style { result ≡ style_of (left +ℤ run.now.x) baseline (span_of leaf.now run.now.span) }
+    ensures face { result.face.0 < length faces.now }
 {
     // named by the clauses alone
     let _faces = faces;
     let span = &leaf.spans.as_slice()[run.span as usize];
-    Some(style_at(span, sum(left, run.x)?, baseline))
+    style_at(span, left + run.x, baseline)
 }
 
 /// Adds a run of a line whose content begins at a left, on a baseline.
@@ -99,14 +92,13 @@ fn push_run<'a>(
 ) -> Result<(), NoMem>
     requires leaf { HasFaces canvas.now.faces.now leaf.now }
     requires run { IsRunIn leaf.now run.now }
+    requires left { IsWithin (2 ^ 61) left }
     requires faces { HaveItemFaces canvas.now.faces.now out.old.items }
     ensures items { OnOk result (Adds canvas.now.faces.now out.old.items
         (run_item canvas.now.faces.now leaf.now left baseline run.now ∷ []) out.new.items) }
     ensures faces { OnOk result (HaveItemFaces canvas.now.faces.now out.new.items) }
 {
-    let Some(style) = style_of_run(canvas.faces, leaf, left, baseline, run) else {
-        return Err(NoMem);
-    };
+    let style = style_of_run(canvas.faces, leaf, left, baseline, run);
     if run.hyphen {
         push_hyphen(out, canvas, style)?;
         return Ok(());
@@ -127,6 +119,7 @@ pub(crate) fn push_runs<'a>(
 ) -> Result<(), NoMem>
     requires leaf { HasFaces canvas.now.faces.now leaf.now }
     requires runs { All (IsRunIn leaf.now) runs.now }
+    requires left { IsWithin (2 ^ 61) left }
     requires faces { HaveItemFaces canvas.now.faces.now out.old.items }
     ensures items { OnOk result (Adds canvas.now.faces.now out.old.items
         (map (run_item canvas.now.faces.now leaf.now left baseline) runs.now) out.new.items) }

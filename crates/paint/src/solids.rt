@@ -1,46 +1,44 @@
 //! Items of the solids of a tree.
 
-ghost use Rattle.std.specs.Prelude.{◌+◌, ◌≤◌, ◌<◌, length, All, OnOk};
+ghost use Rattle.std.specs.Prelude.{◌<◌, length, All, OnOk};
 ghost use Rattle.std.specs.Option.{ForSome};
 ghost use Rattle.std.specs.List.{flat_map};
 ghost use Rattle.paint.specs.Bounds.{IsGoodOrigin, IsNearSolid};
 ghost use Rattle.paint.specs.Conditions.{CanBePainted};
 ghost use Rattle.paint.specs.Items.{solid_items};
 ghost use Rattle.paint.specs.Opens.{AreOpen};
+ghost use Rattle.paint.specs.Order.{AreInOrder, IsLineIn};
 ghost use Rattle.paint.specs.Views.{Adds, HaveItemFaces};
 
 use crate::edges::push_edge;
 use crate::item::{Canvas, ItemRef};
 use crate::lines::push_line;
 use crate::opens::{OpenBox, innermost, outer};
-use crate::walk::{go_to, has_event};
+use crate::walk::go_to;
 use bk_num::name::NoMem;
-use bk_num::steps::Steps;
 use boxes::page::Placed;
 use boxes::place::Event;
 use std::alloc::Global;
-use std::sync::ledger::Ledger;
 
-/// Adds the items of a solid, where the boxes that are open before its event are known. It takes at most a step.
+/// Adds the items of a solid, where the boxes that are open before its event are known.
 #[tactic(auto, unfolding(crate::specs::Items::solid_items))]
-fn push_solid<'a, L: Ledger>(
+fn push_solid<'a>(
     alloc: Global,
     out: &mut Vec<ItemRef<'a>>,
     canvas: &Canvas<'a>,
     opens: &[OpenBox],
     s: &Placed,
-    steps: &mut Steps<L>,
 ) -> Result<(), NoMem>
     requires tree { CanBePainted canvas.now.faces.now canvas.now.tree.now }
     requires origin { IsGoodOrigin canvas.now.origin }
     requires solid { IsNearSolid s.now }
     requires within { s.now.at.event < length canvas.now.tree.now.events }
+    requires line { IsLineIn canvas.now.tree.now s.now }
     requires opens { AreOpen canvas.now.tree.now canvas.now.origin s.now.at.event opens.now }
     requires faces { HaveItemFaces canvas.now.faces.now out.old.items }
     ensures items { OnOk result (Adds canvas.now.faces.now out.old.items
         (solid_items canvas.now.faces.now canvas.now.tree.now canvas.now.origin s.now) out.new.items) }
     ensures faces { OnOk result (HaveItemFaces canvas.now.faces.now out.new.items) }
-    ensures steps { steps.new ≤ steps.old + 1 }
 {
     let tree = canvas.tree;
     // a tree is known to be one by its count
@@ -58,64 +56,58 @@ fn push_solid<'a, L: Ledger>(
             Ok(())
         }
         Event::Leaf(number) => {
-            push_line(alloc, out, canvas, opens, s, tree.leaf(number), steps)?;
+            push_line(alloc, out, canvas, opens, s, tree.leaf(number))?;
             Ok(())
         }
     }
 }
 
-/// Goes to a solid from the event that was reached in its tree, if there is one, and adds its items. It takes at most a
-/// step.
-pub(crate) fn push_next<'a, L: Ledger>(
+/// Goes to a solid from the event that was reached in its tree, if there is one, and adds its items.
+pub(crate) fn push_next<'a>(
     alloc: Global,
     out: &mut Vec<ItemRef<'a>>,
     canvas: &Canvas<'a>,
     opens: &mut Vec<OpenBox>,
     reached: Option<u32>,
     s: &Placed,
-    steps: &mut Steps<L>,
 ) -> Result<(), NoMem>
     requires tree { CanBePainted canvas.now.faces.now canvas.now.tree.now }
     requires origin { IsGoodOrigin canvas.now.origin }
     requires solid { IsNearSolid s.now }
+    requires within { s.now.at.event < length canvas.now.tree.now.events }
+    requires line { IsLineIn canvas.now.tree.now s.now }
     requires opens { ForSome reached (λ at. AreOpen canvas.now.tree.now canvas.now.origin at opens.old.items) }
     requires faces { HaveItemFaces canvas.now.faces.now out.old.items }
     ensures items { OnOk result (Adds canvas.now.faces.now out.old.items
         (solid_items canvas.now.faces.now canvas.now.tree.now canvas.now.origin s.now) out.new.items) }
     ensures faces { OnOk result (HaveItemFaces canvas.now.faces.now out.new.items) }
     ensures opens { OnOk result (AreOpen canvas.now.tree.now canvas.now.origin s.now.at.event opens.new.items) }
-    ensures steps { steps.new ≤ steps.old + 1 }
 {
-    if !has_event(canvas.tree, s.at.event) {
-        return Err(NoMem);
-    }
     go_to(opens, canvas.tree, reached, s.at.event, &canvas.origin)?;
-    push_solid(alloc, out, canvas, opens, s, steps)?;
+    push_solid(alloc, out, canvas, opens, s)?;
     Ok(())
 }
 
-/// Adds the items of solids of a tree, in order. It takes at most a step for each. The boxes that are open go along
-/// from solid to solid.
-pub(crate) fn push_solids<'a, L: Ledger>(
+/// Adds the items of solids of a tree, in order. The boxes that are open go along from solid to solid.
+pub(crate) fn push_solids<'a>(
     alloc: Global,
     out: &mut Vec<ItemRef<'a>>,
     canvas: &Canvas<'a>,
     solids: &[Placed],
-    steps: &mut Steps<L>,
 ) -> Result<(), NoMem>
     requires tree { CanBePainted canvas.now.faces.now canvas.now.tree.now }
     requires origin { IsGoodOrigin canvas.now.origin }
     requires solids { All IsNearSolid solids.now }
+    requires order { AreInOrder canvas.now.tree.now 0 solids.now }
     requires faces { HaveItemFaces canvas.now.faces.now out.old.items }
     ensures items { OnOk result (Adds canvas.now.faces.now out.old.items
         (flat_map (solid_items canvas.now.faces.now canvas.now.tree.now canvas.now.origin) solids.now) out.new.items) }
     ensures faces { OnOk result (HaveItemFaces canvas.now.faces.now out.new.items) }
-    ensures steps { steps.new ≤ steps.old + length solids.now }
 {
     let mut opens = Vec::new(alloc);
     let mut reached = None;
     for s in solids {
-        push_next(alloc, out, canvas, &mut opens, reached, s, steps)?;
+        push_next(alloc, out, canvas, &mut opens, reached, s)?;
         reached = Some(s.at.event);
     }
     Ok(())

@@ -1,6 +1,6 @@
 //! Goes along a tree from event to event, with the boxes that are open there.
 
-ghost use Rattle.std.specs.Prelude.{◌≡◌, ℕ, ℤ, List, suc, ◌+◌, ◌<◌, ◌≤◌, ◌∷◌, [], length, MatchBool, OnOk, All};
+ghost use Rattle.std.specs.Prelude.{◌≡◌, ℕ, ℤ, List, suc, ◌+◌, ◌<◌, ◌≤◌, ◌∷◌, [], length, OnOk, All};
 ghost use Rattle.std.specs.Option.{ForSome};
 ghost use Rattle.bk_num.specs.Limits.{most_open};
 ghost use Rattle.boxes.specs.Tree.{Tree, depth_of, rest_of};
@@ -14,13 +14,6 @@ use bk_num::name::NoMem;
 use boxes::place::Event;
 use boxes::span::{content_in, write_chain};
 use boxes::tree::BoxTree;
-
-/// Whether a tree has an event of a number.
-pub(crate) fn has_event(tree: &BoxTree, event: u32) -> bool
-    ensures { MatchBool result (event < length tree.now.events) (length tree.now.events ≤ event) }
-{
-    event < tree.count()
-}
 
 /// Opens a box inside the innermost open one.
 fn open_box(

@@ -10,6 +10,7 @@ use Rattle.book.proofs.lay_out.print_settled.Goals as goal
 pub print-requires : goal.print-requires
 print-requires g c = record {
   painted = can_be_painted c.args.styled.now.faces c.args.laid.now.flow c.requires.good;
+  pages = c.requires.pages;
   numbers = c.as_slice.ensures.value ∙ c.in_ok-numbers.ensures;
   strings = c.in_ok-strings.ensures;
   few = omega (arith, c.requires.few);

@@ -3,7 +3,7 @@ use Rattle.book.proofs.Books.{put_done, put_fails, stops_write}
 use Rattle.book.proofs.lay_out.put_styled.Goals as goal
 
 pub put_settled-requires : goal.put_settled-requires
-put_settled-requires g c = record { good = c.in_ok-laid.ensures.good; boxes = c.requires.boxes; few = c.in_ok-laid.ensures.few }
+put_settled-requires g c = record { good = c.in_ok-laid.ensures.good; boxes = c.requires.boxes; pages = c.in_ok-laid.ensures.pages; few = c.in_ok-laid.ensures.few }
 
 pub returns-in_err-laid-clause-writes : goal.returns-in_err-laid-clause-writes
 returns-in_err-laid-clause-writes g c =

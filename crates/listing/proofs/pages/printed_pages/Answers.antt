@@ -6,7 +6,7 @@ use Rattle.listing.proofs.Printing.{all_more, length_more, printed_more}
 use Rattle.listing.proofs.pages.printed_pages.Goals as goal
 
 pub loop-place-preserved : goal.loop-place-preserved
-loop-place-preserved g c =
+loop-place-preserved c =
     let p = c.args.printer.now in
     let before = c.loop-place.pages.items in
     let page = c.in_ok-printed.field-0 in

@@ -6,8 +6,8 @@ use Rattle.paint.proofs.SolidLemmas.{line_joined}
 use Rattle.paint.proofs.lines.push_line.Goals as goal
 
 pub returns-clause-items : goal.returns-clause-items
-returns-clause-items g c =
+returns-clause-items c =
     let t = c.args.canvas.now.tree.now in
-    let exact : to_z w64 (of_z w64 c.in-Some-baseline_of.baseline) ≡ c.in-Some-baseline_of.baseline = omega (arith, ints) in
-    line_joined c.args.canvas.now.faces.now t c.args.canvas.now.origin c.args.s.now c.args.leaf.now c.in-Some.line c.innermost-content.result _ _ _ _
-    c.in_ok-push_area.ensures.items c.in_ok-push_words.ensures.items c.in-Some.ensures.line (c.innermost-content.ensures.value t (open_before t.events c.args.s.now.at.event) c.requires.opens.are) (exact ∙ c.in-Some-baseline_of.ensures.1)
+    let exact : to_z w64 (of_z w64 c.baseline_of-baseline.result) ≡ c.baseline_of-baseline.result = omega (arith, ints) in
+    line_joined c.args.canvas.now.faces.now t c.args.canvas.now.origin c.args.s.now c.args.leaf.now c.line_at-line.result c.innermost-content.result _ _ _ _
+    c.in_ok-push_area.ensures.items c.in_ok-push_words.ensures.items c.line_at-line.ensures.line (c.innermost-content.ensures.value t (open_before t.events c.args.s.now.at.event) c.requires.opens.are) (exact ∙ c.baseline_of-baseline.ensures)

@@ -4,8 +4,8 @@ use Rattle.paint.proofs.NoteLemmas.{painted_to}
 use Rattle.paint.proofs.note_area.turn_to.Goals as goal
 
 pub returns-clause-items : goal.returns-clause-items
-returns-clause-items g c =
+returns-clause-items c =
     let number : ℕ = c.args.group.now.number in
-    let less : number < c.args.next = (let e = c.if-next-group.false in let l = c.if-next-group-2.false in omega arith) in
+    let less : number < c.args.next = (let e = c.if-next-group.false in let l = c.requires.later in omega arith) in
     painted_to c.args.faces.now c.args.notes.now c.args.origin number c.args.next (items_in c.args.faces.now c.args.out.now.items) (items_in c.args.faces.now c.push_note.new.out.items) c.args.group.now.solids.items c.clear.new.self.items less
     c.in_ok-push_note.ensures.items c.clear.ensures.items

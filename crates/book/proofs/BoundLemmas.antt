@@ -1,0 +1,102 @@
+-- Pages that settled are pages of their flow, within the bounds of what is painted.
+use Rattle.std.proofs.Common.{◌≡◌, ℕ, List, [], ◌∷◌, Option, None, Some, get_or, slice_get, refl, sym, ◌∙◌, subst, arith}
+use Rattle.std.proofs.lemmas.Int.{ints}
+use Rattle.std.proofs.lemmas.List.Elements.{All-cons, All-nil, All-weaker}
+use Rattle.std.proofs.lemmas.Option.{get_or_from_slice_get, slice_get_within}
+use Rattle.std.specs.List.{All}
+use Rattle.std.specs.Option.{option_or}
+use Rattle.bk_num.specs.declared.ids.NameId.{NameId}
+use Rattle.boxes.specs.Frames.{IsGoodFrame, PageFrames}
+use Rattle.boxes.specs.Steps.{IsRun}
+use Rattle.boxes.specs.Table.{cell_in, cell_of, row_of}
+use Rattle.boxes.specs.declared.flow.Flow.{Flow}
+use Rattle.boxes.specs.declared.frames.PageKind.{PageKind}
+use Rattle.boxes.specs.declared.frames.PageKind.TheVariants as kind
+use Rattle.boxes.specs.declared.page.Page.{Page}
+use Rattle.boxes.specs.declared.page.Placed.{Placed}
+use Rattle.boxes.specs.declared.table.PageCell.{PageCell}
+use Rattle.boxes.specs.declared.table.PageRow.{PageRow}
+use Rattle.gen_text.specs.declared.table.Entry.{Entry}
+use Rattle.metrics.specs.Face.{FontFace}
+use Rattle.note_list.specs.Places as note
+use Rattle.page_list.specs.Pages.{AreNear, HaveNearTops, IsEnded, IsStep, State, name_at, start_of}
+use Rattle.page_list.specs.Pages.IsStep.{blank, flows, noted}
+use Rattle.page_seq.specs.Frames.{HasGoodCells, IsGoodTable, frame_in}
+use Rattle.note_list.specs.Conditions.{CanBePaged}
+use Rattle.page_list.proofs.NoteRunLemmas.{paged_notes}
+use Rattle.page_list.proofs.PartLemmas.{paged_parts}
+use Rattle.paint.specs.Bounds.{IsBoundedPage, IsNearSolid}
+use Rattle.paint.specs.Order.{IsPageOf}
+use Rattle.passes.specs.Passes.{End, EndsIn, IsLast, settled, unsettled, long, many, settles, differs, too_long, too_many}
+use Rattle.passes.specs.Work.{Work}
+use Rattle.book.proofs.OrderLemmas.{pages_of_flow}
+use Rattle.book.proofs.Tables.{table_frames}
+
+-- each frame is a good one
+abbrev pub HasGoodFrames : PageFrames → Type 0
+HasGoodFrames frames = (index : ℕ) (name : NameId) (which : PageKind) → IsGoodFrame (frames.frame_of index name which)
+
+all_get : {X : Type 0} (P : X → Type 0) (xs : List X) (k : ℕ) (x : X) → All P xs → slice_get xs k ≡ Some x → P x
+all_get P xs k x all e = subst P (get_or_from_slice_get xs k x x e) (all k x (slice_get_within xs k x e))
+
+-- ---- the frames of a table
+none_good : IsGoodFrame (frame_in None)
+none_good = record { height_low = omega (arith, ints); height_high = omega (arith, ints); width_low = omega (arith, ints); width_high = omega (arith, ints); left_low = omega (arith, ints); left_high = omega (arith, ints); top_low = omega (arith, ints); top_high = omega (arith, ints) }
+
+cell_good : (row : Option PageRow) (k : ℕ) → ((r : PageRow) → row ≡ Some r → HasGoodCells r) → IsGoodFrame (frame_in (cell_in row k))
+cell_good None k good = none_good
+cell_good (Some row) k good = by (slice_get row.cells k) refl
+  where
+    by : (cell : Option PageCell) → slice_get row.cells k ≡ cell → IsGoodFrame (frame_in cell)
+    by None e = none_good
+    by (Some cell) e = all_get (λ (x : PageCell). IsGoodFrame x.frame) row.cells k cell (good row refl) e
+
+row_good : (rows : List PageRow) (name : NameId) → All HasGoodCells rows → (r : PageRow) → row_of rows name ≡ Some r → HasGoodCells r
+row_good rows name all r e = by (slice_get rows name.0) refl e
+  where
+    by : (o : Option PageRow) → slice_get rows name.0 ≡ o → option_or o (slice_get rows 0) ≡ Some r → HasGoodCells r
+    by None f is = all_get HasGoodCells rows 0 r all is
+    by (Some x) f is = all_get HasGoodCells rows name.0 r all (f ∙ is)
+
+pub table_good : (rows : List PageRow) → IsGoodTable rows → HasGoodFrames (table_frames rows)
+table_good rows good index name which = cell_good (row_of rows name) (cell_of index which) (row_good rows name good.cells)
+
+-- ---- the frames of a page list
+module _ (faces : List FontFace) (flow : Flow) (frames : PageFrames) (good : HasGoodFrames frames) where
+  step_good : (s : State) (p : Page) (u : State) → IsStep faces flow frames s p u → IsGoodFrame p.frame
+  step_good s p u (blank going misses p_is u_is) = subst (λ (q : Page). IsGoodFrame q.frame) (sym p_is) (good s.index (name_at flow.main s.at) kind.Blank)
+  step_good s p u (flows going meets cut is p_is u_is) = subst (λ (q : Page). IsGoodFrame q.frame) (sym p_is) (good s.index (name_at flow.main s.at) kind.Flow)
+  step_good s p u (noted done some notes left is p_is u_is) = subst (λ (q : Page). IsGoodFrame q.frame) (sym p_is) (good s.index s.name kind.Notes)
+
+  frames_on : (s : State) (pages : List Page) → IsRun (IsStep faces flow frames) IsEnded s pages → All (λ (p : Page). IsGoodFrame p.frame) pages
+  frames_on s [] r = All-nil (λ (p : Page). IsGoodFrame p.frame)
+  frames_on s (p ∷ pages) r = All-cons (λ (p : Page). IsGoodFrame p.frame) p pages (step_good s p r.0 r.1) (frames_on r.0 pages r.2)
+
+-- ---- the pages
+near_as : (s : Placed) → note.IsNear s → IsNearSolid s
+near_as s near = record { top = near.top; height = near.height; some = near.some }
+
+pages_bounded : (pages : List Page) → All (λ (p : Page). IsGoodFrame p.frame) pages → HaveNearTops pages → All IsBoundedPage pages
+pages_bounded pages frames tops = λ k d low.
+    let page : Page = get_or pages k d in
+    let near : AreNear page.solids page.notes = tops k d low in
+    record {
+      frame = frames k d low;
+      solids = All-weaker note.IsNear IsNearSolid near_as page.solids near.0;
+      notes = All-weaker (λ (n : ℕ × Placed). note.IsNear n.1) (λ (n : ℕ × Placed). IsNearSolid n.1) (λ n is. near_as n.1 is) page.notes near.1;
+    }
+
+abbrev PagesEnd : Work → End → Type 0
+PagesEnd w (settled passes flow pages table) = CanBePaged w.faces flow → HaveNearTops pages → All (IsPageOf flow) pages
+PagesEnd w (unsettled target before after) = Unit {0}
+PagesEnd w long = Unit {0}
+PagesEnd w many = Unit {0}
+
+end_pages : (w : Work) → HasGoodFrames w.frames → (limit k : ℕ) (table : List Entry) (end : End) → IsLast w limit k table end → PagesEnd w end
+end_pages w good limit k table _ (settles flow pages pass) = λ can tops. pages_of_flow flow pages (pages_bounded pages (frames_on w.faces flow w.frames good (start_of flow.main) pages pass.paged) tops) (paged_parts w.faces flow w.frames can pages pass.paged) (paged_notes w.faces flow w.frames pages can pass.paged)
+end_pages w good limit k table _ (differs a b u n s place d x y) = tt
+end_pages w good limit k table _ (too_long flow is much) = tt
+end_pages w good limit k table _ (too_many flow is fits left) = tt
+
+pub are_pages : (w : Work) (limit passes : ℕ) (flow : Flow) (pages : List Page) (table : List Entry) → EndsIn w limit (settled passes flow pages table) → HasGoodFrames w.frames → CanBePaged w.faces flow → HaveNearTops pages → All (IsPageOf flow) pages
+are_pages w limit passes flow pages table (k, below, t, o, last) good can tops = end_pages w good limit k t (settled passes flow pages table) last can tops
