@@ -183,8 +183,10 @@ class Launcher(Folder):
             self.write("bin/slow", "")
             environment = {**os.environ, "PATH": f"{self.path('bin')}:/usr/bin:/bin"}
             with open(self.path("told"), "wb") as told:
+                # under nohup a hangup is ignored, which the launcher would inherit
                 running = subprocess.Popen(
-                    [self.path("bookfmt")], env=environment, stderr=told, stdin=subprocess.DEVNULL
+                    [self.path("bookfmt")], env=environment, stderr=told, stdin=subprocess.DEVNULL,
+                    preexec_fn=lambda number=number: signal.signal(number, signal.SIG_DFL)
                 )
             soon(lambda: os.path.exists(self.path("bin/pid")) and self.read("bin/pid").endswith("\n"))
             started = int(self.read("bin/pid"))
