@@ -14,8 +14,9 @@ abbrev pub IsQuiet : Bool → ℤ → List SolidRow → ℕ → Type 0
 IsQuiet kept height rows to = (m k : ℕ) (r : SolidRow) → IsOver kept rows height m → m < k → k < to →
     slice_get rows k ≡ Some r → is_break r ≡ false
 
--- where no point has missed yet, no break point stands behind a solid below the frame; else none does before the point
--- that missed, and from there on as many solids are read, or will be with `left` more, as widows ask for, at least one
+-- where each point had room so far, no break point stands behind a solid below the frame; else none does before the
+-- point without room, and from there on as many solids are read, or will be with `left` more, as widows ask for, at
+-- least one
 abbrev pub short_by : Bool → ℤ → ℕ → List SolidRow → Option ℕ → Type 0
 short_by kept height widest rows None = IsQuiet kept height rows (length rows)
 short_by kept height widest rows (Some left) = (j : ℕ) × (j < length rows) ×

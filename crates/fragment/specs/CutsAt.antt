@@ -5,7 +5,7 @@ use Rattle.metrics.specs.Face.{FontFace}
 use Rattle.boxes.specs.declared.flow.Flow.{Flow}
 use Rattle.cursor.specs.Remainder.{SolidView}
 use Rattle.cuts.specs.Cuts.{NoteLists}
-use Rattle.cuts.specs.Rows.{rows_extent}
+use Rattle.cuts.specs.Rows.{rows_reach}
 use Rattle.notes.specs.Notes.{IsCarryCount, area_of, must_of}
 use Rattle.note_list.specs.Calls.{called_before}
 use Rattle.note_list.specs.Lists.{AreNoted, called_parts, carried_parts, note_rows}
@@ -42,4 +42,4 @@ pub record CutsAt (flow : Flow) (kept : Bool) (height : ℤ) (carried : List Car
   pub forced_is : cut.forced ≡ forced_after (slice_get solids count)
   pub solids_is : cut.solids ≡ placed_from (first_gap kept solids) (take count solids)
   pub places : PlacesNotes flow carried from (called_before flow.main flow.notes cut.to) height
-      (height -ℤ rows_extent kept (rows_of flow.main solids) count) l cut
+      (height -ℤ rows_reach kept (rows_of flow.main solids) count) l cut

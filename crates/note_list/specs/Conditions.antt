@@ -3,6 +3,7 @@ use Rattle.std.specs.Prelude.{◌≡◌, ℕ, suc, ◌+◌, ◌<◌, ◌≤◌, 
 use Rattle.std.specs.List.{All}
 use Rattle.bk_num.specs.Limits.{most_entries, most_text_bytes}
 use Rattle.metrics.specs.Face.{FontFace}
+use Rattle.boxes.specs.Clones.{AreSliced}
 use Rattle.boxes.specs.Tree.{Tree, IsTree, Holds}
 use Rattle.boxes.specs.declared.flow.Flow.{Flow}
 use Rattle.boxes.specs.declared.flow.Note.{Note}
@@ -34,10 +35,12 @@ pub record CanBeCut (faces : List FontFace) (t : Tree) : Type 0 where
   pub tree : CanBeLaidOut faces t
   pub bytes : text_size t.leaves t.events ≤ most_text_bytes
 
--- a flow whose main tree and whose notes' bodies can be cut, with its notes in the order of their calls
+-- a flow whose main tree and whose notes' bodies can be cut, with its notes in the order of their calls. No box of a
+-- note's body stands again where a page parts it
 pub record CanBePaged (faces : List FontFace) (flow : Flow) : Type 0 where
   pub main : CanBeCut faces flow.main
   pub notes : All (λ n. CanBeCut faces n.body) flow.notes
+  pub sliced : All (λ n. AreSliced n.body.boxes) flow.notes
   pub calls : NeverFall (map (λ n. n.call) flow.notes)
   pub count : length flow.notes ≤ most_entries
 

@@ -1,4 +1,4 @@
--- The cut of a page with its notes (css-break-3, 4.4; css-gcpm-3, 2).
+-- The cut of a page with its notes (css-break-3, 4.4 and 5.4; css-gcpm-3, 2).
 use Rattle.std.specs.Prelude.{◌≡◌, ℕ, ℤ, pos, ◌≤◌, ◌+ℤ◌, ◌-ℤ◌, ◌==◌, List, [], ◌∷◌, ◌++◌, Option, Some, None, Bool, length, map, take, drop, slice_get}
 use Rattle.metrics.specs.Face.{FontFace}
 use Rattle.boxes.specs.Tree.{Tree}
@@ -11,7 +11,7 @@ use Rattle.seams.specs.Levels.{block_at, widows_in, orphans_in}
 use Rattle.cursor.specs.Remainder.{SolidView, IsRemainder}
 use Rattle.cuts.specs.declared.row.SolidRow.{SolidRow}
 use Rattle.cuts.specs.Cuts.{NoteLists, IsCut, Fits, FitsLoosely}
-use Rattle.cuts.specs.Rows.{IsPoint, rows_extent, seam_top}
+use Rattle.cuts.specs.Rows.{IsPoint, rows_reach, seam_top}
 use Rattle.bk_num.specs.Limits.{separator}
 use Rattle.notes.specs.Notes.{IsCarryCount, IsPlaced, must_of}
 use Rattle.note_list.specs.Calls.{called_before}
@@ -35,7 +35,8 @@ row_of t s = record {
 abbrev pub rows_of : Tree → List SolidView → List SolidRow
 rows_of t solids = map (row_of t) solids
 
--- the gap above the first of a page's solids
+-- the gap above the first of a page's solids: what stands again there, and the kept gap after a forced break and at
+-- the flow's start
 abbrev pub first_gap : Bool → List SolidView → ℤ
 first_gap kept [] = pos 0
 first_gap kept (s ∷ solids) = seam_top kept s.seam
@@ -83,7 +84,7 @@ IsBestCut kept rows height list c level j =
     IsCut (IsPagePoint rows) (Fits kept rows height list c) (FitsLoosely kept rows height list c) level j
 
 -- a page's cut: after `count` of the solids that are left, with `number` solids of its list placed, the greatest number
--- that fits
+-- that fits below these and what stands again behind them
 pub record IsFlowCut (faces : List FontFace) (flow : Flow) (frame : Frame) (from : CutFrom) (carried : List Carried)
     (cut : Cut) : Type 0 where
   pub solids : List SolidView
@@ -101,7 +102,7 @@ pub record IsFlowCut (faces : List FontFace) (flow : Flow) (frame : Frame) (from
   pub number : ℕ
   pub places : IsPlaced (note_rows (list count))
       (least_of cut.level (must_of (note_rows (list count)) c) c (length own))
-      (frame.height -ℤ rows_extent from.kept (rows_of flow.main solids) count) number
+      (frame.height -ℤ rows_reach from.kept (rows_of flow.main solids) count) number
   pub to_is : cut.to ≡ place_after flow.main (slice_get solids count)
   pub ended_is : cut.ended ≡ (count == length solids)
   pub forced_is : cut.forced ≡ forced_after (slice_get solids count)

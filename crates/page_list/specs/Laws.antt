@@ -11,7 +11,7 @@ use Rattle.note_list.specs.Conditions.{CanBePaged}
 use Rattle.page_list.specs.Bounds.{HasTexts, most_pages_of}
 use Rattle.page_list.specs.Inside.{EndInside}
 use Rattle.page_list.specs.Noted.{BeginInTime, HoldsNotes}
-use Rattle.boxes.specs.Frames.{PageFrames}
+use Rattle.boxes.specs.Frames.{HaveWidths, PageFrames}
 use Rattle.page_list.specs.Pages.{IsPaged}
 use Rattle.page_list.specs.Parted.{HoldsAll, HoldsBreaks, HoldsEdges, HoldsText, IsLineThere, solids_of}
 
@@ -49,11 +49,10 @@ abbrev pub BreaksHold : Type 0
 BreaksHold = (faces : List FontFace) (flow : Flow) (frames : PageFrames) (pages : List Page) → CanBePaged faces flow →
     IsPaged faces flow frames pages → HoldsBreaks flow.main frames pages
 
--- at levels 0 to 2 the solids of a page end inside its frame and above its notes
+-- at levels 0 to 2 the solids of a page end inside its frame and above its notes, where no frame's width is negative
 abbrev pub PagesEndInside : Type 0
 PagesEndInside = (faces : List FontFace) (flow : Flow) (frames : PageFrames) (pages : List Page) →
-    CanBePaged faces flow →
-    IsPaged faces flow frames pages → EndInside pages
+    HaveWidths frames → CanBePaged faces flow → IsPaged faces flow frames pages → EndInside pages
 
 -- frames that meet each demand within a bound, a free one at once
 pub record MeetWithin (free : Demand → Bool) (bound : ℕ) (frames : PageFrames) : Type 0 where

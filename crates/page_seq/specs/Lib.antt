@@ -1,5 +1,6 @@
 pub mod Finder
 pub mod Frames
+pub mod GoodFrames
 pub mod Noted
 pub mod Numbers
 pub mod Owners

@@ -3,6 +3,7 @@ use Rattle.std.specs.Prelude.{◌≡◌, ℕ, ◌<◌, ◌≤◌, List, Some, le
 use Rattle.std.specs.List.{All}
 use Rattle.bk_num.specs.Limits.{most_open}
 use Rattle.metrics.specs.Face.{FontFace}
+use Rattle.boxes.specs.Clones.{AreSliced}
 use Rattle.boxes.specs.Tree.{Tree, depth_of}
 use Rattle.boxes.specs.declared.flow.Flow.{Flow}
 use Rattle.boxes.specs.declared.flow.Note.{Note}
@@ -23,7 +24,8 @@ pub record CanBePainted (faces : List FontFace) (t : Tree) : Type 0 where
 abbrev pub CanNotesBePainted : List FontFace → List Note → Type 0
 CanNotesBePainted faces notes = (n : ℕ) (note : Note) → slice_get notes n ≡ Some note → CanBePainted faces note.body
 
--- so can its main tree and the bodies of its notes
+-- so can its main tree and the bodies of its notes, and no box of these bodies stands again
 pub record CanFlowBePainted (faces : List FontFace) (flow : Flow) : Type 0 where
   pub main : CanBePainted faces flow.main
   pub notes : CanNotesBePainted faces flow.notes
+  pub sliced : All (λ note. AreSliced note.body.boxes) flow.notes

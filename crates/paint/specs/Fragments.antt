@@ -3,7 +3,7 @@
 use Rattle.std.specs.Prelude.{ℕ, ◌+ℤ◌, List, [], ◌∷◌, Option, None, Some, Bool, false, ◌==◌, slice_get, if◌then◌else◌}
 use Rattle.std.specs.Int.{int_max, int_min}
 use Rattle.std.specs.List.{list_any}
-use Rattle.boxes.specs.Tree.{open_before}
+use Rattle.boxes.specs.Tree.{Tree, open_before}
 use Rattle.boxes.specs.declared.page.Placed.{Placed}
 use Rattle.boxes.specs.declared.place.Event.{Event}
 use Rattle.boxes.specs.declared.place.Event.TheVariants.{Opens, Closes, Leaf}
@@ -64,3 +64,7 @@ here passes e = if passes then Some e else None
 abbrev pub reach_by : (Placed → Bool) → List Placed → Option VerticalExtent
 reach_by test [] = None
 reach_by test (s ∷ solids) = join (here (test s) (extent_of s)) (reach_by test solids)
+
+-- how far a box of a number reaches on a page, over the solids that stand in it
+abbrev pub reach_of : Tree → List Placed → ℕ → Option VerticalExtent
+reach_of t solids b = reach_by (stands_in t.events b) solids

@@ -1,5 +1,6 @@
 pub mod Areas
 pub mod Bounds
+pub mod Clones
 pub mod Conditions
 pub mod Faces
 pub mod Fragments

@@ -1,6 +1,7 @@
 -- The items of a page, in the order of the listing.
 use Rattle.std.specs.Prelude.{ℕ, pos, ◌+ℤ◌, ◌-ℤ◌, List, [], ◌∷◌, ◌++◌, Option, None, Some, ◌==◌, length, slice_get, if◌then◌else◌}
 use Rattle.std.specs.List.{flat_map, range_with_len}
+use Rattle.std.specs.Option.{option_or}
 use Rattle.bk_num.specs.Units.{floor_div}
 use Rattle.bk_num.specs.declared.values.Color.{Color}
 use Rattle.metrics.specs.Face.{FontFace}
@@ -16,21 +17,31 @@ use Rattle.boxes.specs.declared.place.Event.{Event}
 use Rattle.boxes.specs.declared.place.Event.TheVariants.{Opens, Closes, Leaf}
 use Rattle.boxes.specs.declared.props.BoxProps.{BoxProps}
 use Rattle.notes.specs.Notes.{placed_height}
-use Rattle.paint.specs.Fragments.{is_lower, is_upper, reach_by, stands_in}
+use Rattle.paint.specs.Clones.{foot_edge, head_edge, with_lower, with_upper}
+use Rattle.paint.specs.Fragments.{is_lower, is_upper, reach_by, reach_of}
 use Rattle.paint.specs.Items.{for_some, solid_items}
 use Rattle.paint.specs.Opens.{content_along}
 use Rattle.paint.specs.Rects.{fragment_rects}
+use Rattle.paint.specs.declared.extent.VerticalExtent.{VerticalExtent}
 use Rattle.paint.specs.declared.item.Area.{Area}
 use Rattle.paint.specs.declared.item.SolidOrigin.{SolidOrigin}
 use Rattle.paint.specs.Views.{rect_item}
+
+-- the rectangles of a box that an event opens, where its solids and its own edges among them reach so far, and where it
+-- has its upper and its lower edge again
+abbrev pub opened_by : Tree → SolidOrigin → ℕ → Option VerticalExtent → Option VerticalExtent → Option VerticalExtent →
+    Option VerticalExtent → Option VerticalExtent → BoxProps → List Item
+opened_by t o k reach upper lower head foot p =
+    fragment_rects o p (content_along t o.width (open_before t.events k)) (with_upper head (with_lower foot reach))
+    (option_or head upper) (option_or foot lower)
 
 -- the rectangles of the box that an event opens, over the solids of the page that stand in it
 abbrev pub opened_rects : Tree → SolidOrigin → List Placed → ℕ → Option Event → List Item
 opened_rects t o solids k None = []
 opened_rects t o solids k (Some (Opens b)) =
-    for_some (λ (p : BoxProps). fragment_rects o p (content_along t o.width (open_before t.events k))
-    (reach_by (stands_in t.events b) solids) (reach_by (is_upper t.events b) solids)
-    (reach_by (is_lower t.events b) solids)) (slice_get t.boxes b)
+    for_some (λ (p : BoxProps). opened_by t o k (reach_of t solids b) (reach_by (is_upper t.events b) solids)
+    (reach_by (is_lower t.events b) solids) (head_edge t o.width solids k b p)
+    (foot_edge t o.width solids (reach_of t solids) b) p) (slice_get t.boxes b)
 opened_rects t o solids k (Some (Closes b)) = []
 opened_rects t o solids k (Some (Leaf l)) = []
 

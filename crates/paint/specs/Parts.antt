@@ -1,6 +1,8 @@
 -- The boxes that were met on the way along a page's solids.
-use Rattle.std.specs.Prelude.{◌≡◌, ◌<◌, ◌≤◌, ◌++◌, ℕ, ℤ, pos, zero, suc, List, [], ◌∷◌, Option, None, Some, Bool, true, false, not, ◌&&◌, ◌||◌, ◌==◌, nat_lt, map, length, slice_get, slice_set}
+use Rattle.std.specs.Prelude.{◌≡◌, ◌<◌, ◌≤◌, ◌≤ℤ◌, ◌^◌, ◌*◌, ◌++◌, ◌+ℤ◌, ℕ, ℤ, pos, zero, suc, List, [], ◌∷◌, Option, None, Some, Bool, true, false, not, ◌&&◌, ◌||◌, ◌==◌, nat_lt, map, length, slice_get, slice_set, if◌then◌else◌}
 use Rattle.std.specs.List.{filter}
+use Rattle.std.specs.Option.{ForSome, option_or}
+use Rattle.boxes.specs.Clones.{clone_edge, clone_edges}
 use Rattle.boxes.specs.Spans.{span_or}
 use Rattle.boxes.specs.Tree.{Tree, first_of, is_opening, open_before}
 use Rattle.boxes.specs.declared.item.Item.{Item}
@@ -8,9 +10,11 @@ use Rattle.boxes.specs.declared.page.Placed.{Placed}
 use Rattle.boxes.specs.declared.place.Event.{Event}
 use Rattle.boxes.specs.declared.place.Event.TheVariants.{Opens, Closes, Leaf}
 use Rattle.boxes.specs.declared.props.BoxProps.{BoxProps}
-use Rattle.paint.specs.Fragments.{boxes_at, extent_of, here, join}
+use Rattle.paint.specs.Bounds.{IsNearReach}
+use Rattle.paint.specs.Clones.{bottom_with, foot_edge, last_solid, lower_again, run_before, upper_again, with_lower, with_upper}
+use Rattle.paint.specs.Fragments.{boxes_at, extent_of, here, is_lower, is_upper, join, reach_by, reach_of}
 use Rattle.paint.specs.Items.{for_some}
-use Rattle.paint.specs.Opens.{IsBounded, content_along, content_of, pair_of}
+use Rattle.paint.specs.Opens.{IsBounded, IsWide, content_along, content_of, pair_of}
 use Rattle.paint.specs.Rects.{fragment_rects}
 use Rattle.paint.specs.declared.extent.VerticalExtent.{VerticalExtent}
 use Rattle.paint.specs.declared.item.SolidOrigin.{SolidOrigin}
@@ -18,10 +22,22 @@ use Rattle.boxes.specs.declared.span.Content.{Content}
 use Rattle.paint.specs.declared.parts.Fragment.{Fragment}
 use Rattle.paint.specs.declared.parts.Reached.{Reached}
 
--- the rectangles of a box that was met
-abbrev pub part_rects : Tree → SolidOrigin → Fragment → List Item
-part_rects t o part = for_some (λ (p : BoxProps). fragment_rects o p part.around part.reach part.upper part.lower)
-    (slice_get t.boxes part.number)
+-- the upper edge that a box has again that was met: if it opens before an event
+abbrev pub part_head : ℕ → Fragment → BoxProps → Option VerticalExtent
+part_head from part p = if nat_lt part.event from then upper_again p part.above part.inside else None
+
+-- a box that has an upper edge again, where it has one
+abbrev pub with_head : Option VerticalExtent → Fragment → Fragment
+with_head head p = record p { reach = with_upper head p.reach; upper = option_or head p.upper }
+
+-- the rectangles of a box over its reach and its edges
+abbrev pub own_rects : SolidOrigin → BoxProps → Fragment → List Item
+own_rects o p part = fragment_rects o p part.around part.reach part.upper part.lower
+
+-- the rectangles of a box that was met, which is parted at the page's start if it opens before an event
+abbrev pub part_rects : Tree → SolidOrigin → ℕ → Fragment → List Item
+part_rects t o from part =
+    for_some (λ (p : BoxProps). own_rects o p (with_head (part_head from part p) part)) (slice_get t.boxes part.number)
 
 -- a box and the place of the box around it
 abbrev pub spine_of : List Fragment → List (ℕ × Option ℕ)
@@ -107,13 +123,21 @@ pub record IsOn (parts : List Fragment) (boxes : List ℕ) (inner : Option ℕ) 
   pub outers : HaveOuters parts
   pub ascend : AscendTo 0 parts at
 
+-- the edges of n boxes at a side: each is at most 2^28 units high
+abbrev pub IsRoomOf : ℕ → ℤ → Type 0
+IsRoomOf n z = (pos 0 ≤ℤ z) × (z ≤ℤ pos (2 ^ 28 * n))
+
 -- what is written down of where a box stands
 pub record IsOpened (t : Tree) (measure : ℤ) (p : Fragment) : Type 0 where
   pub opens : slice_get t.events p.event ≡ Some (Opens p.number)
   pub around_is : p.around ≡ content_along t measure (open_before t.events p.event)
   pub content_is : p.content ≡ content_along t measure (p.number ∷ open_before t.events p.event)
+  pub above_is : p.above ≡ clone_edges t measure 0 (open_before t.events p.event)
+  pub inside_is : p.inside ≡ clone_edges t measure 0 (p.number ∷ open_before t.events p.event)
   pub around_bounded : IsBounded (length (open_before t.events p.event)) p.around
   pub content_bounded : IsBounded (suc (length (open_before t.events p.event))) p.content
+  pub above_bounded : IsRoomOf (length (open_before t.events p.event)) p.above
+  pub inside_bounded : IsRoomOf (suc (length (open_before t.events p.event))) p.inside
 
 -- the same of each box that was met
 abbrev pub HaveOpened : Tree → ℤ → List Fragment → Type 0
@@ -158,6 +182,16 @@ abbrev pub content_at : ℤ → List Fragment → Option ℕ → Content
 content_at measure parts None = frame_content measure
 content_at measure parts (Some i) = content_or measure (slice_get parts i)
 
+-- the top edges that stand again of a box and of those around it, and none without a box
+abbrev pub inside_or : Option Fragment → ℤ
+inside_or None = pos 0
+inside_or (Some p) = p.inside
+
+-- the same of the box at a place
+abbrev pub inside_at : List Fragment → Option ℕ → ℤ
+inside_at parts None = pos 0
+inside_at parts (Some i) = inside_or (slice_get parts i)
+
 -- a box that opens at an event inside the box at a place
 abbrev pub part_in : Tree → ℤ → List Fragment → Option ℕ → ℕ → ℕ → Fragment
 part_in t measure parts inner event b = record {
@@ -166,6 +200,9 @@ part_in t measure parts inner event b = record {
   outer = inner;
   around = content_at measure parts inner;
   content = content_of (span_or (slice_get t.boxes b) (pair_of (content_at measure parts inner)));
+  above = inside_at parts inner;
+  inside =
+      inside_at parts inner +ℤ clone_edge 0 (slice_get t.boxes b) (content_at measure parts inner).width;
   reach = None;
   upper = None;
   lower = None;
@@ -248,9 +285,100 @@ pub record HaveSolids (es : List Event) (solids : List Placed) (parts : List Fra
 abbrev pub AddsSolid : List Event → Placed → List Fragment → List Fragment → Type 0
 AddsSolid es s old new = (solids : List Placed) → HaveSolids es solids old → HaveSolids es (solids ++ s ∷ []) new
 
--- the boxes in which a page's solids stand, each with the solids whose innermost box it is
-pub record AreGathered (t : Tree) (measure : ℤ) (solids : List Placed) (parts : List Fragment) : Type 0 where
-  pub at : Reached
+-- the boxes in which a page's solids stand, each with the solids whose innermost box it is, up to where one has gone
+pub record AreGathered (t : Tree) (measure : ℤ) (solids : List Placed) (parts : List Fragment) (at : Reached) : Type 0 where
   pub is_at : IsAt t measure parts at
   pub end : at.event ≤ length t.events
+  pub behind : (s : Placed) → last_solid solids ≡ Some s →
+      at.event ≡ end_by (slice_get t.events s.at.event) s.at.event
   pub have : HaveSolids t.events solids parts
+
+-- ---- how far boxes reach
+
+-- all that is written down of boxes but how far they and their edges reach
+abbrev pub place_of : Fragment → Fragment
+place_of p = record p { reach = None; upper = None; lower = None }
+
+-- boxes that were met, each once
+pub record AreMet (t : Tree) (measure : ℤ) (parts : List Fragment) : Type 0 where
+  pub at : ℕ
+  pub ascend : AscendTo 0 parts at
+  pub end : at ≤ length t.events
+  pub outers : HaveOuters parts
+  pub opened : HaveOpened t measure parts
+
+-- the boxes that were met, and how far they and their edges reach by the solids
+pub record AreReached (t : Tree) (measure : ℤ) (solids : List Placed) (parts : List Fragment) : Type 0 where
+  pub met : AreMet t measure parts
+  pub reach : (j : ℕ) (p : Fragment) → slice_get parts j ≡ Some p → p.reach ≡ reach_of t solids p.number
+  pub upper : (j : ℕ) (p : Fragment) → slice_get parts j ≡ Some p →
+      p.upper ≡ reach_by (is_upper t.events p.number) solids
+  pub lower : (j : ℕ) (p : Fragment) → slice_get parts j ≡ Some p →
+      p.lower ≡ reach_by (is_lower t.events p.number) solids
+  pub others : (b : ℕ) → ((j : ℕ) (p : Fragment) → slice_get parts j ≡ Some p → p.number ≡ b → ⊥) →
+      reach_of t solids b ≡ None
+
+-- ---- edges that stand again
+
+-- some boxes are those that are open before an event
+abbrev pub AreOpenSomewhere : Tree → List ℕ → Type 0
+AreOpenSomewhere t boxes = (k : ℕ) × (k ≤ length t.events) × (boxes ≡ open_before t.events k)
+
+-- the place of the innermost of some open boxes that were met
+pub record IsInnermost (parts : List Fragment) (boxes : List ℕ) (inner : Option ℕ) : Type 0 where
+  pub places : List ℕ
+  pub are : ArePlaces (spine_of parts) places boxes
+  pub inner_is : inner ≡ first_of places
+
+-- the place of the innermost box that is left where a box closes: the box around it if it is that one
+abbrev pub left_with : Option Fragment → ℕ → ℕ → Option ℕ
+left_with None i number = Some i
+left_with (Some p) i number = if p.number == number then p.outer else Some i
+
+-- the same of a box at a place
+abbrev pub left_by : List Fragment → Option ℕ → ℕ → Option ℕ
+left_by parts None number = None
+left_by parts (Some i) number = left_with (slice_get parts i) i number
+
+-- whether a box clones
+abbrev pub does_clone : Option BoxProps → Bool
+does_clone None = false
+does_clone (Some p) = p.clones
+
+-- whether the box of a number does
+abbrev pub clones_at : Tree → ℕ → Bool
+clones_at t b = does_clone (slice_get t.boxes b)
+
+-- a box that has a lower edge again, where it has one
+abbrev pub with_foot : Option VerticalExtent → Fragment → Fragment
+with_foot foot p = record p { reach = with_lower foot p.reach; lower = option_or foot p.lower }
+
+-- before which event those boxes open that a page's start parts
+abbrev pub begin_of : Tree → Option Placed → ℕ
+begin_of t None = 0
+begin_of t (Some s) = (run_before t s).0
+
+-- a box of a tree that has no lower edge again yet
+pub record IsUnclosed (t : Tree) (p : Fragment) : Type 0 where
+  pub there : p.number < length t.boxes
+  pub wide : IsWide p.around
+  pub reach : ForSome p.reach IsNearReach
+
+-- the lower edge that a box has again that was met, the clone boxes inside it reaching down to a bottom
+abbrev pub foot_in : Tree → Option ℤ → Fragment → Option VerticalExtent
+foot_in t inner p = lower_again (slice_get t.boxes p.number) p.around.width inner p.reach
+
+-- the box at a place has its lower edge again, and reaches down to a bottom
+abbrev pub IsClosedAgain : Tree → List Fragment → ℕ → Option ℤ → List Fragment → Option ℤ → Type 0
+IsClosedAgain t old place inner new bottom = (p : Fragment) × (slice_get old place ≡ Some p) ×
+    (bottom ≡ bottom_with inner (foot_in t inner p)) × (new ≡ slice_set old place (with_foot (foot_in t inner p) p))
+
+-- boxes that have their lower edges again, where a function of their numbers gives one
+abbrev pub HaveFeet : (ℕ → Option VerticalExtent) → List Fragment → List Fragment → Type 0
+HaveFeet foot old new = (j : ℕ) (p : Fragment) → slice_get new j ≡ Some p →
+    (q : Fragment) × (slice_get old j ≡ Some q) × (p ≡ with_foot (foot q.number) q)
+
+-- the boxes of a page have the lower edges again that its end parts
+pub record AreClosedAgain (t : Tree) (measure : ℤ) (solids : List Placed) (old new : List Fragment) : Type 0 where
+  pub places : map place_of new ≡ map place_of old
+  pub feet : HaveFeet (foot_edge t measure solids (reach_of t solids)) old new
