@@ -62,6 +62,9 @@ applied_flow p c s (long.BreakAfter g) = record s {
 applied_flow p c s (long.BreakInside g) = record s {
   break_inside = given_by same g p.break_inside initial_style.break_inside;
 }
+applied_flow p c s (long.BoxDecorationBreak g) = record s {
+  box_decoration_break = given_by same g p.box_decoration_break initial_style.box_decoration_break;
+}
 applied_flow p c s (long.Widows g) = record s { widows = given_by same g p.widows initial_style.widows }
 applied_flow p c s (long.Orphans g) = record s { orphans = given_by same g p.orphans initial_style.orphans }
 applied_flow p c s l = s

@@ -16,9 +16,9 @@ use computed_values::given::{chosen, chosen_color};
 use std::alloc::Global;
 use style::content::Content;
 use style::initial::{
-    INITIAL_ALIGN, INITIAL_BACKGROUND, INITIAL_BREAK, INITIAL_DISPLAY, INITIAL_FLOAT,
-    INITIAL_INSIDE, INITIAL_ITALIC, INITIAL_LINES, INITIAL_MARKER, INITIAL_SPACE, INITIAL_WRAP,
-    initial_content, initial_counters, initial_strings,
+    INITIAL_ALIGN, INITIAL_BACKGROUND, INITIAL_BREAK, INITIAL_CLONES, INITIAL_DISPLAY,
+    INITIAL_FLOAT, INITIAL_INSIDE, INITIAL_ITALIC, INITIAL_LINES, INITIAL_MARKER, INITIAL_SPACE,
+    INITIAL_WRAP, initial_content, initial_counters, initial_strings,
 };
 use style::lists::{CounterList, Families, StringSets};
 use style::long::{Given, Long, SideLong};
@@ -148,6 +148,9 @@ fn apply_flow(style: &mut Style, parent: &Style, context: &ElementContext, long:
         Long::BreakAfter(g) => style.break_after = chosen(g, parent.break_after, INITIAL_BREAK),
         Long::BreakInside(g) => {
             style.break_inside = chosen(g, parent.break_inside, INITIAL_INSIDE);
+        }
+        Long::BoxDecorationBreak(g) => {
+            style.box_decoration_break = chosen(g, parent.box_decoration_break, INITIAL_CLONES);
         }
         Long::Widows(g) => style.widows = chosen(g, parent.widows, INITIAL_LINES),
         Long::Orphans(g) => style.orphans = chosen(g, parent.orphans, INITIAL_LINES),

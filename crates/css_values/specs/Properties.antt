@@ -45,7 +45,8 @@ lone_hands =
     (codes "counter-increment", hand.CounterIncrement) ∷ (codes "string-set", hand.StringSet) ∷
     (codes "break-before", hand.BreakBefore) ∷ (codes "break-after", hand.BreakAfter) ∷
     (codes "break-inside", hand.BreakInside) ∷ (codes "widows", hand.Widows) ∷ (codes "orphans", hand.Orphans) ∷
-    (codes "page", hand.Page) ∷ (codes "word-wrap", hand.OverflowWrap) ∷
+    (codes "page", hand.Page) ∷ (codes "box-decoration-break", hand.BoxDecorationBreak) ∷
+    (codes "word-wrap", hand.OverflowWrap) ∷
     (codes "background", hand.BackgroundColor) ∷ (codes "list-style", hand.ListStyleType) ∷ []
 
 -- the shorthands

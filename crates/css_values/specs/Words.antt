@@ -119,6 +119,10 @@ page_breaks =
 unfoldable pub inside_breaks : List (List ℕ × Bool)
 inside_breaks = (codes "auto", false) ∷ (codes "avoid", true) ∷ (codes "avoid-page", true) ∷ []
 
+-- whether borders and paddings stand again where a page parts a box (css-break-3, 5.4)
+unfoldable pub decoration_breaks : List (List ℕ × Bool)
+decoration_breaks = (codes "slice", false) ∷ (codes "clone", true) ∷ []
+
 -- the words of `page-break-inside` (CSS 2.1, 13.3.1)
 unfoldable pub inside_page_breaks : List (List ℕ × Bool)
 inside_page_breaks = (codes "auto", false) ∷ (codes "avoid", true) ∷ []

@@ -147,7 +147,15 @@ pub(crate) fn break_inside(reader: &mut Reader<'_>) -> Result<bool, Unread>
     )
 }
 
-/// Reads the same by the words of `page-break-inside`.
+/// Reads whether borders and paddings stand again where a page parts a box.
+#[tactic(auto, unfolding(crate::specs::Words::decoration_breaks))]
+pub(crate) fn decoration_break(reader: &mut Reader<'_>) -> Result<bool, Unread>
+    ensures { Reads (λ x. x) (word_in spec.decoration_breaks reader.old) result reader.new }
+{
+    word_in(reader, &[("slice", false), ("clone", true)])
+}
+
+/// Reads whether breaks inside are avoided, by the words of `page-break-inside`.
 #[tactic(auto, unfolding(crate::specs::Words::inside_page_breaks))]
 pub(crate) fn page_break_inside(reader: &mut Reader<'_>) -> Result<bool, Unread>
     ensures { Reads (λ x. x) (word_in spec.inside_page_breaks reader.old) result reader.new }

@@ -98,6 +98,7 @@ fn lone_hand(name: &str) -> Option<Longhand>
             ("widows", Longhand::Widows),
             ("orphans", Longhand::Orphans),
             ("page", Longhand::Page),
+            ("box-decoration-break", Longhand::BoxDecorationBreak),
             ("word-wrap", Longhand::OverflowWrap),
             ("background", Longhand::BackgroundColor),
             ("list-style", Longhand::ListStyleType),

@@ -8,7 +8,8 @@ ghost use Rattle.css_values.specs.Values as spec;
 use crate::colors::{color, color_or};
 use crate::fonts::{count, families, font_size, font_weight, line_height, page_name};
 use crate::keywords::{
-    break_at, break_inside, display, float, overflow_wrap, slope, text_align, white_space,
+    break_at, break_inside, decoration_break, display, float, overflow_wrap, slope, text_align,
+    white_space,
 };
 use crate::measures::{indents, read_measure, widths};
 use crate::sides::{SideKind, side_value};
@@ -70,6 +71,7 @@ fn read_word(reader: &mut Reader<'_>, hand: Longhand) -> Result<Long, Unread>
         Longhand::BreakBefore => given!(BreakBefore, break_at(reader)),
         Longhand::BreakAfter => given!(BreakAfter, break_at(reader)),
         Longhand::BreakInside => given!(BreakInside, break_inside(reader)),
+        Longhand::BoxDecorationBreak => given!(BoxDecorationBreak, decoration_break(reader)),
         _ => unreachable!(),
     }
 }
@@ -136,7 +138,8 @@ pub(crate) fn read_value(
         | Longhand::ListStyleType
         | Longhand::BreakBefore
         | Longhand::BreakAfter
-        | Longhand::BreakInside => read_word(reader, hand),
+        | Longhand::BreakInside
+        | Longhand::BoxDecorationBreak => read_word(reader, hand),
         Longhand::Width
         | Longhand::TextIndent
         | Longhand::FontSize
@@ -201,5 +204,6 @@ pub(crate) fn wide_long(hand: Longhand, wide: Wide) -> Long
         Longhand::Widows => Long::Widows(given_by(wide)),
         Longhand::Orphans => Long::Orphans(given_by(wide)),
         Longhand::Page => Long::Page(given_by(wide)),
+        Longhand::BoxDecorationBreak => Long::BoxDecorationBreak(given_by(wide)),
     }
 }

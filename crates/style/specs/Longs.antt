@@ -56,6 +56,7 @@ longhand_of (long.BreakInside g) = longhand.BreakInside
 longhand_of (long.Widows g) = longhand.Widows
 longhand_of (long.Orphans g) = longhand.Orphans
 longhand_of (long.Page g) = longhand.Page
+longhand_of (long.BoxDecorationBreak g) = longhand.BoxDecorationBreak
 
 -- what it gives to which side of a box; none where its longhand has no sides
 abbrev pub side_long : Long → Option SideLong

@@ -69,6 +69,7 @@ initial_with families color = record {
   widows = initial_lines;
   orphans = initial_lines;
   page = record { 0 = 0 };
+  box_decoration_break = false;
 }
 
 -- the initial style
@@ -130,4 +131,6 @@ child_style p = record {
   widows = passed longhand.Widows p.widows initial_style.widows;
   orphans = passed longhand.Orphans p.orphans initial_style.orphans;
   page = p.page;
+  box_decoration_break =
+      passed longhand.BoxDecorationBreak p.box_decoration_break initial_style.box_decoration_break;
 }

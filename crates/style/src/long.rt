@@ -21,7 +21,8 @@ pub enum Given<T> {
 }
 
 /// A declaration of a longhand. Of `bool`: `float` is `footnote`, `font-style` is italic, `overflow-wrap` breaks
-/// anywhere, and `break-inside` avoids. `None` is `currentcolor`, `transparent`, no content, and the page name `auto`.
+/// anywhere, `break-inside` avoids, and `box-decoration-break` clones. `None` is `currentcolor`, `transparent`, no
+/// content, and the page name `auto`.
 #[derive(Drop)]
 pub enum Long {
     Display(Given<Display>),
@@ -69,6 +70,7 @@ pub enum Long {
     Widows(Given<u32>),
     Orphans(Given<u32>),
     Page(Given<Option<Name>>),
+    BoxDecorationBreak(Given<bool>),
 }
 
 /// A declaration of a longhand that there is for each side of a box.
@@ -211,6 +213,7 @@ impl Long {
             Long::Widows(_) => Longhand::Widows,
             Long::Orphans(_) => Longhand::Orphans,
             Long::Page(_) => Longhand::Page,
+            Long::BoxDecorationBreak(_) => Longhand::BoxDecorationBreak,
             _ => unreachable!(),
         }
     }
@@ -241,6 +244,7 @@ impl Long {
             Long::BreakBefore(given) => Long::BreakBefore(*given),
             Long::BreakAfter(given) => Long::BreakAfter(*given),
             Long::BreakInside(given) => Long::BreakInside(*given),
+            Long::BoxDecorationBreak(given) => Long::BoxDecorationBreak(*given),
             Long::Widows(given) => Long::Widows(*given),
             Long::Orphans(given) => Long::Orphans(*given),
             _ => unreachable!(),

@@ -6,7 +6,7 @@ ghost use Rattle.style.specs.Longhands.{LonghandsAgree, number_of};
 use bk_num::sides::BoxSide;
 
 /// How many longhands there are, those of a box by each side.
-pub const LONGHANDS: usize = 45;
+pub const LONGHANDS: usize = 46;
 
 /// They are as many as specs say.
 pub fn longhands_agree()
@@ -46,6 +46,7 @@ pub enum Longhand {
     Widows,
     Orphans,
     Page,
+    BoxDecorationBreak,
 }
 
 impl Longhand {
@@ -84,6 +85,7 @@ impl Longhand {
             Longhand::Widows => 42,
             Longhand::Orphans => 43,
             Longhand::Page => 44,
+            Longhand::BoxDecorationBreak => 45,
         }
     }
 }

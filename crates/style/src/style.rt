@@ -6,10 +6,10 @@ ghost use Rattle.style.specs.Styles.{child_style, initial_style, initial_with, z
 
 use crate::content::Content;
 use crate::initial::{
-    INITIAL_ALIGN, INITIAL_BACKGROUND, INITIAL_BORDER, INITIAL_BREAK, INITIAL_COLOR,
-    INITIAL_DISPLAY, INITIAL_FLOAT, INITIAL_INSIDE, INITIAL_ITALIC, INITIAL_LINES, INITIAL_MARKER,
-    INITIAL_SPACE, INITIAL_WRAP, initial_content, initial_counters, initial_strings, medium_size,
-    normal_height, normal_weight,
+    INITIAL_ALIGN, INITIAL_BACKGROUND, INITIAL_BORDER, INITIAL_BREAK, INITIAL_CLONES,
+    INITIAL_COLOR, INITIAL_DISPLAY, INITIAL_FLOAT, INITIAL_INSIDE, INITIAL_ITALIC, INITIAL_LINES,
+    INITIAL_MARKER, INITIAL_SPACE, INITIAL_WRAP, initial_content, initial_counters,
+    initial_strings, medium_size, normal_height, normal_weight,
 };
 use crate::lists::{CounterList, Families, StringSets};
 use crate::values::{BorderStyle, Display, LineHeight};
@@ -22,7 +22,7 @@ use bk_num::values::{Align, BreakAt, Color, NumStyle, WhiteSpace};
 use std::alloc::Global;
 
 /// A computed style. `page` is the number of the used page name. Of `bool`: `float` is `footnote`, `font_style` is
-/// italic, `overflow_wrap` breaks anywhere, and `break_inside` avoids. Colours of borders are those that are painted,
+/// italic, `overflow_wrap` breaks anywhere, `break_inside` avoids, and `box_decoration_break` clones. Colours of borders are those that are painted,
 /// and a border whose style is none or hidden has the width 0.
 #[derive(Drop)]
 pub struct Style {
@@ -71,6 +71,7 @@ pub struct Style {
     pub widows: u32,
     pub orphans: u32,
     pub page: NameId,
+    pub box_decoration_break: bool,
 }
 
 impl Style {
@@ -299,6 +300,7 @@ fn initial_with(alloc: Global, families: Families, color: Color) -> Style
         widows: INITIAL_LINES,
         orphans: INITIAL_LINES,
         page: NameId(0),
+        box_decoration_break: INITIAL_CLONES,
     }
 }
 
