@@ -10,6 +10,7 @@ use Rattle.boxes.specs.declared.flow.Note.{Note}
 use Rattle.boxes.specs.declared.flow.Reset.{Reset}
 use Rattle.boxes.specs.declared.flow.Start.{Start}
 use Rattle.boxes.specs.declared.place.Position.{Position}
+use Rattle.boxes.specs.Clones.{AreSliced}
 use Rattle.boxes.specs.Tree.{IsTree, IsWhole, Tree, depth_of}
 use Rattle.dom.specs.Nodes.{IsTree as IsDom}
 use Rattle.metrics.specs.Face.{FontFace}
@@ -96,9 +97,10 @@ record IsGoodTree (faces : List FontFace) (t : Tree) : Type 0 where
   pub whole : IsWhole t.events
   pub depth : depth_of t.events ≤ 2048
   pub faced : AreFaced faces t.leaves
+  pub sliced : AreSliced t.boxes
 
 pub flow-bodies : (faces : List FontFace) (src : Source) (site : Site) (sites : List Site) → HasStyleFaces faces src → IsDom src.nodes → map built_in sites ≡ bodies_of src → AreShared site sites → All (IsGoodBody faces) (flow_of src).notes
-flow-bodies faces src site sites there t m s = All-weaker (λ (n : Note). IsGoodTree faces n.body) (IsGoodBody faces) (λ n g. record { tree = g.tree; whole = g.whole; depth = g.depth; faced = g.faced }) (flow_of src).notes
+flow-bodies faces src site sites there t m s = All-weaker (λ (n : Note). IsGoodTree faces n.body) (IsGoodBody faces) (λ n g. record { tree = g.tree; whole = g.whole; depth = g.depth; faced = g.faced; sliced = g.sliced }) (flow_of src).notes
     (notes-all (IsGoodTree faces) (calls_of src (built_of src).starts) (bodies_of src) all)
   where
     trees : All (λ (b : Built). IsTree b.tree) (bodies_of src)
@@ -108,7 +110,7 @@ flow-bodies faces src site sites there t m s = All-weaker (λ (n : Note). IsGood
     good = good-notes faces src there t
 
     all : All (λ (b : Built). IsGoodTree faces b.tree) (bodies_of src)
-    all i d l = record { tree = trees i d l; whole = (good i d l).whole; depth = (good i d l).depth; faced = (good i d l).faced }
+    all i d l = record { tree = trees i d l; whole = (good i d l).whole; depth = (good i d l).depth; faced = (good i d l).faced; sliced = (good i d l).sliced }
 
 -- ---- the flow of what is built
 

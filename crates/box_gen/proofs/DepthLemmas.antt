@@ -98,7 +98,7 @@ depth-gathered src s b (node n kids more) k g m low d few =
         let o1 = ap (λ (l : List ℕ). length l) (opens-opened src n u before) in
         let o2 = ap (λ (l : List ℕ). length l) (opens-gathered src u u kids g1) in
         let d0 : depth_of before.tree.events ≤ m = depth-run src b true g.built g.run m d (omega (arith, few)) in
-        let d1 : depth_of g1.built.tree.events ≤ m = depth-box before.tree (props_of u n) m d0 (omega (arith, few, some, o0)) in
+        let d1 : depth_of g1.built.tree.events ≤ m = depth-box before.tree (props_of src.clones u n) m d0 (omega (arith, few, some, o0)) in
         let d2 : depth_of g2.built.tree.events ≤ m = rec u u (k - 1) g1 l.1 d1 (omega (arith, few, some, o0, o1)) in
         let w : Bool = not (takes_leaf g2.built.tree.events) in
         depth-shut (with_run src u w g2.built g2.run).tree m (depth-run src u w g2.built g2.run m d2 (omega (arith, few, some, o0, o1, o2)))

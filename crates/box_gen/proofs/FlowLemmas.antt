@@ -189,7 +189,7 @@ grows src s b (node n kids more) w t r rest h = by (role_of src n) h
         let full : grown src u hb v inside ≡ put =
         k u u hb v first (with_items last end) (λ e. has-content src u kids (with_items last end) ∙ ap (λ (q : Bool). q || has_block (with_items last end)) e)
         ∙ ap (grown src u hb g.built) (items-more g.run last end) ∙ grown-end src u hb g.built (g.run ++ last)
-        ∙ ap (λ (q : Bool). with_run src u q g.built (g.run ++ last)) (wraps src u u kids (make v first) last (box-takes (with_run src b true t r).tree (props_of u n))) in
+        ∙ ap (λ (q : Bool). with_run src u q g.built (g.run ++ last)) (wraps src u u kids (make v first) last (box-takes (with_run src b true t r).tree (props_of src.clones u n))) in
         grown-box src b w t r n u inside (content_of src s more rest)
         ∙ ap (λ (q : Bool). grown src b w (closed (grown src u (has_block inside) (opened src n u (with_run src b q t r)) inside)) (content_of src s more rest)) wrap
         ∙ ap (λ (q : Bool). grown src b w (closed (grown src u q v inside)) (content_of src s more rest)) same

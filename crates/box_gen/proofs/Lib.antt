@@ -9,6 +9,7 @@ pub mod WalkLemmas
 pub mod ExampleLemmas
 pub mod PutLemmas
 pub mod OwnerLemmas
+pub mod SlicedLemmas
 pub mod SoundLemmas
 pub mod BodyLemmas
 pub mod ByteLemmas

@@ -1,10 +1,11 @@
--- The bodies of notes are whole, their depth is small, and their faces are there.
+-- The bodies of notes are whole, their depth is small, their faces are there, and no edge stands again in them.
 use Rattle.std.proofs.Common.{◌≡◌, ◌∙◌, ℕ, zero, suc, ◌-◌, ◌≤◌, not, None, List, [], ◌∷◌, length, refl, sym, ap, subst, arith}
 use Rattle.std.specs.List.{All}
 use Rattle.std.proofs.lemmas.List.Elements.{All-nil, All-cons}
 use Rattle.std.proofs.lemmas.Option.{get_or_from_slice_get, slice_get_within}
 use Rattle.bk_num.specs.declared.values.Pseudo.TheVariants as pseudo
 use Rattle.boxes.specs.declared.place.Event.TheVariants.{Closes}
+use Rattle.boxes.specs.Clones.{AreSliced}
 use Rattle.boxes.specs.Tree.{IsWhole, depth_of, takes_leaf}
 use Rattle.dom.specs.Nodes.{IsTree, parents_of}
 use Rattle.dom.specs.Walk.{children_of}
@@ -20,6 +21,7 @@ use Rattle.box_gen.proofs.DepthLemmas.{Low, depth-gathered, depth-run, depth-shu
 use Rattle.box_gen.proofs.FacedLemmas.{Faced, HasStyleFaces, IsLeadFaced, IsLeafFaced, faced-adds, faced-ended, faced-steps, first-faced, generated-faced, texts-append}
 use Rattle.box_gen.proofs.FlowLemmas.{opens-gathered}
 use Rattle.box_gen.proofs.OwnerLemmas.{all-append}
+use Rattle.box_gen.proofs.SlicedLemmas.{body-sliced}
 use Rattle.box_gen.proofs.TreeLemmas.{opens, opens-run, opens-shut, shut-ends}
 use Rattle.box_gen.proofs.WalkLemmas.{Placed, own-note, placed-kids, steps_in, walks-in}
 use Rattle.box_gen.proofs.Gathering.{gathered}
@@ -29,6 +31,7 @@ pub record IsGoodNote (faces : List FontFace) (b : Built) : Type 0 where
   pub whole : IsWhole b.tree.events
   pub depth : depth_of b.tree.events ≤ 2048
   pub faced : AreFaced faces b.tree.leaves
+  pub sliced : AreSliced b.tree.boxes
 
 -- ---- one note
 
@@ -99,4 +102,5 @@ good-notes faces src there t = each-note src (IsGoodNote faces) one (length src.
       whole = body-whole (in_note src) n u (below (parents_of src.nodes) d n);
       depth = body-depth (in_note src) n u (below (parents_of src.nodes) d n) (low-below (in_note src) t d n 200 (omega arith));
       faced = body-faced faces (in_note src) n u (below (parents_of src.nodes) d n) there (placed-kids (in_note src) t d n u (own-note src n u e));
+      sliced = body-sliced (in_note src) n u (below (parents_of src.nodes) d n) refl;
     }

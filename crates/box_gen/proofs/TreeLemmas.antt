@@ -68,4 +68,4 @@ pub opens-run : (src : Source) (s : Style) (wrap : Bool) (b : Built) (items : Li
 opens-run src s wrap b items = opens-put (leaf_style_of s (src.face s)) (anonymous_props s) wrap b items
 
 pub opens-opened : (src : Source) (n : ℕ) (s : Style) (b : Built) → opens (opened src n s b).tree ≡ length b.tree.boxes ∷ opens b.tree
-opens-opened src n s b = opens-box b.tree (props_of s n)
+opens-opened src n s b = opens-box b.tree (props_of src.clones s n)

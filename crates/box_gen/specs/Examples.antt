@@ -39,6 +39,7 @@ plain nodes styles = record {
   face = λ s. record { 0 = 0 };
   generated = λ n p. [];
   is_note = λ n. false;
+  clones = true;
   assigned = λ n. [];
 }
 

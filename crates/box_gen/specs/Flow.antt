@@ -159,7 +159,7 @@ leads_of src n s owner =
 -- the box of a block opens: the element begins there, and its marker waits for a line
 abbrev pub opened : Source → ℕ → Style → Built → Built
 opened src n s b =
-    built (with_box b.tree (props_of s n)) (b.starts ++ start_at n (length b.tree.events) 0 ∷ [])
+    built (with_box b.tree (props_of src.clones s n)) (b.starts ++ start_at n (length b.tree.events) 0 ∷ [])
     (b.pending ++ leads_of src n s (length b.tree.boxes))
 
 -- where the elements of a run begin, whose leaf is an event
@@ -197,7 +197,7 @@ grown src s wrap b (box n u inside rest) =
 
 -- the body of a note before its content: the box of the note element, which begins there and hangs no marker
 abbrev pub note_root : ℕ → Style → Built
-note_root n s = built (with_box no_tree (props_of s n)) (start_at n 0 0 ∷ []) []
+note_root n s = built (with_box no_tree (props_of false s n)) (start_at n 0 0 ∷ []) []
 
 -- what stands in a note before the children of its element: `::footnote-marker`, `::before`, and the text that the
 -- element represents (css-gcpm-3, 2.5)

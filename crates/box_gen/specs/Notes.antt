@@ -2,6 +2,7 @@
 use Rattle.std.specs.Prelude.{◌≡◌, ◌≤◌, ℕ, ◌+◌, List, [], ◌∷◌, ◌++◌, filter, length, map}
 use Rattle.std.specs.List.{sum_by}
 use Rattle.bk_num.specs.Limits.{most_open}
+use Rattle.boxes.specs.Clones.{AreSliced}
 use Rattle.boxes.specs.declared.flow.Flow.{Flow}
 use Rattle.boxes.specs.declared.flow.Note.{Note}
 use Rattle.boxes.specs.declared.flow.Start.{Start}
@@ -59,12 +60,14 @@ pub record AreNotesOf (src : Source) (notes : List Note) : Type 0 where
 
 -- ---- what holds of them
 
--- the body of a note is whole, has at most as many open boxes as a tree may have, and its faces are there
+-- the body of a note is whole, has at most as many open boxes as a tree may have, its faces are there, and the edges of
+-- its boxes never stand again
 pub record IsGoodBody (faces : List FontFace) (n : Note) : Type 0 where
   pub tree : IsTree n.body
   pub whole : IsWhole n.body.events
   pub depth : depth_of n.body.events ≤ most_open
   pub faced : AreFaced faces n.body.leaves
+  pub sliced : AreSliced n.body.boxes
 
 -- the bytes of the leaves of a flow, those of its notes among them
 abbrev pub bytes_in : Flow → ℕ

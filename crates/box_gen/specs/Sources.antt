@@ -1,5 +1,5 @@
 -- What a flow is made from, as the arguments have it.
-use Rattle.std.specs.Prelude.{◌≡◌, ◌&&◌, not, ℕ, IsTrue, List, Some, slice_get, ℤ}
+use Rattle.std.specs.Prelude.{◌≡◌, ◌&&◌, not, true, ℕ, IsTrue, List, Some, slice_get, ℤ}
 use Rattle.bk_num.specs.declared.values.Pseudo.{Pseudo}
 use Rattle.bk_num.specs.declared.values.Pseudo.TheVariants as pseudo
 use Rattle.counters.specs.At.{counter_values}
@@ -28,6 +28,7 @@ source_of nodes styles values faces texts = record {
   face = λ s. face_of faces s;
   generated = λ n p. generated_text texts n p;
   is_note = λ n. is_note_in (slice_get styles n);
+  clones = true;
   assigned = λ n. assigned_strings texts n;
 }
 
@@ -35,6 +36,7 @@ source_of nodes styles values faces texts = record {
 abbrev pub source_in : FlowInput → Source
 source_in i = record (source_of i.dom.now i.styles.now (counter_values i.counters.now) i.faces.now i.texts.now) {
   is_note = λ n. not i.in_note && is_note_in (slice_get i.styles.now n);
+  clones = not i.in_note;
 }
 
 -- ---- the root

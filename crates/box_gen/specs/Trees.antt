@@ -30,7 +30,7 @@ forest_of nodes = node 0 (below (parents_of nodes) (length nodes - 1) 0) none
 
 -- what a flow is made from: nodes with their styles, the values of the counter of list items at each element (the
 -- outermost scope first), the face of each style, what each pseudo-element's content prints, which elements float to
--- the notes, and the running strings that each element assigns
+-- the notes, whether edges may stand again where a page parts a box, and the running strings that each element assigns
 pub record Source : Type 0 where
   pub nodes : List Node
   pub styles : List NodeStyles
@@ -38,6 +38,7 @@ pub record Source : Type 0 where
   pub face : Style → FaceId
   pub generated : ℕ → Pseudo → List ℕ
   pub is_note : ℕ → Bool
+  pub clones : Bool
   pub assigned : ℕ → List (List ℕ × List ℕ)
 
 -- whether `display` is of block level (CSS 2.1, 9.2.1)
@@ -56,9 +57,9 @@ is_block root s = root || (not s.float && is_block_level s.display)
 abbrev pub is_note_element : Source → ℕ → Bool
 is_note_element src n = not (n == 0) && src.is_note n
 
--- what is in a note: an element there that floats to the notes is none, but an inline element
+-- what is in a note: an element there that floats to the notes is none, but an inline element, and no edge stands again
 abbrev pub in_note : Source → Source
-in_note src = record src { is_note = λ n. false }
+in_note src = record src { is_note = λ n. false; clones = false }
 
 -- what a node is to the flow: a text, an element that isn't shown, an inline element, a block or a note
 pub data Role : Type 0 where

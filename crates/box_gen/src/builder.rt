@@ -134,7 +134,7 @@ fn open_box(
     ensures room { OnOk result (site.new.room ≡ site.old.room) }
 {
     let event = site.tree.count();
-    let owner = site.tree.add_box(props_of(style, node))?;
+    let owner = site.tree.add_box(props_of(style, node, !input.in_note))?;
     site.starts.push(start_at(node, event, 0))?;
     push_lead(alloc, input, node, style, owner, &mut site.pending)?;
     Ok(())

@@ -81,7 +81,7 @@ fn note_site(alloc: Global, node: NodeId, style: &Style, room: TreeRoom) -> Resu
     ensures room { IfOk result (λ site. site.room ≡ room) }
 {
     let mut site = new_site(alloc, room);
-    site.tree.add_box(props_of(style, node))?;
+    site.tree.add_box(props_of(style, node, false))?;
     site.starts.push(start_at(node, 0, 0))?;
     Ok(site)
 }

@@ -10,9 +10,10 @@ use bk_num::values::BreakAt;
 use boxes::props::BoxProps;
 use style::style::Style;
 
-/// The box of a block element (CSS 2.1, 9.2.1).
-pub fn props_of(style: &Style, node: NodeId) -> BoxProps
-    ensures { result ≡ props_of style.now node.0 }
+/// The box of a block element (CSS 2.1, 9.2.1). `clones` is whether its edges may stand again where a page parts it:
+/// those of boxes in a note never do.
+pub fn props_of(style: &Style, node: NodeId, clones: bool) -> BoxProps
+    ensures { result ≡ props_of clones style.now node.0 }
 {
     BoxProps {
         margin: style.margins().array(),
@@ -22,6 +23,7 @@ pub fn props_of(style: &Style, node: NodeId) -> BoxProps
         before: style.break_before,
         after: style.break_after,
         avoid_inside: style.break_inside,
+        clones: clones && style.box_decoration_break,
         widows: style.widows,
         orphans: style.orphans,
         name: style.page,
@@ -46,6 +48,7 @@ pub fn anonymous_props(style: &Style) -> BoxProps
         before: BreakAt::Auto,
         after: BreakAt::Auto,
         avoid_inside: false,
+        clones: false,
         widows: style.widows,
         orphans: style.orphans,
         name: style.page,

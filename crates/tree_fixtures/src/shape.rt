@@ -1,6 +1,6 @@
 //! Boxes in short.
 
-ghost use Rattle.std.specs.Prelude.{◌≡◌, pos};
+ghost use Rattle.std.specs.Prelude.{◌≡◌, ◌&&◌, pos};
 ghost use Rattle.bk_num.specs.Ranges.{IsNotAuto, IsNotNegative};
 ghost use Rattle.boxes.specs.Contents.{IsGoodBox};
 
@@ -39,6 +39,7 @@ pub struct Shape {
     pub before: BreakAt,
     pub after: BreakAt,
     pub avoid_inside: bool,
+    pub clones: bool,
     pub orphans: u32,
     pub widows: u32,
     pub name: u32,
@@ -56,6 +57,7 @@ pub const PLAIN: Shape = Shape {
     before: BreakAt::Auto,
     after: BreakAt::Auto,
     avoid_inside: false,
+    clones: false,
     orphans: 1,
     widows: 1,
     name: 0,
@@ -90,12 +92,13 @@ fn zero() -> Len
     Len::Px(px(0))
 }
 
-/// The properties of a box.
-pub fn props_of(shape: &Shape) -> BoxProps
+/// The properties of a box, sliced where no box may stand again.
+pub fn props_of(shape: &Shape, clones: bool) -> BoxProps
     ensures good { IsGoodBox result }
     ensures before { result.before ≡ shape.now.before }
     ensures after { result.after ≡ shape.now.after }
     ensures inside { result.avoid_inside ≡ shape.now.avoid_inside }
+    ensures clones { result.clones ≡ (clones && shape.now.clones) }
     ensures orphans { result.orphans ≡ shape.now.orphans }
     ensures widows { result.widows ≡ shape.now.widows }
     ensures name { result.name.0 ≡ shape.now.name }
@@ -118,6 +121,7 @@ pub fn props_of(shape: &Shape) -> BoxProps
         before: shape.before,
         after: shape.after,
         avoid_inside: shape.avoid_inside,
+        clones: clones && shape.clones,
         widows: shape.widows,
         orphans: shape.orphans,
         name: NameId(shape.name),
