@@ -253,7 +253,7 @@ module _ (faces : List FontFace) (t : Tree) (w : ℤ) (tree : IsTree t) where
       behind = before_found t at.event n is.found ∙ b.solid
 
       seam : x.seam ≡ seam_between t w (Some p) (Some n)
-      seam = is.seam_is ∙ (ap (λ (z : Bool). cond z (seam_before t n w) (line_seam t n)) (eq-eqb x.placed_at.offset 0 (zero_place at x st b.zero_is is)) ∙ (ap (λ (o : Option ℕ). seam_between t w (solid_behind t o) o) (solid_itself t n here) ∙ ap (λ (o : Option ℕ). seam_between t w o (Some n)) behind))
+      seam = is.seam_is ∙ (ap (λ (z : Bool). cond z (seam_before t n w) (line_seam t n w)) (eq-eqb x.placed_at.offset 0 (zero_place at x st b.zero_is is)) ∙ (ap (λ (o : Option ℕ). seam_between t w (solid_behind t o) o) (solid_itself t n here) ∙ ap (λ (o : Option ℕ). seam_between t w o (Some n)) behind))
 
       by : (c : Bool) → has_block_seam (events_in t (run_start t (Some p)) (run_end t (Some n))) ≡ c → IsBreak x ⊎ (is_closing (slice_get t.events n) ≡ true)
       by true e = inl (inl (ap (λ (i : SeamInfo). i.class) seam ∙ ap (class_by (Some p) (Some n)) e))
@@ -341,7 +341,7 @@ module _ (faces : List FontFace) (t : Tree) (w : ℤ) (tree : IsTree t) where
 
       -- the line leaves some of it
       part : (number to : ℕ) → slice_get t.events n ≡ Some (Leaf number) → x.end ≡ record { event = n; offset = to } → 0 < to → (j : ℕ) × (j ≤ k) × (s : SolidView) × (slice_get (y ∷ ys) j ≡ Some s) × IsBreak s
-      part number to names ends some = (0, omega arith, y, refl, inr (ap (λ (i : SeamInfo). i.class) second.seam_is ∙ ap (λ (z : Bool). (cond z (seam_before t y.placed_at.event w) (line_seam t y.placed_at.event)).class) other))
+      part number to names ends some = (0, omega arith, y, refl, inr (ap (λ (i : SeamInfo). i.class) second.seam_is ∙ ap (λ (z : Bool). (cond z (seam_before t y.placed_at.event w) (line_seam t y.placed_at.event w)).class) other))
         where
           event_is : x.end.event ≡ n
           event_is = ap (λ (p : Position). p.event) ends

@@ -1,6 +1,5 @@
 //! The lines of a leaf that are kept.
 
-ghost use Rattle.std.specs.Prelude.{◌≡◌};
 ghost use Rattle.line_fill.specs.KeptLines.{AreRising, IsFound, IsPlace};
 
 use boxes::line::Line;
