@@ -9,13 +9,13 @@ ghost use Rattle.cuts.specs.Rows.{IsSmallRow, is_joined};
 ghost use Rattle.cuts.specs.Short.{IsShort};
 ghost use Rattle.cuts.specs.declared.row.SolidRow.{SolidRow};
 
-use crate::reach::fits_above;
+use crate::reach::{fits_above, has_room};
 use crate::row::{PageRoom, SolidRow, gap_above};
 use notes::reach::Reach;
 
 /// What is kept of the solids of a page while they are read: whether there are any, how far they reach, whether some
-/// point has fitted, the most widows that the lines at their end ask for, and, once a point misses, how many lines more
-/// tell whether too few follow a break.
+/// point has fitted, the most widows that the lines at their end ask for, and, once those before a point have no room,
+/// how many lines more tell whether too few follow a break.
 #[derive(Clone, Copy, Debug)]
 pub struct Look {
     pub(crate) some: bool,
@@ -38,7 +38,7 @@ fn least_with(least: u32, row: &SolidRow) -> u32
     }
 }
 
-/// How many lines more are to be read behind a point that misses, once a solid more is.
+/// How many lines more are to be read behind a point without room, once a solid more is.
 fn left_after(left: u32, row: &SolidRow) -> u32
     ensures least { is_joined row.now ≡ true → left ≤ result + 1 }
     ensures less { 0 < left → result + 1 ≤ left }
@@ -78,15 +78,18 @@ impl Look {
     /// Whether the seam before the next solid may be a break point that fits.
     fn fits(&self, row: &SolidRow, area: i64, room: &PageRoom) -> bool
         requires read { HasRead most_entries self.now }
+        requires small { IsSmallRow row.now }
         requires area { IsArea area }
         ensures point { result ≡ true → (self.now.some ≡ true) × (is_break row.now ≡ true) }
-        ensures fits { result ≡ true → (self.now.reach.extent +ℤ area) ≤ℤ room.now.height }
+        ensures fits { result ≡ true →
+            ((self.now.reach.extent +ℤ row.now.seam.tail) +ℤ area) ≤ℤ room.now.height }
     {
-        self.some && row.breaks() && fits_above(&self.reach, area, room.height)
+        self.some && row.breaks() && fits_above(&self.reach, row.seam.tail, area, room.height)
     }
 
-    /// Whether the seam before the next solid may be a break point that misses: with the notes that have to stand on
-    /// the page once some point has fitted, before with the carried notes alone.
+    /// Whether the seam before the next solid may be a break point, and the solids before it have no room, whatever
+    /// stands again behind them: with the notes that have to stand on the page once some point has fitted, before with
+    /// the carried notes alone.
     fn misses(&self, row: &SolidRow, area: i64, room: &PageRoom) -> bool
         requires read { HasRead most_entries self.now }
         requires area { IsArea area }
@@ -100,7 +103,7 @@ impl Look {
             self.now.reach.extent ≤ℤ room.now.height }
     {
         let needed = if self.fitted { area } else { room.carried };
-        self.some && row.breaks() && !fits_above(&self.reach, needed, room.height)
+        self.some && row.breaks() && !has_room(&self.reach, needed, room.height)
     }
 
     /// Takes the next solid of a page. `area` is that of the notes that have to stand on the page where it ends before

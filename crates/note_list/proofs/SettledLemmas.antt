@@ -1,5 +1,5 @@
 -- Notes that go on at their first solids have the lists that they had.
-use Rattle.std.proofs.Common.{◌≡◌, ℕ, suc, ◌<◌, ◌≤◌, ◌==◌, ℤ, Bool, cond, List, [], ◌∷◌, ◌++◌, Option, None, Some, All, length, slice_get, refl, sym, ap, ◌∙◌, subst, arith}
+use Rattle.std.proofs.Common.{◌≡◌, ℕ, suc, ◌<◌, ◌==◌, ℤ, Bool, cond, List, [], ◌∷◌, ◌++◌, Option, None, Some, All, length, refl, sym, ap, ◌∙◌, subst, arith}
 use Rattle.std.specs.List.{flat_map}
 use Rattle.std.proofs.lemmas.Bool.{eq-eqb}
 use Rattle.std.proofs.lemmas.List.Elements.{All-append, All-nil}
@@ -8,18 +8,18 @@ use Rattle.metrics.specs.Face.{FontFace}
 use Rattle.boxes.specs.Tree.{Tree}
 use Rattle.boxes.specs.declared.flow.Note.{Note}
 use Rattle.boxes.specs.declared.place.Position.{Position}
-use Rattle.cursor.specs.Remainder.{IsContent, IsLineSolid, IsRemainder, IsSolid, SolidView}
+use Rattle.cursor.specs.Remainder.{IsContent, IsRemainder, IsSolid, SolidView}
 use Rattle.cursor.specs.Remainder.IsContent.{of_line, of_open, of_close}
 use Rattle.seams.specs.Runs.{solid_after}
 use Rattle.seams.proofs.RunLemmas.{after_solid}
 use Rattle.seams.proofs.WidthLemmas.{some-same}
-use Rattle.note_list.specs.Conditions.{IsAtSolid, IsHeld, NotesAscend}
+use Rattle.note_list.specs.Conditions.{IsHeld, NotesAscend}
 use Rattle.note_list.specs.Left.{left_at, left_in, left_part}
 use Rattle.note_list.specs.Lists.{AreNoted, NotePart, carried_parts}
 use Rattle.note_list.specs.declared.carried.Carried.{Carried}
 use Rattle.note_list.specs.declared.solid.NotedSolid.{NotedSolid}
 use Rattle.note_list.proofs.BeginLemmas.{solid_itself}
-use Rattle.note_list.proofs.PartLemmas.{GoesOn, RiseBy, left_held, left_stands, part_goes, rise_ascends, rise_below, rise_carried, rise_part}
+use Rattle.note_list.proofs.PartLemmas.{GoesOn, RiseBy, part_goes, rise_ascends, rise_below, rise_carried, rise_part}
 
 -- the place of the first solid at or after a place
 abbrev first_place : Position → ℕ → Position

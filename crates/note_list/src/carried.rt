@@ -75,14 +75,14 @@ impl CarriedNotes {
     }
 
     /// Of how many notes something is left.
-    pub(crate) fn len(&self) -> usize
+    pub fn len(&self) -> usize
         ensures { result ≡ length self.now }
     {
         self.parts.len()
     }
 
-    /// What is left of the note at a place of the list.
-    pub(crate) fn part(&self, at: usize) -> Carried
+    /// What is left of the note at a place of the list, which counts from 0.
+    pub fn part(&self, at: usize) -> Carried
         requires { at < length self.now }
         ensures { slice_get self.now at ≡ Some result }
     {

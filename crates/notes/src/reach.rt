@@ -23,10 +23,11 @@ impl Reach {
         extent: 0,
     };
 
-    /// Places a solid below, with a gap above it, and gives its top.
+    /// Places a solid below, with a gap above it, and gives its top. A gap at a page's top may hold what stands again
+    /// there, so it may be above 2^32.
     pub fn place(&mut self, gap: i64, height: i64) -> i64
         requires bottom { IsWithin (2 ^ 60) self.old.bottom }
-        requires gap { IsWithin (2 ^ 32) gap }
+        requires gap { IsWithin (2 ^ 41) gap }
         requires height { IsWithin (2 ^ 32) height }
         ensures top { result ≡ self.old.bottom +ℤ gap }
         ensures bottom { self.new.bottom ≡ (self.old.bottom +ℤ gap) +ℤ height }

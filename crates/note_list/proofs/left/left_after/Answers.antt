@@ -1,4 +1,4 @@
-use Rattle.std.proofs.Common.{◌≡◌, ◌++◌, List, All, ℕ, ◌<◌, ◌≤◌, subst, sym, ap, ◌∙◌}
+use Rattle.std.proofs.Common.{◌≡◌, ◌++◌, List, All, ℕ, ◌<◌, ◌≤◌, subst, ap, ◌∙◌}
 use Rattle.std.specs.List.{flat_map}
 use Rattle.note_list.specs.Left.{left_from, left_of_last, next_of, whole_notes}
 use Rattle.note_list.specs.declared.carried.Carried.{Carried}

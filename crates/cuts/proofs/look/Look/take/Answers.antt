@@ -1,10 +1,12 @@
-use Rattle.std.proofs.Common.{◌≡◌, ◌∙◌, ◌<◌, ◌≤◌, ℕ, zero, suc, List, length, Some, None, ap, arith, ◌+ℤ◌, ◌≤ℤ◌, ◌∷◌, ◌++◌, [], ℤ, Bool, true, false, rules, refl, sym, subst, ◌||◌, not}
+use Rattle.std.proofs.Common.{◌≡◌, ◌∙◌, ◌<◌, ◌≤◌, ℕ, zero, suc, List, length, Some, None, ap, arith, ◌+ℤ◌, ◌≤ℤ◌, ◌∷◌, ◌++◌, [], ℤ, Bool, true, false, rules, refl, sym, subst, ◌||◌, ◌⊎◌, ◌^◌, inl, inr, not}
 use Rattle.std.proofs.lemmas.Int.{to_z-of_z}
 use mir.Val.{SFits}
 use mir.Syntax.{w64}
 use Rattle.cuts.specs.declared.look.Look.{Look}
 use Rattle.cuts.specs.declared.row.SolidRow.{SolidRow}
+use Rattle.bk_num.specs.Numbers.{IsWithin}
 use Rattle.cuts.specs.Prefixes.{HasMissed, IsGoing, look_by}
+use Rattle.cuts.specs.Rows.{IsAtTop}
 use Rattle.cuts.proofs.LookLemmas.{took_missed, took_miss, took_going, seam_misses, seam_fits}
 use Rattle.cuts.proofs.ReachLemmas.{reached_more}
 use Rattle.cuts.specs.Short.{short_by}
@@ -35,7 +37,7 @@ returns-then-misses-clause-look c = λ rows list n told look.
     let none : c.args.self.now.fitted ≡ false → ¬ ((c.args.self.now.reach.extent +ℤ c.args.room.now.carried) ≤ℤ height) = c.misses.ensures.none c.if-misses.true in
     subst (HasMissed kept height list n (rows ++ c.args.row.now ∷ [])) (sym c.saturating_sub.ensures)
     (took_miss kept height list n rows c.args.row.now c.args.self.now c.least_with-self.result going c.least_with-self.ensures.own c.least_with-self.ensures.kept point.1 point.0
-    (seam_misses kept height list n rows c.args.row.now c.args.self.now c.args.area c.args.room.now.carried going told c.requires.read.least point.0 fitted none))
+    (seam_misses kept height list n rows c.args.row.now c.args.self.now c.args.area c.args.room.now.carried going told c.requires.read.0.least point.0 fitted none))
 
 pub returns-clause-look : goal.returns-clause-look
 returns-clause-look c = λ rows list n told look.
@@ -47,9 +49,10 @@ returns-clause-look c = λ rows list n told look.
     let area : SFits w64 c.args.area = c.ranges.area in
     let gap : SFits w64 c.gap_above-gap.result = search rules in
     let tall : SFits w64 c.args.row.now.height = search rules in
-    let fit : c.fits.result ≡ true → (old.reach.extent +ℤ c.args.area) ≤ℤ height = simp to_z-of_z at c.fits.ensures.fits in
+    let tail : SFits w64 c.args.row.now.seam.tail = search rules in
+    let fit : c.fits.result ≡ true → ((old.reach.extent +ℤ c.args.row.now.seam.tail) +ℤ c.args.area) ≤ℤ height = simp to_z-of_z at c.fits.ensures.fits in
     let bottom : c.place.new.self.bottom ≡ (old.reach.bottom +ℤ c.gap_above-gap.result) +ℤ c.args.row.now.height = simp to_z-of_z at c.place.ensures.bottom in
-    let fitted = seam_fits kept height list n rows c.args.row.now old c.args.area c.args.room.now.carried going told c.requires.read.least c.fits.result c.fits.ensures.point fit in
+    let fitted = seam_fits kept height list n rows c.args.row.now old c.args.area c.args.room.now.carried going told c.requires.read.0.least c.fits.result c.requires.small.tail.0 c.fits.ensures.point fit in
     subst (look_by kept height list n (rows ++ c.args.row.now ∷ []) new) (sym c.in_default.is)
     (took_going kept height list n rows c.args.row.now old new c.gap_above-gap.result going c.least_with-self.ensures.own c.least_with-self.ensures.kept (λ e. c.gap_above-gap.ensures.top (ap not e)) (λ e. c.gap_above-gap.ensures.below (ap not e)) refl bottom c.place.ensures.extent fitted)
 
@@ -58,7 +61,12 @@ returns-clause-read c = λ n read.
     let gap : SFits w64 c.gap_above-gap.result = search rules in
     let tall : SFits w64 c.args.row.now.height = search rules in
     let bottom : c.place.new.self.bottom ≡ (c.args.self.now.reach.bottom +ℤ c.gap_above-gap.result) +ℤ c.args.row.now.height = simp to_z-of_z at c.place.ensures.bottom in
-    reached_more n c.args.self.now.reach c.place.new.self c.gap_above-gap.result c.args.row.now.height read c.gap_above-gap.ensures.small c.requires.small.height c.requires.small.some bottom c.place.ensures.extent
+    let first : IsAtTop c.args.self.now.reach ⊎ IsWithin (2 ^ 32) c.gap_above-gap.result = by c.args.self.now.some c.requires.read.1 c.gap_above-gap.ensures.small in
+    (reached_more n c.args.self.now.reach c.place.new.self c.gap_above-gap.result c.args.row.now.height read.0 c.gap_above-gap.ensures.near first c.requires.small.height c.requires.small.some bottom c.place.ensures.extent, λ e. absurd (cc))
+  where
+    by : (b : Bool) → (b ≡ false → IsAtTop c.args.self.now.reach) → (not b ≡ false → IsWithin (2 ^ 32) c.gap_above-gap.result) → IsAtTop c.args.self.now.reach ⊎ IsWithin (2 ^ 32) c.gap_above-gap.result
+    by true top small = inr (small refl)
+    by false top small = inl (top refl)
 
 pub returns-in-Some-clause-short : goal.returns-in-Some-clause-short
 returns-in-Some-clause-short c = λ rows list n widest look few more short.
