@@ -19,8 +19,9 @@ use Rattle.page_list.specs.Cuts.{first_gap, placed_below, placed_from, row_of, r
 use Rattle.fragment.specs.Solids.{foot_from}
 
 -- ---- the tops
--- the bottom of the first k solids of a page is within 2^34 units for each of them
-near_below : (k : ℕ) (bottom : ℤ) (solids : List SolidView) → k + length solids ≤ 2 ^ 26 → neg_ℤ (pos (2 ^ 34 * k)) ≤ℤ bottom → bottom ≤ℤ pos (2 ^ 34 * k) → All IsSmallSolid solids → All IsNear (placed_below bottom solids)
+-- the bottom of the first k solids of a page is within 2^33 units for each of them, and 2^41 for what stands again above
+-- the first
+near_below : (k : ℕ) (bottom : ℤ) (solids : List SolidView) → k + length solids ≤ 2 ^ 26 → neg_ℤ (pos (2 ^ 33 * k + 2 ^ 41)) ≤ℤ bottom → bottom ≤ℤ pos (2 ^ 33 * k + 2 ^ 41) → All IsSmallSolid solids → All IsNear (placed_below bottom solids)
 near_below k bottom [] few low high small = All-nil IsNear
 near_below k bottom (s ∷ solids) few low high small =
     let head : IsSmallSolid s = small 0 s (omega arith) in
@@ -30,7 +31,7 @@ near_below k bottom (s ∷ solids) few low high small =
     All-cons IsNear _ _ (record { top = omega (arith, ints); height = height; some = some })
     (near_below (suc k) ((bottom +ℤ s.seam.whole_gap) +ℤ s.height) solids (omega arith) (omega (arith, ints)) (omega (arith, ints)) (λ i d less. small (suc i) d (omega arith)))
 
-near_from : (first : ℤ) (solids : List SolidView) → length solids ≤ 2 ^ 26 → IsWithin (2 ^ 32) first → All IsSmallSolid solids → All IsNear (placed_from first solids)
+near_from : (first : ℤ) (solids : List SolidView) → length solids ≤ 2 ^ 26 → IsWithin (2 ^ 41) first → All IsSmallSolid solids → All IsNear (placed_from first solids)
 near_from first [] few gap small = All-nil IsNear
 near_from first (s ∷ solids) few gap small =
     let head : IsSmallSolid s = small 0 s (omega arith) in
@@ -39,10 +40,10 @@ near_from first (s ∷ solids) few gap small =
     All-cons IsNear _ _ (record { top = omega (arith, ints); height = height; some = some })
     (near_below 1 (first +ℤ s.height) solids (omega arith) (omega (arith, ints)) (omega (arith, ints)) (λ i d less. small (suc i) d (omega arith)))
 
-first_near : (kept : Bool) (solids : List SolidView) → All IsSmallSolid solids → IsWithin (2 ^ 32) (first_gap kept solids)
+first_near : (kept : Bool) (solids : List SolidView) → All IsSmallSolid solids → IsWithin (2 ^ 41) (first_gap kept solids)
 first_near kept [] small = omega (arith, ints)
-first_near true (s ∷ solids) small = (small 0 s (omega arith)).kept
-first_near false (s ∷ solids) small = omega (arith, ints)
+first_near true (s ∷ solids) small = let f = small 0 s (omega arith) in let head = f.head in let gap = f.kept in omega (arith, ints)
+first_near false (s ∷ solids) small = let f = small 0 s (omega arith) in let head = f.head in omega (arith, ints)
 
 pub near_first : (kept : Bool) (solids : List Solid) → length solids ≤ 2 ^ 26 → All (λ s. IsSmallSolid (solid_view s)) solids → All IsNear (placed_from (first_gap kept (map solid_view solids)) (map solid_view solids))
 near_first kept solids few small =

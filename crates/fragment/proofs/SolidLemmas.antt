@@ -40,7 +40,7 @@ view_at (x ∷ xs) zero s h = let same : x ≡ s = cc in ap (λ (y : Solid). Som
 view_at (x ∷ xs) (suc k) s h = view_at xs k s h
 
 pub small_rows : (t : Tree) (solids : List Solid) → All (λ s. IsSmallSolid (solid_view s)) solids → All IsSmallRow (rows_of t (map solid_view solids))
-small_rows t solids small = All-map IsSmallRow (row_of t) (map solid_view solids) (All-map (λ v. IsSmallRow (row_of t v)) solid_view solids (λ k d h. let s = small k d h in record { kept = s.kept; whole = s.whole; height = s.height; some = s.some }))
+small_rows t solids small = All-map IsSmallRow (row_of t) (map solid_view solids) (All-map (λ v. IsSmallRow (row_of t v)) solid_view solids (λ k d h. let s = small k d h in record { kept = s.kept; whole = s.whole; head = s.head; tail = s.tail; height = s.height; some = s.some }))
 
 -- where a cut ends is a place of the tree, where its solids stand at such places
 pub holds_after : (t : Tree) (views : List SolidView) → All (λ (v : SolidView). Holds t v.placed_at) views → (k : ℕ) → Holds t (place_after t (slice_get views k))

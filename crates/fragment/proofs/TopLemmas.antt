@@ -33,9 +33,9 @@ pub foot_push : (least : ℤ) (items : List Placed) (p : Placed) → foot_from l
 foot_push least [] p = refl
 foot_push least (x ∷ items) p = foot_push (int_max least (x.top +ℤ x.height)) items p
 
--- each solid is at most 2^34 units farther down
-pub low_more : (bottom under : ℤ) (at : ℕ) → neg_ℤ (pos (2 ^ 34 * at)) ≤ℤ bottom → bottom ≤ℤ (under +ℤ pos (2 ^ 32)) → neg_ℤ (pos (2 ^ 34 * (at + 1))) ≤ℤ under
+-- each solid but the first is at most 2^33 units farther down
+pub low_more : (bottom under : ℤ) (at : ℕ) → neg_ℤ (pos (2 ^ 33 * at + 2 ^ 41)) ≤ℤ bottom → bottom ≤ℤ (under +ℤ pos (2 ^ 32)) → neg_ℤ (pos (2 ^ 33 * (at + 1) + 2 ^ 41)) ≤ℤ under
 low_more bottom under at low more = omega (arith, ints)
 
-pub high_more : (bottom under : ℤ) (at : ℕ) → bottom ≤ℤ pos (2 ^ 34 * at) → under ≤ℤ (bottom +ℤ pos (2 ^ 33)) → under ≤ℤ pos (2 ^ 34 * (at + 1))
+pub high_more : (bottom under : ℤ) (at : ℕ) → bottom ≤ℤ pos (2 ^ 33 * at + 2 ^ 41) → under ≤ℤ (bottom +ℤ pos (2 ^ 33)) → under ≤ℤ pos (2 ^ 33 * (at + 1) + 2 ^ 41)
 high_more bottom under at high more = omega (arith, ints)

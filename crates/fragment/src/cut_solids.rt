@@ -1,8 +1,9 @@
 //! The cut of a page by the solids that are read.
 
-ghost use Rattle.std.specs.Prelude.{◌≡◌, ℕ, pos, ◌<◌, ◌≤◌, ◌^◌, ◌≤ℤ◌, ◌-ℤ◌, ◌⊎◌, length, All, map, take, slice_get, IfOk, []};
+ghost use Rattle.std.specs.Prelude.{◌≡◌, ℕ, pos, ◌<◌, ◌≤◌, ◌^◌, ◌≤ℤ◌, ◌+ℤ◌, ◌-ℤ◌, ◌⊎◌, length, All, map, take, slice_get, IfOk, []};
 ghost use Rattle.bk_num.specs.Limits.{most_entries};
 ghost use Rattle.bk_num.specs.Numbers.{IsWithin};
+ghost use Rattle.boxes.specs.Clones.{IsRoom};
 ghost use Rattle.boxes.specs.Tree.{Holds};
 ghost use Rattle.cursor.specs.Fields.{solid_view};
 ghost use Rattle.cursor.specs.Remainder.{IsSmallSolid};
@@ -27,7 +28,7 @@ use boxes::flow::Flow;
 use boxes::place::Position;
 use boxes::tree::BoxTree;
 use cursor::solid::Solid;
-use cuts::cut::{CutLevel, RowCut, cut_noted};
+use cuts::cut::{CutLevel, RowCut, cut_noted, tail_at};
 use cuts::row::PageRoom;
 use note_list::calls::called_before;
 use note_list::carried::CarriedNotes;
@@ -75,13 +76,14 @@ fn place_first(
     place_all(alloc, &solids[..count], kept)
 }
 
-/// The room for the note area below solids that reach so far, in a frame of a height.
-fn room_below(height: i64, foot: i64) -> i64
+/// The room for the note area below solids that reach so far and what stands again behind them, in a frame of a height.
+fn room_below(height: i64, foot: i64, tail: i64) -> i64
     requires height { IsWithin (2 ^ 40) height }
     requires foot { IsWithin (2 ^ 61) foot }
-    ensures room { result ≡ height -ℤ foot }
+    requires tail { IsRoom tail }
+    ensures room { result ≡ height -ℤ (foot +ℤ tail) }
 {
-    height - foot
+    height - (foot + tail)
 }
 
 /// The cut of a page by one or more solids. `called` notes are called before it.
@@ -112,12 +114,14 @@ pub(crate) fn cut_solids(
     let cut = cut_rows(&flow.main, read, notes.areas.as_slice(), room);
     let solids = read.solids.as_slice();
     let placed = place_first(alloc, solids, cut.count, room.kept)?;
+    let rows = read.rows.as_slice();
+    let tail = tail_at(rows, cut.count);
     let to = place_after(&flow.main, solids, cut.count);
     let left = NoteRoom {
         level: cut.level,
         to: called_before(flow, to),
         height: room.height,
-        room: room_below(room.height, placed.foot),
+        room: room_below(room.height, placed.foot, tail),
     };
     let noted = notes.list.place(alloc, flow, carried, called, &left)?;
     Ok(Cut {

@@ -63,7 +63,8 @@ pub(crate) fn cut_page<L: Ledger>(
 
 /// The cut of the next page of a flow, whose page has a frame and has to place what is carried to it: where it ends, at
 /// which level, what it places, with tops within 2^60 units and heights from 0 to 2^32, and what it carries on. At
-/// levels 0 to 2 each solid ends inside the frame, above the notes. No later point of the page fits once one misses.
+/// levels 0 to 2 each solid ends inside the frame, above the notes. No later point of the page fits once the solids
+/// before one have no room.
 pub fn next_cut<L: Ledger>(
     alloc: Global,
     flow: &Flow,

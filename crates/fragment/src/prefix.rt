@@ -35,7 +35,7 @@ fn ends_page(solid: &Solid<'_>, is_first: bool) -> bool
 }
 
 /// The solids of a flow that tell a page's cut: those up to the first forced seam after the first one, or up to the
-/// first point that misses, and as many lines after it as widows ask for; else all that are left. The notes called in
+/// first point without room, and as many lines after it as widows ask for; else all that are left. The notes called in
 /// them are read with them.
 pub(crate) fn prefix<'t, L: Ledger>(
     alloc: Global,

@@ -45,7 +45,7 @@ fn push_below(
 ) -> Result<(), NoMem>
     requires small { IsSmallSolid (solid_view solid.now) }
     requires bottom { IsWithin (2 ^ 60) reach.old.bottom }
-    requires gap { IsWithin (2 ^ 32) gap }
+    requires gap { IsWithin (2 ^ 41) gap }
     ensures placed { OnOk result (items.new.items ≡
         items.old.items ++ placed_at (reach.old.bottom +ℤ gap) (solid_view solid.now) ∷ []) }
     ensures bottom { reach.new.bottom ≡ (reach.old.bottom +ℤ gap) +ℤ solid.now.height }

@@ -69,7 +69,7 @@ next_between faces t w from r s tree st first second forced = ap (λ (i : SeamIn
     after : r.end.event ≤ s.placed_at.event
     after = (after_solid t r.end.event s.placed_at.event second.found).0
 
-    by : (b : Bool) → (s.placed_at.offset == 0) ≡ b → is_some (cond b (seam_before t s.placed_at.event w) (line_seam t s.placed_at.event)).forced ≡ true → (cond b (seam_before t s.placed_at.event w) (line_seam t s.placed_at.event)).class ≡ A
+    by : (b : Bool) → (s.placed_at.offset == 0) ≡ b → is_some (cond b (seam_before t s.placed_at.event w) (line_seam t s.placed_at.event w)).forced ≡ true → (cond b (seam_before t s.placed_at.event w) (line_seam t s.placed_at.event w)).class ≡ A
     by false e f = absurd (cc)
     by true e f = block (behind_solid t r.placed_at.event s.placed_at.event before later)
       where

@@ -76,7 +76,7 @@ module _ (free : Demand → Bool) (t : Tree) where
         where
           go : ((eqb at.offset 0 ≡ true) × (at.offset ≡ 0)) ⊎ ((eqb at.offset 0 ≡ false) × (at.offset ≢ 0)) → at.offset ≡ 0
           go (inl h) = h.1
-          go (inr h) = absurd (let f : false ≡ true = sym (ap (λ (b : Bool). is_sided free (cond b (seam_before t at.event (pos 0)) (line_seam t at.event)).forced) h.0) ∙ asks in cc)
+          go (inr h) = absurd (let f : false ≡ true = sym (ap (λ (b : Bool). is_sided free (cond b (seam_before t at.event (pos 0)) (line_seam t at.event (pos 0))).forced) h.0) ∙ asks in cc)
 
       asked : is_sided free (seam_of t (place at.event 0) (pos 0)).forced ≡ true
       asked = ap (λ (o : ℕ). asks_at (place at.event o)) (sym none) ∙ asks

@@ -43,7 +43,7 @@ use Rattle.page_list.proofs.StateLemmas.{Stays, stays_start, stays_step}
 pub forced_any : (t : Tree) (at : Position) (m n : ℤ) → (seam_of t at m).forced ≡ (seam_of t at n).forced
 forced_any t at m n = by (at.offset == 0)
   where
-    by : (b : Bool) → (cond b (seam_before t at.event m) (line_seam t at.event)).forced ≡ (cond b (seam_before t at.event n) (line_seam t at.event)).forced
+    by : (b : Bool) → (cond b (seam_before t at.event m) (line_seam t at.event m)).forced ≡ (cond b (seam_before t at.event n) (line_seam t at.event n)).forced
     by true = refl
     by false = refl
 
@@ -71,9 +71,9 @@ seam_next faces t w from s st is m = by (eqb_tells s.placed_at.event from.event)
         absurd (e.1 (let n : from.event ≡ s.placed_at.event = cc in sym n)))
         (λ (o : from.offset ≤ 0). omega arith)
         (cases_lt 0 from.offset) in
-        ap (λ (o : ℕ). cond (o == 0) (seam_before t from.event m) (line_seam t from.event)) none
+        ap (λ (o : ℕ). cond (o == 0) (seam_before t from.event m) (line_seam t from.event m)) none
         ∙ ap (λ (o : Option ℕ). seam_between t m (solid_behind t o) o) (is.found ∙ sym here)
-        ∙ sym (ap (λ (o : ℕ). cond (o == 0) (seam_before t s.placed_at.event m) (line_seam t s.placed_at.event)) offset)
+        ∙ sym (ap (λ (o : ℕ). cond (o == 0) (seam_before t s.placed_at.event m) (line_seam t s.placed_at.event m)) offset)
 
 -- ---- the solids of a page
 -- a solid has its seam

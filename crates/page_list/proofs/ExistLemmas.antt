@@ -25,7 +25,7 @@ use Rattle.cursor.proofs.RemLemmas.{Stands, left_from, remainder_from, solid_sta
 use Rattle.cuts.specs.declared.row.SolidRow.{SolidRow}
 use Rattle.cuts.specs.Cuts.{NoteLists, Fits, FitsLoosely}
 use Rattle.cuts.specs.Cuts.IsCut.{at_level, at_loose, at_first}
-use Rattle.cuts.specs.Rows.{AreForcedBetween, rows_extent}
+use Rattle.cuts.specs.Rows.{AreForcedBetween, rows_reach}
 use Rattle.cuts.proofs.CutLemmas.{cut_exists, cut_within}
 use Rattle.notes.specs.declared.solid.NoteSolid.{NoteSolid}
 use Rattle.bk_num.specs.Limits.{separator}
@@ -90,8 +90,8 @@ pub record HasBest (kept : Bool) (rows : List SolidRow) (height : ℤ) (list : N
 
 none_best : (kept : Bool) (height : ℤ) (list : NoteLists) (c : ℕ) → (level : ℕ) × HasBest kept [] height list c level 0
 none_best kept height list c = by
-    (told_by (Fits kept [] height list c 0) (rows_extent kept [] 0 +ℤ area_of (list 0) (must_of (list 0) c)) height (λ f. f) (λ f. f))
-    (told_by (FitsLoosely kept [] height list c 0) (rows_extent kept [] 0 +ℤ area_of (list 0) c) height (λ f. f) (λ f. f))
+    (told_by (Fits kept [] height list c 0) (rows_reach kept [] 0 +ℤ area_of (list 0) (must_of (list 0) c)) height (λ f. f) (λ f. f))
+    (told_by (FitsLoosely kept [] height list c 0) (rows_reach kept [] 0 +ℤ area_of (list 0) c) height (λ f. f) (λ f. f))
   where
     at_zero : (P : ℕ → Type 0) → (P 0 → ⊥) → (l k : ℕ) → IsPagePoint [] l k → P k → ⊥
     at_zero P none l k p f = none (subst P p.1 f)
@@ -247,8 +247,8 @@ module _ (faces : List FontFace) (flow : Flow) (tree : IsTree flow.main) (trees 
           let few : c ≤ length notes = omega arith in
           least_within level (must_of notes c) c (length own.0) (length notes) (must_within notes c few) few g
 
-      numbers : (n : ℕ) × IsPlaced notes least (frame.height -ℤ rows_extent from.kept rows count) n
-      numbers = places_exist notes least (frame.height -ℤ rows_extent from.kept rows count) low
+      numbers : (n : ℕ) × IsPlaced notes least (frame.height -ℤ rows_reach from.kept rows count) n
+      numbers = places_exist notes least (frame.height -ℤ rows_reach from.kept rows count) low
 
       number : ℕ
       number = numbers.0

@@ -8,17 +8,18 @@ use Rattle.std.proofs.lemmas.List.Elements.{All-nil, All-cons}
 use Rattle.std.proofs.lemmas.Option.{slice_get-map}
 use Rattle.metrics.specs.Face.{FontFace}
 use Rattle.boxes.specs.Steps.{IsRun}
-use Rattle.boxes.specs.Tree.{Tree}
+use Rattle.boxes.specs.Tree.{Tree, IsTree}
 use Rattle.boxes.specs.declared.flow.Flow.{Flow}
 use Rattle.boxes.specs.declared.frames.Frame.{Frame}
+use Rattle.boxes.specs.declared.frames.PageKind.TheVariants as kind
 use Rattle.boxes.specs.declared.page.Page.{Page}
 use Rattle.boxes.specs.declared.page.Placed.{Placed}
 use Rattle.cursor.specs.Remainder.{SolidView}
 use Rattle.cuts.specs.declared.row.SolidRow.{SolidRow}
-use Rattle.cuts.specs.Rows.{row_gap, row_height, top_gap, rows_bottom, rows_extent}
+use Rattle.cuts.specs.Rows.{row_gap, row_height, top_gap, rows_bottom, rows_extent, rows_reach}
 use Rattle.cuts.specs.Cuts.{NoteLists, Fits}
 use Rattle.cuts.specs.Cuts.IsCut.{at_level, at_loose, at_first}
-use Rattle.cuts.proofs.ReachLemmas.{extent-mono}
+use Rattle.cuts.proofs.ReachLemmas.{extent-mono, tail_least}
 use Rattle.notes.specs.declared.solid.NoteSolid.{NoteSolid}
 use Rattle.bk_num.specs.Limits.{separator}
 use Rattle.notes.specs.Notes.{IsPlaced, area_of, must_of, note_bottom, note_extent, note_gap, note_height}
@@ -32,9 +33,10 @@ use Rattle.page_list.specs.declared.cut.CutFrom.{CutFrom}
 use Rattle.page_list.specs.Cuts.{IsBestCut, IsFlowCut, row_of, rows_of, placed_below, placed_from, first_gap}
 use Rattle.page_list.specs.Inside.{AreInside, EndsBy, EndInside}
 use Rattle.page_list.specs.Laws.{PagesEndInside}
-use Rattle.boxes.specs.Frames.{PageFrames}
-use Rattle.page_list.specs.Pages.{IsEnded, IsStep, State, start_of}
+use Rattle.boxes.specs.Frames.{HaveWidths, PageFrames}
+use Rattle.page_list.specs.Pages.{IsEnded, IsStep, State, name_at, start_of}
 use Rattle.page_list.specs.Pages.IsStep.{blank, flows, noted as notes_step}
+use Rattle.page_list.proofs.TailLemmas.{rest_tails}
 
 take_get : {X : Type 0} (n : ℕ) (xs : List X) (k : ℕ) (x : X) → slice_get (take n xs) k ≡ Some x → slice_get xs k ≡ Some x
 take_get zero xs k x e = absurd (cc)
@@ -142,12 +144,13 @@ room_of list must number extent height fits places = ⊎_elim
     (λ (same : number ≤ must). let low = places.low in let e : must ≡ number = omega arith in subst (λ (n : ℕ). (extent +ℤ area_of list n) ≤ℤ height) e fits)
     (cases_lt must number)
 
-pub flow_inside : (faces : List FontFace) (flow : Flow) (frame : Frame) (from : CutFrom) (carried : List Carried) (cut : Cut) → IsFlowCut faces flow frame from carried cut → cut.level ≤ 2 → AreInside frame.height cut.notes cut.solids
-flow_inside faces flow frame from carried cut is low =
-    let rows : List SolidRow = rows_of flow.main is.solids in
+pub flow_inside : (faces : List FontFace) (flow : Flow) (frame : Frame) (from : CutFrom) (carried : List Carried) (cut : Cut) → IsTree flow.main → pos 0 ≤ℤ frame.width → IsFlowCut faces flow frame from carried cut → cut.level ≤ 2 → AreInside frame.height cut.notes cut.solids
+flow_inside faces flow frame from carried cut tree wide is low =
     let fits = fits_of from.kept (rows_of flow.main is.solids) frame.height (λ j. note_rows (is.list j)) is.c cut.level is.count low is.best in
-    let places = subst (λ (n : ℕ). IsPlaced (note_rows (is.list is.count)) n (frame.height -ℤ rows_extent from.kept (rows_of flow.main is.solids) is.count) is.number) (least_is cut.level (must_of (note_rows (is.list is.count)) is.c) is.c (length is.own) low) is.places in
-    let room = room_of (note_rows (is.list is.count)) (must_of (note_rows (is.list is.count)) is.c) is.number (rows_extent from.kept (rows_of flow.main is.solids) is.count) frame.height fits places in
+    let places = subst (λ (n : ℕ). IsPlaced (note_rows (is.list is.count)) n (frame.height -ℤ rows_reach from.kept (rows_of flow.main is.solids) is.count) is.number) (least_is cut.level (must_of (note_rows (is.list is.count)) is.c) is.c (length is.own) low) is.places in
+    let fit = room_of (note_rows (is.list is.count)) (must_of (note_rows (is.list is.count)) is.c) is.number (rows_reach from.kept (rows_of flow.main is.solids) is.count) frame.height fits places in
+    let tail = tail_least (rows_of flow.main is.solids) (rest_tails flow.main tree frame.width wide faces from.at is.solids is.rest) is.count in
+    let room : (rows_extent from.kept (rows_of flow.main is.solids) is.count +ℤ area_of (note_rows (is.list is.count)) is.number) ≤ℤ frame.height = omega (arith, ints) in
     let size = length-map (is.list is.count) (λ s. s.row) in
     let within = places.within in
     let some : pos 0 ≤ℤ area_of (note_rows (is.list is.count)) is.number = area_never_falls (note_rows (is.list is.count)) 0 is.number (omega arith) in
@@ -163,14 +166,14 @@ Inside p = p.level ≤ 2 → AreInside p.frame.height p.notes p.solids
 none_inside : (height : ℤ) (notes : List (ℕ × Placed)) → AreInside height notes []
 none_inside height notes = λ k d h. absurd (omega arith)
 
-inside_on : (faces : List FontFace) (flow : Flow) (frames : PageFrames) (s : State) (pages : List Page) → IsRun (IsStep faces flow frames) IsEnded s pages → EndInside pages
-inside_on faces flow frames s [] ended = All-nil Inside
-inside_on faces flow frames s (p ∷ pages) r = All-cons Inside p pages (by r.1) (inside_on faces flow frames r.0 pages r.2)
+inside_on : (faces : List FontFace) (flow : Flow) (frames : PageFrames) → IsTree flow.main → HaveWidths frames → (s : State) (pages : List Page) → IsRun (IsStep faces flow frames) IsEnded s pages → EndInside pages
+inside_on faces flow frames tree wide s [] ended = All-nil Inside
+inside_on faces flow frames tree wide s (p ∷ pages) r = All-cons Inside p pages (by r.1) (inside_on faces flow frames tree wide r.0 pages r.2)
   where
     by : {u : State} → IsStep faces flow frames s p u → Inside p
     by (blank going n p_is u_is) = subst Inside (sym p_is) (λ low. none_inside _ [])
-    by (flows going m cut is p_is u_is) = subst Inside (sym p_is) (flow_inside faces flow _ (record { at = s.at; kept = s.kept }) s.carried cut is)
+    by (flows going m cut is p_is u_is) = subst Inside (sym p_is) (flow_inside faces flow _ (record { at = s.at; kept = s.kept }) s.carried cut tree (wide s.index (name_at flow.main s.at) kind.Flow) is)
     by (notes_step going some notes left is p_is u_is) = subst Inside (sym p_is) (λ low. none_inside _ notes)
 
 pub pages_inside : PagesEndInside
-pages_inside faces flow frames pages can paged = inside_on faces flow frames (start_of flow.main) pages paged
+pages_inside faces flow frames pages wide can paged = inside_on faces flow frames can.main.is wide (start_of flow.main) pages paged

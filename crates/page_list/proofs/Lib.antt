@@ -16,5 +16,6 @@ pub mod PartLemmas
 pub mod PlaceLemmas
 pub mod RestLemmas
 pub mod StateLemmas
+pub mod TailLemmas
 pub mod TextLemmas
 pub mod WeightLemmas

@@ -15,7 +15,7 @@ use Rattle.boxes.proofs.RunLemmas.{run_unique}
 use Rattle.cursor.specs.Remainder.{SolidView, HaveOneRemainder}
 use Rattle.cuts.specs.declared.row.SolidRow.{SolidRow}
 use Rattle.cuts.specs.Cuts.{FitsWith, Fits, FitsLoosely}
-use Rattle.cuts.specs.Rows.{rows_extent}
+use Rattle.cuts.specs.Rows.{rows_reach}
 use Rattle.cuts.proofs.CutLemmas.{cut_moves, cut_unique}
 use Rattle.cuts.proofs.PointLemmas.{limit_within}
 use Rattle.notes.specs.declared.solid.NoteSolid.{NoteSolid}
@@ -129,7 +129,7 @@ module _ (one : HaveOneRemainder) (faces : List FontFace) (flow : Flow) (frame :
       here = lists p.count p.within ∙ ap q.list at
 
       Places : ℕ → ℕ → List NotedSolid → List NotedSolid → List SolidView → ℕ → Type 0
-      Places level c list own solids count = IsPlaced (note_rows list) (least_of level (must_of (note_rows list) c) c (length own)) (frame.height -ℤ rows_extent from.kept (rows_of flow.main solids) count) p.number
+      Places level c list own solids count = IsPlaced (note_rows list) (least_of level (must_of (note_rows list) c) c (length own)) (frame.height -ℤ rows_reach from.kept (rows_of flow.main solids) count) p.number
 
       moved : Places y.level q.c (q.list q.count) q.own q.solids q.count
       moved =
@@ -141,7 +141,7 @@ module _ (one : HaveOneRemainder) (faces : List FontFace) (flow : Flow) (frame :
           (subst (λ (k : ℕ). Places k p.c (p.list p.count) p.own p.solids p.count) cuts.0 p.places)))))
 
       number : p.number ≡ q.number
-      number = placed_unique (note_rows (q.list q.count)) (least_of y.level (must_of (note_rows (q.list q.count)) q.c) q.c (length q.own)) (frame.height -ℤ rows_extent from.kept (rows_of flow.main q.solids) q.count) p.number q.number moved q.places
+      number = placed_unique (note_rows (q.list q.count)) (least_of y.level (must_of (note_rows (q.list q.count)) q.c) q.c (length q.own)) (frame.height -ℤ rows_reach from.kept (rows_of flow.main q.solids) q.count) p.number q.number moved q.places
 
   pub notes_cut_unique : (x y : List (ℕ × Placed)) (l r : List Carried) → IsNotesCut faces flow frame carried x l → IsNotesCut faces flow frame carried y r → (x ≡ y) × (l ≡ r)
   notes_cut_unique x y l r p q =

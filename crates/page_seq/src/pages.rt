@@ -4,6 +4,7 @@ ghost use Rattle.std.specs.Prelude.{◌≡◌, refl};
 ghost use Rattle.boxes.specs.Frames.{meets_by_parity, is_free_demand};
 ghost use Rattle.boxes.specs.Sides.{parity_within, free_met};
 ghost use Rattle.page_seq.specs.Frames.{IsGoodTable, frame_of};
+ghost use Rattle.page_seq.specs.GoodFrames.{good_frame};
 
 use bk_num::ids::NameId;
 pub use boxes::frames::side_of as side;
@@ -39,6 +40,8 @@ impl Frames for Pages {
     ghost free = { λ p. λ index. λ d. free_met index d };
 
     ghost sides = { λ p. (refl, refl) };
+
+    ghost wide = { λ p. λ index. λ name. λ kind. (good_frame p.table.rows p.good index name kind).width_low };
 
     fn empty_before(&self, index: u32, demand: Demand) -> u32 {
         empty_by_side(index, demand)

@@ -66,4 +66,5 @@ module _ (faces : List FontFace) (flow : Flow) (depth : depth_of flow.main.event
       notes = λ n d less. body_cut n (get_or flow.notes n d) (slice_get-get_or flow.notes n d less);
       calls = calls;
       count = count;
+      sliced = λ n d less. (bodies n d less).sliced;
     }

@@ -28,6 +28,7 @@ one_source w a b texts strings = λ i. record {
   face = (source_for w a).face;
   generated = λ n p. texts n p i;
   is_note = (source_for w a).is_note;
+  clones = (source_for w a).clones;
   assigned = λ n. strings n i;
 }
 

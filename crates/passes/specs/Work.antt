@@ -1,5 +1,5 @@
 -- What the passes over a document read, and the flow of a pass.
-use Rattle.std.specs.Prelude.{◌≡◌, ℕ, ℤ, List, codes, slice_get}
+use Rattle.std.specs.Prelude.{◌≡◌, ℕ, ℤ, List, codes, slice_get, true}
 use Rattle.bk_num.specs.declared.ids.NodeId.{NodeId}
 use Rattle.bk_num.specs.declared.values.Pseudo.{Pseudo}
 use Rattle.bk_num.specs.declared.values.Pseudo.TheVariants as pseudo
@@ -34,6 +34,7 @@ source_for w texts = record {
   face = λ s. face_of w.faces s;
   generated = λ n p. generated_text texts n p;
   is_note = λ n. is_note_in (slice_get w.rows n);
+  clones = true;
   assigned = λ n. assigned_strings texts n;
 }
 

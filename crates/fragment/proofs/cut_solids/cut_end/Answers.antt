@@ -3,7 +3,7 @@ use Rattle.std.proofs.lemmas.Int.{ints, to_z-of_z}
 use mir.Val.{SFits}
 use mir.Syntax.{w64}
 use Rattle.cuts.specs.Areas.{AreTold, area_after, cut_number}
-use Rattle.cuts.specs.Rows.{rows_extent}
+use Rattle.cuts.specs.Rows.{rows_reach}
 use Rattle.note_list.specs.Calls.{called_before}
 use Rattle.page_list.specs.Cuts.{IsBestCut, place_after}
 use Rattle.page_list.specs.declared.cut.Cut.{Cut}
@@ -20,7 +20,7 @@ returns-clause-cut c =
     let end : record { event = c.count.result; offset = 0 } ≡ place_after c.args.flow.now.main None = ap (λ (n : ℕ). record { event = n; offset = 0 }) c.count.ensures.count in
     let all : c.args.notes.now.called ≡ called_before c.args.flow.now.main c.args.flow.now.notes (record { event = c.count.result; offset = 0 }) =
     c.requires.all ∙ sym (before_end c.args.flow.now.main c.args.flow.now.notes) ∙ ap (called_before c.args.flow.now.main c.args.flow.now.notes) (sym end) in
-    let room : c.args.room.now.height ≡ c.args.room.now.height -ℤ rows_extent c.args.room.now.kept [] 0 = omega (arith, ints) in
+    let room : c.args.room.now.height ≡ c.args.room.now.height -ℤ rows_reach c.args.room.now.kept [] 0 = omega (arith, ints) in
     let cut : ℕ → Cut = λ n. record { to = record { event = c.count.result; offset = 0 }; ended = true; forced = None; level = n; solids = c.of.result; notes = c.in_ok-noted.noted.notes; carried = c.in_ok-noted.noted.left } in
     let level : c.number.result ≡ cut_number c.end_level.result = c.number.ensures in
     record {
@@ -32,7 +32,7 @@ returns-clause-cut c =
       ended_is = refl;
       forced_is = refl;
       solids_is = c.of.ensures ∙ c.new.ensures.items;
-      places = subst (λ (n : ℕ). PlacesNotes c.args.flow.now c.args.carried c.args.called (called_before c.args.flow.now.main c.args.flow.now.notes (record { event = c.count.result; offset = 0 })) c.args.room.now.height (c.args.room.now.height -ℤ rows_extent c.args.room.now.kept [] 0) c.args.notes.now.list (cut n)) (sym level) (subst (λ (z : ℤ). PlacesNotes c.args.flow.now c.args.carried c.args.called (called_before c.args.flow.now.main c.args.flow.now.notes (record { event = c.count.result; offset = 0 })) c.args.room.now.height z c.args.notes.now.list (cut (cut_number c.end_level.result))) room
+      places = subst (λ (n : ℕ). PlacesNotes c.args.flow.now c.args.carried c.args.called (called_before c.args.flow.now.main c.args.flow.now.notes (record { event = c.count.result; offset = 0 })) c.args.room.now.height (c.args.room.now.height -ℤ rows_reach c.args.room.now.kept [] 0) c.args.notes.now.list (cut n)) (sym level) (subst (λ (z : ℤ). PlacesNotes c.args.flow.now c.args.carried c.args.called (called_before c.args.flow.now.main c.args.flow.now.notes (record { event = c.count.result; offset = 0 })) c.args.room.now.height z c.args.notes.now.list (cut (cut_number c.end_level.result))) room
           (subst (λ (to : ℕ). PlacesNotes c.args.flow.now c.args.carried c.args.called to c.args.room.now.height c.args.room.now.height c.args.notes.now.list (cut (cut_number c.end_level.result))) all
           (subst (λ (z : ℤ). PlacesNotes c.args.flow.now c.args.carried c.args.called c.args.notes.now.called z z c.args.notes.now.list (cut (cut_number c.end_level.result))) (to_z-of_z w64 c.args.room.now.height tall) c.in_ok-noted.ensures.placed)));
     }

@@ -1,4 +1,4 @@
-use Rattle.std.proofs.Common.{◌≡◌, ◌<◌, ◌≤◌, ℕ, ℤ, Bool, take, pos, ◌-ℤ◌, List, nat_eq, length, map, slice_get, sym, ap, ◌∙◌, subst, rules, arith, to_z, of_z}
+use Rattle.std.proofs.Common.{◌≡◌, ◌<◌, ◌≤◌, ℕ, ℤ, All, Bool, take, pos, ◌+ℤ◌, ◌-ℤ◌, List, nat_eq, length, map, slice_get, sym, ap, ◌∙◌, subst, rules, arith, to_z, of_z}
 use Rattle.std.proofs.lemmas.Int.{ints, to_z-of_z}
 use Rattle.std.proofs.lemmas.List.{length-map}
 use Rattle.std.proofs.lemmas.List.Elements.{All-map}
@@ -9,8 +9,9 @@ use Rattle.cursor.specs.declared.solid.Solid.{Solid}
 use Rattle.cursor.specs.Fields.{solid_view}
 use Rattle.cursor.specs.Remainder.{SolidView}
 use Rattle.cuts.specs.Areas.{AreAreas, cut_number}
+use Rattle.cuts.specs.declared.row.SolidRow.{SolidRow}
 use Rattle.cuts.specs.Cuts.{IsPageCut}
-use Rattle.cuts.specs.Rows.{rows_extent}
+use Rattle.cuts.specs.Rows.{IsSmallRow, rows_extent, rows_reach, tail_after}
 use Rattle.note_list.specs.Calls.{called_before}
 use Rattle.page_list.specs.Cuts.{first_gap, forced_after, place_after, placed_from, row_of, rows_of}
 use Rattle.page_list.specs.declared.cut.Cut.{Cut}
@@ -19,7 +20,7 @@ use Rattle.fragment.specs.Solids.{foot_from}
 use Rattle.fragment.proofs.CutLemmas.{best_of}
 use Rattle.fragment.proofs.FootLemmas.{foot_is}
 use Rattle.fragment.proofs.PlaceLemmas.{before_most}
-use Rattle.fragment.proofs.SolidLemmas.{holds_after}
+use Rattle.fragment.proofs.SolidLemmas.{holds_after, small_rows}
 use Rattle.fragment.proofs.cut_solids.cut_solids.Goals as goal
 use Rattle.fragment.proofs.cut_solids.cut_solids.Goals.{After-place_after-to}
 
@@ -34,6 +35,9 @@ left_holds : (c : After-place_after-to) → Holds c.args.flow.now.main c.place_a
 left_holds c =
     subst (Holds c.args.flow.now.main) (sym (leaves c))
     (holds_after c.args.flow.now.main (views c) (All-map (λ (v : SolidView). Holds c.args.flow.now.main v.placed_at) solid_view c.args.read.now.solids.items c.requires.solids.placed) c.cut_rows-cut.result.count)
+
+pub tail_at-tail-requires : goal.tail_at-tail-requires
+tail_at-tail-requires c = subst (All IsSmallRow) (sym (c.as_slice-rows.ensures.value ∙ c.requires.solids.rows_are)) (small_rows c.args.flow.now.main c.args.read.now.solids.items c.requires.solids.small)
 
 pub called_before-requires-clause-holds : goal.called_before-requires-clause-holds
 called_before-requires-clause-holds c = left_holds (goal.at.called_before-requires-clause-holds c).After-place_after-to
@@ -100,9 +104,12 @@ returns-clause-cut c =
     let foot_low = c.in_ok-placed.ensures.low in
     let foot_high = c.in_ok-placed.ensures.high in
     let deep : SFits w64 c.in_ok-placed.placed.foot = search rules in
+    let low_tail : SFits w64 c.tail_at-tail.result = search rules in
+    let tail : to_z w64 (of_z w64 c.tail_at-tail.result) ≡ tail_after (rows_of t vs) count =
+    to_z-of_z w64 c.tail_at-tail.result low_tail ∙ c.tail_at-tail.ensures.tail ∙ ap (λ (rs : List SolidRow). tail_after rs count) (c.as_slice-rows.ensures.value ∙ c.requires.solids.rows_are) in
     let fits : SFits w64 c.room_below.result = search rules in
-    let room : to_z w64 (of_z w64 c.room_below.result) ≡ height -ℤ rows_extent kept (rows_of t vs) count =
-    to_z-of_z w64 c.room_below.result fits ∙ c.room_below.ensures.room ∙ ap (λ (z : ℤ). z -ℤ to_z w64 (of_z w64 c.in_ok-placed.placed.foot)) (to_z-of_z w64 height tall) ∙ ap (λ (z : ℤ). height -ℤ z) (to_z-of_z w64 c.in_ok-placed.placed.foot deep ∙ foot) in
+    let room : to_z w64 (of_z w64 c.room_below.result) ≡ height -ℤ rows_reach kept (rows_of t vs) count =
+    to_z-of_z w64 c.room_below.result fits ∙ c.room_below.ensures.room ∙ ap (λ (z : ℤ). z -ℤ (to_z w64 (of_z w64 c.in_ok-placed.placed.foot) +ℤ to_z w64 (of_z w64 c.tail_at-tail.result))) (to_z-of_z w64 height tall) ∙ ap (λ (z : ℤ). height -ℤ (z +ℤ to_z w64 (of_z w64 c.tail_at-tail.result))) (to_z-of_z w64 c.in_ok-placed.placed.foot deep ∙ foot) ∙ ap (λ (z : ℤ). height -ℤ (rows_extent kept (rows_of t vs) count +ℤ z)) tail in
     let cut : ℕ → Cut = λ n. record { to = c.place_after-to.result; ended = nat_eq count (length c.as_slice-solids.result.now); forced = c.forced_after.result; level = n; solids = c.of.result; notes = c.in_ok-noted.noted.notes; carried = c.in_ok-noted.noted.left } in
     let level : c.number.result ≡ cut_number c.cut_rows-cut.result.level = c.number.ensures in
     record {
@@ -114,7 +121,7 @@ returns-clause-cut c =
       ended_is = ap (λ (xs : List Solid). nat_eq count (length xs)) c.as_slice-solids.ensures.value ∙ ap (λ (n : ℕ). nat_eq count n) (sym size);
       forced_is = c.forced_after.ensures ∙ ap (λ (xs : List Solid). forced_after (slice_get (map solid_view xs) count)) c.as_slice-solids.ensures.value;
       solids_is = c.of.ensures ∙ solids_is;
-      places = subst (λ (n : ℕ). PlacesNotes c.args.flow.now c.args.carried c.args.called (called_before t c.args.flow.now.notes c.place_after-to.result) height (height -ℤ rows_extent kept (rows_of t vs) count) c.args.notes.now.list (cut n)) (sym level)
+      places = subst (λ (n : ℕ). PlacesNotes c.args.flow.now c.args.carried c.args.called (called_before t c.args.flow.now.notes c.place_after-to.result) height (height -ℤ rows_reach kept (rows_of t vs) count) c.args.notes.now.list (cut n)) (sym level)
           (subst (λ (z : ℤ). PlacesNotes c.args.flow.now c.args.carried c.args.called (called_before t c.args.flow.now.notes c.place_after-to.result) height z c.args.notes.now.list (cut (cut_number c.cut_rows-cut.result.level))) room
           (subst (λ (to : ℕ). PlacesNotes c.args.flow.now c.args.carried c.args.called to height (to_z w64 (of_z w64 c.room_below.result)) c.args.notes.now.list (cut (cut_number c.cut_rows-cut.result.level))) c.called_before.ensures
           (subst (λ (z : ℤ). PlacesNotes c.args.flow.now c.args.carried c.args.called c.called_before.result z (to_z w64 (of_z w64 c.room_below.result)) c.args.notes.now.list (cut (cut_number c.cut_rows-cut.result.level))) (to_z-of_z w64 height tall) c.in_ok-noted.ensures.placed)));

@@ -131,7 +131,7 @@ returns-then-is_empty-clause-cut g c =
     (subst (λ (z : ℤ). CutsAt c.args.flow.now c.args.from.kept z c.args.carried c.in_ok-notes.notes.called (λ list. AreTold z list c.take.new.self.list.own 0 (area_after c.take.new.self.areas.items (length c.take.new.self.areas.items)) (room g d)) c.take.new.self.list [] cut) (to_z-of_z w64 c.args.frame.height tall) is))) c.cut_end.ensures.cut
 
 pub returns-then-is_empty-clause-inside : goal.returns-then-is_empty-clause-inside
-returns-then-is_empty-clause-inside g c = if_ok _ _ c.cut_end.result (λ cut is. flow_inside c.args.faces.now c.args.flow.now c.args.frame c.args.from c.args.carried cut is) (returns-then-is_empty-clause-cut g c)
+returns-then-is_empty-clause-inside g c = if_ok _ _ c.cut_end.result (λ cut is. flow_inside c.args.faces.now c.args.flow.now c.args.frame c.args.from c.args.carried cut c.requires.flow.main.is c.requires.frame.width_low is) (returns-then-is_empty-clause-cut g c)
 
 -- ---- where some are read
 some_read : (g : given.Over) (c : After-is_empty g) → c.is_empty.result ≡ false → 0 < length (map solid_view c.in_ok-read.read.solids.items)
@@ -210,4 +210,4 @@ returns-clause-cut g c =
     (subst (λ (z : ℤ). CutsAt c.args.flow.now c.args.from.kept z c.args.carried c.in_ok-notes.notes.called (λ list. AreAreas z list own (length c.in_ok-read.read.solids.items) areas (room g d)) c.prefix.new.notes.list views cut) (to_z-of_z w64 c.args.frame.height tall) is)))) c.cut_solids.ensures.cut
 
 pub returns-clause-inside : goal.returns-clause-inside
-returns-clause-inside g c = if_ok _ _ c.cut_solids.result (λ cut is. flow_inside c.args.faces.now c.args.flow.now c.args.frame c.args.from c.args.carried cut is) (returns-clause-cut g c)
+returns-clause-inside g c = if_ok _ _ c.cut_solids.result (λ cut is. flow_inside c.args.faces.now c.args.flow.now c.args.frame c.args.from c.args.carried cut c.requires.flow.main.is c.requires.frame.width_low is) (returns-clause-cut g c)

@@ -6,7 +6,7 @@ pub returns-clause-breaks : goal.returns-clause-breaks
 returns-clause-breaks g c = IfOk-weaker c.pages_of.result _ _ (λ list paged. c.breaks_hold.ensures c.args.faces.now c.args.flow.now (g.Fr.Frames.view c.args.frames.now) list.pages c.requires.flow paged) c.pages_of.ensures.pages
 
 pub returns-clause-inside : goal.returns-clause-inside
-returns-clause-inside g c = IfOk-weaker c.pages_of.result _ _ (λ list paged. c.pages_end_inside.ensures c.args.faces.now c.args.flow.now (g.Fr.Frames.view c.args.frames.now) list.pages c.requires.flow paged) c.pages_of.ensures.pages
+returns-clause-inside g c = IfOk-weaker c.pages_of.result _ _ (λ list paged. c.pages_end_inside.ensures c.args.faces.now c.args.flow.now (g.Fr.Frames.view c.args.frames.now) list.pages (g.met.Fr.Frames.wide c.args.frames.now) c.requires.flow paged) c.pages_of.ensures.pages
 
 pub returns-clause-bound : goal.returns-clause-bound
 returns-clause-bound g c =

@@ -157,19 +157,19 @@ row_of-row-requires g c = let low = solid_within c.args.flow.now.main c.loop-sol
 pub take-requires-clause-read : goal.take-requires-clause-read
 take-requires-clause-read g c =
     let n = few g (goal.at.take-requires-clause-read g c).After-row_of-row in
-    reached_low (length c.loop-solid.solids.items) most_entries c.loop-solid.look.reach n c.loop-solid.invariant.read
+    (reached_low (length c.loop-solid.solids.items) most_entries c.loop-solid.look.reach n c.loop-solid.invariant.read.0, c.loop-solid.invariant.read.1)
 
 pub take-requires-clause-small : goal.take-requires-clause-small
 take-requires-clause-small g c =
     let s = c.in-Some.ensures.small in
-    subst IsSmallRow (sym c.row_of-row.ensures) (record { kept = s.kept; whole = s.whole; height = s.height; some = s.some })
+    subst IsSmallRow (sym c.row_of-row.ensures) (record { kept = s.kept; whole = s.whole; head = s.head; tail = s.tail; height = s.height; some = s.some })
 
 pub returns-then-is_enough-clause-prefix : goal.returns-then-is_enough-clause-prefix
 returns-then-is_enough-clause-prefix g c =
     let d = (goal.at.returns-then-is_enough-clause-prefix g c).Else-is_err in
     let views : List SolidView = map solid_view c.push-in-Some.new.self.items in
     let some : 0 < length views = rw (views_now g d, length-append) (omega arith) in
-    read_missed c.args.faces.now c.args.flow.now.main c.args.frame c.args.from.at c.args.from.kept c.args.notes.now.list.own c.take-in-Some.new.self.areas.items c.args.room.now.carried c.count-count.ensures.tree c.requires.holds views c.in-Some.solid.end c.in-Some.ensures.holds (goes_on g d) some (frees g d c.if-ends.false)
+    read_missed c.args.faces.now c.args.flow.now.main c.args.frame c.args.from.at c.args.from.kept c.args.notes.now.list.own c.take-in-Some.new.self.areas.items c.args.room.now.carried c.count-count.ensures.tree c.requires.holds c.requires.frame.width_low views c.in-Some.solid.end c.in-Some.ensures.holds (goes_on g d) some (frees g d c.if-ends.false)
     (λ list told. c.is_enough.ensures.enough c.if-is_enough.true c.args.from.kept c.args.frame.height list c.args.notes.now.list.own (rows_of c.args.flow.now.main views) (looks g d list told))
 
 pub returns-then-is_enough-clause-read : goal.returns-then-is_enough-clause-read

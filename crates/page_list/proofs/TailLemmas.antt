@@ -1,0 +1,96 @@
+-- What closes behind the solids of a page takes no negative room.
+use Rattle.std.proofs.Common.{◌≡◌, ◌==◌, ℕ, zero, suc, ℤ, pos, ◌≤ℤ◌, ◌+ℤ◌, Bool, true, false, cond, List, [], ◌∷◌, Option, None, Some, option_map, slice_get, unwrap_or, refl, sym, ap, ◌∙◌, subst, arith}
+use Rattle.std.proofs.lemmas.Int.{ints, clamps}
+use Rattle.std.proofs.lemmas.Option.{slice_get-map}
+use Rattle.bk_num.specs.Lengths.{used_of}
+use Rattle.bk_num.specs.Ranges.{IsNotNegative}
+use Rattle.metrics.specs.Face.{FontFace}
+use Rattle.boxes.specs.Clones.{clone_edge, clone_edges, open_through}
+use Rattle.boxes.specs.Contents.{IsGoodBox}
+use Rattle.boxes.specs.Spans.{content_width, frame_at, room_in, span_along, span_or, units_at, used_or_zero, width_in_block}
+use Rattle.boxes.specs.Tree.{Tree, IsTree, open_before}
+use Rattle.boxes.specs.declared.place.Position.{Position}
+use Rattle.boxes.specs.declared.props.BoxProps.{BoxProps}
+use Rattle.boxes.proofs.SpanLemmas.{all_get, units_low, used_low, used_or_low}
+use Rattle.boxes.proofs.TreeFacts.{box_good}
+use Rattle.seams.specs.Runs.{events_in, run_end, run_start, solid_after}
+use Rattle.seams.specs.Seams.{line_seam, seam_before, seam_of, solid_behind}
+use Rattle.seams.specs.declared.seam_info.SeamInfo.{SeamInfo}
+use Rattle.cursor.specs.Remainder.{SolidView, IsRemainder}
+use Rattle.cuts.specs.declared.row.SolidRow.{SolidRow}
+use Rattle.cuts.specs.Rows.{HaveTails}
+use Rattle.page_list.specs.Cuts.{row_of, rows_of}
+
+-- a good box's border and padding
+frame_low : (p : BoxProps) (side : ℕ) (width : ℤ) → IsGoodBox p → pos 0 ≤ℤ width → pos 0 ≤ℤ frame_at p side width
+frame_low p side width good low =
+    let units : pos 0 ≤ℤ units_at p.border side = units_low p.border side good.borders in
+    let used : pos 0 ≤ℤ used_or_zero (slice_get p.padding side) width = used_or_low (slice_get p.padding side) width (λ len e. all_get IsNotNegative p.padding side len good.paddings e) low in
+    omega (arith, ints)
+
+-- and its content
+width_low : (p : BoxProps) (width : ℤ) → IsGoodBox p → pos 0 ≤ℤ width → pos 0 ≤ℤ width_in_block p width
+width_low p width good low = by (used_of p.width width) (used_low p.width width good.width low)
+  where
+    by : (stated : Option ℤ) → pos 0 ≤ℤ unwrap_or stated (pos 0) → pos 0 ≤ℤ content_width p width stated
+    by None h = omega (arith, ints, clamps)
+    by (Some z) h = h
+
+module _ (t : Tree) (tree : IsTree t) (measure : ℤ) (wide : pos 0 ≤ℤ measure) where
+  along_low : (boxes : List ℕ) → pos 0 ≤ℤ (span_along t.boxes measure boxes).1
+  along_low [] = wide
+  along_low (b ∷ outer) = by (slice_get t.boxes b) refl (along_low outer)
+    where
+      by : (o : Option BoxProps) → slice_get t.boxes b ≡ o → pos 0 ≤ℤ (span_along t.boxes measure outer).1 → pos 0 ≤ℤ (span_or o (span_along t.boxes measure outer)).1
+      by None e low = low
+      by (Some p) e low = width_low p (span_along t.boxes measure outer).1 (box_good t tree b p e) low
+
+  edge_low : (side b : ℕ) (width : ℤ) → pos 0 ≤ℤ width → pos 0 ≤ℤ clone_edge side (slice_get t.boxes b) width
+  edge_low side b width low = by (slice_get t.boxes b) refl
+    where
+      by : (o : Option BoxProps) → slice_get t.boxes b ≡ o → pos 0 ≤ℤ clone_edge side o width
+      by None e = omega (arith, ints)
+      by (Some p) e = chosen p.clones
+        where
+          chosen : (clones : Bool) → pos 0 ≤ℤ cond clones (frame_at p side width) (pos 0)
+          chosen true = frame_low p side width (box_good t tree b p e) low
+          chosen false = omega (arith, ints)
+
+  -- what stands again of open boxes
+  pub edges_low : (side : ℕ) (boxes : List ℕ) → pos 0 ≤ℤ clone_edges t measure side boxes
+  edges_low side [] = omega (arith, ints)
+  edges_low side (b ∷ outer) =
+      let more = edges_low side outer in
+      let here = edge_low side b (span_along t.boxes measure outer).1 (along_low outer) in
+      omega (arith, ints)
+
+  tail_low : (at : Position) → pos 0 ≤ℤ (seam_of t at measure).tail
+  tail_low at = by (at.offset == 0)
+    where
+      after : Option ℕ
+      after = solid_after t at.event
+
+      before : Option ℕ
+      before = solid_behind t after
+
+      by : (b : Bool) → pos 0 ≤ℤ (cond b (seam_before t at.event measure) (line_seam t at.event measure)).tail
+      by true = edges_low 2 (open_through t (run_start t before) (events_in t (run_start t before) (run_end t after)))
+      by false = edges_low 2 (open_before t.events at.event)
+
+  view_low : (faces : List FontFace) (from : Position) (xs : List SolidView) → IsRemainder faces t measure from xs → (k : ℕ) (s : SolidView) → slice_get xs k ≡ Some s → pos 0 ≤ℤ s.seam.tail
+  view_low faces from [] r k s e = absurd (cc)
+  view_low faces from (x ∷ xs) r zero s e =
+      let same : x ≡ s = cc in
+      subst (λ (v : SolidView). pos 0 ≤ℤ v.seam.tail) same (subst (λ (i : SeamInfo). pos 0 ≤ℤ i.tail) (sym r.1.0.seam_is) (tail_low x.placed_at))
+  view_low faces from (x ∷ xs) r (suc k) s e = view_low faces r.0 xs r.2 k s e
+
+  -- no solid of a remainder has a negative tail
+  pub rest_tails : (faces : List FontFace) (from : Position) (xs : List SolidView) → IsRemainder faces t measure from xs → HaveTails (rows_of t xs)
+  rest_tails faces from xs r k row e = by (slice_get xs k) refl (sym (slice_get-map (row_of t) xs k) ∙ e)
+    where
+      by : (o : Option SolidView) → slice_get xs k ≡ o → option_map (row_of t) (slice_get xs k) ≡ Some row → pos 0 ≤ℤ row.seam.tail
+      by None e f = absurd (let g : option_map (row_of t) None ≡ Some row = sym (ap (option_map (row_of t)) e) ∙ f in cc)
+      by (Some s) e f =
+          let g : Some (row_of t s) ≡ Some row = sym (ap (option_map (row_of t)) e) ∙ f in
+          let same : row_of t s ≡ row = cc in
+          subst (λ (q : SolidRow). pos 0 ≤ℤ q.seam.tail) same (view_low faces from xs r k s e)
