@@ -3,6 +3,7 @@ use Rattle.std.proofs.Common.{◌≡◌, ◌<◌, ◌≤◌, ℕ, zero, suc, ℤ
 use Rattle.std.proofs.lemmas.Bool.{eq-eqb, ne_eqb}
 use Rattle.std.proofs.lemmas.List.{take_more}
 use Rattle.std.proofs.lemmas.List.Elements.{filter-append}
+use Rattle.std.specs.List.{last_or}
 use Rattle.boxes.specs.Tree.{Tree, open_before, first_of, is_opening}
 use Rattle.boxes.specs.declared.place.Event.{Event}
 use Rattle.boxes.specs.declared.place.Event.TheVariants.{Opens, Closes, Leaf}
@@ -13,7 +14,7 @@ use Rattle.paint.specs.declared.extent.VerticalExtent.{VerticalExtent}
 use Rattle.paint.specs.declared.parts.Fragment.{Fragment}
 use Rattle.paint.specs.declared.parts.Reached.{Reached}
 use Rattle.paint.specs.Fragments.{join, here, boxes_at, boxes_with, extent_of}
-use Rattle.paint.specs.Parts.{AddsSolid, AreMarksOf, ArePlaces, AscendTo, Extends, HaveBy, HaveNone, HaveOpened, HaveSolids, IsAt, IsBelow, IsFresh, IsGrown, IsOpened, Mark, any_event, bare_of, end_by, is_at, is_closing, over_marks, solids_by, spine_of, with_solid}
+use Rattle.paint.specs.Parts.{AddsSolid, AreMarksOf, ArePlaces, AscendTo, Extends, HaveBy, HaveNone, HaveOpened, HaveSolids, IsAt, IsBelow, IsFresh, IsGrown, IsOpened, Mark, any_event, bare_of, end_by, is_at, is_closing, over_marks, place_of, solids_by, spine_of, with_solid}
 use Rattle.paint.proofs.PartLemmas.{first_within, get-map-back, places_grown, spine_push, spine_size}
 use Rattle.paint.proofs.ReachLemmas.{get-map, join_assoc, join_none, map-set}
 
@@ -103,9 +104,6 @@ marks_push spine es (r ∷ solids) [] s m are places e = absurd are
 marks_push spine es (r ∷ solids) (n ∷ marks) s m are places e = (are.0, are.1, marks_push spine es solids marks s m are.2 places e)
 
 -- where a box stands isn't changed by its solids
-abbrev pub place_of : Fragment → Fragment
-place_of p = record p { reach = None; upper = None; lower = None }
-
 place_kept : (event : Event) (e : VerticalExtent) (p : Fragment) → place_of (with_solid event e p) ≡ place_of p
 place_kept (Opens b) e p = refl
 place_kept (Closes b) e p = refl
@@ -119,7 +117,7 @@ spine_place : (parts : List Fragment) → spine_of parts ≡ map (λ (p : Fragme
 spine_place [] = refl
 spine_place (p ∷ parts) = ap (λ (s : List (ℕ × Option ℕ)). (p.number, p.outer) ∷ s) (spine_place parts)
 
-spine_extends : (old new : List Fragment) → map place_of new ≡ map place_of old → spine_of new ≡ spine_of old
+pub spine_extends : (old new : List Fragment) → map place_of new ≡ map place_of old → spine_of new ≡ spine_of old
 spine_extends old new e = spine_place new ∙ ap (λ (l : List Fragment). map (λ (p : Fragment). (p.number, p.outer)) l) e ∙ sym (spine_place old)
 
 place_bare : (parts : List Fragment) → map place_of parts ≡ map place_of (bare_of parts)
@@ -129,7 +127,7 @@ place_bare (p ∷ parts) = ap (λ (l : List Fragment). place_of p ∷ l) (place_
 pub places_bare : (old new : List Fragment) → bare_of new ≡ bare_of old → map place_of new ≡ map place_of old
 places_bare old new e = place_bare new ∙ ap (map place_of) e ∙ sym (place_bare old)
 
-ascend_same : (a at : ℕ) (old new : List Fragment) → map place_of new ≡ map place_of old → AscendTo a old at → AscendTo a new at
+pub ascend_same : (a at : ℕ) (old new : List Fragment) → map place_of new ≡ map place_of old → AscendTo a old at → AscendTo a new at
 ascend_same a at [] [] e up = up
 ascend_same a at [] (q ∷ new) e up = absurd (cc)
 ascend_same a at (p ∷ old) [] e up = absurd (cc)
@@ -140,7 +138,7 @@ ascend_same a at (p ∷ old) (q ∷ new) e up =
     (let low = up.0 in omega arith, ascend_same (suc q.event) at old new tail (subst (λ n. AscendTo (suc n) old at) (sym event) up.1))
 
 -- a box at a place was there before
-same_place : (old new : List Fragment) → map place_of new ≡ map place_of old → (j : ℕ) (p : Fragment) → slice_get new j ≡ Some p → (q : Fragment) × (slice_get old j ≡ Some q) × (place_of q ≡ place_of p)
+pub same_place : (old new : List Fragment) → map place_of new ≡ map place_of old → (j : ℕ) (p : Fragment) → slice_get new j ≡ Some p → (q : Fragment) × (slice_get old j ≡ Some q) × (place_of q ≡ place_of p)
 same_place old new e j p there = get-map-back place_of old j (place_of p) (ap (λ s. slice_get s j) (sym e) ∙ get-map place_of new j p there)
 
 opened_as : (t : Tree) (m : ℤ) (q p : Fragment) → place_of q ≡ place_of p → IsOpened t m (place_of q) → IsOpened t m (place_of p)
@@ -150,8 +148,18 @@ pub opened_same : (t : Tree) (m : ℤ) (old new : List Fragment) → map place_o
 opened_same t m old new e opened j p there =
     let back = same_place old new e j p there in
     let was : IsOpened t m back.0 = opened j back.0 back.1 in
-    let is : IsOpened t m (place_of p) = opened_as t m back.0 p back.2 (record { opens = was.opens; around_is = was.around_is; content_is = was.content_is; around_bounded = was.around_bounded; content_bounded = was.content_bounded }) in
-    record { opens = is.opens; around_is = is.around_is; content_is = is.content_is; around_bounded = is.around_bounded; content_bounded = is.content_bounded }
+    let is : IsOpened t m (place_of p) = opened_as t m back.0 p back.2 (record { opens = was.opens; around_is = was.around_is; content_is = was.content_is; above_is = was.above_is; inside_is = was.inside_is; around_bounded = was.around_bounded; content_bounded = was.content_bounded; above_bounded = was.above_bounded; inside_bounded = was.inside_bounded }) in
+    record {
+      opens = is.opens;
+      around_is = is.around_is;
+      content_is = is.content_is;
+      above_is = is.above_is;
+      inside_is = is.inside_is;
+      around_bounded = is.around_bounded;
+      content_bounded = is.content_bounded;
+      above_bounded = is.above_bounded;
+      inside_bounded = is.inside_bounded;
+    }
 
 pub at_same : (t : Tree) (m : ℤ) (old new : List Fragment) (r : Reached) → map place_of new ≡ map place_of old → IsAt t m old r → IsAt t m new r
 at_same t m old new r e a = record {
@@ -243,3 +251,17 @@ at_solid t m parts new to inner event e a x = at_same t m parts new (record { ev
 
 pub solids_step : (es : List Event) (solids : List Placed) (i : ℕ) (d : Placed) (old new : List Fragment) → i < length solids → AddsSolid es (get_or solids i d) old new → HaveSolids es (take i solids) old → HaveSolids es (take (i + 1) solids) new
 solids_step es solids i d old new low adds h = rw (take_more solids i d low) (adds (take i solids) h)
+
+-- the last solid that was met is the one before a place
+last_push : (o : Option Placed) (solids : List Placed) (s : Placed) → last_or o (solids ++ s ∷ []) ≡ Some s
+last_push o [] s = refl
+last_push o (r ∷ solids) s = last_push (Some r) solids s
+
+abbrev pub IsBehind : List Event → List Placed → ℕ → Type 0
+IsBehind es solids event = (s : Placed) → last_or None solids ≡ Some s → event ≡ end_by (slice_get es s.at.event) s.at.event
+
+pub behind_step : (es : List Event) (solids : List Placed) (i event : ℕ) (d : Placed) → i < length solids → event ≡ end_by (slice_get es (get_or solids i d).at.event) (get_or solids i d).at.event → IsBehind es (take (i + 1) solids) event
+behind_step es solids i event d low is s last =
+    let two : Some (get_or solids i d) ≡ Some s = sym (ap (last_or None) (take_more solids i d low) ∙ last_push None (take i solids) (get_or solids i d)) ∙ last in
+    let same : get_or solids i d ≡ s = cc in
+    is ∙ ap (λ (r : Placed). end_by (slice_get es r.at.event) r.at.event) same

@@ -1,4 +1,5 @@
 pub mod BoundLemmas
+pub mod ClosingLemmas
 pub mod GatherLemmas
 pub mod LineLemmas
 pub mod Lists
@@ -10,4 +11,6 @@ pub mod PartLemmas
 pub mod PrintLemmas
 pub mod ReachLemmas
 pub mod RectLemmas
+pub mod SlicedLemmas
 pub mod SolidLemmas
+pub mod ThroughLemmas

@@ -1,9 +1,10 @@
 -- Boxes that are met on the way along the events of a tree.
-use Rattle.std.proofs.Common.{◌≡◌, ◌<◌, ◌≤◌, ℕ, zero, suc, ℤ, ◌+◌, List, [], ◌∷◌, ◌++◌, Option, None, Some, map, length, drop, slice_get, refl, sym, ap, ◌∙◌, subst, arith, append_assoc, append-nil, length-append, ◌⊎◌, inl, inr}
+use Rattle.std.proofs.Common.{◌≡◌, ◌<◌, ◌≤◌, ℕ, zero, suc, ℤ, ◌+◌, ◌+ℤ◌, ◌≤ℤ◌, ◌^◌, pos, List, [], ◌∷◌, ◌++◌, Option, None, Some, map, length, drop, slice_get, refl, sym, ap, ap₂, ◌∙◌, subst, arith, append_assoc, append-nil, length-append, ◌⊎◌, inl, inr}
 use Rattle.std.proofs.lemmas.Int.{ints}
 use Rattle.std.proofs.lemmas.List.{drop_all, length-map, map-append}
 use Rattle.std.proofs.lemmas.Option.{slice_get_within}
 use Rattle.std.specs.Option.{ForSome}
+use Rattle.boxes.specs.Clones.{clone_edge, clone_edges}
 use Rattle.boxes.specs.Spans.{span_or}
 use Rattle.boxes.specs.Tree.{Tree, IsTree, depth_of, open_with, open_before, first_of, rest_of}
 use Rattle.boxes.specs.declared.place.Event.{Event}
@@ -18,7 +19,7 @@ use Rattle.bk_num.specs.Limits.{most_open}
 use Rattle.paint.specs.Bounds.{IsGoodOrigin}
 use Rattle.paint.specs.Opens.{IsBounded, content_along, content_of, pair_of}
 use Rattle.paint.specs.declared.item.SolidOrigin.{SolidOrigin}
-use Rattle.paint.specs.Parts.{ArePlaces, IsBelow, AscendTo, IsOn, IsOpened, HaveOpened, IsAt, HaveNone, IsGrown, LeavesTo, content_at, content_or, last_of, part_in, spine_of}
+use Rattle.paint.specs.Parts.{ArePlaces, IsBelow, AscendTo, IsOn, IsOpened, HaveOpened, IsAt, HaveNone, IsGrown, IsRoomOf, LeavesTo, content_at, content_or, inside_at, inside_or, last_of, part_in, spine_of}
 use Rattle.paint.proofs.ReachLemmas.{get-map}
 
 -- each open box was opened by an earlier event, before which the boxes around it were open
@@ -118,6 +119,38 @@ content_bounded t tree o parts boxes inner at n good on opened w = subst (λ i. 
         let boxes_is : open_before t.events q.event ≡ bs = ap (open_before t.events) place ∙ v.3 in
         subst (λ (p : Option Fragment). IsBounded (length (b ∷ bs)) (content_or o.width p)) (sym back.1) (subst (λ (l : List ℕ). IsBounded (suc (length l)) q.content) boxes_is is.content_bounded)
 
+-- the top edges that stand again of it and of the boxes around it are known
+pub inside_is : (t : Tree) → IsTree t → (m : ℤ) (parts : List Fragment) (boxes : List ℕ) (inner : Option ℕ) (at n : ℕ) → IsOn parts boxes inner at → HaveOpened t m parts → WereBefore t.events n boxes → inside_at parts inner ≡ clone_edges t m 0 boxes
+inside_is t tree m parts boxes inner at n on opened w = ap (inside_at parts) on.inner_is ∙ by on.places boxes on.are w
+  where
+    by : (places bs : List ℕ) → ArePlaces (spine_of parts) places bs → WereBefore t.events n bs → inside_at parts (first_of places) ≡ clone_edges t m 0 bs
+    by [] [] are v = refl
+    by [] (b ∷ bs) are v = absurd are
+    by (i ∷ places) [] are v = absurd are
+    by (i ∷ places) (b ∷ bs) are v =
+        let back = spine_at parts i b (first_of places) are.0 in
+        let q : Fragment = back.0 in
+        let is : IsOpened t m q = opened i q back.1 in
+        let place : q.event ≡ v.0 = opens_once t tree q.event v.0 b (is.opens ∙ ap (λ (x : ℕ). Some (Opens x)) back.2) v.2 in
+        ap inside_or back.1 ∙ is.inside_is ∙ ap (λ (x : ℕ). clone_edges t m 0 (x ∷ open_before t.events q.event)) back.2
+        ∙ ap (λ (k : ℕ). clone_edges t m 0 (b ∷ open_before t.events k)) place ∙ ap (λ (l : List ℕ). clone_edges t m 0 (b ∷ l)) v.3
+
+-- and they are bounded
+pub inside_bounded : (t : Tree) → IsTree t → (m : ℤ) (parts : List Fragment) (boxes : List ℕ) (inner : Option ℕ) (at n : ℕ) → IsOn parts boxes inner at → HaveOpened t m parts → WereBefore t.events n boxes → IsRoomOf (length boxes) (inside_at parts inner)
+inside_bounded t tree m parts boxes inner at n on opened w = subst (λ i. IsRoomOf (length boxes) (inside_at parts i)) (sym on.inner_is) (by on.places boxes on.are w)
+  where
+    by : (places bs : List ℕ) → ArePlaces (spine_of parts) places bs → WereBefore t.events n bs → IsRoomOf (length bs) (inside_at parts (first_of places))
+    by [] [] are v = (omega (arith, ints), omega (arith, ints))
+    by [] (b ∷ bs) are v = absurd are
+    by (i ∷ places) [] are v = absurd are
+    by (i ∷ places) (b ∷ bs) are v =
+        let back = spine_at parts i b (first_of places) are.0 in
+        let q : Fragment = back.0 in
+        let is : IsOpened t m q = opened i q back.1 in
+        let place : q.event ≡ v.0 = opens_once t tree q.event v.0 b (is.opens ∙ ap (λ (x : ℕ). Some (Opens x)) back.2) v.2 in
+        let boxes_is : open_before t.events q.event ≡ bs = ap (open_before t.events) place ∙ v.3 in
+        subst (λ (p : Option Fragment). IsRoomOf (length (b ∷ bs)) (inside_or p)) (sym back.1) (subst (λ (l : List ℕ). IsRoomOf (suc (length l)) q.inside) boxes_is is.inside_bounded)
+
 -- as long as a box more may open
 pub room_before : (es : List Event) (k b : ℕ) → depth_of es ≤ most_open → slice_get es k ≡ Some (Opens b) → length (open_before es k) < most_open
 room_before es k b few there =
@@ -180,17 +213,42 @@ opened_push t m parts q opened is j p e = by (get-push parts q p j e)
     by (inl (at_end, same)) = subst (IsOpened t m) (sym same) is
     by (inr old) = opened j p old
 
--- the content of a box and that of the box around it are bounded
-abbrev pub ArePartBounds : Tree → ℤ → List Fragment → Option ℕ → ℕ → ℕ → Type 0
-ArePartBounds t m parts inner event b = IsBounded (length (open_before t.events event)) (content_at m parts inner) × IsBounded (suc (length (open_before t.events event))) (part_in t m parts inner event b).content
+-- the content of a box and that of the box around it are bounded, and so are the edges of both
+pub record ArePartBounds (t : Tree) (m : ℤ) (parts : List Fragment) (inner : Option ℕ) (event b : ℕ) : Type 0 where
+  pub around : IsBounded (length (open_before t.events event)) (content_at m parts inner)
+  pub content : IsBounded (suc (length (open_before t.events event))) (part_in t m parts inner event b).content
+  pub above : IsRoomOf (length (open_before t.events event)) (inside_at parts inner)
+  pub inside : IsRoomOf (suc (length (open_before t.events event))) (part_in t m parts inner event b).inside
 
-part_opened : (t : Tree) (m : ℤ) (parts : List Fragment) (inner : Option ℕ) (event b : ℕ) → slice_get t.events event ≡ Some (Opens b) → content_at m parts inner ≡ content_along t m (open_before t.events event) → ArePartBounds t m parts inner event b → IsOpened t m (part_in t m parts inner event b)
-part_opened t m parts inner event b at is bounds = record {
+abbrev pub of_fields : ℕ → ℕ → Option ℕ → Content → Content → ℤ → ℤ → Fragment
+of_fields event number outer around content above inside = record { event = event; number = number; outer = outer; around = around; content = content; above = above; inside = inside; reach = None; upper = None; lower = None }
+
+-- what is written down of a box, field by field
+pub part_same : (t : Tree) (m : ℤ) (parts : List Fragment) (inner : Option ℕ) (event b : ℕ) (around content : Content) (above top : ℤ) → around ≡ content_at m parts inner → content ≡ content_of (span_or (slice_get t.boxes b) (pair_of (content_at m parts inner))) → above ≡ inside_at parts inner →
+    top ≡ clone_edge 0 (slice_get t.boxes b) (content_at m parts inner).width → of_fields event b inner around content above (above +ℤ top) ≡ part_in t m parts inner event b
+part_same t m parts inner event b around content above top around_is content_is above_is top_is =
+    ap₂ (λ (x y : Content). of_fields event b inner x y above (above +ℤ top)) around_is content_is
+    ∙ ap₂ (λ (y z : ℤ). of_fields event b inner (content_at m parts inner) (content_of (span_or (slice_get t.boxes b) (pair_of (content_at m parts inner)))) y (y +ℤ z)) above_is top_is
+
+-- the edges of a box more
+pub room_more : (n : ℕ) (above top edge : ℤ) → IsRoomOf n above → pos 0 ≤ℤ top → top ≤ℤ pos (2 ^ 28) → top ≡ edge → IsRoomOf (suc n) (above +ℤ edge)
+room_more n above top edge room low high is =
+    let least = room.0 in
+    let most = room.1 in
+    subst (λ (z : ℤ). IsRoomOf (suc n) (above +ℤ z)) is (omega (arith, ints, least, low), omega (arith, ints, most, high))
+
+part_opened : (t : Tree) (m : ℤ) (parts : List Fragment) (inner : Option ℕ) (event b : ℕ) → slice_get t.events event ≡ Some (Opens b) → content_at m parts inner ≡ content_along t m (open_before t.events event) → inside_at parts inner ≡ clone_edges t m 0 (open_before t.events event) → ArePartBounds t m parts inner event b →
+    IsOpened t m (part_in t m parts inner event b)
+part_opened t m parts inner event b at is above bounds = record {
   opens = at;
   around_is = is;
   content_is = ap (λ (c : Content). content_of (span_or (slice_get t.boxes b) (pair_of c))) is;
-  around_bounded = bounds.0;
-  content_bounded = bounds.1;
+  above_is = above;
+  inside_is = ap₂ (λ (z : ℤ) (c : Content). z +ℤ clone_edge 0 (slice_get t.boxes b) c.width) above is;
+  around_bounded = bounds.around;
+  content_bounded = bounds.content;
+  above_bounded = bounds.above;
+  inside_bounded = bounds.inside;
 }
 
 -- ---- an event
@@ -201,12 +259,13 @@ pass_opens t tree m parts new at b inner low there a new_is bounds =
     let q : Fragment = part_in t m parts inner at b in
     let next : suc at ≡ at + 1 = omega arith in
     let content : content_at m parts inner ≡ content_along t m (open_before t.events at) = content_is t tree m parts (open_before t.events at) inner at at a.on a.opened (were_before t.events at low) in
+    let above : inside_at parts inner ≡ clone_edges t m 0 (open_before t.events at) = inside_is t tree m parts (open_before t.events at) inner at at a.on a.opened (were_before t.events at low) in
     let on : IsOn (parts ++ q ∷ []) (b ∷ open_before t.events at) (Some (length parts)) (suc at) = on_push parts (open_before t.events at) inner at q refl a.on (omega arith) in
     let boxes : b ∷ open_before t.events at ≡ open_before t.events (suc at) = sym (open-step t.events at (Opens b) there) in
     let pushed : IsOn (parts ++ q ∷ []) (open_before t.events (suc at)) (Some (length parts)) (suc at) = subst (λ l. IsOn (parts ++ q ∷ []) l (Some (length parts)) (suc at)) boxes on in
     record {
       on = subst (λ ps. IsOn ps (open_before t.events (at + 1)) (Some (length parts)) (at + 1)) (sym new_is) (subst (λ (n : ℕ). IsOn (parts ++ q ∷ []) (open_before t.events n) (Some (length parts)) n) next pushed);
-      opened = subst (HaveOpened t m) (sym new_is) (opened_push t m parts q a.opened (part_opened t m parts inner at b there content bounds));
+      opened = subst (HaveOpened t m) (sym new_is) (opened_push t m parts q a.opened (part_opened t m parts inner at b there content above bounds));
     }
 
 pub pass_closes : (t : Tree) → IsTree t → (m : ℤ) (parts : List Fragment) (at b : ℕ) (inner now : Option ℕ) → slice_get t.events at ≡ Some (Closes b) → IsAt t m parts (record { event = at; inner = inner }) → LeavesTo parts inner now → IsAt t m parts (record { event = at + 1; inner = now })
@@ -284,6 +343,8 @@ started_step t tree m event left k b chain parts new low chain_is cons there new
             let were : WereBefore t.events k (drop (suc left) chain) = subst (λ (n : ℕ). WereBefore t.events n (drop (suc left) chain)) place v.4 in
             let content : content_at m parts (last_of (length parts)) ≡ content_along t m (open_before t.events k) =
             content_is t tree m parts (drop (suc left) chain) (last_of (length parts)) s.next k s.on s.opened were ∙ ap (content_along t m) (sym v.3 ∙ ap (open_before t.events) place) in
+            let above : inside_at parts (last_of (length parts)) ≡ clone_edges t m 0 (open_before t.events k) =
+            inside_is t tree m parts (drop (suc left) chain) (last_of (length parts)) s.next k s.on s.opened were ∙ ap (clone_edges t m 0) (sym v.3 ∙ ap (open_before t.events) place) in
             let on : IsOn (parts ++ q ∷ []) (b ∷ drop (suc left) chain) (Some (length parts)) (suc k) = on_push parts (drop (suc left) chain) (last_of (length parts)) s.next q refl s.on (s.low k were) in
             let size : suc (length parts) ≡ length (parts ++ q ∷ []) = (rw length-append (omega arith)) in
             let on_all : IsOn (parts ++ q ∷ []) (drop left chain) (last_of (length (parts ++ q ∷ []))) (suc k) =
@@ -291,7 +352,7 @@ started_step t tree m event left k b chain parts new low chain_is cons there new
             record {
               next = suc k;
               on = subst (λ ps. IsOn ps (drop left chain) (last_of (length ps)) (suc k)) (sym new_is) on_all;
-              opened = subst (HaveOpened t m) (sym new_is) (opened_push t m parts q s.opened (part_opened t m parts (last_of (length parts)) k b there content bounds));
+              opened = subst (HaveOpened t m) (sym new_is) (opened_push t m parts q s.opened (part_opened t m parts (last_of (length parts)) k b there content above bounds));
               low = λ n w. least n (subst (WereBefore t.events n) cons w);
               fresh = subst HaveNone (sym new_is) (none_append parts (q ∷ []) s.fresh (record { no_reach = refl; no_upper = refl; no_lower = refl }, tt));
             }
@@ -310,6 +371,18 @@ started_bounded t tree o event left k b chain parts good low chain_is cons there
         let place : v.0 ≡ k = opens_once t tree v.0 k b v.2 there in
         let boxes : drop (suc left) chain ≡ open_before t.events k = sym v.3 ∙ ap (open_before t.events) place in
         subst (λ (l : List ℕ). IsBounded (length l) (content_at o.width parts (last_of (length parts)))) boxes (content_bounded t tree o parts (drop (suc left) chain) (last_of (length parts)) s.next v.0 good s.on s.opened v.4)
+
+-- and so are the edges around it
+pub started_inside : (t : Tree) → IsTree t → (m : ℤ) (event left k b : ℕ) (chain : List ℕ) (parts : List Fragment) → event ≤ length t.events → chain ≡ open_before t.events event → drop left chain ≡ b ∷ drop (suc left) chain → slice_get t.events k ≡ Some (Opens b) →
+    IsStarted t m chain (suc left) parts → IsRoomOf (length (open_before t.events k)) (inside_at parts (last_of (length parts)))
+started_inside t tree m event left k b chain parts low chain_is cons there s = by (before_drop t.events left event chain (subst (WereBefore t.events event) (sym chain_is) (were_before t.events event low)))
+  where
+    by : ((n : ℕ) × WereBefore t.events n (drop left chain)) → IsRoomOf (length (open_before t.events k)) (inside_at parts (last_of (length parts)))
+    by d =
+        let v : WereBefore t.events d.0 (b ∷ drop (suc left) chain) = subst (WereBefore t.events d.0) cons d.1 in
+        let place : v.0 ≡ k = opens_once t tree v.0 k b v.2 there in
+        let boxes : drop (suc left) chain ≡ open_before t.events k = sym v.3 ∙ ap (open_before t.events) place in
+        subst (λ (l : List ℕ). IsRoomOf (length l) (inside_at parts (last_of (length parts)))) boxes (inside_bounded t tree m parts (drop (suc left) chain) (last_of (length parts)) s.next v.0 s.on s.opened v.4)
 
 pub started_all : (t : Tree) (m : ℤ) (event : ℕ) (chain : List ℕ) (parts : List Fragment) → event ≤ length t.events → chain ≡ open_before t.events event → IsStarted t m chain 0 parts → IsAt t m parts (record { event = event; inner = last_of (length parts) })
 started_all t m event chain parts low is s = record {

@@ -29,10 +29,11 @@ use Rattle.line_place.specs.Laws.{text_of}
 use Rattle.line_place.specs.Placing.{runs_of}
 use Rattle.line_place.specs.declared.place.Run.{Run}
 use Rattle.line_place.proofs.JoinLemmas.{runs-are-the-text}
-use Rattle.paint.specs.Fragments.{is_lower, is_upper, reach_by, stands_in}
+use Rattle.paint.specs.Clones.{foot_edge, head_edge}
+use Rattle.paint.specs.Fragments.{is_lower, is_upper, reach_by, reach_of}
 use Rattle.paint.specs.Items.{event_items, for_some, lead_item, line_items, line_of, run_item, solid_items}
 use Rattle.paint.specs.Opens.{border_in, content_along}
-use Rattle.paint.specs.Pages.{area_items, area_origin, flow_origin, note_items, opened_rects, rects_at, rects_of, solids_of, tree_items}
+use Rattle.paint.specs.Pages.{area_items, area_origin, flow_origin, note_items, opened_by, opened_rects, rects_at, rects_of, solids_of, tree_items}
 use Rattle.paint.specs.Printed.{AreTrees, PagesPrintTheirText, event_text, leads_text, line_text, note_text, solids_text, text_in, texts_in}
 use Rattle.paint.specs.Rects.{background_rects, border_rects, box_rects, edge_rects, fragment_area, fragment_rects, left_area, lower_top, right_area, side_rects, upper_top}
 use Rattle.paint.specs.Views.{rect_item}
@@ -154,8 +155,8 @@ opened_none : (t : Tree) (o : SolidOrigin) (solids : List Placed) (k : ℕ) (e :
 opened_none t o solids k None = refl
 opened_none t o solids k (Some (Opens b)) = by (slice_get t.boxes b)
   where
-    by : (box : Option BoxProps) → texts_in (for_some (λ (p : BoxProps). fragment_rects o p (content_along t o.width (open_before t.events k))
-        (reach_by (stands_in t.events b) solids) (reach_by (is_upper t.events b) solids) (reach_by (is_lower t.events b) solids)) box) ≡ []
+    by : (box : Option BoxProps) → texts_in (for_some (λ (p : BoxProps). opened_by t o k (reach_of t solids b) (reach_by (is_upper t.events b) solids) (reach_by (is_lower t.events b) solids)
+        (head_edge t o.width solids k b p) (foot_edge t o.width solids (reach_of t solids) b) p) box) ≡ []
     by None = refl
     by (Some p) = fragment_none o p _ _ _ _
 opened_none t o solids k (Some (Closes b)) = refl

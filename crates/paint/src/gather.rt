@@ -10,6 +10,7 @@ ghost use Rattle.paint.specs.Order.{AreInOrder};
 ghost use Rattle.paint.specs.Pages.{rects_of};
 ghost use Rattle.paint.specs.Parts.{AddsSolid, AreGathered, HaveNone, IsAt, IsGrown, LeavesTo, end_by, first_event, last_of, part_rects};
 
+use crate::again::stand_again;
 use crate::extent::extent_of;
 use crate::item::SolidOrigin;
 use crate::parts::{Fragment, Reached, extend, merge, open_part};
@@ -212,47 +213,58 @@ fn first_event(solids: &[Placed]) -> u32
     }
 }
 
-/// The boxes in which solids stand, in the order in which they open, each with the solids whose innermost box it is.
+/// Appends to an empty list the boxes in which solids stand, in the order in which they open, each with the solids whose
+/// innermost box it is.
 fn gather(
-    alloc: Global,
+    parts: &mut Vec<Fragment>,
     tree: &BoxTree,
     origin: &SolidOrigin,
     solids: &[Placed],
-) -> Result<Vec<Fragment>, NoMem>
+) -> Result<Reached, NoMem>
+    requires none { length parts.old.items ≡ 0 }
     requires depth { depth_of tree.now.events ≤ most_open }
     requires origin { IsGoodOrigin origin.now }
     requires solids { All IsNearSolid solids.now }
     requires order { AreInOrder tree.now 0 solids.now }
-    ensures { IfOk result (λ v. AreGathered tree.now origin.now.width solids.now v.items) }
+    ensures { IfOk result (λ at. AreGathered tree.now origin.now.width solids.now parts.new.items at) }
 {
-    let mut parts = Vec::new(alloc);
-    let mut reached = begin(&mut parts, tree, first_event(solids), origin)?;
+    let mut reached = begin(parts, tree, first_event(solids), origin)?;
     for solid in solids {
-        reached = add_solid(&mut parts, tree, reached, solid, origin)?;
+        reached = add_solid(parts, tree, reached, solid, origin)?;
     }
-    Ok(parts)
+    Ok(reached)
 }
 
-/// The boxes in which solids stand, in the order in which they open, each with how far it reaches. Time goes with the
-/// solids, the boxes that are open at the first, and the events up to the last.
-pub(crate) fn parts_of(
+/// The boxes in which solids stand, in the order in which they open, each with how far it reaches, and before which event
+/// those open that the page's start parts.
+#[derive(Drop)]
+pub(crate) struct Fragments {
+    pub parts: Vec<Fragment>,
+    pub from: u32,
+}
+
+/// The fragments of the boxes in which solids stand. Time goes with the solids, the boxes that are open at the first, and
+/// the events up to the last, and where a box clones, with the runs before the first and behind the last.
+pub(crate) fn fragments_of(
     alloc: Global,
     tree: &BoxTree,
     origin: &SolidOrigin,
     solids: &[Placed],
-) -> Result<Vec<Fragment>, NoMem>
+) -> Result<Fragments, NoMem>
     requires depth { depth_of tree.now.events ≤ most_open }
     requires origin { IsGoodOrigin origin.now }
     requires solids { All IsNearSolid solids.now }
     requires order { AreInOrder tree.now 0 solids.now }
-    ensures rects { IfOk result (λ v. flat_map (part_rects tree.now origin.now) v.items
+    ensures rects { IfOk result (λ v. flat_map (part_rects tree.now origin.now v.from) v.parts.items
         ≡ rects_of tree.now origin.now solids.now) }
-    ensures there { IfOk result (λ v. All (λ p. p.number < length tree.now.boxes) v.items) }
-    ensures near { IfOk result (λ v. All IsNearPart v.items) }
+    ensures there { IfOk result (λ v. All (λ p. p.number < length tree.now.boxes) v.parts.items) }
+    ensures near { IfOk result (λ v. All IsNearPart v.parts.items) }
 {
     // a tree is known to be one by its count
     let _count = tree.count();
-    let mut parts = gather(alloc, tree, origin, solids)?;
+    let mut parts = Vec::new(alloc);
+    let reached = gather(&mut parts, tree, origin, solids)?;
     merge(&mut parts);
-    Ok(parts)
+    let from = stand_again(&mut parts, tree, origin, solids, reached);
+    Ok(Fragments { parts, from })
 }

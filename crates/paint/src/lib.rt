@@ -1,6 +1,7 @@
 //! The items of a page: what it prints, each at its place.
 #![tactic(auto)]
 
+mod again;
 mod bounds;
 mod edges;
 pub mod extent;

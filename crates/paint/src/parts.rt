@@ -1,21 +1,25 @@
 //! The boxes in which a page's solids stand, each with the place of the box around it.
 
-ghost use Rattle.std.specs.Prelude.{◌≡◌, ◌<◌, ◌++◌, ◌∷◌, [], suc, length, Some, OnOk};
+ghost use Rattle.std.specs.Prelude.{◌≡◌, ◌<◌, ◌++◌, ◌∷◌, [], ◌^◌, ◌≤ℤ◌, pos, suc, length, Some, OnOk};
 ghost use Rattle.std.specs.Option.{ForSome};
 ghost use Rattle.bk_num.specs.Limits.{most_open};
+ghost use Rattle.boxes.specs.Clones.{clone_edge};
+ghost use Rattle.boxes.specs.Contents.{IsGoodBox};
 ghost use Rattle.boxes.specs.Tree.{open_before};
-ghost use Rattle.paint.specs.Opens.{IsBounded};
-ghost use Rattle.paint.specs.Parts.{AreMerged, Extends, HaveOuters, IsHandedOn, bare_of, content_at, part_in, with_solid};
+ghost use Rattle.paint.specs.Opens.{IsBounded, IsWide};
+ghost use Rattle.paint.specs.Parts.{AreMerged, Extends, HaveOuters, IsHandedOn, IsRoomOf, bare_of, content_at, inside_at, part_in, with_solid};
 
 use crate::extent::{VerticalExtent, join};
 use crate::item::SolidOrigin;
 use bk_num::name::NoMem;
 use boxes::place::Event;
-use boxes::span::{Content, content_in};
+use boxes::props::BoxProps;
+use boxes::span::{Content, content_in, frame_units};
 use boxes::tree::BoxTree;
 
 /// A box: the event that opens it, its number, the place of the box around it and that one's content, and its own
-/// content; then how far its solids reach, and its upper and its lower edge.
+/// content; the top borders and paddings, in units, of the clone boxes around it, and with its own; then how far its
+/// solids reach, and its upper and its lower edge.
 #[derive(Clone, Copy, Debug)]
 pub struct Fragment {
     pub event: u32,
@@ -23,6 +27,8 @@ pub struct Fragment {
     pub outer: Option<usize>,
     pub around: Content,
     pub content: Content,
+    pub above: i64,
+    pub inside: i64,
     pub reach: Option<VerticalExtent>,
     pub upper: Option<VerticalExtent>,
     pub lower: Option<VerticalExtent>,
@@ -49,6 +55,32 @@ fn content_at(parts: &[Fragment], inner: Option<usize>, origin: &SolidOrigin) ->
     }
 }
 
+/// The top borders and paddings of the clone boxes among the box at a place and those around it.
+fn inside_at(parts: &[Fragment], inner: Option<usize>) -> i64
+    requires { ForSome inner (λ i. i < length parts.now) }
+    ensures { result ≡ inside_at parts.now inner }
+{
+    match inner {
+        None => 0,
+        Some(place) => parts[place].inside,
+    }
+}
+
+/// The top border and padding of a box that stand again where a page parts it: none where it is sliced.
+fn top_edge(props: &BoxProps, around: Content) -> i64
+    requires good { IsGoodBox props.now }
+    requires wide { IsWide around }
+    ensures value { result ≡ clone_edge 0 (Some props.now) around.width }
+    ensures low { pos 0 ≤ℤ result }
+    ensures high { result ≤ℤ pos (2 ^ 28) }
+{
+    if props.clones {
+        frame_units(props, 0, around.width)
+    } else {
+        0
+    }
+}
+
 /// Appends a box that an event opens inside the box at a place.
 pub(crate) fn open_part(
     parts: &mut Vec<Fragment>,
@@ -63,20 +95,27 @@ pub(crate) fn open_part(
     requires few { length (open_before tree.now.events event) < most_open }
     requires around { IsBounded (length (open_before tree.now.events event))
         (content_at origin.now.width parts.old.items inner) }
+    requires above { IsRoomOf (length (open_before tree.now.events event)) (inside_at parts.old.items inner) }
     ensures part { OnOk result (parts.new.items ≡ parts.old.items
         ++ part_in tree.now origin.now.width parts.old.items inner event number ∷ []) }
     ensures content { OnOk result (IsBounded (suc (length (open_before tree.now.events event)))
         (part_in tree.now origin.now.width parts.old.items inner event number).content) }
+    ensures inside { OnOk result (IsRoomOf (suc (length (open_before tree.now.events event)))
+        (part_in tree.now origin.now.width parts.old.items inner event number).inside) }
 {
     // a tree is known to be one by its count
     let _count = tree.count();
     let around = content_at(parts, inner, origin);
+    let above = inside_at(parts, inner);
+    let props = tree.props(number);
     parts.push(Fragment {
         event,
         number,
         outer: inner,
         around,
-        content: content_in(tree.props(number), around),
+        content: content_in(props, around),
+        above,
+        inside: above + top_edge(props, around),
         reach: None,
         upper: None,
         lower: None,

@@ -11,12 +11,13 @@ ghost use Rattle.paint.specs.Conditions.{CanBePainted};
 ghost use Rattle.paint.specs.Opens as spec;
 ghost use Rattle.paint.specs.Order.{AreInOrder};
 ghost use Rattle.paint.specs.Pages.{rects_of};
-ghost use Rattle.paint.specs.Parts.{part_rects};
+ghost use Rattle.paint.specs.Parts.{own_rects, part_rects};
 ghost use Rattle.paint.specs.Rects.{background_rects, border_rects, box_rects, edge_rects, fragment_area, left_area, lower_top, right_area, side_rects, upper_top};
 ghost use Rattle.paint.specs.Views.{Adds, HaveItemFaces, rect_item};
 
+use crate::again::with_head;
 use crate::extent::VerticalExtent;
-use crate::gather::parts_of;
+use crate::gather::fragments_of;
 use crate::item::{Area, Canvas, ItemRef, SolidOrigin};
 use crate::opens::border_in;
 use crate::parts::Fragment;
@@ -298,28 +299,48 @@ fn push_fragment<'a>(
     Ok(())
 }
 
-/// Adds the rectangles of a box, if it has a solid.
+/// Adds the rectangles of a box, if it reaches anywhere.
 #[tactic(auto, unfolding(crate::specs::Rects::fragment_rects))]
+fn push_own<'a>(
+    out: &mut Vec<ItemRef<'a>>,
+    canvas: &Canvas<'a>,
+    props: &BoxProps,
+    part: &Fragment,
+) -> Result<(), NoMem>
+    requires good { IsGoodBox props.now }
+    requires origin { IsGoodOrigin canvas.now.origin }
+    requires part { IsNearPart part.now }
+    requires faces { HaveItemFaces canvas.now.faces.now out.old.items }
+    ensures items { OnOk result (Adds canvas.now.faces.now out.old.items
+        (own_rects canvas.now.origin props.now part.now) out.new.items) }
+    ensures faces { OnOk result (HaveItemFaces canvas.now.faces.now out.new.items) }
+{
+    match part.reach {
+        None => Ok(()),
+        Some(extent) => push_fragment(out, canvas, props, part, extent),
+    }
+}
+
+/// Adds the rectangles of a box that was met, which is parted at the page's start if it opens before an event.
 fn push_part<'a>(
     out: &mut Vec<ItemRef<'a>>,
     canvas: &Canvas<'a>,
     part: &Fragment,
+    from: u32,
 ) -> Result<(), NoMem>
     requires there { part.now.number < length canvas.now.tree.now.boxes }
     requires origin { IsGoodOrigin canvas.now.origin }
     requires part { IsNearPart part.now }
     requires faces { HaveItemFaces canvas.now.faces.now out.old.items }
     ensures items { OnOk result (Adds canvas.now.faces.now out.old.items
-        (part_rects canvas.now.tree.now canvas.now.origin part.now) out.new.items) }
+        (part_rects canvas.now.tree.now canvas.now.origin from part.now) out.new.items) }
     ensures faces { OnOk result (HaveItemFaces canvas.now.faces.now out.new.items) }
 {
     // a tree is known to be one by its count
     let _count = canvas.tree.count();
     let props = canvas.tree.props(part.number);
-    match part.reach {
-        None => Ok(()),
-        Some(extent) => push_fragment(out, canvas, props, part, extent),
-    }
+    let part = with_head(props, part, from);
+    push_own(out, canvas, props, &part)
 }
 
 /// Adds the rectangles of boxes, in order.
@@ -327,17 +348,18 @@ fn push_parts<'a>(
     out: &mut Vec<ItemRef<'a>>,
     canvas: &Canvas<'a>,
     parts: &[Fragment],
+    from: u32,
 ) -> Result<(), NoMem>
     requires there { All (λ p. p.number < length canvas.now.tree.now.boxes) parts.now }
     requires origin { IsGoodOrigin canvas.now.origin }
     requires near { All IsNearPart parts.now }
     requires faces { HaveItemFaces canvas.now.faces.now out.old.items }
     ensures items { OnOk result (Adds canvas.now.faces.now out.old.items
-        (flat_map (part_rects canvas.now.tree.now canvas.now.origin) parts.now) out.new.items) }
+        (flat_map (part_rects canvas.now.tree.now canvas.now.origin from) parts.now) out.new.items) }
     ensures faces { OnOk result (HaveItemFaces canvas.now.faces.now out.new.items) }
 {
     for part in parts {
-        push_part(out, canvas, part)?;
+        push_part(out, canvas, part, from)?;
     }
     Ok(())
 }
@@ -358,7 +380,7 @@ pub(crate) fn push_rects<'a>(
         (rects_of canvas.now.tree.now canvas.now.origin solids.now) out.new.items) }
     ensures faces { OnOk result (HaveItemFaces canvas.now.faces.now out.new.items) }
 {
-    let parts = parts_of(alloc, canvas.tree, &canvas.origin, solids)?;
-    push_parts(out, canvas, &parts)?;
+    let fragments = fragments_of(alloc, canvas.tree, &canvas.origin, solids)?;
+    push_parts(out, canvas, &fragments.parts, fragments.from)?;
     Ok(())
 }

@@ -2,7 +2,7 @@ use Rattle.std.proofs.Common.{◌≤◌, ◌≡◌, ◌+◌, length, ap, subst, 
 use Rattle.boxes.proofs.TreeFacts.{box_there}
 use Rattle.boxes.specs.Tree.{open_before}
 use Rattle.paint.specs.Parts.{IsAt, LeavesTo}
-use Rattle.paint.proofs.PartLemmas.{content_bounded, inner_within, pass_closes, pass_leaf, pass_opens, room_before, were_before}
+use Rattle.paint.proofs.PartLemmas.{content_bounded, inner_within, inside_bounded, pass_closes, pass_leaf, pass_opens, room_before, were_before}
 use Rattle.paint.proofs.gather.pass.Goals as goal
 
 pub open_part-requires-clause-number : goal.open_part-requires-clause-number
@@ -20,6 +20,12 @@ open_part-requires-clause-around c =
     let low : c.args.at ≤ length t.events = (let w = c.requires.within in omega arith) in
     content_bounded t c.count-count.ensures.tree c.args.origin.now c.args.parts.now.items (open_before t.events c.args.at) c.args.inner c.args.at c.args.at c.requires.origin c.requires.at.on c.requires.at.opened (were_before t.events c.args.at low)
 
+pub open_part-requires-clause-above : goal.open_part-requires-clause-above
+open_part-requires-clause-above c =
+    let t = c.args.tree.now in
+    let low : c.args.at ≤ length t.events = (let w = c.requires.within in omega arith) in
+    inside_bounded t c.count-count.ensures.tree c.args.origin.now.width c.args.parts.now.items (open_before t.events c.args.at) c.args.inner c.args.at c.args.at c.requires.at.on c.requires.at.opened (were_before t.events c.args.at low)
+
 pub outer_of-requires : goal.outer_of-requires
 outer_of-requires c = λ x is. let w = inner_within c.args.parts.now.items (open_before c.args.tree.now.events c.args.at) c.args.inner c.args.at c.requires.at.on x is in let e = ap length c.deref.ensures.value in omega arith
 
@@ -31,8 +37,10 @@ returns-in_ok-open_part-in-Opens-clause-at c =
     let place : length c.args.parts.now.items ≡ c.len-place.result = (let l = c.len-place.ensures in let k = c.args.parts.now.ok.0 in omega arith) in
     let new = c.open_part.new.parts.items in
     let around = content_bounded t c.count-count.ensures.tree c.args.origin.now c.args.parts.now.items (open_before t.events c.args.at) c.args.inner c.args.at c.args.at c.requires.origin c.requires.at.on c.requires.at.opened (were_before t.events c.args.at low) in
+    let above = inside_bounded t c.count-count.ensures.tree m c.args.parts.now.items (open_before t.events c.args.at) c.args.inner c.args.at c.args.at c.requires.at.on c.requires.at.opened (were_before t.events c.args.at low) in
+    let opened = c.in_ok-open_part-in-Opens.ensures in
     subst (λ (n : ℕ). IsAt t m new (record { event = c.args.at + 1; inner = Some n })) place
-    (pass_opens t c.count-count.ensures.tree m c.args.parts.now.items new c.args.at c.in-Opens.number c.args.inner low c.in-Opens.ensures c.requires.at c.in_ok-open_part-in-Opens.ensures.part (around, c.in_ok-open_part-in-Opens.ensures.content))
+    (pass_opens t c.count-count.ensures.tree m c.args.parts.now.items new c.args.at c.in-Opens.number c.args.inner low c.in-Opens.ensures c.requires.at opened.part (record { around = around; content = opened.content; above = above; inside = opened.inside }))
 
 pub returns-in-Closes-clause-at : goal.returns-in-Closes-clause-at
 returns-in-Closes-clause-at c =
