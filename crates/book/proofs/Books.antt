@@ -22,6 +22,7 @@ use Rattle.book.specs.declared.styled.Styled.{Styled}
 use Rattle.book.specs.Laws.{PageLaws}
 use Rattle.book.proofs.KeepLemmas.{keeps}
 use Rattle.book.proofs.Stopping.{keeps_same}
+use Rattle.book.proofs.Tables.{page_widths}
 use Rattle.listing.specs.Puts.{Puts}
 use Rattle.listing.specs.declared.print.PrintErr.{PrintErr}
 use Rattle.listing.specs.declared.print.PrintErr.TheVariants as print
@@ -78,7 +79,7 @@ module _ (d : Document) (s : Styled) (is : IsStyledOf d s) where
 
   pub book_is : PageLaws → (b : Book) → IsBookBy s b → IsWholeBook d b
   unfolding put_book
-  book_is laws b by = (put_book b by, keeps laws (work_in s by.settles.targets) s.passes b.passes by.flow by.pages by.table by.can by.settles.ends)
+  book_is laws b by = (put_book b by, keeps laws (work_in s by.settles.targets) (page_widths s.rules s.names) s.passes b.passes by.flow by.pages by.table by.can by.settles.ends)
 
   pub laid_out : PageLaws → (old new : Option (List ℕ)) (o : Outcome) → WritesBy s old new o → Writes d old new o × PutsOnlyABook old new o × IsOfBook o
   laid_out laws old new (out.Done pages passes) (b, by, p, k, a) = ((b, book_is laws b by, p, k, a), tt, tt)

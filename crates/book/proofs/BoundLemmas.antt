@@ -1,27 +1,23 @@
 -- Pages that settled are pages of their flow, within the bounds of what is painted.
-use Rattle.std.proofs.Common.{◌≡◌, ℕ, List, [], ◌∷◌, Option, None, Some, get_or, slice_get, refl, sym, ◌∙◌, subst, arith}
-use Rattle.std.proofs.lemmas.Int.{ints}
+use Rattle.std.proofs.Common.{ℕ, List, [], ◌∷◌, get_or, sym, subst}
 use Rattle.std.proofs.lemmas.List.Elements.{All-cons, All-nil, All-weaker}
-use Rattle.std.proofs.lemmas.Option.{get_or_from_slice_get, slice_get_within}
 use Rattle.std.specs.List.{All}
-use Rattle.std.specs.Option.{option_or}
 use Rattle.bk_num.specs.declared.ids.NameId.{NameId}
 use Rattle.boxes.specs.Frames.{IsGoodFrame, PageFrames}
 use Rattle.boxes.specs.Steps.{IsRun}
-use Rattle.boxes.specs.Table.{cell_in, cell_of, row_of}
 use Rattle.boxes.specs.declared.flow.Flow.{Flow}
 use Rattle.boxes.specs.declared.frames.PageKind.{PageKind}
 use Rattle.boxes.specs.declared.frames.PageKind.TheVariants as kind
 use Rattle.boxes.specs.declared.page.Page.{Page}
 use Rattle.boxes.specs.declared.page.Placed.{Placed}
-use Rattle.boxes.specs.declared.table.PageCell.{PageCell}
 use Rattle.boxes.specs.declared.table.PageRow.{PageRow}
 use Rattle.gen_text.specs.declared.table.Entry.{Entry}
 use Rattle.metrics.specs.Face.{FontFace}
 use Rattle.note_list.specs.Places as note
 use Rattle.page_list.specs.Pages.{AreNear, HaveNearTops, IsEnded, IsStep, State, name_at, start_of}
 use Rattle.page_list.specs.Pages.IsStep.{blank, flows, noted}
-use Rattle.page_seq.specs.Frames.{HasGoodCells, IsGoodTable, frame_in}
+use Rattle.page_seq.specs.Frames.{IsGoodTable}
+use Rattle.page_seq.specs.GoodFrames.{good_frame}
 use Rattle.note_list.specs.Conditions.{CanBePaged}
 use Rattle.page_list.proofs.NoteRunLemmas.{paged_notes}
 use Rattle.page_list.proofs.PartLemmas.{paged_parts}
@@ -36,30 +32,8 @@ use Rattle.book.proofs.Tables.{table_frames}
 abbrev pub HasGoodFrames : PageFrames → Type 0
 HasGoodFrames frames = (index : ℕ) (name : NameId) (which : PageKind) → IsGoodFrame (frames.frame_of index name which)
 
-all_get : {X : Type 0} (P : X → Type 0) (xs : List X) (k : ℕ) (x : X) → All P xs → slice_get xs k ≡ Some x → P x
-all_get P xs k x all e = subst P (get_or_from_slice_get xs k x x e) (all k x (slice_get_within xs k x e))
-
--- ---- the frames of a table
-none_good : IsGoodFrame (frame_in None)
-none_good = record { height_low = omega (arith, ints); height_high = omega (arith, ints); width_low = omega (arith, ints); width_high = omega (arith, ints); left_low = omega (arith, ints); left_high = omega (arith, ints); top_low = omega (arith, ints); top_high = omega (arith, ints) }
-
-cell_good : (row : Option PageRow) (k : ℕ) → ((r : PageRow) → row ≡ Some r → HasGoodCells r) → IsGoodFrame (frame_in (cell_in row k))
-cell_good None k good = none_good
-cell_good (Some row) k good = by (slice_get row.cells k) refl
-  where
-    by : (cell : Option PageCell) → slice_get row.cells k ≡ cell → IsGoodFrame (frame_in cell)
-    by None e = none_good
-    by (Some cell) e = all_get (λ (x : PageCell). IsGoodFrame x.frame) row.cells k cell (good row refl) e
-
-row_good : (rows : List PageRow) (name : NameId) → All HasGoodCells rows → (r : PageRow) → row_of rows name ≡ Some r → HasGoodCells r
-row_good rows name all r e = by (slice_get rows name.0) refl e
-  where
-    by : (o : Option PageRow) → slice_get rows name.0 ≡ o → option_or o (slice_get rows 0) ≡ Some r → HasGoodCells r
-    by None f is = all_get HasGoodCells rows 0 r all is
-    by (Some x) f is = all_get HasGoodCells rows name.0 r all (f ∙ is)
-
 pub table_good : (rows : List PageRow) → IsGoodTable rows → HasGoodFrames (table_frames rows)
-table_good rows good index name which = cell_good (row_of rows name) (cell_of index which) (row_good rows name good.cells)
+table_good rows good index name which = good_frame rows good index name which
 
 -- ---- the frames of a page list
 module _ (faces : List FontFace) (flow : Flow) (frames : PageFrames) (good : HasGoodFrames frames) where

@@ -19,4 +19,5 @@ can_be_painted faces flow good = record {
         depth = body.depth;
         faced = λ l leaf e. record { leaf_faces = (body.faced l leaf e).0; lead_faces = (body.faced l leaf e).1 };
       };
+  sliced = good.paged.sliced;
 }

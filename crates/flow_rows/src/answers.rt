@@ -20,7 +20,8 @@ fn of_text(alloc: Global, parts: &[&str]) -> Result<String, NoMem> {
     }
 }
 
-const OF_DOCUMENTS: &str = "flow,events,around,chains,boxes,holds,span,content width,seam,level";
+const OF_DOCUMENTS: &str =
+    "flow,events,around,chains,boxes,holds,span,content width,seam,room,level";
 
 fn answer_to(alloc: Global, parts: &[&str]) -> Result<String, NoMem> {
     let call = part(parts, 0);

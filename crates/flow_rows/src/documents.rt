@@ -112,6 +112,7 @@ fn of_flow(alloc: Global, flow: &Flow, names: &Names, parts: &[&str]) -> Result<
     match part(parts, 0) {
         "flow" => flow_text(alloc, flow),
         "seam" => seam_rows::seam_at(alloc, &flow.main, names, at),
+        "room" => seam_rows::room_at(alloc, &flow.main, at),
         "level" => seam_rows::level_at(alloc, &flow.main, at, part(parts, 4), part(parts, 5)),
         call => trees::answer(alloc, &flow.main, call, parts_from(parts, 3)),
     }

@@ -61,6 +61,15 @@ pub(crate) fn seam_at(
     Ok(format!(in alloc; "{class} {forced} {whole} {kept} {avoid} \"{name}\"")?)
 }
 
+/// What stands again above and below a break at a seam.
+pub(crate) fn room_at(alloc: Global, tree: &BoxTree, at: &str) -> Result<String, NoMem> {
+    let Some(seam) = found(tree, position(at)) else {
+        return unknown(alloc);
+    };
+    let (head, tail) = (seam.head, seam.tail);
+    Ok(format!(in alloc; "{head} {tail}")?)
+}
+
 /// A seam without gaps, by its class and words for what it asks.
 fn given_seam(part: &str) -> SeamInfo {
     let class = match part.split(' ').next() {
@@ -78,6 +87,8 @@ fn given_seam(part: &str) -> SeamInfo {
         forced,
         whole_gap: 0,
         kept_gap: 0,
+        head: 0,
+        tail: 0,
         avoid: part.contains("avoid"),
         name: NameId(0),
     }

@@ -225,7 +225,7 @@ pub(crate) fn answer(
 /// Opens a box where one may open.
 fn open(tree: &mut BoxTree) -> Result<(), NoMem> {
     if tree.count() < MOST_EVENTS && tree.takes_box() {
-        tree.add_box(props_of(&PLAIN))?;
+        tree.add_box(props_of(&PLAIN, true))?;
     }
     Ok(())
 }

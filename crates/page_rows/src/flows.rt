@@ -2,6 +2,7 @@
 
 ghost use Rattle.std.specs.Prelude.{◌≡◌, ◌<◌, ◌≤◌, ◌+◌, ℕ, All, Some, false, length, map, slice_get, IfOk};
 ghost use Rattle.bk_num.specs.Limits.{most_entries};
+ghost use Rattle.boxes.specs.Clones.{AreSliced};
 ghost use Rattle.boxes.specs.Frames.{IsGoodFrame};
 ghost use Rattle.boxes.specs.declared.flow.Note.{Note};
 ghost use Rattle.note_list.specs.Conditions.{CanBeCut, CanBePaged};
@@ -37,9 +38,10 @@ pub struct NoteInShort<'a> {
 fn note_of(alloc: Global, faces: &Faces, note: &NoteInShort<'_>) -> Result<Note, NoMem>
     requires some { 0 < length faces.now }
     ensures body { IfOk result (λ n. CanBeCut faces.now n.body) }
+    ensures sliced { IfOk result (λ n. AreSliced n.body.boxes) }
     ensures call { IfOk result (λ n. n.call ≡ note.now.call) }
 {
-    let body = tree_of(alloc, note.body.as_slice())?;
+    let body = tree_of(alloc, note.body.as_slice(), false)?;
     // that the tree is one that can be built
     let _count = body.count();
     Ok(Note {
@@ -63,6 +65,7 @@ fn falls(list: &[Note], call: Position) -> bool
 fn notes_of(alloc: Global, faces: &Faces, notes: &[NoteInShort<'_>]) -> Result<Vec<Note>, NoMem>
     requires some { 0 < length faces.now }
     ensures bodies { IfOk result (λ v. All (λ n. CanBeCut faces.now n.body) v.items) }
+    ensures sliced { IfOk result (λ v. All (λ n. AreSliced n.body.boxes) v.items) }
     ensures calls { IfOk result (λ v. NeverFall (map (λ n. n.call) v.items)) }
     ensures count { IfOk result (λ v. length v.items ≤ most_entries) }
 {
@@ -88,7 +91,7 @@ pub fn flow_with_notes(
     requires some { 0 < length faces.now }
     ensures paged { IfOk result (λ flow. CanBePaged faces.now flow) }
 {
-    let tree = tree_of(alloc, steps)?;
+    let tree = tree_of(alloc, steps, true)?;
     // that the tree is one that can be built
     let _count = tree.count();
     let list = notes_of(alloc, faces, notes)?;

@@ -25,6 +25,8 @@ const fn line(class: Class) -> SolidRow
             forced: None,
             whole_gap: 0,
             kept_gap: 100,
+            head: 0,
+            tail: 0,
             avoid: false,
             name: NameId(0),
         },

@@ -146,7 +146,8 @@ fn break_at(word: &str) -> BreakAt {
 }
 
 /// A shape with one more property: `mt` and `mb` margins, `bt` and `bb` borders, `pt` and `pb` paddings in hundredths,
-/// `pl` the left padding, `before` and `after` breaks, `inside:avoid`, `o` orphans, `w` widows, `n` the page name.
+/// `pl` the left padding, `before` and `after` breaks, `inside:avoid`, `break:clone`, `o` orphans, `w` widows, `n` the
+/// page name.
 fn with_property(mut shape: Shape, word: &str) -> Shape {
     let (name, value) = word.split_once(':').unwrap_or((word, ""));
     match name {
@@ -160,6 +161,7 @@ fn with_property(mut shape: Shape, word: &str) -> Shape {
         "before" => shape.before = break_at(value),
         "after" => shape.after = break_at(value),
         "inside" => shape.avoid_inside = value == "avoid",
+        "break" => shape.clones = value == "clone",
         "o" => shape.orphans = count(value),
         "w" => shape.widows = count(value),
         "n" => shape.name = count(value),
@@ -217,5 +219,5 @@ pub(crate) fn steps_of<'a>(alloc: Global, tree: &'a str) -> Result<Vec<Step<'a>>
 /// The tree of a question.
 pub(crate) fn tree_in_short(alloc: Global, tree: &str) -> Result<BoxTree, NoMem> {
     let steps = steps_of(alloc, tree)?;
-    tree_of(alloc, steps.as_slice())
+    tree_of(alloc, steps.as_slice(), true)
 }

@@ -1,7 +1,8 @@
 //! The items of a page, of a flow of two trees with one text, the second being the body of a note.
 
-ghost use Rattle.std.specs.Prelude.{◌≡◌, ◌<◌, ◌∷◌, [], ◌++◌, length, All, IfOk, OnOk, Some};
+ghost use Rattle.std.specs.Prelude.{◌≡◌, false, ◌<◌, ◌∷◌, [], ◌++◌, length, All, IfOk, OnOk, Some};
 ghost use Rattle.bk_num.specs.Ranges.{IsNotAuto, IsNotNegative};
+ghost use Rattle.boxes.specs.Clones.{AreSliced};
 ghost use Rattle.boxes.specs.Contents.{AreOffsets, IsGoodBox, IsGoodLeaf, IsGoodSpan};
 ghost use Rattle.paint.specs.Conditions.{CanBePainted, CanFlowBePainted, IsFaced};
 
@@ -52,7 +53,8 @@ fn grey(level: u16) -> Color {
 /// A box with a border on all sides, a padding above and below, and one on the left, in units, and the level of its
 /// background, 0 for none. The levels of its borders are 11 to 14.
 fn props_of(border: u16, upright: u16, left: u16, background: u16) -> BoxProps
-    ensures { IsGoodBox result }
+    ensures good { IsGoodBox result }
+    ensures sliced { result.clones ≡ false }
 {
     BoxProps {
         margin: [len(0), len(0), len(0), len(0)],
@@ -62,6 +64,7 @@ fn props_of(border: u16, upright: u16, left: u16, background: u16) -> BoxProps
         before: BreakAt::Auto,
         after: BreakAt::Auto,
         avoid_inside: false,
+        clones: false,
         widows: 1,
         orphans: 1,
         name: NameId(0),
@@ -137,8 +140,10 @@ fn leaf_of(
 }
 
 fn open(tree: &mut BoxTree, props: BoxProps) -> Result<(), NoMem>
-    requires { IsGoodBox props }
-    ensures { OnOk result (tree.new.leaves ≡ tree.old.leaves) }
+    requires good { IsGoodBox props }
+    requires sliced { props.clones ≡ false }
+    ensures leaves { OnOk result (tree.new.leaves ≡ tree.old.leaves) }
+    ensures sliced { OnOk result (AreSliced tree.old.boxes → AreSliced tree.new.boxes) }
 {
     if tree.count() >= MOST_EVENTS || !tree.takes_box() {
         return Err(NoMem);
@@ -148,7 +153,8 @@ fn open(tree: &mut BoxTree, props: BoxProps) -> Result<(), NoMem>
 }
 
 fn close(tree: &mut BoxTree) -> Result<(), NoMem>
-    ensures { OnOk result (tree.new.leaves ≡ tree.old.leaves) }
+    ensures leaves { OnOk result (tree.new.leaves ≡ tree.old.leaves) }
+    ensures boxes { OnOk result (tree.new.boxes ≡ tree.old.boxes) }
 {
     if tree.count() < MOST_EVENTS && tree.around(tree.count()).is_some() {
         tree.close_box()
@@ -161,7 +167,8 @@ fn close(tree: &mut BoxTree) -> Result<(), NoMem>
 fn fill(tree: &mut BoxTree, leaf: Leaf) -> Result<(), NoMem>
     requires good { IsGoodLeaf leaf }
     requires owner { All (λ lead. lead.owner ≡ 2) leaf.leads }
-    ensures { OnOk result (tree.new.leaves ≡ tree.old.leaves ++ leaf ∷ []) }
+    ensures leaves { OnOk result (tree.new.leaves ≡ tree.old.leaves ++ leaf ∷ []) }
+    ensures boxes { OnOk result (tree.new.boxes ≡ tree.old.boxes) }
 {
     if tree.count() >= MOST_EVENTS || !tree.takes_leaf() || tree.around(tree.count()) != Some(2) {
         return Err(NoMem);
@@ -172,7 +179,8 @@ fn fill(tree: &mut BoxTree, leaf: Leaf) -> Result<(), NoMem>
 
 /// Opens the root, box 1 and box 2. Box 1 has a border and paddings, and each has a background or none.
 fn open_all(tree: &mut BoxTree, sides: &[i64]) -> Result<(), NoMem>
-    ensures { OnOk result (tree.new.leaves ≡ tree.old.leaves) }
+    ensures leaves { OnOk result (tree.new.leaves ≡ tree.old.leaves) }
+    ensures sliced { OnOk result (AreSliced tree.old.boxes → AreSliced tree.new.boxes) }
 {
     let (border, upright, left) = (small(sides, 0), small(sides, 1), small(sides, 2));
     open(tree, props_of(0, 0, 0, small(sides, 3)))?;
@@ -182,7 +190,8 @@ fn open_all(tree: &mut BoxTree, sides: &[i64]) -> Result<(), NoMem>
 
 /// Closes box 2, box 1 and the root.
 fn close_all(tree: &mut BoxTree) -> Result<(), NoMem>
-    ensures { OnOk result (tree.new.leaves ≡ tree.old.leaves) }
+    ensures leaves { OnOk result (tree.new.leaves ≡ tree.old.leaves) }
+    ensures boxes { OnOk result (tree.new.boxes ≡ tree.old.boxes) }
 {
     close(tree)?;
     close(tree)?;
@@ -194,7 +203,8 @@ fn tree_of(alloc: Global, faces: &Faces, sides: &[i64], leaf: Leaf) -> Result<Bo
     requires good { IsGoodLeaf leaf }
     requires faced { IsFaced faces.now leaf }
     requires owner { All (λ lead. lead.owner ≡ 2) leaf.leads }
-    ensures { IfOk result (λ tree. CanBePainted faces.now tree) }
+    ensures painted { IfOk result (λ tree. CanBePainted faces.now tree) }
+    ensures sliced { IfOk result (λ tree. AreSliced tree.boxes) }
 {
     // only contracts name the faces
     let _faces = faces;
@@ -308,7 +318,8 @@ struct Asked<'a> {
 /// A tree with the leaf.
 fn tree_asked(alloc: Global, faces: &Faces, asked: Asked<'_>) -> Result<BoxTree, NoMem>
     requires { 0 < length faces.now }
-    ensures { IfOk result (λ tree. CanBePainted faces.now tree) }
+    ensures painted { IfOk result (λ tree. CanBePainted faces.now tree) }
+    ensures sliced { IfOk result (λ tree. AreSliced tree.boxes) }
 {
     let sides = numbers(alloc, asked.sides)?;
     let (place, align) = (units(asked.place), align_of(asked.align));
@@ -319,7 +330,8 @@ fn tree_asked(alloc: Global, faces: &Faces, asked: Asked<'_>) -> Result<BoxTree,
 /// A note whose body is such a tree.
 fn note_asked(alloc: Global, faces: &Faces, asked: Asked<'_>) -> Result<Note, NoMem>
     requires { 0 < length faces.now }
-    ensures { IfOk result (λ note. CanBePainted faces.now note.body) }
+    ensures painted { IfOk result (λ note. CanBePainted faces.now note.body) }
+    ensures sliced { IfOk result (λ note. AreSliced note.body.boxes) }
 {
     let call = Position {
         event: 3,

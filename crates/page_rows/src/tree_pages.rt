@@ -16,7 +16,8 @@ use boxes::tree::BoxTree;
 use cursor::{Cursor, Solid, next_solid, remainder};
 use fragment::next_cut::next_cut;
 use metrics::Faces;
-use page_list::cut::CutFrom;
+use note_list::carried::{Carried, CarriedNotes};
+use page_list::cut::{Cut, CutFrom};
 use rows::{escaped, unescaped};
 use seams::seam::widths_at;
 use seams::widths::Widths;
@@ -287,9 +288,6 @@ fn walks(
     walks_counted::<Brand>(alloc, tree, faces, walks, Blank::new(1))
 }
 
-/// Where a page of two lines ends, whether the flow ends there, its level, and how many solids it places.
-type CutRow = ((u32, u32), bool, u8, usize);
-
 /// The cut of a page of two lines from a place on.
 fn cut_of<L: Ledger>(
     alloc: Global,
@@ -297,7 +295,7 @@ fn cut_of<L: Ledger>(
     faces: &Faces,
     at: Position,
     token: Blank,
-) -> Option<CutRow>
+) -> Option<Cut>
     requires name { token.name ≡ L.name }
     requires parts { token.parts ≡ L.parts }
     requires counted { 0 < L.parts }
@@ -308,27 +306,38 @@ fn cut_of<L: Ledger>(
     }
     let mut steps = Steps::<L>::zero(token);
     let from = CutFrom { at, kept: false };
-    let cut = next_cut(alloc, flow, faces, from, &[], frame(5120, 2560), &mut steps).ok()?;
-    let to = (cut.to.event, cut.to.offset);
-    Some((to, cut.ended, cut.level, cut.solids.as_slice().len()))
+    next_cut(alloc, flow, faces, from, &[], frame(5120, 2560), &mut steps).ok()
 }
 
 /// The same, with a counter of its own.
-fn cut_from(alloc: Global, flow: &Flow, faces: &Faces, at: Position) -> Option<CutRow>
+fn cut_from(alloc: Global, flow: &Flow, faces: &Faces, at: Position) -> Option<Cut>
     requires flow { CanBePaged faces.now flow.now }
 {
     cut_of::<Brand>(alloc, flow, faces, at, Blank::new(1))
 }
 
+/// What is left of notes: the number of each, and where it goes on in its body.
+fn push_carried(line: &mut String, carried: &CarriedNotes) -> Result<(), AllocError> {
+    for place in 0..carried.len() {
+        let Carried { note, at } = carried.part(place);
+        write!(line, " {note}@{}.{}", at.event, at.offset)?;
+    }
+    Ok(())
+}
+
+/// Where a page of two lines ends, whether the flow ends there, its level, how many solids it places, and what it
+/// carries on.
 fn cut(alloc: Global, flow: &Flow, faces: &Faces, at: Position) -> Result<String, NoMem>
     requires flow { CanBePaged faces.now flow.now }
 {
-    match cut_from(alloc, flow, faces, at) {
-        Some(((event, offset), ended, level, count)) => {
-            Ok(format!(in alloc; "{event}.{offset} {ended} {level} {count}")?)
-        }
-        None => unknown(alloc),
-    }
+    let Some(cut) = cut_from(alloc, flow, faces, at) else {
+        return unknown(alloc);
+    };
+    let (Position { event, offset }, count) = (cut.to, cut.solids.as_slice().len());
+    let (ended, level) = (cut.ended, cut.level);
+    let mut line = format!(in alloc; "{event}.{offset} {ended} {level} {count}")?;
+    push_carried(&mut line, &cut.carried)?;
+    Ok(line)
 }
 
 /// The answer to a question about a flow.
@@ -340,7 +349,7 @@ fn of_flow(alloc: Global, faces: &Faces, flow: &Flow, parts: &[&str]) -> Result<
         ["pages", _, _, size] => pages(alloc, flow, faces, size, true),
         ["solids", _, from] => solids(alloc, &flow.main, faces, position(from)),
         ["walks", _, from, on] => walks(alloc, &flow.main, faces, from, on),
-        ["cut_at", _, at] => cut(alloc, flow, faces, position(at)),
+        ["cut_at", _, at] | ["cut_at", _, at, _] => cut(alloc, flow, faces, position(at)),
         _ => unknown(alloc),
     }
 }
@@ -355,7 +364,7 @@ fn of_tree(alloc: Global, tree: &str, body: &str, parts: &[&str]) -> Result<Stri
 /// The notes of a question.
 fn notes_in(alloc: Global, parts: &[&str]) -> Result<String, AllocError> {
     match parts {
-        ["pages", _, notes, _] => unescaped(alloc, notes),
+        ["pages", _, notes, _] | ["cut_at", _, _, notes] => unescaped(alloc, notes),
         _ => Ok(String::new(alloc)),
     }
 }

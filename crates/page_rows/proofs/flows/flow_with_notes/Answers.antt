@@ -16,5 +16,6 @@ returns c = record {
     notes = rw c.of.ensures c.in_ok-list.ensures.bodies;
     calls = rw c.of.ensures c.in_ok-list.ensures.calls;
     count = rw c.of.ensures c.in_ok-list.ensures.count;
+    sliced = rw c.of.ensures c.in_ok-list.ensures.sliced;
   };
 }

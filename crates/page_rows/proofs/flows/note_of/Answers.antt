@@ -13,5 +13,6 @@ returns c = record {
     };
     bytes = few_bytes c.in_ok-body.body c.count-count.ensures.tree c.in_ok-body.ensures.bytes;
   };
+  sliced = c.in_ok-body.ensures.sliced refl;
   call = refl;
 }
