@@ -12,6 +12,7 @@ ghost use Rattle.page_list.specs.Pages.{AreNear};
 use crate::cut_solids::{cut_end, cut_solids};
 use crate::laws::no_later_point_fits;
 use crate::page_notes::PageNotes;
+use crate::page_widths::PageWidths;
 use crate::prefix::prefix;
 use bk_num::name::NoMem;
 use bk_num::steps::Steps;
@@ -24,7 +25,7 @@ use page_list::cut::{Cut, CutFrom};
 use std::alloc::Global;
 use std::sync::ledger::Ledger;
 
-/// The cut of a page, what is carried to which goes on at solids.
+/// The cut of a page, what is carried to which goes on at solids. Any boxes may be open at first.
 pub(crate) fn cut_page<L: Ledger>(
     alloc: Global,
     flow: &Flow,
@@ -32,6 +33,7 @@ pub(crate) fn cut_page<L: Ledger>(
     from: CutFrom,
     carried: CarriedNotes,
     frame: Frame,
+    widths: &mut PageWidths,
     steps: &mut Steps<L>,
 ) -> Result<Cut, NoMem>
     requires flow { CanBePaged faces.now flow.now }
@@ -46,16 +48,27 @@ pub(crate) fn cut_page<L: Ledger>(
     ensures near { IfOk result (λ cut. AreNear cut.solids cut.notes) }
     ensures inside { IfOk result (λ cut. cut.level ≤ 2 → AreInside frame.height cut.notes cut.solids) }
 {
-    let mut notes = PageNotes::start(alloc, flow, faces, from.at, &carried, frame, steps)?;
+    let mut notes = PageNotes::start(
+        alloc,
+        flow,
+        faces,
+        from.at,
+        &carried,
+        frame,
+        &mut widths.notes,
+        steps,
+    )?;
     let called = notes.called;
     let room = PageRoom {
         kept: from.kept,
         height: frame.height,
         carried: notes.list.own_area(),
     };
-    let read = prefix(alloc, flow, faces, from, frame, &room, &mut notes, steps)?;
+    let read = prefix(
+        alloc, flow, faces, from, frame, &room, &mut notes, widths, steps,
+    )?;
     if read.solids.is_empty() {
-        notes.take(flow, faces, from.at, frame, steps)?;
+        notes.take(flow, faces, from.at, frame, &mut widths.notes, steps)?;
         return cut_end(alloc, flow, carried, called, &notes, &room);
     }
     cut_solids(alloc, flow, &read, carried, called, &notes, &room)
@@ -88,5 +101,6 @@ pub fn next_cut<L: Ledger>(
 {
     no_later_point_fits();
     let settled = CarriedNotes::settled(alloc, flow, carried)?;
-    cut_page(alloc, flow, faces, from, settled, frame, steps)
+    let mut widths = PageWidths::none();
+    cut_page(alloc, flow, faces, from, settled, frame, &mut widths, steps)
 }

@@ -15,17 +15,20 @@ use cuts::cut::CutLevel;
 use metrics::Faces;
 use note_list::carried::CarriedNotes;
 use note_list::list::{NoteList, NoteRoom, PlacedList};
+use seams::widths::Widths;
 use std::alloc::Global;
 use std::sync::ledger::Ledger;
 
 /// What a page of notes after the flow places of what is carried to it, and what is left: the greatest number of solids
-/// that fits, at least one. It takes no more steps than such a page may look at lines.
+/// that fits, at least one. It takes no more steps than such a page may look at lines. The widths are those of any
+/// boxes, as room to read with.
 pub fn next_notes<L: Ledger>(
     alloc: Global,
     flow: &Flow,
     faces: &Faces,
     carried: CarriedNotes,
     frame: Frame,
+    widths: &mut Widths,
     steps: &mut Steps<L>,
 ) -> Result<PlacedList, NoMem>
     requires flow { CanBePaged faces.now flow.now }
@@ -39,7 +42,7 @@ pub fn next_notes<L: Ledger>(
     ensures near { IfOk result (λ p. AreNear [] p.notes) }
     ensures lines { IfOk result (λ p. LooksAtNotes faces.now flow.now frame carried steps.old steps.new) }
 {
-    let list = NoteList::carried(alloc, flow, faces, &carried, frame, steps)?;
+    let list = NoteList::carried(alloc, flow, faces, &carried, frame, widths, steps)?;
     let all = flow.notes.as_slice().len() as u32;
     let room = NoteRoom {
         level: CutLevel::Over,

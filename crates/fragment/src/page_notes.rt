@@ -21,6 +21,7 @@ use note_list::calls::{called_before, called_by};
 use note_list::carried::CarriedNotes;
 use note_list::list::NoteList;
 use seams::run::solid_after;
+use seams::widths::Widths;
 use std::alloc::Global;
 use std::sync::ledger::Ledger;
 
@@ -55,6 +56,7 @@ impl PageNotes {
         at: Position,
         carried: &CarriedNotes,
         frame: Frame,
+        widths: &mut Widths,
         steps: &mut Steps<L>,
     ) -> Result<PageNotes, NoMem>
         requires flow { CanBePaged faces.now flow.now }
@@ -64,7 +66,7 @@ impl PageNotes {
         ensures { IfOk result (AreRead faces.now flow.now frame at carried.now []) }
     {
         Ok(PageNotes {
-            list: NoteList::carried(alloc, flow, faces, carried, frame, steps)?,
+            list: NoteList::carried(alloc, flow, faces, carried, frame, widths, steps)?,
             called: called_before(flow, at),
             areas: Vec::new(alloc),
         })
@@ -77,6 +79,7 @@ impl PageNotes {
         faces: &Faces,
         end: Position,
         frame: Frame,
+        widths: &mut Widths,
         steps: &mut Steps<L>,
     ) -> Result<(), NoMem>
         requires flow { CanBePaged faces.now flow.now }
@@ -93,7 +96,8 @@ impl PageNotes {
             AreRead faces.now flow.now frame at carried (ends ++ end ∷ []) self.new) }
     {
         let to = called_with(flow, self.called, end);
-        self.list.call(flow, faces, self.called, to, frame, steps)?;
+        self.list
+            .call(flow, faces, self.called, to, frame, widths, steps)?;
         self.called = to;
         if self.areas.push(self.list.needed()).is_err() {
             return Err(NoMem);

@@ -15,6 +15,7 @@ ghost use Rattle.page_list.specs.Parted.{HoldsBreaks};
 use crate::laws::no_later_point_fits;
 use crate::next_cut::cut_page;
 use crate::next_notes::next_notes;
+use crate::page_widths::PageWidths;
 use bk_num::ids::NameId;
 use bk_num::items::Items;
 use bk_num::limits::MOST_PAGES;
@@ -32,7 +33,8 @@ use page_list::laws::{
     breaks_hold, main_stands_once, notes_begin_in_time, notes_stand_once, pages_are_few,
     pages_end_inside,
 };
-use seams::seam::seam;
+use seams::seam::{name_at_seam, seam};
+use seams::widths::Widths;
 use std::alloc::Global;
 use std::sync::ledger::Ledger;
 use thiserror::Error;
@@ -236,16 +238,17 @@ fn flow_pages<Fr: Frames, L: Ledger>(
     let mut index = 1;
     let mut demand = seam(tree, from.at, 0).forced;
     let mut carried = CarriedNotes::new(alloc);
+    let mut widths = PageWidths::none();
     for turn in 0..MOST_PAGES {
         // the invariant counts the turns
         let _turn = turn;
-        let name = seam(tree, from.at, 0).name;
+        let name = name_at_seam(tree, from.at);
         index = match add_blanks(alloc, &mut pages, frames, index, name, demand) {
             Ok(to) => to,
             Err(err) => return Err(err),
         };
         let frame = frames.frame(index, name, PageKind::Flow);
-        let Ok(cut) = cut_page(alloc, flow, faces, from, carried, frame, steps) else {
+        let Ok(cut) = cut_page(alloc, flow, faces, from, carried, frame, &mut widths, steps) else {
             return Err(PageErr::NoMemory);
         };
         let ended = cut.ended;
@@ -295,6 +298,7 @@ fn with_notes<Fr: Frames, L: Ledger>(
         name,
         mut carried,
     } = made;
+    let mut widths = Widths::none();
     for turn in 0..=MOST_PAGES {
         // the invariant counts the turns
         let _turn = turn;
@@ -308,7 +312,7 @@ fn with_notes<Fr: Frames, L: Ledger>(
         }
         let index = pages.len() as u32 + 1;
         let frame = frames.frame(index, name, PageKind::Notes);
-        let Ok(placed) = next_notes(alloc, flow, faces, carried, frame, steps) else {
+        let Ok(placed) = next_notes(alloc, flow, faces, carried, frame, &mut widths, steps) else {
             return Err(PageErr::NoMemory);
         };
         let PlacedList { notes, left } = placed;

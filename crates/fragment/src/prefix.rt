@@ -10,6 +10,7 @@ ghost use Rattle.fragment.specs.Reads.{AreRead, IsPagePrefix};
 ghost use Rattle.page_list.specs.Cuts.{rows_of};
 
 use crate::page_notes::PageNotes;
+use crate::page_widths::PageWidths;
 use crate::rows::{PageSolids, row_of};
 use bk_num::name::NoMem;
 use bk_num::steps::Steps;
@@ -22,7 +23,6 @@ use cuts::row::PageRoom;
 use metrics::Faces;
 use page_list::cut::CutFrom;
 use seams::seam::widths_at;
-use seams::widths::Widths;
 use std::alloc::Global;
 use std::sync::ledger::Ledger;
 
@@ -45,6 +45,7 @@ pub(crate) fn prefix<'t, L: Ledger>(
     frame: Frame,
     room: &PageRoom,
     notes: &mut PageNotes,
+    widths: &mut PageWidths,
     steps: &mut Steps<L>,
 ) -> Result<PageSolids<'t>, NoMem>
     requires { CanRead faces.now flow.now from frame room.now notes.old }
@@ -64,16 +65,15 @@ pub(crate) fn prefix<'t, L: Ledger>(
     let mut solids = Vec::new(alloc);
     let mut rows = Vec::new(alloc);
     let mut look = Look::start();
-    let mut widths = Widths::none();
-    widths_at(tree, from.at, frame.width, &mut widths);
+    widths_at(tree, from.at, frame.width, &mut widths.flow);
     let mut at = from.at;
-    while let Some(solid) = next_solid(tree, faces, at, frame.width, &mut widths, steps) {
+    while let Some(solid) = next_solid(tree, faces, at, frame.width, &mut widths.flow, steps) {
         at = solid.end;
         let is_first = solids.is_empty();
         let ends = ends_page(&solid, is_first);
         let row = row_of(tree, &solid);
         look.take(&row, notes.area(), room);
-        notes.take(flow, faces, at, frame, steps)?;
+        notes.take(flow, faces, at, frame, &mut widths.notes, steps)?;
         rows.push(row)?;
         if solids.push(solid).is_err() {
             return Err(NoMem);

@@ -21,6 +21,7 @@ use boxes::page::PlacedNote;
 use cuts::cut::CutLevel;
 use metrics::Faces;
 use notes::reach::Reach;
+use seams::widths::Widths;
 use std::alloc::Global;
 use std::sync::ledger::Ledger;
 
@@ -57,13 +58,15 @@ pub struct NoteRoom {
 }
 
 impl NoteList {
-    /// The list of the notes that are carried to a page of a frame.
+    /// The list of the notes that are carried to a page of a frame. The widths are those of any boxes, as room to read
+    /// with.
     pub fn carried<L: Ledger>(
         alloc: Global,
         flow: &Flow,
         faces: &Faces,
         carried: &CarriedNotes,
         frame: Frame,
+        widths: &mut Widths,
         steps: &mut Steps<L>,
     ) -> Result<NoteList, NoMem>
         requires flow { CanBePaged faces.now flow.now }
@@ -76,12 +79,12 @@ impl NoteList {
         ensures lines { IfOk result (λ l. steps.new ≡ steps.old + lines_in l.solids.items) }
     {
         let mut list = NoteList::new(alloc);
-        list.read_carried(flow, faces, carried, frame, steps)?;
+        list.read_carried(flow, faces, carried, frame, widths, steps)?;
         list.hold(alloc, frame.height)?;
         Ok(list)
     }
 
-    /// Adds the notes from a number up to another, which are called on the page.
+    /// Adds the notes from a number up to another, which are called on the page. The widths are those of any boxes.
     pub fn call<L: Ledger>(
         &mut self,
         flow: &Flow,
@@ -89,6 +92,7 @@ impl NoteList {
         from: u32,
         to: u32,
         frame: Frame,
+        widths: &mut Widths,
         steps: &mut Steps<L>,
     ) -> Result<(), NoMem>
         requires flow { CanBePaged faces.now flow.now }
@@ -108,7 +112,7 @@ impl NoteList {
             ≡ steps.old + lines_in self.new.solids.items) }
     {
         for note in from..to {
-            self.read(flow, faces, whole(note), true, frame, steps)?;
+            self.read(flow, faces, whole(note), true, frame, widths, steps)?;
         }
         Ok(())
     }

@@ -129,6 +129,7 @@ impl NoteList {
         part: Carried,
         called: bool,
         frame: Frame,
+        widths: &mut Widths,
         steps: &mut Steps<L>,
     ) -> Result<(), NoMem>
         requires body { CanBeCut faces.now body.now }
@@ -149,10 +150,9 @@ impl NoteList {
             ≡ steps.old + lines_in self.new.solids.items) }
     {
         let first = solid_after(body, 0);
-        let mut widths = Widths::none();
-        widths_at(body, part.at, frame.width, &mut widths);
+        widths_at(body, part.at, frame.width, widths);
         let mut at = part.at;
-        while let Some(solid) = next_solid(body, faces, at, frame.width, &mut widths, steps) {
+        while let Some(solid) = next_solid(body, faces, at, frame.width, widths, steps) {
             at = solid.end;
             let is_first = is_first(first, solid.placed_at);
             self.add(noted(part, called, is_first, &solid), frame.height)?;
@@ -171,6 +171,7 @@ impl NoteList {
         part: Carried,
         called: bool,
         frame: Frame,
+        widths: &mut Widths,
         steps: &mut Steps<L>,
     ) -> Result<(), NoMem>
         requires flow { CanBePaged faces.now flow.now }
@@ -196,7 +197,7 @@ impl NoteList {
             self.begun = begins(body, called) | self.begun;
             return Ok(());
         }
-        self.read_body(body, faces, part, called, frame, steps)?;
+        self.read_body(body, faces, part, called, frame, widths, steps)?;
         Ok(())
     }
 
@@ -207,6 +208,7 @@ impl NoteList {
         faces: &Faces,
         carried: &CarriedNotes,
         frame: Frame,
+        widths: &mut Widths,
         steps: &mut Steps<L>,
     ) -> Result<(), NoMem>
         requires flow { CanBePaged faces.now flow.now }
@@ -228,7 +230,7 @@ impl NoteList {
             if self.over {
                 return Ok(());
             }
-            self.read(flow, faces, carried.part(at), false, frame, steps)?;
+            self.read(flow, faces, carried.part(at), false, frame, widths, steps)?;
         }
         Ok(())
     }

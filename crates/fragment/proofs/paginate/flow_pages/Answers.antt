@@ -38,24 +38,24 @@ returns-in-Err-clause-many g c e =
     let frames : PageFrames = (g.Fr.Frames.view c.args.frames.now) in
     let added = c.in-Err.ensures.many e in
     let run = c.loop-turn.invariant.run in
-    let size = adds_size frames c.seam.result.name c.loop-turn.demand c.loop-turn.index 100001 c.loop-turn.pages.items c.add_blanks.new.pages.items added c.loop-turn.invariant.count in
+    let size = adds_size frames c.name_at_seam-name.result c.loop-turn.demand c.loop-turn.index 100001 c.loop-turn.pages.items c.add_blanks.new.pages.items added c.loop-turn.invariant.count in
     leaves_some c.args.faces.now f frames (state_at c.loop-turn.from.at c.loop-turn.from.kept 100001 c.loop-turn.demand c.loop-turn.carried run.0) c.add_blanks.new.pages.items 100000 (not_done (state_at c.loop-turn.from.at c.loop-turn.from.kept 100001 c.loop-turn.demand c.loop-turn.carried run.0) refl) (omega arith)
-    (run_added c.args.faces.now f frames c.loop-turn.from.at c.loop-turn.from.kept c.loop-turn.demand c.loop-turn.carried run.0 c.loop-turn.index 100001 c.seam.result.name c.loop-turn.pages.items c.add_blanks.new.pages.items (c.seam.ensures.name (pos 0)) added run.1)
+    (run_added c.args.faces.now f frames c.loop-turn.from.at c.loop-turn.from.kept c.loop-turn.demand c.loop-turn.carried run.0 c.loop-turn.index 100001 c.name_at_seam-name.result c.loop-turn.pages.items c.add_blanks.new.pages.items (c.name_at_seam-name.ensures (pos 0)) added run.1)
 
 -- the state of the page that a turn makes
 abbrev here : (g : given.Over) (c : After-page_of-page g) → State
 here g c = state_at c.loop-turn.from.at c.loop-turn.from.kept c.in-Ok.to c.loop-turn.demand c.loop-turn.carried c.loop-turn.invariant.run.0
 
 leads : (g : given.Over) (c : After-page_of-page g) → Leads c.args.faces.now c.args.flow.now (g.Fr.Frames.view c.args.frames.now) (here g c) c.add_blanks.new.pages.items
-leads g c = run_added c.args.faces.now c.args.flow.now (g.Fr.Frames.view c.args.frames.now) c.loop-turn.from.at c.loop-turn.from.kept c.loop-turn.demand c.loop-turn.carried c.loop-turn.invariant.run.0 c.loop-turn.index c.in-Ok.to c.seam.result.name c.loop-turn.pages.items c.add_blanks.new.pages.items
-    (c.seam.ensures.name (pos 0)) c.in-Ok.ensures.blanks c.loop-turn.invariant.run.1
+leads g c = run_added c.args.faces.now c.args.flow.now (g.Fr.Frames.view c.args.frames.now) c.loop-turn.from.at c.loop-turn.from.kept c.loop-turn.demand c.loop-turn.carried c.loop-turn.invariant.run.0 c.loop-turn.index c.in-Ok.to c.name_at_seam-name.result c.loop-turn.pages.items c.add_blanks.new.pages.items
+    (c.name_at_seam-name.ensures (pos 0)) c.in-Ok.ensures.blanks c.loop-turn.invariant.run.1
 
 nears : (g : given.Over) (c : After-page_of-page g) → HaveNearTops c.add_blanks.new.pages.items
-nears g c = near_added (g.Fr.Frames.view c.args.frames.now) c.seam.result.name c.loop-turn.demand c.loop-turn.index c.in-Ok.to c.loop-turn.pages.items c.add_blanks.new.pages.items c.in-Ok.ensures.blanks c.loop-turn.invariant.near
+nears g c = near_added (g.Fr.Frames.view c.args.frames.now) c.name_at_seam-name.result c.loop-turn.demand c.loop-turn.index c.in-Ok.to c.loop-turn.pages.items c.add_blanks.new.pages.items c.in-Ok.ensures.blanks c.loop-turn.invariant.near
 
 same_page : (g : given.Over) (c : After-page_of-page g) → (c.frame-frame.result ≡ (g.Fr.Frames.view c.args.frames.now).frame_of c.in-Ok.to (name_at c.args.flow.now.main c.loop-turn.from.at) kind.Flow) × (c.page_of-page.result.0 ≡ flow_page (g.Fr.Frames.view c.args.frames.now) c.args.flow.now.main (here g c) c.in-Ok-cut_page.cut)
 same_page g c =
-    let same = page_is c.args.faces.now c.args.flow.now (g.Fr.Frames.view c.args.frames.now) c.loop-turn.from.at c.loop-turn.from.kept c.loop-turn.demand c.loop-turn.carried c.loop-turn.invariant.run.0 c.in-Ok.to c.in-Ok-cut_page.cut c.seam.result.name c.frame-frame.result (c.seam.ensures.name (pos 0)) c.frame-frame.ensures.frame in
+    let same = page_is c.args.faces.now c.args.flow.now (g.Fr.Frames.view c.args.frames.now) c.loop-turn.from.at c.loop-turn.from.kept c.loop-turn.demand c.loop-turn.carried c.loop-turn.invariant.run.0 c.in-Ok.to c.in-Ok-cut_page.cut c.name_at_seam-name.result c.frame-frame.result (c.name_at_seam-name.ensures (pos 0)) c.frame-frame.ensures.frame in
     (same.0, c.page_of-page.ensures.page ∙ same.1)
 
 carried_cut : (g : given.Over) (c : After-page_of-page g) → IsFlowCut c.args.faces.now c.args.flow.now c.frame-frame.result c.loop-turn.from c.loop-turn.carried c.in-Ok-cut_page.cut
@@ -91,7 +91,7 @@ returns-then-ended-clause-pages g c =
       done = c.if-ended.true;
       index = omega arith;
       few = omega arith;
-      name = sym (c.seam.ensures.name (pos 0));
+      name = sym (c.name_at_seam-name.ensures (pos 0));
       carried_is = sym left;
       carried = rw left (subst (λ (q : Position). AreCarried c.args.flow.now q cut.carried) at c.in-Ok-cut_page.ensures.carried);
       stands = rw left c.in-Ok-cut_page.ensures.stands;
@@ -111,7 +111,7 @@ loop-turn-preserved g c =
     let count = c.in-Ok.ensures.count in
     let most = c.in-Ok.ensures.few in
     let old = c.loop-turn.invariant.turns in
-    let grows = adds_grow (g.Fr.Frames.view c.args.frames.now) c.seam.result.name c.loop-turn.demand c.loop-turn.index c.in-Ok.to c.loop-turn.pages.items c.add_blanks.new.pages.items c.in-Ok.ensures.blanks in
+    let grows = adds_grow (g.Fr.Frames.view c.args.frames.now) c.name_at_seam-name.result c.loop-turn.demand c.loop-turn.index c.in-Ok.to c.loop-turn.pages.items c.add_blanks.new.pages.items c.in-Ok.ensures.blanks in
     let left : c.page_of-page.result.1 ≡ cut.carried = c.page_of-page.ensures.carried in
     let kept : is_forced cut.forced ≡ c.is_some.result = forced_some cut.forced ∙ sym c.is_some.ensures in
     record {

@@ -15,7 +15,7 @@ use Rattle.fragment.proofs.prefix.prefix.Given as goal
 abbrev pub invariant-loop-solid : goal.invariant-loop-solid
 invariant-loop-solid g l = record {
   holds : Holds l.flow.main l.at;
-  widths : l.widths ≡ widths_at l.flow.main l.fn.frame.width l.at;
+  widths : l.widths.flow ≡ widths_at l.flow.main l.fn.frame.width l.at;
   goes : (rest : List SolidView) → IsRemainder l.faces l.flow.main l.fn.frame.width l.at rest → IsRemainder l.faces l.flow.main l.fn.frame.width l.fn.from.at (map solid_view l.solids.items ++ rest);
   small : All IsSmallSolid (map solid_view l.solids.items);
   placed : All (λ (v : SolidView). Holds l.flow.main v.placed_at) (map solid_view l.solids.items);
