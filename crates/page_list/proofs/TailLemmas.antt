@@ -1,5 +1,5 @@
 -- What closes behind the solids of a page takes no negative room.
-use Rattle.std.proofs.Common.{◌≡◌, ◌==◌, ℕ, zero, suc, ℤ, pos, ◌≤ℤ◌, ◌+ℤ◌, Bool, true, false, cond, List, [], ◌∷◌, Option, None, Some, option_map, slice_get, unwrap_or, refl, sym, ap, ◌∙◌, subst, arith}
+use Rattle.std.proofs.Common.{◌≡◌, ◌==◌, ℕ, zero, suc, ℤ, pos, ◌≤ℤ◌, Bool, true, false, cond, List, [], ◌∷◌, Option, None, Some, option_map, slice_get, unwrap_or, refl, sym, ap, ◌∙◌, subst, arith}
 use Rattle.std.proofs.lemmas.Int.{ints, clamps}
 use Rattle.std.proofs.lemmas.Option.{slice_get-map}
 use Rattle.bk_num.specs.Lengths.{used_of}
@@ -7,7 +7,7 @@ use Rattle.bk_num.specs.Ranges.{IsNotNegative}
 use Rattle.metrics.specs.Face.{FontFace}
 use Rattle.boxes.specs.Clones.{clone_edge, clone_edges, open_through}
 use Rattle.boxes.specs.Contents.{IsGoodBox}
-use Rattle.boxes.specs.Spans.{content_width, frame_at, room_in, span_along, span_or, units_at, used_or_zero, width_in_block}
+use Rattle.boxes.specs.Spans.{content_width, frame_at, span_along, span_or, units_at, used_or_zero, width_in_block}
 use Rattle.boxes.specs.Tree.{Tree, IsTree, open_before}
 use Rattle.boxes.specs.declared.place.Position.{Position}
 use Rattle.boxes.specs.declared.props.BoxProps.{BoxProps}
