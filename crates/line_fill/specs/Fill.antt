@@ -65,7 +65,7 @@ pub record IsFilled (faces : List FontFace) (leaf : Leaf) (from : ℕ) (room : �
     (f : Found) : Type 0 where
   pub low : from ≤ at
   pub more : at < length leaf.text
-  pub widths : AreWidths (unit_at faces leaf) leaf.text from at r
+  pub widths : AreWidths (unit_at faces leaf from) leaf.text from at r
   pub not_negative : pos 0 ≤ℤ r.total
   pub small : r.total ≤ℤ pos (2 ^ 27 * at)
   pub same_stop : stop_of leaf.text from ≡ stop_of leaf.text at

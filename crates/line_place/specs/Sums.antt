@@ -22,7 +22,7 @@ count_free text end from n = sum_from (λ k. one (is_free text end k)) from n
 
 -- the width and the number of spaces that take shares, from the line's beginning to an offset
 pub record AreSums (faces : List FontFace) (leaf : Leaf) (end from at : ℕ) (s : Sums) : Type 0 where
-  pub width : s.width ≡ sum_from (unit_at faces leaf) from (at - from)
+  pub width : s.width ≡ sum_from (unit_at faces leaf from) from (at - from)
   pub passed : s.passed ≡ count_free leaf.text end from (at - from)
   pub wide : s.width ≤ 2 ^ 27 * (at - from)
   pub few : s.passed ≤ at - from
@@ -54,7 +54,7 @@ pub record IsBounded (s : Setting) : Type 0 where
 -- is as far from the beginning as the text between is wide, with the shares of the spaces passed
 abbrev pub left_at : List FontFace → Leaf → ℕ → ℕ → Setting → ℕ → ℤ
 left_at faces leaf end from s at =
-    s.start +ℤ pos (sum_from (unit_at faces leaf) from (at - from) + share_of s.slack s.count
+    s.start +ℤ pos (sum_from (unit_at faces leaf from) from (at - from) + share_of s.slack s.count
     (count_free leaf.text end from (at - from)))
 
 -- the run of a piece
