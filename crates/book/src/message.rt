@@ -32,6 +32,7 @@ fn why_text(why: MetricsWhy) -> &'static str
         MetricsWhy::Number => "number",
         MetricsWhy::Range => "range",
         MetricsWhy::Order => "order",
+        MetricsWhy::Pair => "pair",
         MetricsWhy::Twice => "twice",
         MetricsWhy::Many => "many",
         MetricsWhy::NoFace => "noface",

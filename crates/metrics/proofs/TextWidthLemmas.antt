@@ -1,16 +1,14 @@
 -- The bytes of a text add what its characters are wide.
-use Rattle.std.proofs.Common.{◌≡◌, ℕ, zero, suc, ◌+◌, ◌-◌, ◌/◌, ◌<◌, ◌≤◌, Bool, true, false, ◌&&◌, ltb, ◌⊎◌, inl, inr, List, [], ◌∷◌, ◌++◌, length, get_or, drop, refl, sym, ap, ◌∙◌, arith, add-zero, length-append, length-drop}
-use Rattle.std.specs.List.{sum_by}
+use Rattle.std.proofs.Common.{◌≡◌, ℕ, zero, suc, ◌+◌, ◌-◌, ◌/◌, ◌<◌, ◌≤◌, Bool, true, false, ◌&&◌, ltb, ◌⊎◌, inl, inr, List, [], ◌∷◌, ◌++◌, length, get_or, drop, Option, None, Some, refl, sym, ap, ◌∙◌, arith, add-zero, length-append, length-drop}
 use Rattle.std.specs.Str.{chars, IsUtf8}
 use Rattle.std.proofs.lemmas.Bool.{cases_lt}
 use Rattle.std.proofs.lemmas.Bool.Decides.{nat_tests}
 use Rattle.std.proofs.lemmas.List.{get_or-drop, get_or_append_left}
-use Rattle.std.proofs.lemmas.List.Sums.{sum_by-cons}
 use Rattle.std.proofs.lemmas.Str.{drop_past_char, length-encode, encodes-chars, scalars-chars}
 use Rattle.std.proofs.Math.Utf8.{scalar, scalars, encode, encodes, next}
 use Rattle.metrics.specs.Pen.{PenView}
-use Rattle.metrics.specs.Widths.{char_width, byte_width, sum_from}
-use Rattle.metrics.proofs.WidthLemmas.{byte_ascii, byte_rest, byte_wide}
+use Rattle.metrics.specs.Widths.{begun_at, byte_width, char_after, last_from, last_with, sum_from, width_after, widths_from}
+use Rattle.metrics.proofs.WidthLemmas.{begun_ascii, begun_rest, begun_wide}
 
 sum_split : (u : ℕ → ℕ) (n a b : ℕ) → sum_from u n (a + b) ≡ sum_from u n a + sum_from u (n + a) b
 sum_split u n a zero = rw (add-zero, add-zero) refl
@@ -18,6 +16,17 @@ sum_split u n a (suc b) =
     let e : a + suc b ≡ suc (a + b) = omega arith in
     let f : n + (a + b) ≡ n + a + b = omega arith in
     rw (e, sum_split u n a b, f) (omega arith)
+
+-- bytes that begin no character leave the last one
+last_first : (text : List ℕ) (n m : ℕ) → ((k : ℕ) → n < k → k < n + suc m → begun_at text k ≡ None) →
+    last_from text 0 (n + suc m) ≡ last_from text 0 (suc n)
+last_first text n zero h = let e : n + 1 ≡ suc n = omega arith in ap (last_from text 0) e
+last_first text n (suc m) h =
+    let e : n + suc (suc m) ≡ suc (n + suc m) = omega arith in
+    let f : 0 + (n + suc m) ≡ n + suc m = omega arith in
+    let z : begun_at text (n + suc m) ≡ None = h (n + suc m) (omega arith) (omega arith) in
+    ap (last_from text 0) e ∙ ap (last_with (last_from text 0 (n + suc m))) (ap (begun_at text) f ∙ z)
+    ∙ last_first text n m (λ k a b. h k a (omega arith))
 
 sum_first : (u : ℕ → ℕ) (n m : ℕ) → ((k : ℕ) → n < k → k < n + suc m → u k ≡ 0) → sum_from u n (suc m) ≡ u n
 sum_first u n zero h = let e : n + 0 ≡ n = omega arith in rw e (omega arith)
@@ -109,46 +118,66 @@ first_of c (of3 a b d l f g e) = rw e (wide (omega arith), omega arith)
 first_of c (of4 a b d x l f g i e) = rw e (wide (omega arith), omega arith)
 
 -- one character of a text
-module _ (p : PenView) (text : List ℕ) (n c : ℕ) (rest : List ℕ) (s : Shape c) (u : IsUtf8 (drop n text)) (e : drop n text ≡ encode c ++ rest) where
+module _ (text : List ℕ) (n c : ℕ) (rest : List ℕ) (s : Shape c) (u : IsUtf8 (drop n text)) (e : drop n text ≡ encode c ++ rest) where
   byte : (k : ℕ) → k < length (encode c) → get_or text (n + k) 0 ≡ get_or (encode c) k 0
   byte k h = sym (get_or-drop n text k 0) ∙ ap (λ (l : List ℕ). get_or l k 0) e ∙ get_or_append_left (encode c) rest 0 k h
 
   inside : n < length text
   inside = let a = ap length e in let b = length-append (encode c) rest in let d = length-drop n text in let f = (first_of c s).1 in omega (arith, a, b, d, f)
 
-  begins : (b : ℕ) → b ≡ get_or text n 0 → First c b → byte_width p text n ≡ char_width p c
-  begins b is (ascii l same) = byte_ascii p text n inside (rw (← is) l) ∙ ap (char_width p) (sym is ∙ same)
-  begins b is (wide l) = byte_wide p text n c rest (rw (← is) l) u e
+  begins : (b : ℕ) → b ≡ get_or text n 0 → First c b → begun_at text n ≡ Some c
+  begins b is (ascii l same) = begun_ascii text n inside (rw (← is) l) ∙ ap (λ (x : ℕ). Some x) (sym is ∙ same)
+  begins b is (wide l) = begun_wide text n c rest (rw (← is) l) u e
 
-  follows : (k : ℕ) → n < k → k < n + length (encode c) → byte_width p text k ≡ 0
+  begun : begun_at text n ≡ Some c
+  begun =
+      let some = (first_of c s).1 in
+      let at : get_or (encode c) 0 0 ≡ get_or text n 0 = sym (byte 0 some) ∙ rw add-zero refl in
+      begins (get_or (encode c) 0 0) at (first_of c s).0
+
+  follows : (k : ℕ) → n < k → k < n + length (encode c) → begun_at text k ≡ None
   follows k low high =
       let j : n + (k - n) ≡ k = omega arith in
       let b : get_or text k 0 ≡ get_or (encode c) (k - n) 0 = ap (λ (z : ℕ). get_or text z 0) (sym j) ∙ byte (k - n) (omega arith) in
       let f = follow c (k - n) s (omega arith) (omega arith) in
-      byte_rest p text k (rw b f.0) (rw b f.1)
+      begun_rest text k (rw b f.0) (rw b f.1)
 
-  char_sum : sum_from (byte_width p text) n (length (encode c)) ≡ char_width p c
-  char_sum =
-      let some = (first_of c s).1 in
-      let long : length (encode c) ≡ suc (length (encode c) - 1) = omega (arith, some) in
-      let at : get_or (encode c) 0 0 ≡ get_or text n 0 = sym (byte 0 some) ∙ rw add-zero refl in
-      ap (sum_from (byte_width p text) n) long
-      ∙ sum_first (byte_width p text) n (length (encode c) - 1) (λ k a b. follows k a (omega (arith, long, b)))
-      ∙ begins (get_or (encode c) 0 0) at (first_of c s).0
+  long : length (encode c) ≡ suc (length (encode c) - 1)
+  long = let some = (first_of c s).1 in omega (arith, some)
+
+  rest_none : (k : ℕ) → n < k → k < n + suc (length (encode c) - 1) → begun_at text k ≡ None
+  rest_none k a b = let l = long in follows k a (omega (arith, l, b))
+
+  char_sum : (p : PenView) → sum_from (byte_width p text 0) n (length (encode c)) ≡ char_after p (last_from text 0 n) c
+  unfolding byte_width
+  char_sum p =
+      let z : n - 0 ≡ n = omega arith in
+      ap (sum_from (byte_width p text 0) n) long
+      ∙ sum_first (byte_width p text 0) n (length (encode c) - 1) (λ k a b. ap (width_after p (last_from text 0 (k - 0))) (rest_none k a b))
+      ∙ ap (λ (k : ℕ). width_after p (last_from text 0 k) (begun_at text n)) z ∙ ap (width_after p (last_from text 0 n)) begun
+
+  char_last : last_from text 0 (n + length (encode c)) ≡ last_with (last_from text 0 n) (Some c)
+  char_last =
+      let z : 0 + n ≡ n = omega arith in
+      ap (λ (k : ℕ). last_from text 0 (n + k)) long
+      ∙ last_first text n (length (encode c) - 1) rest_none
+      ∙ ap (λ (k : ℕ). last_with (last_from text 0 n) (begun_at text k)) z ∙ ap (last_with (last_from text 0 n)) begun
 
 -- the characters of the rest of a text
-chars_sum : (p : PenView) (text : List ℕ) (n : ℕ) (cs : List ℕ) → scalars cs ≡ true → drop n text ≡ encodes cs → sum_from (byte_width p text) n (length (encodes cs)) ≡ sum_by (char_width p) cs
+chars_sum : (p : PenView) (text : List ℕ) (n : ℕ) (cs : List ℕ) → scalars cs ≡ true → drop n text ≡ encodes cs → sum_from (byte_width p text 0) n (length (encodes cs)) ≡ widths_from p (last_from text 0 n) cs
 chars_sum p text n [] all e = refl
 chars_sum p text n (c ∷ cs) all e =
     let split = both (scalar c) (scalars cs) all in
     let s : Shape c = shape c in
     let u : IsUtf8 (drop n text) = (c ∷ cs, (all, sym e)) in
     let rest : drop (n + length (encode c)) text ≡ encodes cs = rw (length-encode c) (drop_past_char text (encodes cs) n c e) in
-    ap (sum_from (byte_width p text) n) (length-append (encode c) (encodes cs))
-    ∙ sum_split (byte_width p text) n (length (encode c)) (length (encodes cs))
-    ∙ rw (char_sum p text n c (encodes cs) s u e, chars_sum p text (n + length (encode c)) cs split.1 rest) (sym (sum_by-cons (char_width p) c cs))
+    let more : sum_from (byte_width p text 0) (n + length (encode c)) (length (encodes cs)) ≡ widths_from p (last_with (last_from text 0 n) (Some c)) cs =
+    chars_sum p text (n + length (encode c)) cs split.1 rest ∙ ap (λ (l : Option ℕ). widths_from p l cs) (char_last text n c (encodes cs) s u e) in
+    ap (sum_from (byte_width p text 0) n) (length-append (encode c) (encodes cs))
+    ∙ sum_split (byte_width p text 0) n (length (encode c)) (length (encodes cs))
+    ∙ rw (char_sum text n c (encodes cs) s u e p, more) refl
 
-pub text_sum : (p : PenView) (text : List ℕ) → IsUtf8 text → sum_from (byte_width p text) 0 (length text) ≡ sum_by (char_width p) (chars text)
+pub text_sum : (p : PenView) (text : List ℕ) → IsUtf8 text → sum_from (byte_width p text 0) 0 (length text) ≡ widths_from p None (chars text)
 text_sum p text u =
     let e : encodes (chars text) ≡ text = encodes-chars text u in
-    ap (λ (l : List ℕ). sum_from (byte_width p text) 0 (length l)) (sym e) ∙ chars_sum p text 0 (chars text) (scalars-chars text u) (sym e)
+    ap (λ (l : List ℕ). sum_from (byte_width p text 0) 0 (length l)) (sym e) ∙ chars_sum p text 0 (chars text) (scalars-chars text u) (sym e)

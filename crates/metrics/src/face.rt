@@ -1,41 +1,57 @@
 //! A face that is looked up fast.
 
-ghost use Rattle.std.specs.Prelude.{◌≡◌, ◌<◌, ◌≤◌, pos, ◌≤ℤ◌};
-ghost use Rattle.metrics.specs.Face.{advance_number, scaled};
-ghost use Rattle.metrics.specs.Table.{IsTable};
+ghost use Rattle.std.specs.Prelude.{◌≡◌, ◌<◌, ◌≤◌, ◌==◌, not, length, pos, ◌≤ℤ◌, IfOk, Some};
+ghost use Rattle.metrics.specs.Face.{IsWithinLimits, advance_number, change_of, paired_number, scaled};
+ghost use Rattle.metrics.specs.Table.{AreBegins, IsPairTable, IsTable};
 
 use crate::face_lines::FaceLines;
+use crate::pairs::changed;
 use bk_num::px::{Px, scale_floor};
+use std::alloc::{AllocError, Global};
 use std::marker::Model;
 
 /// How many characters the table has: those of one or two bytes in UTF-8.
 const TWO_BYTES: usize = 2048;
 
-/// A face, and a table of its advances.
+/// How many ASCII characters there are.
+const ASCII: usize = 128;
+
+/// A face, and what makes looking up fast: a table of its advances, and where it has pairs one of the advances of ASCII
+/// characters behind ASCII characters, and the places where the pairs of each first character begin.
 #[derive(Drop)]
 pub(crate) struct Face {
     lines: FaceLines,
     table: [u16; TWO_BYTES],
+    pairs: Vec<u16>,
+    begins: Vec<usize>,
 }
 
 impl Model for Face {
     ghost use Rattle.metrics.specs.Face.{FontFace, IsWithinLimits};
-    ghost use Rattle.metrics.specs.Table.{IsTable};
+    ghost use Rattle.metrics.specs.Table.{AreBegins, IsPairTable, IsTable};
 
     ghost Value = { FontFace };
 
     ghost view = { λ f. f.lines };
 
-    ghost invariant = { λ f. IsWithinLimits f.lines × IsTable f.lines f.table };
+    ghost invariant = { λ f. IsWithinLimits f.lines × IsTable f.lines f.table × IsPairTable f.lines f.pairs.items
+        × AreBegins f.lines f.begins.items };
 }
 
 impl Face {
     /// The face of these lines.
-    pub(crate) fn new(lines: FaceLines) -> Face
-        ensures { result ≡ lines }
+    pub(crate) fn new(alloc: Global, lines: FaceLines) -> Result<Face, AllocError>
+        ensures { IfOk result (λ f. f ≡ lines) }
     {
+        let pairs = pair_table(alloc, &lines)?;
+        let begins = begin_table(alloc, &lines)?;
         let table = advance_table(&lines);
-        Face { lines, table }
+        Ok(Face {
+            lines,
+            table,
+            pairs,
+            begins,
+        })
     }
 
     /// The lines.
@@ -52,6 +68,14 @@ impl Face {
         ensures { result ≡ scaled (advance_number self.now c) size self.now.units }
     {
         self.at_size(self.number(c), size)
+    }
+
+    /// The advance of a character behind another one at a size.
+    pub(crate) fn paired_advance(&self, size: Px, first: char, c: char) -> Px
+        requires { pos 0 ≤ℤ size }
+        ensures { result ≡ scaled (paired_number self.now (Some first) c) size self.now.units }
+    {
+        self.at_size(self.paired(first, c), size)
     }
 
     /// How far the face rises above the baseline at a size.
@@ -103,6 +127,55 @@ impl Face {
         }
     }
 
+    /// Whether the face has kerning pairs.
+    #[inline]
+    pub(crate) fn has_pairs(&self) -> bool
+        ensures value { result ≡ not (length self.now.pairs == 0) }
+    {
+        !self.pairs.is_empty()
+    }
+
+    /// The advance of a character behind another one, in units of the em.
+    #[inline]
+    pub(crate) fn paired(&self, first: char, c: char) -> u16
+        ensures value { result ≡ paired_number self.now (Some first) c }
+        ensures most { result ≤ 16384 }
+    {
+        if !self.has_pairs() {
+            return self.number(c);
+        }
+        let (before, code) = (first as usize, c as usize);
+        if before < ASCII && code < ASCII {
+            self.pairs[before * ASCII + code]
+        } else {
+            self.wide_paired(first, c)
+        }
+    }
+
+    /// The same, where not both are ASCII.
+    #[tactic(auto, unfolding(crate::specs::Face::paired_number))]
+    fn wide_paired(&self, first: char, c: char) -> u16
+        ensures value { result ≡ paired_number self.now (Some first) c }
+        ensures most { result ≤ 16384 }
+    {
+        let change = self.change(first as u32, c as u32);
+        changed(self.number(c), change)
+    }
+
+    /// By how much the second one of two characters is further from the first one than by its advance.
+    fn change(&self, first: u32, c: u32) -> i16
+        ensures value { result ≡ change_of self.now first c }
+        ensures limits { IsWithinLimits self.now }
+    {
+        let at = first as usize;
+        if at + 1 < self.begins.len() {
+            let (from, to) = (self.begins[at], self.begins[at + 1]);
+            self.lines.change_between(from, to, first, c)
+        } else {
+            self.lines.change(first, c)
+        }
+    }
+
     /// A number of units of the em at a size.
     #[inline]
     #[tactic(auto, unfolding(crate::specs::Face::scaled))]
@@ -125,4 +198,29 @@ fn advance_table(lines: &FaceLines) -> [u16; TWO_BYTES]
         table[c] = lines.number(c as u32);
     }
     table
+}
+
+/// The advances of ASCII characters behind ASCII characters; none where the face has no pairs.
+fn pair_table(alloc: Global, lines: &FaceLines) -> Result<Vec<u16>, AllocError>
+    ensures { IfOk result (λ t. IsPairTable lines.now t.items) }
+{
+    let size = if lines.has_pairs() { ASCII * ASCII } else { 0 };
+    let mut table = Vec::new(alloc);
+    for k in 0..size {
+        table.push(lines.paired((k / ASCII) as u32, (k % ASCII) as u32))?;
+    }
+    Ok(table)
+}
+
+/// The places where the pairs of each first character of one or two bytes begin, and where those of the last one end;
+/// none where the face has no pairs.
+fn begin_table(alloc: Global, lines: &FaceLines) -> Result<Vec<usize>, AllocError>
+    ensures { IfOk result (λ t. AreBegins lines.now t.items) }
+{
+    let size = if lines.has_pairs() { TWO_BYTES + 1 } else { 0 };
+    let mut table = Vec::new(alloc);
+    for first in 0..size {
+        table.push(lines.begin_of(first as u32))?;
+    }
+    Ok(table)
 }

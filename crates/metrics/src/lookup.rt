@@ -3,7 +3,7 @@
 ghost use Rattle.std.specs.Prelude.{◌≡◌, ◌<◌, ◌≤◌, pos, ◌≤ℤ◌, length, IfOk};
 ghost use Rattle.bk_num.specs.Limits.{most_length};
 ghost use Rattle.metrics.specs.Choice.{Chooses, family_name, names_some};
-ghost use Rattle.metrics.specs.Face.{FontFace, advance_of, ascent_of, descent_of, face_at};
+ghost use Rattle.metrics.specs.Face.{FontFace, advance_of, ascent_of, descent_of, face_at, paired_of};
 ghost use Rattle.metrics.specs.Text.{AreFaces};
 
 use crate::choice::{choose, names_some};
@@ -42,7 +42,7 @@ impl Faces {
     {
         let mut faces = Vec::new(alloc);
         for face in lines {
-            faces.push(Face::new(face))?;
+            faces.push(Face::new(alloc, face)?)?;
         }
         Ok(Faces { faces })
     }
@@ -83,6 +83,19 @@ impl Faces {
         ensures most { result ≤ℤ pos most_length }
     {
         self.faces[face.0 as usize].advance(size, c)
+    }
+
+    #[tactic(auto, using(crate::proofs::ScaleLemmas::bounds))]
+    /// The advance of a character behind another one at a size: floor (its number, with the change of their pair, times
+    /// the size over the units per em).
+    pub fn paired(&self, face: FaceId, size: Px, first: char, c: char) -> Px
+        requires face { face.0 < length self.now }
+        requires size { pos 0 ≤ℤ size }
+        ensures value { result ≡ paired_of self.now face size first c }
+        ensures least { pos 0 ≤ℤ result }
+        ensures most { result ≤ℤ pos most_length }
+    {
+        self.faces[face.0 as usize].paired_advance(size, first, c)
     }
 
     /// A face at a size, for many characters.

@@ -55,6 +55,15 @@ fn scaled(faces: &Faces, face: i64, size: i64, what: &str) -> Option<i32> {
     Some(px.units())
 }
 
+/// The advance of a character behind another one of a face at a size.
+fn paired(faces: &Faces, face: i64, size: i64, first: char, c: char) -> Option<i32> {
+    let size = Px::from_units(size);
+    if face < 0 || face >= i64::from(faces.len()) || size.units() < 0 {
+        return None;
+    }
+    Some(faces.paired(FaceId(face as u16), size, first, c).units())
+}
+
 /// The number of the face that is chosen, by its properties or as one value.
 fn face_of(faces: &Faces, names: &[Name], parts: &[&str]) -> FaceId {
     let italic = part(parts, 3) == "italic";
@@ -77,11 +86,25 @@ fn scaled_part(alloc: Global, faces: &Faces, parts: &[&str]) -> Option<i32> {
     scaled(faces, face, size, what.as_str())
 }
 
+fn paired_part(alloc: Global, faces: &Faces, parts: &[&str]) -> Option<i32> {
+    let (first, second) = (
+        unescaped(alloc, part(parts, 4)).ok()?,
+        unescaped(alloc, part(parts, 5)).ok()?,
+    );
+    let (first, second) = (
+        first.as_str().chars().next()?,
+        second.as_str().chars().next()?,
+    );
+    let (face, size) = (number(part(parts, 2)), number(part(parts, 3)));
+    paired(faces, face, size, first, second)
+}
+
 /// What is asked of the faces of a text, as a number.
 fn number_of(alloc: Global, faces: &Faces, parts: &[&str]) -> Option<i32> {
     match part(parts, 0) {
         "choose" | "choice" => chosen(alloc, faces, parts),
         "scaled" => scaled_part(alloc, faces, parts),
+        "paired" => paired_part(alloc, faces, parts),
         _ => Some(i32::from(faces.len())),
     }
 }

@@ -18,7 +18,7 @@ use std::io;
 fn answer_to(alloc: Global, call: &str, parts: &[&str]) -> Result<String, AllocError> {
     if is_among(call, "length,part,used,scale,list,text,name") {
         numbers::answer(alloc, parts)
-    } else if is_among(call, "faces,many,choose,choice,label,scaled") {
+    } else if is_among(call, "faces,many,choose,choice,label,scaled,paired") {
         faces::answer(alloc, parts)
     } else if is_among(call, "tokens,html,copies") {
         html::answer(alloc, parts)

@@ -1,0 +1,10 @@
+use Rattle.std.proofs.Common.{arith}
+use Rattle.std.proofs.lemmas.Int.{ints}
+use Rattle.metrics.proofs.PairLemmas.{paired_within}
+use Rattle.metrics.proofs.face_lines.FaceLines.paired.Goals as goal
+
+pub changed-requires-clause-least : goal.changed-requires-clause-least
+changed-requires-clause-least c = let w = paired_within c.args.self.now c.args.first c.args.c c.change-change.ensures.limits in omega (arith, ints)
+
+pub changed-requires-clause-most : goal.changed-requires-clause-most
+changed-requires-clause-most c = let w = paired_within c.args.self.now c.args.first c.args.c c.change-change.ensures.limits in omega (arith, ints)
