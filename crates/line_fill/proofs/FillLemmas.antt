@@ -1,5 +1,5 @@
 -- One stretch of a line: what is known after it.
-use Rattle.std.proofs.Common.{◌≡◌, ◌≢◌, ℕ, zero, suc, ◌+◌, ◌-◌, ◌*◌, ◌<◌, ◌≤◌, ℤ, pos, ◌+ℤ◌, ◌≤ℤ◌, ◌<ℤ◌, ◌^◌, Bool, true, false, cond, ◌||◌, ◌&&◌, eqb, ltb, leb, List, [], length, get_or, Some, refl, sym, ◌∙◌, arith, ⊎_elim, inl, inr, ◌⊎◌, subst, add-zero}
+use Rattle.std.proofs.Common.{◌≡◌, ◌≢◌, ℕ, zero, suc, ◌+◌, ◌-◌, ◌*◌, ◌<◌, ◌≤◌, ℤ, pos, ◌+ℤ◌, ◌≤ℤ◌, ◌<ℤ◌, ◌^◌, Bool, true, false, cond, ◌||◌, ◌&&◌, eqb, ltb, leb, List, [], length, get_or, max, Some, refl, sym, ◌∙◌, arith, ⊎_elim, inl, inr, ◌⊎◌, subst, add-zero}
 use Rattle.std.specs.Bool.{MatchBool}
 use Rattle.std.specs.List.{Contains}
 use Rattle.std.specs.List.Sorted.{IsStrictlyIncreasing}
@@ -27,9 +27,9 @@ passed_same u v text at (suc n) r h =
     rw (passed_same u v text at n r (λ k a b. h k a (omega arith)), h (at + n) (omega arith) (omega arith)) refl
 
 module _ (faces : List FontFace) (leaf : Leaf) (span : Span) (here : (k : ℕ) → span.from ≤ k → k < span.to → span_at leaf.spans k ≡ Some span) where
-  pub unit_here : (k : ℕ) → span.from ≤ k → k < span.to → byte_width (pen_of faces span) leaf.text k ≡ unit_at faces leaf k
+  pub unit_here : (from k : ℕ) → span.from ≤ k → k < span.to → byte_width (pen_of faces span) leaf.text (max from span.from) k ≡ unit_at faces leaf from k
   unfolding unit_at
-  unit_here k a b = rw (here k a b) refl
+  unit_here from k a b = rw (here k a b) refl
 
   pub hyphen_here : (to : ℕ) → IsCharBoundary leaf.text span.from → span.from < to → to ≤ span.to → cond (is_hyphened leaf.text to) (hyphen_width (pen_of faces span)) 0 ≡ hyphen_at faces leaf to
   unfolding is_hyphened hyphen_at
@@ -76,7 +76,7 @@ module _ (faces : List FontFace) (leaf : Leaf) (span : Span) (from : ℕ) (room 
     (ends_in : span.to ≤ length leaf.text) (low : span.from ≤ at) (less : at < to) (high : to ≤ span.to)
     (is : IsFilled faces leaf from room at r f)
     (quiet : (k : ℕ) → at ≤ k → k + 1 < to → get_or leaf.text k 0 ≢ 10)
-    (r_is : r' ≡ passed_to (byte_width (pen_of faces span) leaf.text) leaf.text at (to - at) r) where
+    (r_is : r' ≡ passed_to (byte_width (pen_of faces span) leaf.text (max from span.from)) leaf.text at (to - at) r) where
   begins : from < to
   begins = let l = is.low in omega arith
 
@@ -86,15 +86,15 @@ module _ (faces : List FontFace) (leaf : Leaf) (span : Span) (from : ℕ) (room 
   back : suc (to - 1) ≡ to
   back = omega arith
 
-  pub shown_behind : IsShown (unit_at faces leaf) leaf.text from to r'
+  pub shown_behind : IsShown (unit_at faces leaf from) leaf.text from to r'
   shown_behind =
       let n = to - at - 1 in
       let s : suc n ≡ to - at = omega arith in
       let t : suc (at + n) ≡ to = omega arith in
-      let same : passed_to (byte_width (pen_of faces span) leaf.text) leaf.text at (suc n) r ≡ passed_to (unit_at faces leaf) leaf.text at (suc n) r = passed_same _ _ leaf.text at (suc n) r (λ k a b. unit_here faces leaf span here k (omega arith) (omega arith)) in
-      let run : IsShown (unit_at faces leaf) leaf.text from (suc (at + n)) (passed_to (unit_at faces leaf) leaf.text at (suc n) r) = run_shown (unit_at faces leaf) leaf.text from at n r is.low is.widths (λ k a b. quiet k a (omega arith)) in
-      let e : r' ≡ passed_to (unit_at faces leaf) leaf.text at (suc n) r = rw (← s) at r_is ∙ same in
-      subst (λ z. IsShown (unit_at faces leaf) leaf.text from z r') t (rw e run)
+      let same : passed_to (byte_width (pen_of faces span) leaf.text (max from span.from)) leaf.text at (suc n) r ≡ passed_to (unit_at faces leaf from) leaf.text at (suc n) r = passed_same _ _ leaf.text at (suc n) r (λ k a b. unit_here faces leaf span here from k (omega arith) (omega arith)) in
+      let run : IsShown (unit_at faces leaf from) leaf.text from (suc (at + n)) (passed_to (unit_at faces leaf from) leaf.text at (suc n) r) = run_shown (unit_at faces leaf from) leaf.text from at n r is.low is.widths (λ k a b. quiet k a (omega arith)) in
+      let e : r' ≡ passed_to (unit_at faces leaf from) leaf.text at (suc n) r = rw (← s) at r_is ∙ same in
+      subst (λ z. IsShown (unit_at faces leaf from) leaf.text from z r') t (rw e run)
 
   stop_before : stop_of leaf.text from ≡ stop_of leaf.text (to - 1)
   stop_before = let e : at + (to - 1 - at) ≡ to - 1 = omega arith in is.same_stop ∙ rw e at (stop_quiet leaf.text at (to - 1 - at) (omega arith) (λ k a b. quiet k a (omega arith)))
@@ -113,7 +113,7 @@ module _ (faces : List FontFace) (leaf : Leaf) (span : Span) (from : ℕ) (room 
   early n l = rw (goes n) (let s = stop-after leaf.text to l in omega (arith, s))
 
   pub misfits : room <ℤ r'.shown → (q : ℕ) → to ≤ q → FitsIn faces leaf from room q → ⊥
-  misfits h q l fit = let m = widths-mono (unit_at faces leaf) leaf.text from to q (let b = begins in omega arith) l in let s = shown_behind.shown in omega (arith, ints)
+  misfits h q l fit = let m = widths-mono (unit_at faces leaf from) leaf.text from to q (let b = begins in omega arith) l in let s = shown_behind.shown in omega (arith, ints)
 
   pub fits_stop : (get_or leaf.text (to - 1) 0 ≡ 10) ⊎ (to ≡ length leaf.text) → r'.shown ≤ℤ room → FitsIn faces leaf from room to
   fits_stop s h = rw (no_hyphen faces leaf to s, add-zero) (let e = shown_behind.shown in rw e at h)
@@ -170,8 +170,8 @@ module _ (faces : List FontFace) (leaf : Leaf) (span : Span) (from : ℕ) (room 
       found = found;
     }
       where
-        widths_on : AreWidths (unit_at faces leaf) leaf.text from to r'
-        widths_on = subst (λ z. AreWidths (unit_at faces leaf) leaf.text from z r') back (goes_on (unit_at faces leaf) leaf.text from (to - 1) r' (let b = begins in omega arith) n (subst (λ z. IsShown (unit_at faces leaf) leaf.text from z r') (sym back) shown_behind))
+        widths_on : AreWidths (unit_at faces leaf from) leaf.text from to r'
+        widths_on = subst (λ z. AreWidths (unit_at faces leaf from) leaf.text from z r') back (goes_on (unit_at faces leaf from) leaf.text from (to - 1) r' (let b = begins in omega arith) n (subst (λ z. IsShown (unit_at faces leaf from) leaf.text from z r') (sym back) shown_behind))
 
     pub filled_noted : (o e fit : Bool) → Says o (IsOrdinary leaf.text leaf.places from to) → Says e (IsEmergency leaf from to) → Says fit (FitsIn faces leaf from room to) → (o || e) ≡ true → AreFound (FitsIn faces leaf from room) (IsOrdinary leaf.text leaf.places from) (IsEmergency leaf from) from to (noted fit o e from to f)
     filled_noted o e fit so se sf some = found_noted (FitsIn faces leaf from room) (IsOrdinary leaf.text leaf.places from) (IsEmergency leaf from) from at to f is.low less is.found between o e fit so se sf (by o e so se some)
@@ -211,7 +211,7 @@ pub record Stretch (faces : List FontFace) (leaf : Leaf) (span : Span) (from : �
   pub high : to ≤ span.to
   pub is : IsFilled faces leaf from room at r f
   pub quiet : (k : ℕ) → at ≤ k → k + 1 < to → get_or leaf.text k 0 ≢ 10
-  pub r_is : r' ≡ passed_to (byte_width (pen_of faces span) leaf.text) leaf.text at (to - at) r
+  pub r_is : r' ≡ passed_to (byte_width (pen_of faces span) leaf.text (max from span.from)) leaf.text at (to - at) r
   pub least : pos 0 ≤ℤ r'.total
   pub most : r'.total ≤ℤ pos (2 ^ 27 * to)
   pub some_is : some ≡ cond (span.wrap && span.anywhere) leaf.graphemes []
@@ -264,5 +264,5 @@ module _ (faces : List FontFace) (leaf : Leaf) (span : Span) (from : ℕ) (room 
       let h = s.high in
       let l : shown_len leaf.text from (to - from) ≤ to - from = shown-le leaf.text from (to - from) in
       let d : shown_len leaf.text from (to - from) + ((to - from) - shown_len leaf.text from (to - from)) ≡ to - from = omega arith in
-      let w : sum_from (unit_at faces leaf) from (shown_len leaf.text from (to - from)) ≤ sum_from (unit_at faces leaf) from (to - from) = rw d at (sum_from-le (unit_at faces leaf) from (shown_len leaf.text from (to - from)) ((to - from) - shown_len leaf.text from (to - from))) in
+      let w : sum_from (unit_at faces leaf from) from (shown_len leaf.text from (to - from)) ≤ sum_from (unit_at faces leaf from) from (to - from) = rw d at (sum_from-le (unit_at faces leaf from) from (shown_len leaf.text from (to - from)) ((to - from) - shown_len leaf.text from (to - from))) in
       (omega (arith, ints), omega (arith, ints))

@@ -94,12 +94,13 @@ fn pass_span(
     let graphemes = emergencies(leaf, span);
     let pen = faces.pen(span.face, span.size);
     let end = span.to as usize;
-    let mut at = room.from.max(span.from as usize);
+    let begin = room.from.max(span.from as usize);
+    let mut at = begin;
     let mut next = count_up_to(places, at);
     let mut next_grapheme = count_up_to(graphemes, at);
     while at < end {
         let stop = mark(graphemes, next_grapheme, mark(places, next, end));
-        let stretch = pass_stretch(&pen, text, at, stop, *line_width);
+        let stretch = pass_stretch(&pen, text, begin, at, stop, *line_width);
         *line_width = stretch.line_width;
         at = stretch.to;
         let stops = is_stop(bytes, at);

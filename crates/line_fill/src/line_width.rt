@@ -45,10 +45,12 @@ impl LineWidth {
     }
 }
 
-/// The bytes from a place on, up to another place or after the first newline before it.
+/// The bytes from a place on, up to another place or after the first newline before it, in a part of a text that begins
+/// at a third place.
 pub(crate) fn pass_stretch(
     pen: &Pen<'_>,
     text: &str,
+    begin: usize,
     at: usize,
     end: usize,
     line_width: LineWidth,
@@ -62,8 +64,8 @@ pub(crate) fn pass_stretch(
     ensures within { result.to ≤ end }
     ensures quiet { (k : ℕ) → at ≤ k → k + 1 < result.to → slice_index text.now k ≢ 10 }
     ensures ends { (result.to ≡ end) ⊎ (slice_index text.now (result.to - 1) ≡ 10) }
-    ensures line_width { result.line_width ≡ passed_to (byte_width pen.now text.now) text.now at
-        (result.to - at) line_width }
+    ensures line_width { result.line_width ≡ passed_to (byte_width pen.now text.now begin) text.now
+        at (result.to - at) line_width }
     ensures low { pos 0 ≤ℤ result.line_width.total }
     ensures high { result.line_width.total ≤ℤ pos (2 ^ 27 * result.to) }
 {
@@ -71,7 +73,7 @@ pub(crate) fn pass_stretch(
     let mut line_width = line_width;
     for k in at..end {
         let byte = bytes[k];
-        line_width = line_width.pass(byte, pen.byte_width(text, k));
+        line_width = line_width.pass(byte, pen.byte_width(text, begin, k));
         if byte == b'\n' {
             return Stretch {
                 to: k + 1,

@@ -145,7 +145,7 @@ fn slack_at(faces: &Faces, leaf: &Leaf, line: Line, measure: i64, width: u64) ->
     requires faced { HasFaces faces.now leaf.now }
     requires line { IsInLeaf leaf.now line }
     requires measure { unsigned_abs measure ≤ 2 ^ 40 }
-    requires width { width ≡ sum_from (unit_at faces.now leaf.now) line.from
+    requires width { width ≡ sum_from (unit_at faces.now leaf.now line.from) line.from
         (shown_len leaf.now.text line.from (line.to - line.from)) }
     requires wide { width ≤ 2 ^ 59 }
     ensures value { result ≡ slack_of faces.now leaf.now line measure }

@@ -49,9 +49,10 @@ pub(crate) fn add_piece(
     let text = leaf.text.as_str();
     let bytes = text.as_bytes();
     let pen = faces.pen(span.face, span.size);
+    let begin = ends.from.max(span.from);
     let mut sums = sums;
     for at in piece.from..piece.to {
-        let width = pen.byte_width(text, at as usize);
+        let width = pen.byte_width(text, begin as usize, at as usize);
         sums = sums.with(width, is_free(bytes, ends.free, at));
     }
     sums

@@ -1,4 +1,4 @@
-use Rattle.std.proofs.Common.{◌≡◌, ◌≢◌, ℕ, ◌+◌, ◌-◌, ◌<◌, ◌≤◌, Bool, true, false, cond, ◌&&◌, List, [], ◌⊎◌, length, get_or, arith, sym, ◌∙◌}
+use Rattle.std.proofs.Common.{◌≡◌, ◌≢◌, ℕ, ◌+◌, ◌-◌, ◌<◌, ◌≤◌, Bool, true, false, cond, ◌&&◌, List, [], ◌⊎◌, length, get_or, max, arith, sym, ◌∙◌}
 use Rattle.std.specs.Bool.{MatchBool}
 use Rattle.std.specs.List.Sorted.{IsStrictlyIncreasing}
 use Rattle.std.proofs.lemmas.Int.{ints}
@@ -45,6 +45,7 @@ known c =
     let m = marked c.as_slice-places.result.now c.emergencies-graphemes.result.now c.loop-at.at c.loop-at.next c.loop-at.next_grapheme c.args.span.now.to c.mark.result c.mark-stop.result c.loop-at-test.true c.loop-at.invariant.next c.loop-at.invariant.next_grapheme c.mark.ensures c.mark-stop.ensures in
     let run = c.pass_stretch-stretch.ensures in
     let inv = c.loop-at.invariant in
+    let begin : c.max-begin.result ≡ max c.args.room.from c.args.span.now.from = let m = c.max-begin.ensures in omega arith in
     record {
       here = c.requires.span.here;
       bound = c.requires.span.begins;
@@ -55,7 +56,7 @@ known c =
       high = let e = m.most in let w = run.within in omega arith;
       is = inv.filled;
       quiet = rw (← c.as_str-text.ensures) run.quiet;
-      r_is = rw (← c.as_str-text.ensures, ← c.pen-pen.ensures) run.line_width;
+      r_is = rw (← c.as_str-text.ensures, ← c.pen-pen.ensures, ← begin) run.line_width;
       least = run.low;
       most = run.high;
       some_is = c.emergencies-graphemes.ensures;

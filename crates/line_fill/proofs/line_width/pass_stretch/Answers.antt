@@ -7,9 +7,9 @@ use Rattle.line_fill.proofs.WidthLemmas.{passed_to-step}
 use Rattle.line_fill.proofs.line_width.pass_stretch.Goals as goal
 use Rattle.line_fill.proofs.line_width.pass_stretch.Goals.{After-pass-line_width}
 
-stepped : (c : After-pass-line_width) → c.pass-line_width.result ≡ passed_to (byte_width c.args.pen.now c.args.text.now) c.args.text.now c.args.at (c.loop-k.k + 1 - c.args.at) c.args.line_width
+stepped : (c : After-pass-line_width) → c.pass-line_width.result ≡ passed_to (byte_width c.args.pen.now c.args.text.now c.args.begin) c.args.text.now c.args.at (c.loop-k.k + 1 - c.args.at) c.args.line_width
 stepped c =
-    let unit = byte_width c.args.pen.now c.args.text.now in
+    let unit = byte_width c.args.pen.now c.args.text.now c.args.begin in
     rw (passed_to-step unit c.args.text.now c.args.at c.loop-k.k c.args.line_width (omega arith), ← c.loop-k.invariant.line_width, ← c.byte_width.ensures.value, ← c.as_bytes-bytes.ensures.value) c.pass-line_width.ensures.value
 
 pub returns-then-byte-eq10-clause-line_width : goal.returns-then-byte-eq10-clause-line_width
