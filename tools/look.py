@@ -20,7 +20,7 @@ from bookpages import faults
 from bookpages.faults import Fault, Words
 from bookpages.listing import UNITS_A_PIXEL, Text, read_listing
 from bookpages.metrics import WITHOUT_ADVANCE, read_metrics
-from bookpages.places import end_of, face_of, lines_of
+from bookpages.places import end_of, face_of, join_texts, lines_of
 
 LONGEST = 48
 LOOSE, MOST = 4, 20
@@ -99,6 +99,7 @@ def words_of(arguments):
 def report(faces, pages, listing, loose=LOOSE, most=MOST):
     """The lines of the report, and whether anything was found; `listing` is the name for faults."""
     look = Look(faces, listing, loose)
+    join_texts(pages, faces)
     for page in pages:
         look.page(page)
     found = look.overfull, look.loose, look.outside, list(look.missing_lines())

@@ -1,13 +1,18 @@
 #!/usr/bin/env python3
 """Writes a metrics text from fonts, for `bookfmt format`.
 
-    tools/metrics.py [--all] [--range FIRST-LAST].. [FAMILY[/STYLE/WEIGHT]=]FONT.. > metrics.txt
+    tools/metrics.py [--all] [--range FIRST-LAST].. [--kern] [--kern-range FIRST-LAST]..
+    [FAMILY[/STYLE/WEIGHT]=]FONT.. > metrics.txt
 
 FONT is a TrueType or OpenType file; FILE.ttc#1 is the second font of a collection. The family, the style and the
 weight are those of the font's own tables, or as told: serif=FONT, or serif/italic/700=FONT.
 
   --all               every character that a font has, in place of those of books in European scripts
   --range FIRST-LAST  these characters alone, by their Unicode numbers in hexadecimal; may stand several times
+  --kern              a text of version 2, with the kerning pairs of Western and Central European letters and of
+                      punctuation
+  --kern-range FIRST-LAST
+                      the same with the pairs of these characters alone; may stand several times
 
 Status 0, or 2 with one line that says what is wrong."""
 import argparse
@@ -17,7 +22,17 @@ import sys
 from bookpages import faults
 from bookpages.faults import Fault, Words
 from bookpages.fonts import FULL, LICENCE, LICENCE_PLACE, VERSION, Font
-from bookpages.metrics import FONT_COMMENT, LAST_CHARACTER, MOST, MOST_FACES, NAME, STYLES, WEIGHTS
+from bookpages.kerning import kerning_of
+from bookpages.metrics import (
+    FONT_COMMENT,
+    LAST_CHARACTER,
+    MOST,
+    MOST_FACES,
+    NAME,
+    STYLES,
+    WEIGHTS,
+    WITHOUT_ADVANCE,
+)
 
 # Latin, marks, Greek and Cyrillic; punctuation, signs and arrows; box drawing, blocks and shapes; ligatures
 USUAL = [
@@ -34,6 +49,8 @@ USUAL = [
     (0xFB00, 0xFB06),
     (0xFFFD, 0xFFFD),
 ]
+# the characters whose pairs are written: Latin of Western and Central Europe, dashes, quotation marks and dots
+KERNED = [(0x20, 0x7E), (0xA0, 0x17F), (0x2010, 0x2026)]
 LONGEST_COMMENT = 120
 
 
@@ -41,6 +58,8 @@ def words_of(arguments):
     parser = Words(__doc__)
     parser.add_argument("--all", action="store_true")
     parser.add_argument("--range", action="append", type=range_of, metavar="FIRST-LAST")
+    parser.add_argument("--kern", action="store_true")
+    parser.add_argument("--kern-range", action="append", type=range_of, metavar="FIRST-LAST")
     parser.add_argument("fonts", nargs="+", metavar="FONT")
     return parser.parse_args(arguments)
 
@@ -77,18 +96,58 @@ def held(number):
     return max(0, min(MOST, number))
 
 
+def codes_of(font, *choices):
+    """The characters that the font has and that are in the ranges of each choice, ascending."""
+    return [
+        code
+        for code in sorted(font.characters)
+        if not 0xD800 <= code <= 0xDFFF
+        and all(any(first <= code <= last for first, last in chosen) for chosen in choices)
+    ]
+
+
 def ranges_of(font, chosen):
     """Ranges of characters that the font has and that have one advance, as FIRST, LAST and ADVANCE."""
     ranges = []
-    for code in sorted(font.characters):
-        if 0xD800 <= code <= 0xDFFF or not any(first <= code <= last for first, last in chosen):
-            continue
+    for code in codes_of(font, chosen):
         advance = held(font.advance(chr(code)))
         if ranges and ranges[-1][1] == code - 1 and ranges[-1][2] == advance:
             ranges[-1][1] = code
         else:
             ranges.append([code, code, advance])
     return ranges
+
+
+def pairs_of(font, codes):
+    """The pairs of these characters as FIRST, SECOND and CHANGE, ascending, and what a comment tells of them.
+
+    A font changes the advance of the first glyph, so that the second one and all that follow begin elsewhere. A metrics
+    text tells the same change as one of the second character. All ends behind the pair are the same by both; but a
+    line that ends after the first character has its plain width, as it should, since no second one follows there. So
+    the change counts in the width of a line from the second character on."""
+    glyphs = {}
+    for code in codes:
+        if chr(code) not in WITHOUT_ADVANCE:
+            glyphs.setdefault(font.characters[code], []).append(code)
+    kerning = kerning_of(font, set(glyphs))
+    pairs, cut = [], 0
+    for (first, second), change in kerning.changes.items():
+        advance = held(font.horizontal[second][0])
+        taken = held(advance + change) - advance
+        found = [(one, other, taken) for one in glyphs[first] for other in glyphs[second]]
+        cut += len(found) if taken != change else 0
+        pairs += found if taken else []
+    return sorted(pairs), comment_of(kerning, len(pairs), cut)
+
+
+def comment_of(kerning, count, cut):
+    """What a comment tells of a face's pairs."""
+    parts = [f"{count} pairs of the font's table {kerning.table}" if kerning.table else "the font has no pairs"]
+    if cut:
+        parts.append(f"{cut} cut short where the second character would have less room than none or too much")
+    if kerning.passed:
+        parts.append(f"{kerning.passed} passed over, which change more than one advance")
+    return "# " + "; ".join(parts)
 
 
 def short(text):
@@ -104,8 +163,9 @@ def licence_of(font):
     )
 
 
-def face_lines(label, font, chosen):
-    """The lines of one face: comments on where it comes from, the face, and its ranges."""
+def face_lines(label, font, chosen, kerned):
+    """The lines of one face: comments on where it comes from, the face, its ranges, and its pairs where some are
+    asked for."""
     ascent, descent = font.ascent_and_descent()
     file = font.path.replace("\\", "/").rsplit("/", 1)[-1]
     yield f"# {short(font.name(FULL) or file)}: {short(font.name(VERSION) or 'no version')}"
@@ -115,6 +175,11 @@ def face_lines(label, font, chosen):
     yield " ".join(map(str, ("face", *label.split("/"), *numbers)))
     for first, last, advance in ranges_of(font, chosen):
         yield f"glyph {first:04X} {last:04X} {advance}"
+    if kerned:
+        pairs, comment = pairs_of(font, codes_of(font, chosen, kerned))
+        yield comment
+        for first, second, change in pairs:
+            yield f"pair {first:04X} {second:04X} {change}"
 
 
 def main(arguments):
@@ -130,9 +195,10 @@ def main(arguments):
         faces[label] = font
     if len(faces) > MOST_FACES:
         raise Fault(f"{len(faces)} faces: a metrics text has at most {MOST_FACES}")
-    lines = ["bookmetrics 1"]
+    kerned = words.kern_range or (KERNED if words.kern else None)
+    lines = ["bookmetrics 2" if kerned else "bookmetrics 1"]
     for label, font in faces.items():
-        lines += face_lines(label, font, chosen)
+        lines += face_lines(label, font, chosen, kerned)
     sys.stdout.reconfigure(encoding="utf-8", newline="\n")
     print("\n".join(lines))
     return 0

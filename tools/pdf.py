@@ -26,7 +26,7 @@ from bookpages.fonts import fonts_of
 from bookpages.headings import headings_of
 from bookpages.listing import UNITS_A_PIXEL, Rect, Text, read_listing
 from bookpages.metrics import read_metrics
-from bookpages.places import face_of, words_of
+from bookpages.places import face_of, join_texts, words_of
 
 POINTS_A_UNIT = 0.75 / UNITS_A_PIXEL
 MOST_TOLD = 10
@@ -97,6 +97,7 @@ class Book:
 
     def __init__(self, faces, pages, words, folders, listing):
         self.faces, self.pages = faces, pages
+        join_texts(pages, faces)
         used = {}
         for page in pages:
             for item in page.items:
@@ -124,18 +125,31 @@ class Book:
     def shown(self, label, word):
         """The operator that shows a word; it is kept, since words come again."""
         if (label, word) not in self.kept:
-            font, moves = self.fonts[label], self.moves[label]
+            font = self.fonts[label]
             missing = [character for character in word if character not in font.glyphs]
-            if moves and not moves.keys().isdisjoint(word):
-                parts = [f"<{font.hexadecimal(character)}> {moves.get(character, 0):.0f}" for character in word]
-                operator = f"[{' '.join(parts)}] TJ"
-            else:
-                operator = f"<{font.hexadecimal(word)}> Tj"
+            parts = [f"<{font.hexadecimal(part)}>{move}" for part, move in self.parts_of(label, word)]
+            single = len(parts) == 1 and parts[0].endswith(">")
+            operator = f"{parts[0]} Tj" if single else f"[{' '.join(parts)}] TJ"
             self.kept[label, word] = operator, missing
         operator, missing = self.kept[label, word]
         for character in missing:
             self.missing[character, label] += 1
         return operator
+
+    def parts_of(self, label, word):
+        """The parts of a word whose glyphs follow one another by the font's advances, each with the number that moves
+        the next part to the left, in thousandths of an em."""
+        face, moves = self.faces[label], self.moves[label]
+        part = ""
+        for character, after in zip(word, [*word[1:], ""]):
+            part += character
+            change = face.pairs.get(character + after, 0) * 1000 / face.units
+            move = f"{moves.get(character, 0) - change:.1f}".removesuffix(".0")
+            if move not in ("0", "-0"):
+                yield part, f" {move}"
+                part = ""
+        if part:
+            yield part, ""
 
     def remarks(self):
         """What a user should know of the fonts."""

@@ -25,7 +25,7 @@ from bookpages.faults import Fault, Words, need
 from bookpages.fonts import fonts_of
 from bookpages.listing import UNITS_A_PIXEL, Line, Rect, Text, read_listing
 from bookpages.metrics import read_metrics
-from bookpages.places import face_of, words_of
+from bookpages.places import face_of, join_texts, words_of
 
 MOST_PAGES = 12
 GAP = 16
@@ -69,16 +69,14 @@ class Drawing:
         )
 
     def outlined(self, text, x, word):
-        """A word by the outlines of its glyphs, each as far right as the metrics text's advances say."""
-        font, widths = self.fonts[text.face], self.faces[text.face].widths(text.size)
+        """A word by the outlines of its glyphs, each as far right as the metrics text's advances and pairs say."""
+        font = self.fonts[text.face]
         scale = text.size / UNITS_A_PIXEL / font.units
         uses = []
-        at = 0
-        for character in word:
+        for character, left, _ in self.faces[text.face].rooms(word, text.size):
             outline = self.outline(text.face, font.characters.get(ord(character), font.order[0]))
             if outline and scale:
-                uses.append(f'<use xlink:href="#{outline}" x="{at / UNITS_A_PIXEL / scale:.1f}"/>')
-            at += widths[character]
+                uses.append(f'<use xlink:href="#{outline}" x="{left / UNITS_A_PIXEL / scale:.1f}"/>')
         if uses:
             place = f"translate({pixels(x)} {pixels(text.y)}) scale({scale:.6f} {-scale:.6f})"
             self.lines.append(f'<g transform="{place}" fill="{text.color}">{"".join(uses)}</g>')
@@ -188,6 +186,7 @@ def main(arguments):
         for item in page.items:
             if isinstance(item, Text):
                 used[item.face] = face_of(item, faces, lambda what: Fault(f"{words.listing}: {what}"))
+    join_texts(pages, faces)
     svg = Drawing(faces, fonts_found(used, faces, words.given, words.fonts), words.lines).sheet(pages, words.across)
     faults.write_bytes(words.out, png_of(svg, words.zoom) if words.out.endswith(".png") else svg.encode())
     return 0

@@ -10,7 +10,8 @@ Page = namedtuple("Page", "index number side kind name width height items")
 Rect = namedtuple("Rect", "x y width height color")
 Edge = namedtuple("Edge", "which x y width height")
 Line = namedtuple("Line", "x y width height")
-Text = namedtuple("Text", "x y face size color string hyphen")
+# `before` is the character before a text in its span and line, where pages tell it (places.join_texts)
+Text = namedtuple("Text", "x y face size color string hyphen before", defaults=[None])
 
 NUMBER = r"(-?[0-9]+)"
 STRING = r'"((?:[^"\\\x00-\x1f\x7f]|\\["\\n]|\\x[0-9a-f]{2})*)"'

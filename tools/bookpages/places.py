@@ -1,7 +1,9 @@
 """Where the words of a listing's texts stand, and which texts belong to which line."""
 import re
+from itertools import dropwhile
 
 from .listing import Line, Text
+from .metrics import paired_last
 
 SPACES = " \n\u00a0\u2002\u2003\u2009"
 PARTS = re.compile(f"[{SPACES}]+|[^{SPACES}]+")
@@ -18,9 +20,8 @@ def face_of(text, faces, fault):
 
 
 def words_of(text, face):
-    """Each word of a text: its left end, its visible characters, and whether a space follows it."""
-    widths = face.widths(text.size)
-    x = text.x
+    """Each word of a text: where its first glyph begins, its visible characters, and whether a space follows it."""
+    x, before = text.x, text.before
     word = None
     for part in PARTS.findall(text.string):
         if part[0] in SPACES:
@@ -30,16 +31,17 @@ def words_of(text, face):
         else:
             shown = part.translate(UNSEEN)
             if shown:
-                word = (x, shown)
-        x += sum(map(widths.__getitem__, part))
+                _, left, _ = next(face.rooms(shown, text.size, before))
+                word = (x + left, shown)
+        x += face.width(part, text.size, before)
+        before = paired_last(part, before)
     if word:
         yield *word, False
 
 
 def end_of(text, face):
     """Where a text ends, without the spaces and the line feed at its end."""
-    widths = face.widths(text.size)
-    return text.x + sum(map(widths.__getitem__, text.string.rstrip(HANGING)))
+    return text.x + face.width(text.string.rstrip(HANGING), text.size, text.before)
 
 
 def lines_of(page):
@@ -59,6 +61,46 @@ def lines_of(page):
             else:
                 loose.append(item)
     return lines, loose
+
+
+def join_texts(pages, faces):
+    """Tells each text that goes on the span of the text before it the character that stands before it.
+
+    A justified line's texts are cut after spaces, and a pair of a space and the next letter reaches over the cut. A
+    listing doesn't tell spans: two texts of one look are taken for one."""
+    if not any(face.pairs for face in faces.values()):
+        return
+    for page in pages:
+        numbers = {id(item): k for k, item in enumerate(page.items)}
+        for line, texts in lines_of(page)[0]:
+            texts = without_markers(line, texts, faces)
+            if is_cut(texts, faces):
+                for text, after in zip(texts, texts[1:]):
+                    if text.string.endswith(" ") and look_of(text) == look_of(after):
+                        page.items[numbers[id(after)]] = after._replace(before=" ")
+
+
+def without_markers(line, texts, faces):
+    """The texts of a line without the markers before it, which end where the line begins or left of there."""
+    return list(dropwhile(lambda text: reach_of(text, faces) <= line.x, texts))
+
+
+def is_cut(texts, faces):
+    """Whether a line's texts are cut after its spaces. Where they are, the first space has a share of the slack, and
+    after it a text begins right of the end of the one before."""
+    return any(
+        text.string.endswith(" ") and after.x > reach_of(text, faces) for text, after in zip(texts, texts[1:])
+    )
+
+
+def reach_of(text, faces):
+    """Where a text ends with its spaces, whether it goes on a span or not."""
+    face = faces.get(text.face)
+    return text.x + max(face.width(text.string, text.size, before) for before in (None, " ")) if face else text.x
+
+
+def look_of(text):
+    return text.face, text.size, text.color, text.y, text.hyphen
 
 
 def belongs(text, line, before):

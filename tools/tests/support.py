@@ -45,8 +45,9 @@ def drawn(pen, corners):
     return pen
 
 
-def make_font(path, truetype=True, family="Test Serif", style="Regular", weight=400, italic=False):
-    """Writes a font with the glyphs above: an em of 1000 units, an ascent of 750 and a descent of 250."""
+def make_font(path, truetype=True, family="Test Serif", style="Regular", weight=400, italic=False, features=""):
+    """Writes a font with the glyphs above: an em of 1000 units, an ascent of 750 and a descent of 250; `features` are
+    its lookups in the language of feature files."""
     from fontTools.fontBuilder import FontBuilder
     from fontTools.pens.t2CharStringPen import T2CharStringPen
     from fontTools.pens.ttGlyphPen import TTGlyphPen
@@ -79,6 +80,8 @@ def make_font(path, truetype=True, family="Test Serif", style="Regular", weight=
     builder.setupOS2(sTypoAscender=800, sTypoDescender=-200, usWeightClass=weight, fsSelection=1 if italic else 0x40)
     builder.setupPost(isFixedPitch=0)
     builder.font["head"].macStyle = 2 if italic else 0
+    if features:
+        builder.addOpenTypeFeatures(features)
     builder.save(path)
     return path
 
@@ -95,6 +98,8 @@ glyph 0301 0301 0
 glyph 2022 2022 350
 glyph FB01 FB01 600
 """
+# the same with a space that closes up to a c, and an a to a b
+PAIRED = METRICS.replace("bookmetrics 1", "bookmetrics 2") + "pair 0020 0063 -100\npair 0061 0062 -50\n"
 F = "serif/normal/400 1024 #000000"
 
 

@@ -113,7 +113,7 @@ class Book(Folder):
         order = "; the files come in the order METRICS HTML CSS.."
         self.assertEqual(
             self.refusal("b.html", "m.txt"),
-            f"book: b.html is no metrics text, it doesn't begin with `bookmetrics 1`{order}",
+            f"book: b.html is no metrics text, it doesn't begin with `bookmetrics`{order}",
         )
         self.assertEqual(self.refusal("m.txt", "a.css", "b.html"), f"book: a.css is no HTML, it has no tag{order}")
         self.assertEqual(

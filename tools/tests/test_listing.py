@@ -1,12 +1,12 @@
 """The reader of listings, the places of words, and tools/look.py."""
 import unittest
 
-from support import METRICS, F, Folder
+from support import METRICS, PAIRED, F, Folder
 
 from bookpages.faults import Fault
 from bookpages.listing import Edge, Line, Rect, Text, read_listing
 from bookpages.metrics import read_metrics
-from bookpages.places import lines_of, words_of
+from bookpages.places import end_of, join_texts, lines_of, words_of
 
 HEAD = 'book 1 1\npage 1 1 right flow "" 5120 3840\n'
 
@@ -83,9 +83,51 @@ class Placed(Folder):
         self.assertEqual([it.string for it in loose], ["foot", "foot"])
 
 
+class Paired(Folder):
+    """The texts of the listing's lines under a face in which a c closes up to a space, and a b to an a."""
+
+    def setUp(self):
+        super().setUp()
+        self.faces = read_metrics(self.write("m.txt", PAIRED))
+
+    def ends(self, records):
+        pages, _ = read_listing(self.write("l", HEAD + records + "end\n"))
+        join_texts(pages, self.faces)
+        return [end_of(item, self.faces[item.face]) for item in pages[0].items if isinstance(item, Text)]
+
+    def test_words_begin_where_their_glyphs_do(self):
+        text = Text(64, 896, "serif/normal/400", 1000, "#000000", "ab c ab\u00adb", False)
+        words = list(words_of(text, self.faces["serif/normal/400"]))
+        # ab is 950 wide and the spaces 250; the c is 300 wide and its glyph begins 100 left of its room
+        self.assertEqual(words, [(64, "ab", True), (64 + 1100, "c", True), (64 + 1750, "abb", False)])
+        goes_on = text._replace(string="c", before=" ")
+        self.assertEqual(list(words_of(goes_on, self.faces["serif/normal/400"])), [(-36, "c", False)])
+        self.assertEqual(end_of(goes_on, self.faces["serif/normal/400"]), 364)
+
+    def test_a_pair_reaches_over_the_cut_of_a_justified_line(self):
+        # c is 409 wide, a space 256, and a c behind a space 307; the first space has a share of 3, the second of 0
+        line = f'line 0 0 1500 1280\ntext 0 896 {F} "c "\ntext 668 896 {F} "c "\ntext 1231 896 {F} "c"\n'
+        self.assertEqual(self.ends(line), [409, 668 + 307, 1231 + 307])
+
+    def test_other_texts_begin_anew(self):
+        first, second = f'text 0 896 {F} "c "\n', f'text 700 896 {F} "c"\n'
+        line = "line 0 0 1500 1280\n"
+        self.assertEqual(self.ends(line + first + second)[1], 700 + 307)
+        # with a hanging indent
+        self.assertEqual(self.ends(line.replace("line 0", "line 600") + first + second)[1], 700 + 307)
+        for records in (
+            line + first + second.replace("700", "665"),
+            line + first + second.replace("#000000", "#ff0000"),
+            line + first.replace('c "', 'c"') + second,
+            line.replace("line 0", "line 700") + first + second,
+            line.replace("line 0 0", "line 0 1000") + first + second,
+        ):
+            self.assertEqual(self.ends(records)[1] - (665 if " 665 " in records else 700), 409, records)
+
+
 class Look(Folder):
-    def look(self, listing, *options):
-        self.write("m.txt", METRICS)
+    def look(self, listing, *options, metrics=METRICS):
+        self.write("m.txt", metrics)
         self.write("l", listing)
         return self.run_tool("look.py", *options, "m.txt", "l")
 
@@ -117,6 +159,11 @@ class Look(Folder):
                 "1 pages, 3 lines: 2 overfull, 1 loose, 1 texts outside the page, 1 characters without an advance",
             ],
         )
+
+    def test_a_justified_line_with_pairs_is_as_wide_as_its_measure(self):
+        listing = HEAD + f'line 0 0 1007 1280\ntext 0 896 {F} "c "\ntext 700 896 {F} "c"\nend\n'
+        self.assertEqual(self.look(listing, metrics=PAIRED)[0], 0)
+        self.assertIn('page 1: overfull by 1.59 px: "c c"', self.look(listing)[1])
 
     def test_options(self):
         listing = HEAD + f'line 0 0 5120 1280\ntext 0 896 {F} "a "\ntext 3584 896 {F} "b"\nend\n'

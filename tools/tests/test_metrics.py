@@ -2,7 +2,7 @@
 import os
 import unittest
 
-from support import GLYPHS, METRICS, TOP, Folder, make_font, needs_fonts
+from support import GLYPHS, METRICS, PAIRED, TOP, Folder, make_font, needs_fonts
 
 from bookpages.faults import Fault
 from bookpages.metrics import read_metrics
@@ -107,10 +107,51 @@ class Read(Folder):
         widths = face.widths(1023)
         self.assertEqual([widths[c] for c in "a c\u00ad\n\u200bz"], [511, 255, 409, 0, 0, 0, 716])
 
+    def test_a_pair_changes_the_room_of_its_second_character(self):
+        face = read_metrics(self.write("m.txt", PAIRED))["serif/normal/400"]
+        # at 1023 an a and a b are 511 wide, a c is 409; a b behind an a is floor(1023 * 450 / 1000) = 460, and a c
+        # behind a space floor(1023 * 300 / 1000) = 306; the glyph of that b begins 51 left of its room
+        self.assertEqual(list(face.rooms("abb", 1023)), [("a", 0, 511), ("b", 460, 971), ("b", 971, 1482)])
+        self.assertEqual(list(face.rooms("\u200bc", 1023, " ")), [("\u200b", 0, 0), ("c", -103, 306)])
+        widths = [face.width(string, 1023) for string in ("ab", "a\u00adb", "a\u200b\u00adb", "a\nb", "ba", "a c", "")]
+        self.assertEqual(widths, [971, 971, 971, 1022, 1022, 511 + 255 + 306, 0])
+        self.assertEqual([face.width("b", 1023, before) for before in (None, "b", "a")], [511, 511, 460])
+
+    def test_pairs_of_characters_without_a_room(self):
+        pairs = "pair 000A 0061 -100\npair 0061 00AD 30\npair 0061 0301 30\npair 0061 10FFFF -700\n"
+        text = METRICS.replace("bookmetrics 1", "bookmetrics 2") + pairs
+        face = read_metrics(self.write("m.txt", text))["serif/normal/400"]
+        strings = ("\na", "a\u00ad", "a\u0301", "a\U0010ffff", "a\u0301\u0301")
+        self.assertEqual([face.width(string, 1000) for string in strings], [400, 500, 530, 500, 530])
+
     def test_forms_that_are_taken(self):
         text = "\ufeffbookmetrics 1\r\n# c\r\n\t \r\nface\tserif normal 400  16 12 4 8\r\nglyph 0300 036f 0"
         face = read_metrics(self.write("m.txt", text))["serif/normal/400"]
         self.assertEqual((face.advance("\u0300"), face.advance("a")), (0, 8))
+
+    def test_refused_pairs(self):
+        face = "bookmetrics 2\nface serif normal 400 16 12 4 8\nglyph 0061 0061 6\n"
+        read_metrics(self.write("m.txt", face + "pair 0061 0061 -6\npair 0061 0062 16376\npair 0062 0061 -0\n"))
+        for line, what in (
+            ("pair 0061 0061", "a pair is"),
+            ("pair 61 0061 1", "hexadecimal"),
+            ("pair 0061 0061 +1", "is no number"),
+            ("pair 0061 0061 -", "is no number"),
+            ("pair 0061 0061 1.5", "is no number"),
+            ("pair 0061 110000 1", "at most 10FFFF"),
+            ("pair 0061 0061 -16385", "from -16384"),
+            ("pair 0061 0061 -7", "from 0 to 16384"),
+            ("pair 0061 0062 16377", "from 0 to 16384"),
+        ):
+            self.assertRegex(self.fault(f"{face}{line}\n"), f"^ line 4: .*{what}")
+        self.assertIn(" line 2: pairs follow", self.fault("bookmetrics 2\npair 0061 0061 1\n"))
+        self.assertIn(" line 5: pairs follow", self.fault(face + "pair 0061 0061 1\npair 0061 0061 1\n"))
+        self.assertIn(" line 5: pairs follow", self.fault(face + "pair 0062 0061 1\npair 0061 0062 1\n"))
+        self.assertIn(" line 5: ranges follow", self.fault(face + "pair 0061 0061 0\nglyph 0062 0062 1\n"))
+        line = "`pair` is neither `face` nor `glyph`"
+        self.assertIn(line, self.fault(face.replace("bookmetrics 2", "bookmetrics 1") + "pair 0061 0061 1\n"))
+        self.assertIn("`kern` is neither `face`, `glyph` nor `pair`", self.fault(face + "kern 0061 0061 1\n"))
+        self.assertIn(" line 1: ", self.fault(face.replace("bookmetrics 2", "bookmetrics 3")))
 
     def test_refusals(self):
         face = "bookmetrics 1\nface serif normal 400 16 12 4 8\n"

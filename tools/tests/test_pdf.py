@@ -4,7 +4,7 @@ import subprocess
 import unittest
 from shutil import which
 
-from support import METRICS, F, Folder, make_font, needs_pdf
+from support import METRICS, PAIRED, F, Folder, make_font, needs_pdf
 
 # pages of 80 by 60 px and of 60 by 80 px, in points 60 by 45 and 45 by 60
 TWO_PAGES = (
@@ -111,7 +111,63 @@ class Pdf(Folder):
         pdf, err = self.made(TWO_PAGES, metrics=METRICS.replace("0061 0062 500", "0061 0062 450"))
         self.assertIn("the advances of 2 characters ('ab' ..) in the metrics text aren't those of", err)
         glyph = self.glyphs(pdf)
-        self.assertIn(f"[<{glyph['a']}> 50 <{glyph['b']}> 50 <{glyph[' ']}> 0] TJ", self.content(pdf.pages[0])[3])
+        self.assertIn(f"[<{glyph['a']}> 50 <{glyph['b']}> 50 <{glyph[' ']}>] TJ", self.content(pdf.pages[0])[3])
+
+    def test_pairs_move_glyphs(self):
+        pdf, err = self.made(TWO_PAGES, metrics=PAIRED)
+        self.assertEqual(err, "")
+        glyph = self.glyphs(pdf)
+        # ab is 512 + floor(1024 * 450 / 1000) = 972 units wide and the space 256; the glyph of the c begins at
+        # 1228 + floor(307.2) - floor(409.6) = 1126, 13.1953 points
+        self.assertEqual(
+            self.content(pdf.pages[0])[3],
+            f"BT /F1 12 Tf 0 34.5 Td [<{glyph['a']}> 50 <{glyph['b']}{glyph[' ']}>] TJ "
+            f"13.1953 0 Td <{glyph['c']}{glyph[' ']}> Tj ET",
+        )
+
+    def test_pairs_reach_over_soft_hyphens_and_not_to_shown_ones(self):
+        pairs = PAIRED + "pair 0062 002D -90\n"
+        pdf, _ = self.made(TWO_PAGES.replace('"b\u00adc\u00ad"', '"a\u00adb\u00ad"'), metrics=pairs)
+        glyph = self.glyphs(pdf)
+        second, hyphen = self.content(pdf.pages[0])[4:]
+        self.assertIn(f"[<{glyph['a']}> 50 <{glyph['b']}>] TJ", second)
+        self.assertIn(f"12 19.5 Td <{glyph['-']}> Tj", hyphen)
+
+    def test_pairs_and_other_advances_add_up(self):
+        pdf, _ = self.made(TWO_PAGES, metrics=PAIRED.replace("0061 0062 500", "0061 0062 450"))
+        glyph = self.glyphs(pdf)
+        self.assertIn(f"[<{glyph['a']}> 100 <{glyph['b']}> 50 <{glyph[' ']}>] TJ", self.content(pdf.pages[0])[3])
+
+    def test_words_are_as_wide_as_in_the_listing(self):
+        from bookpages.metrics import read_metrics
+
+        pairs = METRICS.replace("bookmetrics 1", "bookmetrics 2") + (
+            "pair 0061 0061 -37\npair 0061 0062 -50\npair 0061 0063 11\npair 0062 0061 9\npair 0063 0062 -120\n"
+        )
+        word = "abacabbcbaacb"
+        pdf, _ = self.made(TWO_PAGES.replace('"ab c "', f'"{word}"'), metrics=pairs)
+        array = list(pdf.pages[0].Resources.Font.F1.DescendantFonts[0].W)
+        widths = {f"{int(array[k]):04X}": float(array[k + 1][0]) for k in range(0, len(array), 2)}
+        shown = re.search(r"Td \[(.*?)\] TJ", self.content(pdf.pages[0])[3])[1]
+        glyphs = "".join(re.findall("<([0-9A-F]+)>", shown))
+        thousandths = sum(widths[glyphs[k : k + 4]] for k in range(0, len(glyphs), 4))
+        thousandths -= sum(map(float, re.findall(r"> (-?[0-9.]+)", shown)))
+        # each character of the listing is rounded down to a unit
+        lost = thousandths * 1024 / 1000 - read_metrics(self.path("m.txt"))["serif/normal/400"].width(word, 1024)
+        self.assertTrue(0 <= lost < len(word), lost)
+        # five a, five b and three c; twice ab, ba, ac and cb, once aa
+        self.assertEqual(thousandths, 5 * 500 + 5 * 500 + 3 * 400 + 2 * (-50 + 9 + 11 - 120) - 37)
+
+    def test_texts_of_a_justified_line_go_on(self):
+        listing = (
+            f'book 1 1\npage 1 1 right flow "" 5120 3840\nline 0 0 1024 1280\ntext 0 896 {F} "c "\n'
+            f'text 717 896 {F} "c"\nend\n'
+        )
+        # c and the space are 409 and 256 wide, and the second c 307 behind a space: a slack of 52 goes to the space
+        for metrics, x in ((METRICS, "8.4023"), (PAIRED, "7.207")):
+            pdf, _ = self.made(listing, metrics=metrics)
+            glyph = self.glyphs(pdf)["c"]
+            self.assertIn(f"BT {x} 34.5 Td <{glyph}> Tj ET", self.content(pdf.pages[0]))
 
     def test_missing_glyphs_are_told(self):
         _, err = self.made(TWO_PAGES.replace('"a"', '"zaz\U0001f600"'))

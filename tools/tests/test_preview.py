@@ -3,7 +3,7 @@ import unittest
 from shutil import which
 from xml.etree import ElementTree
 
-from support import METRICS, F, Folder, make_font, needs_fonts
+from support import METRICS, PAIRED, F, Folder, make_font, needs_fonts
 
 LISTING = (
     'book 2 1\npage 1 1 right flow "" 5120 3840\nrect 64 128 1024 64 #ff0000\nline 0 0 5120 1280\n'
@@ -41,6 +41,14 @@ class Preview(Folder):
         self.assertEqual([use.get(HREF) for use in (*first, *second)], ["#g0", "#g1", "#g0"])
         paths = {path.get("id"): path.get("d") for path in root.iter(f"{SVG}path")}
         self.assertEqual(paths, {"g0": "M50 0V400H450V0Z", "g1": "M50 0V700H450V0Z"})
+
+    def test_pairs_move_outlines(self):
+        font = make_font(self.path("Serif.ttf"))
+        root, _ = self.drawn(f"serif/normal/400={font}", metrics=PAIRED)
+        first, second = root.findall(f"{SVG}g")[0][2:]
+        # the b begins at 972 - 512 = 460 units, and the second word at 972 + 256 = 1228 units, 19.1875 px
+        self.assertEqual([use.get("x") for use in first], ["0.0", "449.2"])
+        self.assertEqual(second.get("transform"), "translate(19.188 14) scale(0.016000 -0.016000)")
 
     def test_without_fonts_words_are_texts(self):
         root, err = self.drawn("--lines", metrics=METRICS.replace("# font Serif.ttf\n", ""))
