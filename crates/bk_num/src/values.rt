@@ -20,6 +20,7 @@ pub const BLACK: Color = Color {
 pub enum BreakAt {
     Auto,
     Avoid,
+    Column,
     Page,
     Left,
     Right,

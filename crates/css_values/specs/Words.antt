@@ -107,7 +107,7 @@ unfoldable pub breaks : List (List ℕ × BreakAt)
 breaks =
     (codes "auto", break.Auto) ∷ (codes "avoid", break.Avoid) ∷ (codes "avoid-page", break.Avoid) ∷
     (codes "page", break.Page) ∷ (codes "left", break.Left) ∷ (codes "right", break.Right) ∷
-    (codes "recto", break.Right) ∷ (codes "verso", break.Left) ∷ []
+    (codes "recto", break.Right) ∷ (codes "verso", break.Left) ∷ (codes "column", break.Column) ∷ []
 
 -- the words of `page-break-before` and `page-break-after` (CSS 2.1, 13.3.1)
 unfoldable pub page_breaks : List (List ℕ × BreakAt)

@@ -115,6 +115,7 @@ pub(crate) fn break_at(reader: &mut Reader<'_>) -> Result<BreakAt, Unread>
             ("right", BreakAt::Right),
             ("recto", BreakAt::Right),
             ("verso", BreakAt::Left),
+            ("column", BreakAt::Column),
         ],
     )
 }
