@@ -23,6 +23,10 @@ frame_in (Some cell) = cell.frame
 abbrev pub frame_of : List PageRow → ℕ → NameId → PageKind → Frame
 frame_of rows index name kind = frame_in (cell_in (row_of rows name) (cell_of index kind))
 
+-- something holds of each frame of a row
+abbrev pub HasCells : (Frame → Type 0) → PageRow → Type 0
+HasCells P row = All (λ cell. P cell.frame) row.cells
+
 -- each frame of a row is within the bounds of frames
 abbrev pub HasGoodCells : PageRow → Type 0
 HasGoodCells row = All (λ cell. IsGoodFrame cell.frame) row.cells

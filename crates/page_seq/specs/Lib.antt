@@ -1,4 +1,6 @@
 pub mod Finder
+pub mod FoldLaws
+pub mod Folds
 pub mod Frames
 pub mod GoodFrames
 pub mod Noted

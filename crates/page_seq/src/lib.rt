@@ -2,6 +2,8 @@
 #![tactic(auto)]
 
 pub mod finder;
+pub mod fold;
+pub mod laws;
 pub mod numbers;
 pub mod pages;
 pub mod places;

@@ -2,7 +2,7 @@
 
 ghost use Rattle.std.specs.Prelude.{◌≡◌, refl};
 ghost use Rattle.boxes.specs.Frames.{meets_by_parity, is_free_demand};
-ghost use Rattle.boxes.specs.Sides.{parity_within, free_met};
+ghost use Rattle.boxes.specs.Sides.{parity_within, parity_by_page, free_met, one_per_page};
 ghost use Rattle.page_seq.specs.Frames.{IsGoodTable, frame_of};
 ghost use Rattle.page_seq.specs.GoodFrames.{good_frame};
 
@@ -29,6 +29,8 @@ impl Pages {
 }
 
 impl Frames for Pages {
+    ghost per = { λ p. 1 };
+
     ghost view = { λ p. record { meets = meets_by_parity; frame_of = frame_of p.table.rows } };
 
     ghost bound = { λ p. 1 };
@@ -39,7 +41,11 @@ impl Frames for Pages {
 
     ghost free = { λ p. λ index. λ d. free_met index d };
 
-    ghost sides = { λ p. (refl, refl) };
+    ghost few = { λ p. one_per_page };
+
+    ghost by_page = { λ p. λ index. λ d. parity_by_page index d };
+
+    ghost kinds = { λ p. (refl, refl, refl) };
 
     ghost wide = { λ p. λ index. λ name. λ kind. (good_frame p.table.rows p.good index name kind).width_low };
 
@@ -49,5 +55,9 @@ impl Frames for Pages {
 
     fn frame(&self, index: u32, name: NameId, kind: PageKind) -> Frame {
         self.table.cell(index, name, kind).frame
+    }
+
+    fn per_page(&self) -> u32 {
+        1
     }
 }

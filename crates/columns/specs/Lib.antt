@@ -1,0 +1,4 @@
+pub mod Columns
+pub mod Laws
+pub mod Near
+pub mod Steps
