@@ -1,5 +1,5 @@
 -- The last character before a place, and faces without pairs.
-use Rattle.std.proofs.Common.{◌≡◌, ℕ, suc, ◌+◌, ◌-◌, ◌≤◌, true, false, List, [], Option, None, Some, ◌∷◌, ◌==◌, not, pos, length, refl, ap, ◌∙◌, arith}
+use Rattle.std.proofs.Common.{◌≡◌, ℕ, suc, ◌+◌, ◌-◌, ◌≤◌, ◌<◌, true, false, List, [], Option, None, Some, ◌∷◌, ◌==◌, not, pos, length, refl, ap, ◌∙◌, arith}
 use Rattle.std.proofs.lemmas.Bool.Decides.{nat_tests}
 use Rattle.std.proofs.lemmas.Int.{ints}
 use Rattle.metrics.specs.Face.{FontFace, advance_number, change_of, paired_number}
@@ -41,3 +41,11 @@ plain_after p last (Some c) e = rw (plain_number p.face last c e, plain_number p
 pub no_pairs : {X : Type 0} → (xs : List X) → not (length xs == 0) ≡ false → xs ≡ []
 no_pairs [] h = refl
 no_pairs (x ∷ xs) h = absurd (let e : length (x ∷ xs) ≡ suc (length xs) = refl in grind (arith, nat_tests))
+
+-- each ASCII character may stand first in a pair
+pub ascii_paired : (c : ℕ) → c < 128 → is_paired c ≡ true
+unfolding is_paired
+ascii_paired c h =
+    let e : (c == 173) ≡ false = grind (arith, nat_tests) in
+    let f : (c == 8203) ≡ false = grind (arith, nat_tests) in
+    rw (e, f) refl

@@ -43,9 +43,9 @@ impl Face {
     pub(crate) fn new(alloc: Global, lines: FaceLines) -> Result<Face, AllocError>
         ensures { IfOk result (λ f. f ≡ lines) }
     {
-        let pairs = pair_table(alloc, &lines)?;
-        let begins = begin_table(alloc, &lines)?;
         let table = advance_table(&lines);
+        let begins = begin_table(alloc, &lines)?;
+        let pairs = pair_table(alloc, &lines, &table, &begins)?;
         Ok(Face {
             lines,
             table,
@@ -158,22 +158,8 @@ impl Face {
         ensures value { result ≡ paired_number self.now (Some first) c }
         ensures most { result ≤ 16384 }
     {
-        let change = self.change(first as u32, c as u32);
+        let change = change_at(&self.lines, &self.begins, first as u32, c as u32);
         changed(self.number(c), change)
-    }
-
-    /// By how much the second one of two characters is further from the first one than by its advance.
-    fn change(&self, first: u32, c: u32) -> i16
-        ensures value { result ≡ change_of self.now first c }
-        ensures limits { IsWithinLimits self.now }
-    {
-        let at = first as usize;
-        if at + 1 < self.begins.len() {
-            let (from, to) = (self.begins[at], self.begins[at + 1]);
-            self.lines.change_between(from, to, first, c)
-        } else {
-            self.lines.change(first, c)
-        }
     }
 
     /// A number of units of the em at a size.
@@ -200,18 +186,6 @@ fn advance_table(lines: &FaceLines) -> [u16; TWO_BYTES]
     table
 }
 
-/// The advances of ASCII characters behind ASCII characters; none where the face has no pairs.
-fn pair_table(alloc: Global, lines: &FaceLines) -> Result<Vec<u16>, AllocError>
-    ensures { IfOk result (λ t. IsPairTable lines.now t.items) }
-{
-    let size = if lines.has_pairs() { ASCII * ASCII } else { 0 };
-    let mut table = Vec::new(alloc);
-    for k in 0..size {
-        table.push(lines.paired((k / ASCII) as u32, (k % ASCII) as u32))?;
-    }
-    Ok(table)
-}
-
 /// The places where the pairs of each first character of one or two bytes begin, and where those of the last one end;
 /// none where the face has no pairs.
 fn begin_table(alloc: Global, lines: &FaceLines) -> Result<Vec<usize>, AllocError>
@@ -221,6 +195,59 @@ fn begin_table(alloc: Global, lines: &FaceLines) -> Result<Vec<usize>, AllocErro
     let mut table = Vec::new(alloc);
     for first in 0..size {
         table.push(lines.begin_of(first as u32))?;
+    }
+    Ok(table)
+}
+
+/// By how much the second one of two characters is further from the first one than by its advance, by a table of where
+/// the pairs begin.
+fn change_at(lines: &FaceLines, begins: &[usize], first: u32, c: u32) -> i16
+    requires { AreBegins lines.now begins.now }
+    ensures value { result ≡ change_of lines.now first c }
+    ensures limits { IsWithinLimits lines.now }
+{
+    let at = first as usize;
+    if at + 1 < begins.len() {
+        lines.change_between(begins[at], begins[at + 1], first, c)
+    } else {
+        lines.change(first, c)
+    }
+}
+
+/// The advance of an ASCII character behind another one, by the tables.
+#[tactic(auto, unfolding(crate::specs::Face::paired_number))]
+fn ascii_paired(
+    lines: &FaceLines,
+    advances: &[u16; TWO_BYTES],
+    begins: &[usize],
+    first: usize,
+    c: usize,
+) -> u16
+    requires advances { IsTable lines.now advances.now }
+    requires begins { AreBegins lines.now begins.now }
+    requires first { first < 128 }
+    requires c { c < 128 }
+    ensures { result ≡ paired_number lines.now (Some first) c }
+{
+    let change = change_at(lines, begins, first as u32, c as u32);
+    changed(advances[c], change)
+}
+
+/// The advances of ASCII characters behind ASCII characters; none where the face has no pairs.
+fn pair_table(
+    alloc: Global,
+    lines: &FaceLines,
+    advances: &[u16; TWO_BYTES],
+    begins: &[usize],
+) -> Result<Vec<u16>, AllocError>
+    requires advances { IsTable lines.now advances.now }
+    requires begins { AreBegins lines.now begins.now }
+    ensures { IfOk result (λ t. IsPairTable lines.now t.items) }
+{
+    let size = if lines.has_pairs() { ASCII * ASCII } else { 0 };
+    let mut table = Vec::new(alloc);
+    for k in 0..size {
+        table.push(ascii_paired(lines, advances, begins, k / ASCII, k % ASCII))?;
     }
     Ok(table)
 }
