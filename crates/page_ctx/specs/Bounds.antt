@@ -6,8 +6,8 @@ use Rattle.boxes.specs.Frames.{IsGoodFrame}
 use Rattle.boxes.specs.declared.table.PageCell.{PageCell}
 use Rattle.boxes.specs.declared.table.PageRow.{PageRow}
 
--- a page box is from 0 to 2^40 units wide and high, its right and bottom margins are within 2^40, and its frame is
--- within the bounds of frames
+-- a page box is from 0 to 2^40 units wide and high, its right and bottom margins are within 2^40, its left one within
+-- 2^39, and its frame is within the bounds of frames
 pub record IsGoodCell (c : PageCell) : Type 0 where
   pub width_low : pos 0 ≤ℤ c.width
   pub width_high : c.width ≤ℤ pos (2 ^ 40)
@@ -15,6 +15,7 @@ pub record IsGoodCell (c : PageCell) : Type 0 where
   pub height_high : c.height ≤ℤ pos (2 ^ 40)
   pub right : IsWithin (2 ^ 40) c.right
   pub bottom : IsWithin (2 ^ 40) c.bottom
+  pub left : IsWithin (2 ^ 39) c.frame.left
   pub frame : IsGoodFrame c.frame
 
 -- each page box of a row is within these bounds

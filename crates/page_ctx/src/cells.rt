@@ -1,7 +1,8 @@
 //! Page boxes, their margins and their frames.
 
-ghost use Rattle.std.specs.Prelude.{◌≡◌, ◌≤ℤ◌, ◌+ℤ◌, ◌-ℤ◌, pos, neg_ℤ, map, option_map};
+ghost use Rattle.std.specs.Prelude.{◌≡◌, ◌≤ℤ◌, ◌+ℤ◌, ◌-ℤ◌, ◌^◌, pos, neg_ℤ, map, option_map};
 ghost use Rattle.std.specs.Option.{option_and_then};
+ghost use Rattle.bk_num.specs.Numbers.{IsWithin};
 ghost use Rattle.boxes.specs.Frames.{IsGoodFrame};
 ghost use Rattle.computed_values.specs.Values.{held};
 ghost use Rattle.page_ctx.specs.Bounds.{IsGoodCell};
@@ -174,6 +175,7 @@ fn between(whole: Px, before: Px, after: Px) -> i64
 fn frame_with(width: Px, height: Px, margins: &Sides<Px>) -> Frame
     ensures frame { result ≡ spec.frame_with width height margins.now }
     ensures good { IsGoodFrame result }
+    ensures left { IsWithin (2 ^ 39) result.left }
 {
     Frame {
         left: units(margins.left),

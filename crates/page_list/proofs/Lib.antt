@@ -11,6 +11,7 @@ pub mod InsideLemmas
 pub mod LookedLemmas
 pub mod NextLemmas
 pub mod NoteRunLemmas
+pub mod NumberLemmas
 pub mod OneLemmas
 pub mod PartLemmas
 pub mod PlaceLemmas

@@ -13,6 +13,7 @@ use Rattle.page_list.specs.Inside.{EndInside}
 use Rattle.page_list.specs.Noted.{BeginInTime, HoldsNotes}
 use Rattle.boxes.specs.Frames.{HaveWidths, PageFrames}
 use Rattle.page_list.specs.Pages.{IsPaged}
+use Rattle.page_seq.specs.FoldLaws.{AreNumbered}
 use Rattle.page_list.specs.Parted.{HoldsAll, HoldsBreaks, HoldsEdges, HoldsText, IsLineThere, solids_of}
 
 -- the main tree's solids stand on the pages each once and in order: all edges, and lines that part the text of each
@@ -48,6 +49,11 @@ NotesBeginInTime = (faces : List FontFace) (flow : Flow) (frames : PageFrames) (
 abbrev pub BreaksHold : Type 0
 BreaksHold = (faces : List FontFace) (flow : Flow) (frames : PageFrames) (pages : List Page) → CanBePaged faces flow →
     IsPaged faces flow frames pages → HoldsBreaks flow.main frames pages
+
+-- pages have the indexes from 1 on
+abbrev pub PagesAreNumbered : Type 0
+PagesAreNumbered = (faces : List FontFace) (flow : Flow) (frames : PageFrames) (pages : List Page) →
+    IsPaged faces flow frames pages → AreNumbered 1 pages
 
 -- at levels 0 to 2 the solids of a page end inside its frame and above its notes, where no frame's width is negative
 abbrev pub PagesEndInside : Type 0

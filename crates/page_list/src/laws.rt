@@ -1,6 +1,6 @@
 //! What holds of all page lists. Each function is empty and carries one law.
 
-ghost use Rattle.page_list.specs.Laws.{BreaksHold, LinesStandAtPlaces, MainStandsOnce, NotesBeginInTime, NotesStandOnce, PagesAreFew, PagesEndInside};
+ghost use Rattle.page_list.specs.Laws.{BreaksHold, LinesStandAtPlaces, MainStandsOnce, NotesBeginInTime, NotesStandOnce, PagesAreFew, PagesAreNumbered, PagesEndInside};
 ghost use Rattle.page_list.specs.Looked.{HaveOneLooked};
 ghost use Rattle.page_list.specs.Pages.{HasOnePageList, HasSomePageList, LeavesNothing};
 
@@ -42,6 +42,11 @@ pub fn notes_begin_in_time()
 /// Each forced break stands between two pages, and the page after it meets the demand.
 pub fn breaks_hold()
     ensures { BreaksHold }
+{}
+
+/// The pages of a list have the indexes from 1 on.
+pub fn pages_are_numbered()
+    ensures { PagesAreNumbered }
 {}
 
 /// On pages of the levels 0 to 2 the solids end inside the frame and above the notes.

@@ -12,6 +12,7 @@ use Rattle.dom.specs.Nodes.{IsTree}
 use Rattle.gen_text.specs.Generated.{AreOne, GeneratedIsOne, assigned_strings, generated_text, source_of as texts_from}
 use Rattle.gen_text.specs.declared.generated.NodeTexts.{NodeTexts}
 use Rattle.gen_text.specs.declared.table.Entry.{Entry}
+use Rattle.page_seq.specs.Folds.{fold_of}
 use Rattle.page_list.specs.Pages.{HasOnePageList, IsPaged, LeavesNothing, LeavesSome}
 use Rattle.refs.proofs.LawLemmas.{differences}
 use Rattle.refs.specs.Differences.{IsFirstDifference}
@@ -48,7 +49,7 @@ module _ (texts : GeneratedIsOne) (list : HasOnePageList) (nothing : LeavesNothi
 
   -- a pass shows one table
   pass_table : (t u v : List Entry) (f g : Flow) (ps qs : List Page) → IsPass w t f ps u → IsPass w t g qs v → u ≡ v
-  pass_table t u v f g ps qs p q = p.shown ∙ ap (λ (h : Flow). table_of h ps w.targets) (pass_flow t u v f g ps qs p q) ∙ ap (λ (rs : List Page). table_of g rs w.targets) (pass_pages t u v f g ps qs p q) ∙ sym q.shown
+  pass_table t u v f g ps qs p q = p.shown ∙ ap (λ (h : Flow). table_of h (fold_of w.per ps) w.targets) (pass_flow t u v f g ps qs p q) ∙ ap (λ (rs : List Page). table_of g (fold_of w.per rs) w.targets) (pass_pages t u v f g ps qs p q) ∙ sym q.shown
 
   one_table : (t u v : List Entry) → Shows w t u → Shows w t v → u ≡ v
   one_table t u v (f, ps, p) (g, qs, q) = pass_table t u v f g ps qs p q
@@ -144,7 +145,7 @@ one_end texts list nothing w limit a b tree p q = one_of texts list nothing w tr
 -- ---- without page references
 
 no_shown : (w : Work) → w.targets ≡ [] → (s t : List Entry) → Shows w s t → t ≡ []
-no_shown w none s t (flow, pages, is) = is.shown ∙ ap (table_of flow pages) none
+no_shown w none s t (flow, pages, is) = is.shown ∙ ap (table_of flow (fold_of w.per pages)) none
 
 no_entries : (w : Work) → w.targets ≡ [] → (k : ℕ) (t : List Entry) → IsOpenAfter w k t → t ≡ []
 no_entries w none zero t is = is ∙ ap opening_of none

@@ -7,17 +7,18 @@ use Rattle.box_gen.specs.Notes.{bytes_in}
 use Rattle.dom.specs.Nodes.{Node, IsTree, attribute_at}
 use Rattle.gen_text.specs.declared.table.Entry.{Entry}
 use Rattle.page_list.specs.Pages.{IsPaged, LeavesSome}
+use Rattle.page_seq.specs.Folds.{fold_of}
 use Rattle.refs.specs.Differences.{IsFirstDifference}
 use Rattle.refs.specs.Tables.{opening_of, table_of}
 use Rattle.passes.specs.Work.{Work, IsFlowUnder}
 
--- a pass: the flow under a table, its one page list, and the table that these pages show
+-- a pass: the flow under a table, its one list of frames, and the table that the pages show on which these stand
 pub record IsPass (w : Work) (table : List Entry) (flow : Flow) (pages : List Page) (next : List Entry) : Type 0 where
   pub flow_is : IsFlowUnder w table flow
   pub fits : bytes_in flow ≤ most_text_bytes
   pub paged : IsPaged w.faces flow w.frames pages
   pub few : length pages ≤ most_pages
-  pub shown : next ≡ table_of flow pages w.targets
+  pub shown : next ≡ table_of flow (fold_of w.per pages) w.targets
 
 -- a pass under a table shows a table
 abbrev pub Shows : Work → List Entry → List Entry → Type 0
@@ -33,8 +34,8 @@ IsOpenAfter w (suc k) table = (before : List Entry) × IsOpenAfter w k before ×
 abbrev pub id_of : List Node → ℕ → List ℕ
 id_of nodes n = unwrap_or (attribute_at nodes n (codes "id")) (codes "")
 
--- how passes end: they settle, after so many, with a flow, its pages and its table; they don't settle, for a target of
--- an id whose numbers in the last two tables differ; a flow has more text than is laid out; the most pages leave
+-- how passes end: they settle, after so many, with a flow, its frames and its table; they don't settle, for a target of
+-- an id whose numbers in the last two tables differ; a flow has more text than is laid out; the most frames leave
 -- something of it unplaced
 pub data End : Type 0 where
   settled : ℕ → Flow → List Page → List Entry → End

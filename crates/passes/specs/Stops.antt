@@ -31,7 +31,7 @@ pub record HasLongFlow (w : Work) (table : List Entry) : Type 0 where
   pub is : IsFlowUnder w table flow
   pub much : most_text_bytes < bytes_in flow
 
--- the most pages leave something of it unplaced
+-- the most frames leave something of it unplaced
 pub record HasMorePages (w : Work) (table : List Entry) : Type 0 where
   pub flow : Flow
   pub is : IsFlowUnder w table flow

@@ -15,14 +15,15 @@ use Rattle.metrics.specs.Face.{FontFace}
 use Rattle.boxes.specs.Frames.{PageFrames}
 use Rattle.style.specs.Nodes.{NodeStyles, is_note_in}
 
--- what is the same in all passes: nodes with their styles, the values of counters, faces, the frames of pages, and the
--- elements that page references lead to
+-- what is the same in all passes: nodes with their styles, the values of counters, faces, the frames of pages and how
+-- many stand on each, and the elements that page references lead to
 pub record Work : Type 0 where
   pub nodes : List Node
   pub rows : List NodeStyles
   pub values : ℕ → Pseudo → List ℕ → List ℤ
   pub faces : List FontFace
   pub frames : PageFrames
+  pub per : ℕ
   pub targets : List NodeId
 
 -- what boxes are made from, with these generated texts

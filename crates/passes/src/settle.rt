@@ -41,7 +41,8 @@ pub struct Input<'a> {
     pub faces: &'a Faces,
 }
 
-/// A flow whose pages show the table under which its texts are made, and how many passes it took.
+/// A flow whose pages show the table under which its texts are made, with the frames of these pages, as the list that
+/// `fold` of `page_seq` makes pages of, and how many passes it took.
 #[derive(Drop)]
 pub struct Settled {
     pub flow: Flow,
@@ -51,7 +52,7 @@ pub struct Settled {
 }
 
 /// Why passes don't settle: the last two give a target other numbers, the flow of a pass has more than 33,554,432 bytes
-/// of text, 100,000 pages leave something of it unplaced, or want of memory.
+/// of text, 100,000 frames leave something of it unplaced, or want of memory.
 #[derive(Drop, Error)]
 pub enum PassErr {
     #[error("a page reference to {} shows {before}, then {after}", .target.as_str())]
@@ -156,7 +157,7 @@ fn settle_for<Fr: Frames, L: Ledger>(
     requires ranges { AreInRange input.now.styles.now }
     requires shown { IsRootShown input.now.styles.now }
     requires targets { AreTargets input.now.dom.now input.now.styles.now targets.now }
-    ensures settles { Settles input.now (Fr.view frames.now) limit result }
+    ensures settles { Settles input.now (Fr.view frames.now) (Fr.per frames.now) limit result }
     ensures good { IfOk result (λ s. IsGoodFlow input.now.faces.now s.flow) }
     ensures tops { IfOk result (λ s. HaveNearTops s.pages.pages) }
     ensures few { IfOk result (λ s. length s.pages.pages ≤ most_pages) }
@@ -192,7 +193,7 @@ fn settle_for<Fr: Frames, L: Ledger>(
 ///
 /// `NotSettled` exactly where each of `limit` passes changes the table: the id of the first target whose numbers in the
 /// last two tables differ, with these numbers. `Text` exactly where the flow of a pass has more than 33,554,432 bytes
-/// of text, and `Pages` exactly where 100,000 pages of it leave something unplaced.
+/// of text, and `Pages` exactly where 100,000 frames of it leave something unplaced.
 pub fn settle<Fr: Frames, L: Ledger>(
     alloc: Global,
     input: &Input<'_>,
@@ -203,7 +204,7 @@ pub fn settle<Fr: Frames, L: Ledger>(
     requires limit { 0 < limit }
     requires ranges { AreInRange input.now.styles.now }
     requires shown { IsRootShown input.now.styles.now }
-    ensures settles { Settles input.now (Fr.view frames.now) limit result }
+    ensures settles { Settles input.now (Fr.view frames.now) (Fr.per frames.now) limit result }
     ensures good { IfOk result (λ s. IsGoodFlow input.now.faces.now s.flow) }
     ensures tops { IfOk result (λ s. HaveNearTops s.pages.pages) }
     ensures few { IfOk result (λ s. length s.pages.pages ≤ most_pages) }

@@ -1,7 +1,16 @@
+use Rattle.std.proofs.Common.{subst, sym}
+use Rattle.boxes.specs.Frames.{IsPerPage}
 use Rattle.std.proofs.lemmas.Result.{err_from_is_err_and}
+use Rattle.passes.proofs.PassLemmas.{pages_few}
 use Rattle.passes.proofs.pass.pass_under.Goals as goal
 
 pub returns-in_err-flow-clause-stops : goal.returns-in_err-flow-clause-stops
 returns-in_err-flow-clause-stops g c =
     let p = err_from_is_err_and c.from_residual.result c.from_residual.ensures.1 in
-    rw (p.1, p.2) (c.in_err-flow.ensures.stops (g.Fr.Frames.view c.args.frames.now) c.args.targets.now)
+    rw (p.1, p.2) (c.in_err-flow.ensures.stops (g.Fr.Frames.view c.args.frames.now) (g.Fr.Frames.per c.args.frames.now) c.args.targets.now)
+
+pub fold-requires-clause-per : goal.fold-requires-clause-per
+fold-requires-clause-per g c = subst IsPerPage (sym c.per_page.ensures) (g.met.Fr.Frames.few c.args.frames.now)
+
+pub shown-requires-clause-few : goal.shown-requires-clause-few
+shown-requires-clause-few g c = pages_few c.per_page.result c.in_ok-pages.pages.pages c.in_ok-folded.folded.pages (subst IsPerPage (sym c.per_page.ensures) (g.met.Fr.Frames.few c.args.frames.now)) c.folds_keep_all.ensures c.in_ok-folded.ensures c.in_ok-pages.ensures.few
