@@ -11,23 +11,22 @@ use Rattle.listing.specs.Records.{book_record, end_record, item_record}
 use Rattle.listing.specs.declared.records.PageHead.{PageHead}
 use Rattle.margin_box.specs.Margins.{items_of as texts_of, margin_items}
 use Rattle.margin_box.specs.declared.items.MarginText.{MarginText}
-use Rattle.paint.specs.Pages.{items_of}
 use Rattle.paint.specs.Views.{items_in}
 use Rattle.paint.specs.declared.item.ItemRef.{ItemRef}
-use Rattle.listing.specs.Printed.{Print, head_at, listing_of, margins_of, page_bytes}
+use Rattle.listing.specs.Printed.{Print, head_at, items_at, listing_of, margins_of, page_bytes}
 use Rattle.listing.specs.Printer.{ArePrinted, IsPrinted, page_in, view_of}
 use Rattle.listing.specs.declared.pages.PrintedPage.{PrintedPage}
 use Rattle.listing.specs.declared.pages.Printer.{Printer}
 use Rattle.listing.proofs.Numbers.{flat-next, page_is}
 
 pub printed_is : (p : Print) (pages : List Page) (place : ℕ) (page : Page) (head : PageHead) (items : List ItemRef) (texts : List MarginText) →
-    slice_get pages place ≡ Some page → head_record head ≡ head_at p pages place page → items_in p.faces items ≡ items_of p.faces p.flow page →
+    slice_get pages place ≡ Some page → head_record head ≡ head_at p pages place page → items_in p.faces items ≡ items_at p place →
     texts_of p.faces texts ≡ margin_items (margins_of p pages) place → page_records p.faces head items texts ≡ page_bytes p pages place
 unfolding page_records
 printed_is p pages place page head items texts stands h i t =
     ap (λ (z : List ℕ). z ++ flat_map item_record (items_in p.faces items) ++ flat_map item_record (texts_of p.faces texts)) h ∙
     ap (λ z. head_at p pages place page ++ flat_map item_record z ++ flat_map item_record (texts_of p.faces texts)) i ∙
-    ap (λ z. head_at p pages place page ++ flat_map item_record (items_of p.faces p.flow page) ++ flat_map item_record z) t ∙
+    ap (λ z. head_at p pages place page ++ flat_map item_record (items_at p place) ++ flat_map item_record z) t ∙
     sym (page_is p pages place page stands)
 
 -- one page more

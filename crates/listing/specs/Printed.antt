@@ -7,21 +7,26 @@ use Rattle.metrics.specs.Face.{FontFace}
 use Rattle.boxes.specs.Frames.{side_of}
 use Rattle.boxes.specs.declared.flow.Flow.{Flow}
 use Rattle.boxes.specs.declared.frames.PageKind.{PageKind}
+use Rattle.boxes.specs.declared.item.Item.{Item}
 use Rattle.boxes.specs.declared.page.Page.{Page}
 use Rattle.boxes.specs.declared.table.PageCell.{PageCell}
 use Rattle.listing.specs.Records.{book_record, end_record, item_record, page_record}
 use Rattle.margin_box.specs.Margins.{margin_items}
 use Rattle.margin_box.specs.Texts.{MarginsOf}
 use Rattle.page_ctx.specs.Margins.{MarginStyleOf}
+use Rattle.page_seq.specs.Folds.{frames_on}
 use Rattle.page_seq.specs.Numbers.{numbers_of}
 use Rattle.paint.specs.Pages.{items_of}
 
--- what is printed: in how many passes page references settled, faces, a flow, the names of pages by their numbers, and
--- for each index, name and kind the page box, and the style of each margin box
+-- what is printed: in how many passes page references settled, faces, a flow, its list of frames and how many of them
+-- stand on each page, the names of pages by their numbers, and for each index, name and kind the page box, and the
+-- style of each margin box
 pub record Print : Type 0 where
   pub passes : ℕ
   pub faces : List FontFace
   pub flow : Flow
+  pub frames : List Page
+  pub per : ℕ
   pub names : List (List ℕ)
   pub cell : ℕ → NameId → PageKind → Option PageCell
   pub style : ℕ → NameId → PageKind → ℕ → Option MarginStyleOf
@@ -67,10 +72,14 @@ head_at p pages place page =
     head_bytes p page (p.cell page.index page.name page.kind)
     (unwrap_or (slice_get (page_numbers p pages) place) (pos 0))
 
+-- what stands on the page at a place: the items of each of its frames, in order
+abbrev pub items_at : Print → ℕ → List Item
+items_at p place = flat_map (items_of p.faces p.flow) (frames_on p.per p.frames place)
+
 -- the page at a place of a list: its record, what stands on it, and the texts of its margin boxes
 abbrev pub bytes_on : Print → List Page → ℕ → Page → List ℕ
 bytes_on p pages place page =
-    head_at p pages place page ++ flat_map item_record (items_of p.faces p.flow page)
+    head_at p pages place page ++ flat_map item_record (items_at p place)
     ++ flat_map item_record (margin_items (margins_of p pages) place)
 
 -- the bytes of a page, if there is one

@@ -4,9 +4,14 @@ ghost use Rattle.std.specs.Prelude.{◌≡◌, ◌<◌, Some, length, slice_get,
 ghost use Rattle.boxes.specs.Frames.{side_of};
 ghost use Rattle.listing.specs.Pages.{head_record};
 ghost use Rattle.margin_box.specs.Conditions.{CanShowMargins};
-ghost use Rattle.margin_box.specs.Margins.{HasFace, items_of, margins_in};
+ghost use Rattle.margin_box.specs.Margins.{HasFace, items_of as texts_of, margins_in};
 ghost use Rattle.margin_box.specs.Margins as spec;
-ghost use Rattle.listing.specs.Printed.{head_at, margins_of, page_name, page_numbers};
+ghost use Rattle.std.specs.List.{flat_map};
+ghost use Rattle.paint.specs.Conditions.{CanFlowBePainted};
+ghost use Rattle.paint.specs.Order.{IsPageOf};
+ghost use Rattle.paint.specs.Pages.{items_of};
+ghost use Rattle.paint.specs.Views.{HaveItemFaces, items_in};
+ghost use Rattle.listing.specs.Printed.{head_at, items_at, margins_of, page_name, page_numbers};
 ghost use Rattle.listing.specs.Printer.{ArePrinted, CanPrint, IsPrinted, view_of};
 
 use crate::records::PageHead;
@@ -17,20 +22,24 @@ use boxes::page::{Page, PageList};
 use margin_box::items::{MarginText, Margins, margin_items};
 use metrics::Faces;
 use page_ctx::resolve::PageStyles;
+use page_seq::fold::frames_on;
+use page_seq::laws::folds_keep_all;
 use paint::item::ItemRef;
-use paint::place::place as place_items;
+use paint::place::push_items;
 use std::alloc::Global;
 use strings::assigned::Strings;
 use style::names::Names;
 
 /// What the pages of a book are printed with: in how many passes they settled, the faces, the flow that stands on them,
-/// the names of pages, the pages with their numbers and the running strings along them, and the page boxes with the
-/// styles of their margin boxes.
+/// its frames and how many of them stand on a page, the names of pages, the pages with their numbers and the running
+/// strings along them, and the page boxes with the styles of their margin boxes.
 #[derive(Clone, Copy)]
 pub struct Printer<'a> {
     pub passes: u32,
     pub faces: &'a Faces,
     pub flow: &'a Flow,
+    pub frames: &'a PageList,
+    pub per: u32,
     pub names: &'a Names,
     pub list: &'a PageList,
     pub numbers: &'a [i64],
@@ -108,7 +117,7 @@ fn margin_texts(
 ) -> Result<Vec<MarginText>, NoMem>
     requires printer { CanPrint printer.now }
     requires place { place < length printer.now.list.now.pages }
-    ensures items { IfOk result (λ v. items_of printer.now.faces.now v.items ≡
+    ensures items { IfOk result (λ v. texts_of printer.now.faces.now v.items ≡
         spec.margin_items (margins_of (view_of printer.now) printer.now.list.now.pages) place) }
     ensures faces { IfOk result (λ v. All (HasFace printer.now.faces.now) v.items) }
 {
@@ -123,6 +132,45 @@ fn page_at(pages: &[Page], place: usize) -> &Page
     &pages[place]
 }
 
+/// The items on some frames, frame after frame.
+fn items_on<'a>(
+    alloc: Global,
+    printer: &Printer<'a>,
+    frames: &[Page],
+) -> Result<Vec<ItemRef<'a>>, NoMem>
+    requires flow { CanFlowBePainted printer.now.faces.now printer.now.flow.now }
+    requires pages { All (IsPageOf printer.now.flow.now) frames.now }
+    ensures items { IfOk result (λ v. items_in printer.now.faces.now v.items ≡
+        flat_map (items_of printer.now.faces.now printer.now.flow.now) frames.now) }
+    ensures faces { IfOk result (λ v. HaveItemFaces printer.now.faces.now v.items) }
+{
+    let mut items = Vec::new(alloc);
+    for frame in frames {
+        push_items(alloc, &mut items, printer.flow, printer.faces, frame)?;
+    }
+    Ok(items)
+}
+
+/// What stands on the page at a place.
+fn items_at<'a>(
+    alloc: Global,
+    printer: &Printer<'a>,
+    place: usize,
+) -> Result<Vec<ItemRef<'a>>, NoMem>
+    requires printer { CanPrint printer.now }
+    requires place { place < length printer.now.list.now.pages }
+    ensures items { IfOk result (λ v. items_in printer.now.faces.now v.items ≡ items_at (view_of printer.now) place) }
+    ensures faces { IfOk result (λ v. HaveItemFaces printer.now.faces.now v.items) }
+{
+    folds_keep_all();
+    let frames = printer.frames.pages.as_slice();
+    items_on(
+        alloc,
+        printer,
+        frames_on(frames, printer.per as usize, place),
+    )
+}
+
 /// What the page at a place of the list prints.
 fn printed<'a>(alloc: Global, printer: &Printer<'a>, place: usize) -> Result<PrintedPage<'a>, NoMem>
     requires printer { CanPrint printer.now }
@@ -130,7 +178,7 @@ fn printed<'a>(alloc: Global, printer: &Printer<'a>, place: usize) -> Result<Pri
     ensures { IfOk result (λ q. IsPrinted printer.now place q) }
 {
     let page = page_at(printer.list.pages.as_slice(), place);
-    let items = place_items(alloc, printer.flow, printer.faces, page)?;
+    let items = items_at(alloc, printer, place)?;
     let texts = margin_texts(alloc, printer, place)?;
     Ok(PrintedPage {
         head: head_of(printer, page, place),
