@@ -1,5 +1,5 @@
 -- What the passes over a document in its styles settle with is of the document.
-use Rattle.std.proofs.Common.{◌≡◌, ◌∙◌, ℕ, ℤ, List, Option, Err, length, refl, subst}
+use Rattle.std.proofs.Common.{◌≡◌, ◌∙◌, ℕ, ℤ, List, Option, Err, length, refl, sym, ap, subst}
 use Rattle.std.specs.Io.KnownBytes.{Appends}
 use Rattle.bk_num.specs.declared.ids.NodeId.{NodeId}
 use Rattle.bk_num.specs.declared.values.Pseudo.{Pseudo}
@@ -10,7 +10,9 @@ use Rattle.gen_text.specs.References.{AreTargets}
 use Rattle.passes.specs.Passes.{End, EndsIn, settled, unsettled, long, many}
 use Rattle.passes.specs.Work.{Work}
 use Rattle.book.specs.Answer.{Book, IsBookOf, output_of, print_of}
-use Rattle.book.specs.Document.{Document}
+use Rattle.page_seq.specs.Folds.{fold_of}
+use Rattle.book.specs.Document.{Document, IsGoodGrid}
+use Rattle.book.specs.declared.document.ColumnGrid.{ColumnGrid}
 use Rattle.book.specs.Flow.{HasEnd, IsWorkOf, page_frames, work_by}
 use Rattle.book.specs.Keeps.{IsWholeBook}
 use Rattle.book.specs.Laid.{EndSo, IsBookBy, IsStyledOf, StopsBy, WritesBy, of_print, work_in}
@@ -40,7 +42,8 @@ module _ (d : Document) (s : Styled) (is : IsStyledOf d s) where
         rows = s.styles;
         values = values i;
         faces = is.faces i;
-        frames = page_frames s.rules s.names;
+        frames = page_frames s.rules s.names (is.grid i);
+        per = (is.grid i).columns;
         targets = targets;
       }
 
@@ -60,8 +63,8 @@ module _ (d : Document) (s : Styled) (is : IsStyledOf d s) where
   end_is : (end : End) → EndSo s end → HasEnd d end
   end_is end e = record { rules = s.rules; names = s.names; work = work_in s e.targets; of = work_of e.targets e.are; ends = within (work_in s e.targets) end e.ends }
 
-  put_is : (b : Book) (by : IsBookBy s b) → output_of s.output (print_of s.faces s.rules s.names b.passes by.flow) by.pages by.table ≡ output_of d.output (print_of d.faces s.rules s.names b.passes by.flow) by.pages by.table
-  put_is b by = λ i. output_of (is.output i) (print_of (is.faces i) s.rules s.names b.passes by.flow) by.pages by.table
+  put_is : (b : Book) (by : IsBookBy s b) → output_of s.output (print_of s.faces s.rules s.names s.grid.columns b.passes by.flow by.frames) (fold_of s.grid.columns by.frames) by.table ≡ output_of d.output (print_of d.faces s.rules s.names d.grid.columns b.passes by.flow by.frames) (fold_of d.grid.columns by.frames) by.table
+  put_is b by = λ i. output_of (is.output i) (print_of (is.faces i) s.rules s.names (is.grid i).columns b.passes by.flow by.frames) (fold_of (is.grid i).columns by.frames) by.table
 
   put_book : (b : Book) → IsBookBy s b → IsBookOf d b
   put_book b by = record {
@@ -70,33 +73,37 @@ module _ (d : Document) (s : Styled) (is : IsStyledOf d s) where
     work = work_in s by.settles.targets;
     of = work_of by.settles.targets by.settles.are;
     flow = by.flow;
-    pages = by.pages;
+    frames = by.frames;
     table = by.table;
-    settles = within (work_in s by.settles.targets) (settled b.passes by.flow by.pages by.table) by.settles.ends;
-    count = by.count;
+    settles = within (work_in s by.settles.targets) (settled b.passes by.flow by.frames by.table) by.settles.ends;
+    count = by.count ∙ ap (λ (g : ColumnGrid). length (fold_of g.columns by.frames)) is.grid;
     put = by.put ∙ put_is b by;
   }
 
-  pub book_is : PageLaws → (b : Book) → IsBookBy s b → IsWholeBook d b
+  pub book_is : PageLaws → IsGoodGrid s.grid → (b : Book) → IsBookBy s b → IsWholeBook d b
   unfolding put_book
-  book_is laws b by = (put_book b by, keeps laws (work_in s by.settles.targets) (page_widths s.rules s.names) s.passes b.passes by.flow by.pages by.table by.can by.settles.ends)
+  book_is laws good b by = (put_book b by, keeps laws (work_in s by.settles.targets) (page_widths s.rules s.names s.grid) good.per s.passes b.passes by.flow by.frames by.table by.can by.settles.ends)
 
-  pub laid_out : PageLaws → (old new : Option (List ℕ)) (o : Outcome) → WritesBy s old new o → Writes d old new o × PutsOnlyABook old new o × IsOfBook o
-  laid_out laws old new (out.Done pages passes) (b, by, p, k, a) = ((b, book_is laws b by, p, k, a), tt, tt)
-  laid_out laws old new out.WriteFault (b, by, n) = ((b, book_is laws b by, n), tt, tt)
-  laid_out laws old new (out.NotSettled target one other) (h, kept) = (end_is (unsettled target one other) h, kept, tt)
-  laid_out laws old new (out.Limit limit.Text) (h, kept) = (end_is long h, kept, tt)
-  laid_out laws old new (out.Limit limit.Pages) (h, kept) = (end_is many h, kept, tt)
-  laid_out laws old new (out.Limit limit.Nodes) h = absurd h.0
-  laid_out laws old new (out.Limit limit.Depth) h = absurd h.0
-  laid_out laws old new (out.Limit limit.Sheets) h = absurd h.0
-  laid_out laws old new (out.Limit limit.Rules) h = absurd h.0
-  laid_out laws old new out.NoMemory (h, kept) = (tt, kept, tt)
-  laid_out laws old new (out.NotRead k) h = absurd h.0
-  laid_out laws old new (out.ReadFault f) h = absurd h.0
-  laid_out laws old new (out.TooLarge f) h = absurd h.0
-  laid_out laws old new (out.NotUtf8 f at) h = absurd h.0
-  laid_out laws old new (out.BadMetrics line why) h = absurd h.0
+  pub laid_out : PageLaws → IsGoodGrid s.grid → (old new : Option (List ℕ)) (o : Outcome) → WritesBy s old new o → Writes d old new o × PutsOnlyABook old new o × IsOfBook o
+  laid_out laws good old new (out.Done pages passes) (b, by, p, k, a) = ((b, book_is laws good b by, p, k, a), tt, tt)
+  laid_out laws good old new out.WriteFault (b, by, n) = ((b, book_is laws good b by, n), tt, tt)
+  laid_out laws good old new (out.NotSettled target one other) (h, kept) = (end_is (unsettled target one other) h, kept, tt)
+  laid_out laws good old new (out.Limit limit.Text) (h, kept) = (end_is long h, kept, tt)
+  laid_out laws good old new (out.Limit limit.Pages) (h, kept) = (end_is many h, kept, tt)
+  laid_out laws good old new (out.Limit limit.Nodes) h = absurd h.0
+  laid_out laws good old new (out.Limit limit.Depth) h = absurd h.0
+  laid_out laws good old new (out.Limit limit.Sheets) h = absurd h.0
+  laid_out laws good old new (out.Limit limit.Rules) h = absurd h.0
+  laid_out laws good old new out.NoMemory (h, kept) = (tt, kept, tt)
+  laid_out laws good old new (out.NotRead k) h = absurd h.0
+  laid_out laws good old new (out.ReadFault f) h = absurd h.0
+  laid_out laws good old new (out.TooLarge f) h = absurd h.0
+  laid_out laws good old new (out.NotUtf8 f at) h = absurd h.0
+  laid_out laws good old new (out.BadMetrics line why) h = absurd h.0
+
+-- the columns are those of the document
+pub good_grid : (d : Document) (s : Styled) → IsStyledOf d s → IsGoodGrid d.grid → IsGoodGrid s.grid
+good_grid d s is good = subst IsGoodGrid (sym is.grid) good
 
 -- an answer that comes before anything is put
 pub stops_write : (s : Styled) (old : Option (List ℕ)) (o : Outcome) → StopsBy s o → WritesBy s old old o
@@ -117,22 +124,22 @@ stops_write s old (out.BadMetrics line why) h = absurd h
 stops_write s old out.WriteFault h = absurd h
 
 -- what is put of the pages that settled
-module _ (s : Styled) (passes : ℕ) (flow : Flow) (pages : List Page) (table : List Entry) (settles : EndSo s (settled passes flow pages table)) (can : CanBePaged s.faces flow) where
+module _ (s : Styled) (passes : ℕ) (flow : Flow) (frames : List Page) (table : List Entry) (settles : EndSo s (settled passes flow frames table)) (can : CanBePaged s.faces flow) where
   whole : Book
-  whole = record { pages = length pages; passes = passes; bytes = output_of s.output (print_of s.faces s.rules s.names passes flow) pages table }
+  whole = record { pages = length (fold_of s.grid.columns frames); passes = passes; bytes = output_of s.output (print_of s.faces s.rules s.names s.grid.columns passes flow frames) (fold_of s.grid.columns frames) table }
 
   by : IsBookBy s whole
   unfolding whole
-  by = record { flow = flow; pages = pages; table = table; settles = settles; can = can; count = refl; put = refl }
+  by = record { flow = flow; frames = frames; table = table; settles = settles; can = can; count = refl; put = refl }
 
-  pub put_fails : (old new : Option (List ℕ)) (e : PrintErr) → Puts old new (output_of s.output (print_of s.faces s.rules s.names passes flow) pages table) (Err e) → WritesBy s old new (of_print e)
+  pub put_fails : (pages : List Page) → pages ≡ fold_of s.grid.columns frames → (old new : Option (List ℕ)) (e : PrintErr) → Puts old new (output_of s.output (print_of s.faces s.rules s.names s.grid.columns passes flow frames) pages table) (Err e) → WritesBy s old new (of_print e)
   unfolding whole
-  put_fails old new print.Failed h = (whole, by, h)
-  put_fails old new print.NoMemory h = (tt, h)
+  put_fails pages are old new print.Failed h = (whole, by, subst (λ (ps : List Page). Puts old new (output_of s.output (print_of s.faces s.rules s.names s.grid.columns passes flow frames) ps table) (Err print.Failed)) are h)
+  put_fails pages are old new print.NoMemory h = (tt, h)
 
-  pub put_done : (old new : Option (List ℕ)) (count : ℕ) → count ≡ length pages → Appends old new (output_of s.output (print_of s.faces s.rules s.names passes flow) pages table) → WritesBy s old new (out.Done count passes)
+  pub put_done : (pages : List Page) → pages ≡ fold_of s.grid.columns frames → (old new : Option (List ℕ)) (count : ℕ) → count ≡ length pages → Appends old new (output_of s.output (print_of s.faces s.rules s.names s.grid.columns passes flow frames) pages table) → WritesBy s old new (out.Done count passes)
   unfolding whole
-  put_done old new count is h = (whole, by, is, refl, h)
+  put_done pages are old new count is h = (whole, by, is ∙ ap (λ (ps : List Page). length ps) are, refl, subst (λ (ps : List Page). Appends old new (output_of s.output (print_of s.faces s.rules s.names s.grid.columns passes flow frames) ps table)) are h)
 
 -- want of memory is no write fault
 pub no_fault : {R : Type 0} → out.NoMemory ≡ out.WriteFault → R

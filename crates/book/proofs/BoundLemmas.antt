@@ -1,9 +1,10 @@
 -- Pages that settled are pages of their flow, within the bounds of what is painted.
-use Rattle.std.proofs.Common.{ℕ, List, [], ◌∷◌, get_or, sym, subst}
+use Rattle.std.proofs.Common.{◌≤◌, ◌<◌, ◌+◌, ◌-◌, ℕ, ℤ, List, [], ◌∷◌, get_or, sym, subst, arith}
 use Rattle.std.proofs.lemmas.List.Elements.{All-cons, All-nil, All-weaker}
+use Rattle.std.proofs.lemmas.Nat.{mod_below}
 use Rattle.std.specs.List.{All}
 use Rattle.bk_num.specs.declared.ids.NameId.{NameId}
-use Rattle.boxes.specs.Frames.{IsGoodFrame, PageFrames}
+use Rattle.boxes.specs.Frames.{IsGoodFrame, PageFrames, column_at, page_at}
 use Rattle.boxes.specs.Steps.{IsRun}
 use Rattle.boxes.specs.declared.flow.Flow.{Flow}
 use Rattle.boxes.specs.declared.frames.PageKind.{PageKind}
@@ -11,12 +12,14 @@ use Rattle.boxes.specs.declared.frames.PageKind.TheVariants as kind
 use Rattle.boxes.specs.declared.page.Page.{Page}
 use Rattle.boxes.specs.declared.page.Placed.{Placed}
 use Rattle.boxes.specs.declared.table.PageRow.{PageRow}
+use Rattle.columns.specs.Columns.{AreColumns, column_frames}
+use Rattle.columns.specs.Near.{near_frame}
 use Rattle.gen_text.specs.declared.table.Entry.{Entry}
 use Rattle.metrics.specs.Face.{FontFace}
 use Rattle.note_list.specs.Places as note
 use Rattle.page_list.specs.Pages.{AreNear, HaveNearTops, IsEnded, IsStep, State, name_at, start_of}
 use Rattle.page_list.specs.Pages.IsStep.{blank, flows, noted}
-use Rattle.page_seq.specs.Frames.{IsGoodTable}
+use Rattle.page_seq.specs.Frames.{frame_of as page_frame_of}
 use Rattle.page_seq.specs.GoodFrames.{good_frame}
 use Rattle.note_list.specs.Conditions.{CanBePaged}
 use Rattle.page_list.proofs.NoteRunLemmas.{paged_notes}
@@ -25,15 +28,18 @@ use Rattle.paint.specs.Bounds.{IsBoundedPage, IsNearSolid}
 use Rattle.paint.specs.Order.{IsPageOf}
 use Rattle.passes.specs.Passes.{End, EndsIn, IsLast, settled, unsettled, long, many, settles, differs, too_long, too_many}
 use Rattle.passes.specs.Work.{Work}
+use Rattle.book.proofs.ColumnLemmas.{good_column}
 use Rattle.book.proofs.OrderLemmas.{pages_of_flow}
-use Rattle.book.proofs.Tables.{table_frames}
 
 -- each frame is a good one
 abbrev pub HasGoodFrames : PageFrames → Type 0
 HasGoodFrames frames = (index : ℕ) (name : NameId) (which : PageKind) → IsGoodFrame (frames.frame_of index name which)
 
-pub table_good : (rows : List PageRow) → IsGoodTable rows → HasGoodFrames (table_frames rows)
-table_good rows good index name which = good_frame rows good index name which
+column_below : (count index : ℕ) → 1 ≤ count → column_at count index < count
+column_below count index some = mod_below (index + (count - 1)) count (omega arith)
+
+pub table_good : (count : ℕ) (gap : ℤ) (rows : List PageRow) → AreColumns rows count gap → HasGoodFrames (column_frames rows count gap)
+table_good count gap rows are index name which = good_column count (column_at count index) gap (page_frame_of rows (page_at count index) name which) are.per (column_below count index are.per.low) are.gap_low are.gap_high (good_frame rows are.table (page_at count index) name which) (near_frame rows are.near (page_at count index) name which)
 
 -- ---- the frames of a page list
 module _ (faces : List FontFace) (flow : Flow) (frames : PageFrames) (good : HasGoodFrames frames) where

@@ -28,7 +28,7 @@ module _ (reading : List ℕ → SheetOf) (texts : List (List ℕ)) where
   rules_many h = rw (h.0, h.1) refl
 
 abbrev document_by : Texts → List FontFace → List Node → Document
-document_by t faces nodes = record { passes = t.passes; output = t.output; faces = faces; nodes = nodes; sheets = t.sheets }
+document_by t faces nodes = record { passes = t.passes; grid = t.grid; output = t.output; faces = faces; nodes = nodes; sheets = t.sheets }
 
 module _ (reading : List ℕ → SheetOf) (t : Texts) (faces : List FontFace) (nodes : List Node) (given_faces : IsGiven (faces_expected (faces_of t.metrics)) faces) (given_nodes : IsGiven (nodes_expected (tree_of t.html)) nodes) where
   pub sheets_refused : (o : Outcome) → IsRefusedUnlessMemory (sheets_expected reading (author_texts (element_sheets nodes) t.sheets)) o → IsRefusedUnlessMemory (document_of reading t) o

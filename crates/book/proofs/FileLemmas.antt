@@ -19,6 +19,7 @@ use Rattle.named_files.specs.declared.read.FileTexts.{FileTexts}
 use Rattle.sheets.specs.Files.{file_texts}
 use Rattle.words.specs.Asked.{FormatWords}
 use Rattle.book.specs.Expect.{IsGiven, IsRefused}
+use Rattle.book.specs.Document.{grid_of}
 use Rattle.book.specs.FilesView.{listed_texts}
 use Rattle.book.specs.Refusals.{file_refusal}
 use Rattle.book.specs.Run.{IsFaultOf, IsOfFiles, KeepsFaults, Stops, StopsAt, sheets_from, text_of, texts_named}
@@ -55,7 +56,7 @@ given_sheets told k (n ∷ names) (t ∷ ts) h =
     after_given (sheets_from (suc k) told names) (file_texts ts) _ (λ e. IsGiven e (file_texts (t ∷ ts))) tt (given_sheets told (suc k) names ts h.1) refl)
 
 -- the texts of the files are those that are expected
-pub given_files : (told : List ℕ → Told) (names : FormatWords) (t : FileTexts) → AreTextsOf names told t → IsGiven (texts_named names told) (listed_texts names.passes t)
+pub given_files : (told : List ℕ → Told) (names : FormatWords) (t : FileTexts) → AreTextsOf names told t → IsGiven (texts_named names told) (listed_texts names.passes (grid_of names) t)
 given_files told names t h =
     texts_given told names (unmarked (string_bytes t.metrics)) (unmarked (string_bytes t.html)) (file_texts t.sheets.items)
     (given_text file.Metrics (told names.metrics) t.metrics h.metrics)

@@ -1,6 +1,6 @@
 -- A book keeps what the laws of page lists promise.
 use Rattle.std.proofs.Common.{ℕ, List, get_or, sym, subst}
-use Rattle.boxes.specs.Frames.{HaveWidths}
+use Rattle.boxes.specs.Frames.{HaveWidths, IsPerPage}
 use Rattle.boxes.specs.declared.flow.Flow.{Flow}
 use Rattle.boxes.specs.declared.page.Page.{Page}
 use Rattle.box_gen.proofs.NoteSums.{notes-are}
@@ -25,13 +25,14 @@ KeepsEnd w many = Unit {0}
 of-elements : (w : Work) (table : List Entry) (flow : Flow) (is : IsFlowUnder w table flow) → AreNotesOf (source_for w is.texts) flow.notes
 of-elements w table flow is = subst (λ (f : Flow). AreNotesOf (source_for w is.texts) f.notes) (sym is.is) (notes-are (source_for w is.texts))
 
-last_keeps : PageLaws → (w : Work) → HaveWidths w.frames → (limit k : ℕ) (table : List Entry) (end : End) → IsLast w limit k table end → KeepsEnd w end
-last_keeps laws w wide limit k table _ (settles flow pages pass) = λ can. record {
+last_keeps : PageLaws → (w : Work) → HaveWidths w.frames → IsPerPage w.per → (limit k : ℕ) (table : List Entry) (end : End) → IsLast w limit k table end → KeepsEnd w end
+last_keeps laws w wide per limit k table _ (settles flow pages pass) = λ can. record {
   main = laws.main w.faces flow w.frames pages can pass.paged;
   notes = laws.notes w.faces flow w.frames pages can pass.paged;
   breaks = laws.breaks w.faces flow w.frames pages can pass.paged;
   paged = pass.paged;
   inside = laws.inside w.faces flow w.frames pages wide can pass.paged;
+  pages = laws.folds w.per pages per;
   begins = laws.begins w.faces flow w.frames pages can pass.paged;
   texts = λ k d low. pages-print-their-text w.faces flow (get_or pages k d) (record { main = can.main.is; notes = λ n e less. (can.notes n e less).is });
   text = prints_main w.faces flow pages can.main.is (laws.main w.faces flow w.frames pages can pass.paged).all;
@@ -40,9 +41,9 @@ last_keeps laws w wide limit k table _ (settles flow pages pass) = λ can. recor
   elements = of-elements w table flow pass.flow_is;
   shown = pass.shown;
 }
-last_keeps laws w wide limit k table _ (differs a b u n s place d x y) = tt
-last_keeps laws w wide limit k table _ (too_long flow is much) = tt
-last_keeps laws w wide limit k table _ (too_many flow is fits left) = tt
+last_keeps laws w wide per limit k table _ (differs a b u n s place d x y) = tt
+last_keeps laws w wide per limit k table _ (too_long flow is much) = tt
+last_keeps laws w wide per limit k table _ (too_many flow is fits left) = tt
 
-pub keeps : PageLaws → (w : Work) → HaveWidths w.frames → (limit passes : ℕ) (flow : Flow) (pages : List Page) (table : List Entry) → CanBePaged w.faces flow → EndsIn w limit (settled passes flow pages table) → Keeps w flow pages table
-keeps laws w wide limit passes flow pages table can (k, below, t, o, last) = last_keeps laws w wide limit k t (settled passes flow pages table) last can
+pub keeps : PageLaws → (w : Work) → HaveWidths w.frames → IsPerPage w.per → (limit passes : ℕ) (flow : Flow) (pages : List Page) (table : List Entry) → CanBePaged w.faces flow → EndsIn w limit (settled passes flow pages table) → Keeps w flow pages table
+keeps laws w wide per limit passes flow pages table can (k, below, t, o, last) = last_keeps laws w wide per limit k t (settled passes flow pages table) last can

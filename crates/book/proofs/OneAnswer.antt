@@ -27,7 +27,7 @@ use Rattle.book.specs.declared.outcome.Outcome.TheVariants as out
 -- ---- the document that is expected
 
 -- a value comes through a step from one that the step before gave
-given_through : {A B : Type 0} (x : Expect A) (k : A → Expect B) (b : B) → (x >>= k) ≡ given b → (a : A) × (k a ≡ given b) × (x ≡ given a)
+pub given_through : {A B : Type 0} (x : Expect A) (k : A → Expect B) (b : B) → (x >>= k) ≡ given b → (a : A) × (k a ≡ given b) × (x ≡ given a)
 given_through free k b e = cc
 given_through (refused p) k b e = cc
 given_through (given a) k b e = (a, e, refl)
@@ -43,7 +43,7 @@ nodes_given (Err dom_err.Nodes) nodes e = cc
 nodes_given (Err dom_err.Depth) nodes e = cc
 nodes_given (Err dom_err.NoMemory) nodes e = cc
 
-abbrev document_or : Document → Expect Document → Document
+abbrev pub document_or : Document → Expect Document → Document
 document_or d free = d
 document_or d (refused p) = d
 document_or d (given e) = e
@@ -77,20 +77,20 @@ of_expected one ws told old new d o x (e, y, m) = subst (λ (z : Expect Document
 
 -- ---- the answer by the end of the passes
 
-book_end : (d : Document) (b : Book) (is : IsBookOf d b) → HasEnd d (settled b.passes is.flow is.pages is.table)
+book_end : (d : Document) (b : Book) (is : IsBookOf d b) → HasEnd d (settled b.passes is.flow is.frames is.table)
 book_end d b is = record { rules = is.rules; names = is.names; work = is.work; of = is.of; ends = is.settles }
 
 module _ (d : Document) (end : End) (one : (a : End) → HasEnd d a → end ≡ a) (old new : Option (List ℕ)) where
-  settles_with : (b : Book) (is : IsBookOf d b) (pages passes : ℕ) → pages ≡ b.pages → passes ≡ b.passes → SettlesWith end pages passes
+  settles_with : (b : Book) (is : IsBookOf d b) (pages passes : ℕ) → pages ≡ b.pages → passes ≡ b.passes → SettlesWith d.grid.columns end pages passes
   settles_with b is pages passes p k = record {
     flow = is.flow;
-    list = is.pages;
+    list = is.frames;
     table = is.table;
-    is = one (settled b.passes is.flow is.pages is.table) (book_end d b is) ∙ ap (λ (n : ℕ). settled n is.flow is.pages is.table) (sym k);
+    is = one (settled b.passes is.flow is.frames is.table) (book_end d b is) ∙ ap (λ (n : ℕ). settled n is.flow is.frames is.table) (sym k);
     count = p ∙ is.count;
   }
 
-  follow : (o : Outcome) → Writes d old new o → IsAnswerAt end o
+  follow : (o : Outcome) → Writes d old new o → IsAnswerAt d.grid.columns end o
   follow (out.Done pages passes) (b, whole, p, k, a) = settles_with b whole.0 pages passes p k
   follow out.WriteFault (b, whole, n) = (b.pages, b.passes, settles_with b whole.0 b.pages b.passes refl refl)
   follow (out.NotSettled target x y) m = one (unsettled target x y) m
@@ -125,7 +125,7 @@ module _ (law : SettleAtOnce) (d : Document) (none : HasNoReferences d) where
   at_once : (old new : Option (List ℕ)) (o : Outcome) → Writes d old new o → IsOfOnePass o
   at_once old new (out.Done pages passes) (b, whole, p, k, a) =
       let is = whole.0 in
-      k ∙ law is.work d.passes (settled b.passes is.flow is.pages is.table) (no_targets is.rules is.names is.work is.of) is.settles
+      k ∙ law is.work d.passes (settled b.passes is.flow is.frames is.table) (no_targets is.rules is.names is.work is.of) is.settles
   at_once old new (out.NotSettled target x y) m = law m.work d.passes (unsettled target x y) (no_targets m.rules m.names m.work m.of) m.ends
   at_once old new (out.Limit what) m = tt
   at_once old new out.WriteFault m = tt

@@ -13,6 +13,7 @@ use Rattle.css_tok.specs.Tokens.{tokens_of}
 use Rattle.dom.specs.Nodes.{IsTree}
 use Rattle.gen_text.specs.References.{AreTargets, TargetsAreOne}
 use Rattle.gen_text.specs.declared.table.Entry.{Entry}
+use Rattle.page_seq.specs.Folds.{fold_of}
 use Rattle.passes.specs.Passes.{End, EndsIn, HaveOneEnd, settled, unsettled, long, many}
 use Rattle.passes.specs.Work.{Work}
 use Rattle.style.specs.Nodes.{NodeStyles}
@@ -98,15 +99,15 @@ module _ (reading : HaveOneReading) (styles : StylesAreOne) (one_targets : Targe
       let names = one_names d x.rules y.rules x.names y.names x.work y.work tree x.of y.of in
       let work = one_work d x.rules y.rules x.names y.names x.work y.work tree x.of y.of in
       let nodes : IsTree y.work.nodes = subst (λ (w : Work). IsTree w.nodes) (sym y.of.is) tree in
-      let ends : EndsIn y.work d.passes (settled b.passes x.flow x.pages x.table) = subst (λ (w : Work). EndsIn w d.passes (settled b.passes x.flow x.pages x.table)) work x.settles in
-      let end : settled b.passes x.flow x.pages x.table ≡ settled c.passes y.flow y.pages y.table = one_end y.work d.passes (settled b.passes x.flow x.pages x.table) (settled c.passes y.flow y.pages y.table) nodes ends y.settles in
+      let ends : EndsIn y.work d.passes (settled b.passes x.flow x.frames x.table) = subst (λ (w : Work). EndsIn w d.passes (settled b.passes x.flow x.frames x.table)) work x.settles in
+      let end : settled b.passes x.flow x.frames x.table ≡ settled c.passes y.flow y.frames y.table = one_end y.work d.passes (settled b.passes x.flow x.frames x.table) (settled c.passes y.flow y.frames y.table) nodes ends y.settles in
       let passes : b.passes ≡ c.passes = ap passes_of end in
       let flow : x.flow ≡ y.flow = ap (flow_or x.flow) end in
-      let list : x.pages ≡ y.pages = ap pages_of end in
+      let list : x.frames ≡ y.frames = ap pages_of end in
       let table : x.table ≡ y.table = ap table_of end in
-      let print : ◌≡◌ {A = Print} (print_of d.faces x.rules x.names b.passes x.flow) (print_of d.faces y.rules y.names c.passes y.flow) = λ i. print_of d.faces (rules i) (names i) (passes i) (flow i) in
-      let count : b.pages ≡ c.pages = x.count ∙ ap (λ (ps : List Page). length ps) list ∙ sym y.count in
-      let put : output_of d.output (print_of d.faces x.rules x.names b.passes x.flow) x.pages x.table ≡ output_of d.output (print_of d.faces y.rules y.names c.passes y.flow) y.pages y.table =
-      λ i. output_of d.output (print i) (list i) (table i) in
+      let print : ◌≡◌ {A = Print} (print_of d.faces x.rules x.names d.grid.columns b.passes x.flow x.frames) (print_of d.faces y.rules y.names d.grid.columns c.passes y.flow y.frames) = λ i. print_of d.faces (rules i) (names i) d.grid.columns (passes i) (flow i) (list i) in
+      let count : b.pages ≡ c.pages = x.count ∙ ap (λ (fs : List Page). length (fold_of d.grid.columns fs)) list ∙ sym y.count in
+      let put : output_of d.output (print_of d.faces x.rules x.names d.grid.columns b.passes x.flow x.frames) (fold_of d.grid.columns x.frames) x.table ≡ output_of d.output (print_of d.faces y.rules y.names d.grid.columns c.passes y.flow y.frames) (fold_of d.grid.columns y.frames) y.table =
+      λ i. output_of d.output (print i) (fold_of d.grid.columns (list i)) (table i) in
       let bytes : b.bytes ≡ c.bytes = x.put ∙ put ∙ sym y.put in
       λ i. record { pages = count i; passes = passes i; bytes = bytes i }

@@ -19,7 +19,7 @@ use Rattle.sheets.specs.Sources.{has_many_rules}
 use Rattle.named_files.specs.Names.{file_stage}
 use Rattle.book.specs.Request.{Task, files, chapters}
 use Rattle.words.specs.Asked.{FormatWords}
-use Rattle.book.specs.Document.{Texts, Document, document_of, faces_expected, nodes_expected, sheets_expected}
+use Rattle.book.specs.Document.{Texts, Document, document_of, faces_expected, grid_of, nodes_expected, sheets_expected}
 use Rattle.book.specs.Run.{text_of, StopsAt, Stops, Ends, ComesBefore, IsReadBefore, IsUnforeseen, Meets, PutsOnlyABook, Writes, document_for, sheets_from, texts_for, texts_named, HasFileCause, HasReadCause, HasTaskCause, HasWordsCause, IsOfBook, IsOfFiles, IsOfTexts, IsOfWords, KeepsFaults}
 use Rattle.book.specs.declared.document.Output.TheVariants as output
 use Rattle.named_files.specs.declared.file.FileOf.{FileOf}
@@ -118,11 +118,11 @@ module _ (told : List ℕ → Told) (names : FormatWords) (o : Outcome) where
       after_given (text_of file.Html (told names.html)) h _ (λ e. Stops e o) tt given_h (
       stops_in (sheets_from 1 told names.sheets) _ o (λ x u. u) s))
 
-pub texts_given : (told : List ℕ → Told) (names : FormatWords) (m h : List ℕ) (ss : List (List ℕ)) → IsGiven (text_of file.Metrics (told names.metrics)) m → IsGiven (text_of file.Html (told names.html)) h → IsGiven (sheets_from 1 told names.sheets) ss → IsGiven (texts_named names told) (record { passes = names.passes; output = output.Listing; metrics = m; html = h; sheets = ss })
+pub texts_given : (told : List ℕ → Told) (names : FormatWords) (m h : List ℕ) (ss : List (List ℕ)) → IsGiven (text_of file.Metrics (told names.metrics)) m → IsGiven (text_of file.Html (told names.html)) h → IsGiven (sheets_from 1 told names.sheets) ss → IsGiven (texts_named names told) (record { passes = names.passes; grid = grid_of names; output = output.Listing; metrics = m; html = h; sheets = ss })
 texts_given told names m h ss given_m given_h given_s =
-    after_given (text_of file.Metrics (told names.metrics)) m _ (λ e. IsGiven e (record { passes = names.passes; output = output.Listing; metrics = m; html = h; sheets = ss })) tt given_m (
-    after_given (text_of file.Html (told names.html)) h _ (λ e. IsGiven e (record { passes = names.passes; output = output.Listing; metrics = m; html = h; sheets = ss })) tt given_h (
-    after_given (sheets_from 1 told names.sheets) ss _ (λ e. IsGiven e (record { passes = names.passes; output = output.Listing; metrics = m; html = h; sheets = ss })) tt given_s refl))
+    after_given (text_of file.Metrics (told names.metrics)) m _ (λ e. IsGiven e (record { passes = names.passes; grid = grid_of names; output = output.Listing; metrics = m; html = h; sheets = ss })) tt given_m (
+    after_given (text_of file.Html (told names.html)) h _ (λ e. IsGiven e (record { passes = names.passes; grid = grid_of names; output = output.Listing; metrics = m; html = h; sheets = ss })) tt given_h (
+    after_given (sheets_from 1 told names.sheets) ss _ (λ e. IsGiven e (record { passes = names.passes; grid = grid_of names; output = output.Listing; metrics = m; html = h; sheets = ss })) tt given_s refl))
 
 -- ---- causes
 

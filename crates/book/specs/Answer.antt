@@ -8,6 +8,7 @@ use Rattle.metrics.specs.Face.{FontFace}
 use Rattle.page_ctx.specs.Margins.{margin_style}
 use Rattle.page_ctx.specs.Selectors.{classes_of}
 use Rattle.page_ctx.specs.Tables.{page_cell, text_of}
+use Rattle.page_seq.specs.Folds.{fold_of}
 use Rattle.passes.specs.Passes.{EndsIn, settled}
 use Rattle.passes.specs.Work.{Work}
 use Rattle.book.specs.Counts.{counts_line, lines_of}
@@ -17,13 +18,15 @@ use Rattle.book.specs.declared.document.Output.{Output}
 use Rattle.book.specs.declared.document.Output.TheVariants as output
 use Rattle.listing.specs.Printed.{Print, listing_of}
 
--- what is printed of a flow that settled in so many passes: each page has the page box and the margin boxes that its
--- winning page declarations give (css-page-3, 4 to 7)
-abbrev pub print_of : List FontFace → List PageRule → List (List ℕ) → ℕ → Flow → Print
-print_of faces rules names passes flow = record {
+-- what is printed of a flow that settled in so many passes, with these frames, so many on a page: each page has the
+-- page box and the margin boxes that its winning page declarations give (css-page-3, 4 to 7)
+abbrev pub print_of : List FontFace → List PageRule → List (List ℕ) → ℕ → ℕ → Flow → List Page → Print
+print_of faces rules names per passes flow frames = record {
   passes = passes;
   faces = faces;
   flow = flow;
+  frames = frames;
+  per = per;
   names = names;
   cell = λ index name kind. Some (page_cell rules (text_of names name) (classes_of index kind));
   style = λ index name kind place. margin_style rules (text_of names name) (classes_of index kind) place;
@@ -42,15 +45,17 @@ pub record Book : Type 0 where
   pub bytes : List ℕ
 
 -- the book of a document: the passes over it settle, in so many, with a flow whose page references print the numbers of
--- the very pages on which they lead, its one page list, and their table; and its bytes are what is put of these pages
+-- the very pages on which they lead, its one list of frames, and their table; its pages are those on which the frames
+-- stand, and its bytes are what is put of these pages
 pub record IsBookOf (d : Document) (b : Book) : Type 0 where
   pub rules : List PageRule
   pub names : List (List ℕ)
   pub work : Work
   pub of : IsWorkOf d rules names work
   pub flow : Flow
-  pub pages : List Page
+  pub frames : List Page
   pub table : List Entry
-  pub settles : EndsIn work d.passes (settled b.passes flow pages table)
-  pub count : b.pages ≡ length pages
-  pub put : b.bytes ≡ output_of d.output (print_of d.faces rules names b.passes flow) pages table
+  pub settles : EndsIn work d.passes (settled b.passes flow frames table)
+  pub count : b.pages ≡ length (fold_of d.grid.columns frames)
+  pub put : b.bytes ≡ output_of d.output (print_of d.faces rules names d.grid.columns b.passes flow frames)
+      (fold_of d.grid.columns frames) table

@@ -1,7 +1,8 @@
 -- What the texts of the files are read as, or the refusal that they give.
-use Rattle.std.specs.Prelude.{ℕ, List, length, nat_lt, if◌then◌else◌, Result, Ok, Err}
+use Rattle.std.specs.Prelude.{ℕ, ◌≤◌, List, length, nat_lt, if◌then◌else◌, Result, Ok, Err}
 use Rattle.std.specs.List.{list_any}
 use Rattle.bk_num.specs.Limits.{most_sheets}
+use Rattle.boxes.specs.Frames.{IsPerPage}
 use Rattle.metrics.specs.Face.{FontFace}
 use Rattle.metrics.specs.Text.{faces_of}
 use Rattle.metrics.specs.declared.fault.MetricsWhy.{MetricsWhy}
@@ -12,24 +13,38 @@ use Rattle.html_tree.specs.Tree.{tree_of}
 use Rattle.sheets.specs.Sheets.{author_texts, element_sheets}
 use Rattle.sheets.specs.Readings.{SheetOf}
 use Rattle.sheets.specs.Sources.{has_many_rules}
+use Rattle.words.specs.Asked.{FormatWords}
+use Rattle.words.specs.Grammar.{widest_gap}
 use Rattle.book.specs.Expect.{Expect, refused, given, ◌>>=◌}
+use Rattle.book.specs.declared.document.ColumnGrid.{ColumnGrid}
 use Rattle.book.specs.declared.document.Output.{Output}
 use Rattle.book.specs.declared.outcome.Outcome.TheVariants as out
 use Rattle.book.specs.declared.outcome.LimitOf.TheVariants as limit
 
--- in how many passes at most a book is to settle, what is to be put of it, and the texts of its files, less a leading
--- U+FEFF
+-- from 1 to 8 columns, with gaps of at most 1,000 px between them
+pub record IsGoodGrid (grid : ColumnGrid) : Type 0 where
+  pub per : IsPerPage grid.columns
+  pub gap : grid.gap ≤ widest_gap
+
+-- the columns that `format` is asked for
+abbrev pub grid_of : FormatWords → ColumnGrid
+grid_of names = record { columns = names.columns; gap = names.gap }
+
+-- in how many passes at most a book is to settle, the columns of its pages, what is to be put of it, and the texts of
+-- its files, less a leading U+FEFF
 pub record Texts : Type 0 where
   pub passes : ℕ
+  pub grid : ColumnGrid
   pub output : Output
   pub metrics : List ℕ
   pub html : List ℕ
   pub sheets : List (List ℕ)
 
--- a document: in how many passes at most it is to settle, what is to be put of it, the faces of its metrics text, its
--- nodes, and the texts of the files' sheets
+-- a document: in how many passes at most it is to settle, the columns of its pages, what is to be put of it, the faces
+-- of its metrics text, its nodes, and the texts of the files' sheets
 pub record Document : Type 0 where
   pub passes : ℕ
+  pub grid : ColumnGrid
   pub output : Output
   pub faces : List FontFace
   pub nodes : List Node
@@ -57,4 +72,11 @@ abbrev pub document_of : (List ℕ → SheetOf) → Texts → Expect Document
 document_of reading t = faces_expected (faces_of t.metrics) >>= λ faces.
     nodes_expected (tree_of t.html) >>= λ nodes.
     sheets_expected reading (author_texts (element_sheets nodes) t.sheets) >>= λ few.
-    given (record { passes = t.passes; output = t.output; faces = faces; nodes = nodes; sheets = t.sheets })
+    given (record {
+      passes = t.passes;
+      grid = t.grid;
+      output = t.output;
+      faces = faces;
+      nodes = nodes;
+      sheets = t.sheets;
+    })

@@ -12,6 +12,7 @@ use Rattle.book.specs.declared.document.Texts.{Texts as TextsInMemory}
 abbrev pub texts_in : TextsInMemory → Texts
 texts_in t = record {
   passes = t.passes;
+  grid = t.grid;
   output = t.output;
   metrics = t.metrics.now;
   html = t.html.now;
@@ -20,8 +21,14 @@ texts_in t = record {
 
 -- a document in memory as contracts see it
 abbrev pub document_in : InMemory → Document
-document_in d =
-    record { passes = d.passes; output = d.output; faces = d.faces; nodes = d.dom; sheets = file_texts d.sheets.now }
+document_in d = record {
+  passes = d.passes;
+  grid = d.grid;
+  output = d.output;
+  faces = d.faces;
+  nodes = d.dom;
+  sheets = file_texts d.sheets.now;
+}
 
 -- its sheets and its page rules are what their texts are read as, in the order of the cascade
 pub record HasSheets (d : InMemory) : Type 0 where

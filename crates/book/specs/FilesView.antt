@@ -3,13 +3,15 @@ use Rattle.std.specs.Prelude.{ℕ, string_bytes}
 use Rattle.bk_io.specs.Texts.{unmarked}
 use Rattle.sheets.specs.Files.{file_texts}
 use Rattle.book.specs.Document.{Texts}
+use Rattle.book.specs.declared.document.ColumnGrid.{ColumnGrid}
 use Rattle.book.specs.declared.document.Output.TheVariants as output
 use Rattle.named_files.specs.declared.read.FileTexts.{FileTexts}
 
 -- the texts of a book that is to be listed
-abbrev pub listed_texts : ℕ → FileTexts → Texts
-listed_texts passes t = record {
+abbrev pub listed_texts : ℕ → ColumnGrid → FileTexts → Texts
+listed_texts passes grid t = record {
   passes = passes;
+  grid = grid;
   output = output.Listing;
   metrics = unmarked (string_bytes t.metrics);
   html = unmarked (string_bytes t.html);

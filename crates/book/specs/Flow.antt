@@ -1,9 +1,10 @@
 -- What the passes over a document read, and how they end.
-use Rattle.std.specs.Prelude.{◌≡◌, ℕ, List}
+use Rattle.std.specs.Prelude.{◌≡◌, ℕ, ◌*◌, ℤ, pos, List}
 use Rattle.std.specs.List.{AllZip}
 use Rattle.bk_num.specs.declared.ids.NodeId.{NodeId}
-use Rattle.boxes.specs.Frames.{meets_by_parity, PageFrames}
+use Rattle.boxes.specs.Frames.{column_at, meets_by, meets_by_parity, page_at, PageFrames}
 use Rattle.cascade.specs.declared.sheet.ReadSheet.{ReadSheet}
+use Rattle.columns.specs.Columns.{column_of}
 use Rattle.computed.specs.Document.{AreDocumentStyles}
 use Rattle.counters.specs.Document.{values_of}
 use Rattle.css_page.specs.declared.rules.PageRule.{PageRule}
@@ -16,6 +17,7 @@ use Rattle.sheets.specs.Sheets.{author_texts, element_sheets}
 use Rattle.style.specs.Nodes.{NodeStyles}
 use Rattle.sheets.specs.Sources.{ArePageRules, authors_of, sources_of, IsReadFrom}
 use Rattle.book.specs.Document.{Document}
+use Rattle.book.specs.declared.document.ColumnGrid.{ColumnGrid}
 
 -- the texts of a document's sheets: those of files, and then those of its `style` elements (CSS 2.1, 6.4)
 abbrev pub texts_of : Document → List (List ℕ)
@@ -27,10 +29,22 @@ AreRulesOf d rules = ArePageRules (authors_of (texts_of d)) rules
 
 -- each page has the frame that its winning page declarations give; page 1 is a right page, and sides alternate
 -- (css-page-3, 3 to 7)
-abbrev pub page_frames : List PageRule → List (List ℕ) → PageFrames
-page_frames rules names = record {
+abbrev pub whole_frames : List PageRule → List (List ℕ) → PageFrames
+whole_frames rules names = record {
   meets = meets_by_parity;
   frame_of = λ index name kind. (page_cell rules (text_of names name) (classes_of index kind)).frame;
+}
+
+-- the gap between columns, in units
+abbrev pub gap_units : ColumnGrid → ℤ
+gap_units grid = pos (grid.gap * 64)
+
+-- each frame is a column of the frame of its page
+abbrev pub page_frames : List PageRule → List (List ℕ) → ColumnGrid → PageFrames
+page_frames rules names grid = record {
+  meets = meets_by grid.columns;
+  frame_of = λ index name kind. column_of grid.columns (gap_units grid)
+      ((whole_frames rules names).frame_of (page_at grid.columns index) name kind) (column_at grid.columns index);
 }
 
 -- nodes have the computed styles (CSS 2.1, 6) that the default sheet and those of the document give, with these names
@@ -41,14 +55,15 @@ pub record AreStylesBy (d : Document) (names : List (List ℕ)) (rows : List Nod
   pub styles : AreDocumentStyles names d.nodes sheets rows
 
 -- what the passes over a document read: its nodes in their styles, the values of its counters by them (CSS 2.1, 12.4),
--- its faces, the frames that its page rules give, and the elements that its page references lead to
+-- its faces, the columns of the frames that its page rules give, and the elements that its page references lead to
 abbrev pub work_by : Document → List PageRule → List (List ℕ) → List NodeStyles → List NodeId → Work
 work_by d rules names rows targets = record {
   nodes = d.nodes;
   rows = rows;
   values = values_of d.nodes rows;
   faces = d.faces;
-  frames = page_frames rules names;
+  frames = page_frames rules names d.grid;
+  per = d.grid.columns;
   targets = targets;
 }
 

@@ -7,6 +7,9 @@ use Rattle.bk_num.specs.declared.ids.NodeId.{NodeId}
 use Rattle.bk_num.specs.declared.values.Pseudo.{Pseudo}
 use Rattle.boxes.specs.declared.flow.Flow.{Flow}
 use Rattle.boxes.specs.declared.page.Page.{Page}
+use Rattle.boxes.specs.declared.page.PageList.{PageList}
+use Rattle.columns.specs.Columns.{IsNearFrame, column_frames}
+use Rattle.columns.specs.declared.columns.Columns.{Columns}
 use Rattle.box_gen.specs.Sources.{AreInRange, IsRootShown}
 use Rattle.counters.specs.At.{counter_values}
 use Rattle.counters.specs.Document.{values_of}
@@ -16,7 +19,8 @@ use Rattle.gen_text.specs.declared.table.Entry.{Entry}
 use Rattle.page_ctx.specs.Margins.{AreMarginStyles}
 use Rattle.page_ctx.specs.Tables.{IsTable}
 use Rattle.page_ctx.specs.declared.resolve.PageStyles.{PageStyles}
-use Rattle.page_seq.specs.Frames.{IsGoodTable}
+use Rattle.page_seq.specs.Folds.{fold_of}
+use Rattle.page_seq.specs.Frames.{HasCells, IsGoodTable}
 use Rattle.paint.specs.Order.{IsPageOf}
 use Rattle.passes.specs.Conditions.{IsGoodFlow}
 use Rattle.passes.specs.Passes.{End, EndsIn, settled, unsettled, long, many}
@@ -25,7 +29,7 @@ use Rattle.passes.specs.declared.settle.Settled.{Settled}
 use Rattle.passes.specs.declared.settle.PassErr.{PassErr}
 use Rattle.passes.specs.declared.settle.PassErr.TheVariants as err
 use Rattle.book.specs.Answer.{Book, output_of, print_of}
-use Rattle.book.specs.Document.{Document}
+use Rattle.book.specs.Document.{Document, IsGoodGrid}
 use Rattle.book.specs.Flow.{AreRulesOf, AreStylesBy, page_frames}
 use Rattle.book.specs.declared.lay_out.Done.{Done}
 use Rattle.book.specs.declared.outcome.LimitOf.TheVariants as limit
@@ -44,6 +48,7 @@ pub record AreGoodStyles (s : Styled) : Type 0 where
 -- a document in its styles, with its counters and its page rules
 pub record IsStyledOf (d : Document) (s : Styled) : Type 0 where
   pub passes : s.passes ≡ d.passes
+  pub grid : s.grid ≡ d.grid
   pub output : s.output ≡ d.output
   pub nodes : s.dom ≡ d.nodes
   pub faces : s.faces ≡ d.faces
@@ -55,27 +60,35 @@ pub record IsStyledOf (d : Document) (s : Styled) : Type 0 where
 pub record AreBoxesOf (s : Styled) (styles : PageStyles) : Type 0 where
   pub table : IsTable s.rules s.names styles.table.rows
   pub good : IsGoodTable styles.table.rows
+  pub near : All (HasCells IsNearFrame) styles.table.rows
   pub boxes : AreMarginStyles s.rules s.names styles.boxes
 
--- pages that settled can be put: their flow can be paged, in page boxes that are the document's, they are pages
--- of it, and they are few
-pub record CanPut (s : Styled) (given : PageStyles) (laid : Settled) : Type 0 where
+-- columns are those of the frames that the page rules of a document give
+pub record AreColumnsOf (s : Styled) (c : Columns) : Type 0 where
+  pub frames : column_frames c.pages.table.rows c.count c.gap ≡ page_frames s.rules s.names s.grid
+  pub per : c.count ≡ s.grid.columns
+
+-- pages of frames that settled can be put: their flow can be paged, in page boxes that are the document's, the frames
+-- are those of pages of it, and the pages are those on which they stand, which are few
+pub record CanPut (s : Styled) (given : PageStyles) (laid : Settled) (list : PageList) : Type 0 where
   pub good : IsGoodFlow s.faces laid.flow
   pub boxes : AreBoxesOf s given
-  pub pages : All (IsPageOf laid.flow) laid.pages.pages
-  pub few : length laid.pages.pages ≤ most_pages
+  pub frames : All (IsPageOf laid.flow) laid.pages.pages
+  pub grid : IsGoodGrid s.grid
+  pub pages : list.pages ≡ fold_of s.grid.columns laid.pages.pages
+  pub few : length list.pages ≤ most_pages
 
--- what a listing of pages that settled is made of
+-- what a listing of pages of frames that settled is made of
 abbrev pub print_by : Styled → Settled → Print
-print_by s laid = print_of s.faces s.rules s.names laid.passes laid.flow
+print_by s laid = print_of s.faces s.rules s.names s.grid.columns laid.passes laid.flow laid.pages.pages
 
 -- their listing
-abbrev pub listing_by : Styled → Settled → List ℕ
-listing_by s laid = listing_of (print_by s laid) laid.pages.pages
+abbrev pub listing_by : Styled → Settled → PageList → List ℕ
+listing_by s laid pages = listing_of (print_by s laid) pages.pages
 
 -- what is put of them
-abbrev pub output_by : Styled → Settled → List ℕ
-output_by s laid = output_of s.output (print_by s laid) laid.pages.pages laid.table
+abbrev pub output_by : Styled → Settled → PageList → List ℕ
+output_by s laid pages = output_of s.output (print_by s laid) pages.pages laid.table
 
 -- what the passes over a document in its styles read
 abbrev pub work_in : Styled → List NodeId → Work
@@ -84,7 +97,8 @@ work_in s targets = record {
   rows = s.styles;
   values = counter_values s.counters;
   faces = s.faces;
-  frames = page_frames s.rules s.names;
+  frames = page_frames s.rules s.names s.grid;
+  per = s.grid.columns;
   targets = targets;
 }
 
@@ -112,12 +126,13 @@ StopsBy s o = ⊥
 -- a book is what the passes settle with, which can be paged, and what is put of it
 pub record IsBookBy (s : Styled) (b : Book) : Type 0 where
   pub flow : Flow
-  pub pages : List Page
+  pub frames : List Page
   pub table : List Entry
-  pub settles : EndSo s (settled b.passes flow pages table)
+  pub settles : EndSo s (settled b.passes flow frames table)
   pub can : CanBePaged s.faces flow
-  pub count : b.pages ≡ length pages
-  pub put : b.bytes ≡ output_of s.output (print_of s.faces s.rules s.names b.passes flow) pages table
+  pub count : b.pages ≡ length (fold_of s.grid.columns frames)
+  pub put : b.bytes ≡ output_of s.output (print_of s.faces s.rules s.names s.grid.columns b.passes flow frames)
+      (fold_of s.grid.columns frames) table
 
 -- how a print that put only a prefix, or nothing for want of memory, is answered
 abbrev pub of_print : PrintErr → Outcome

@@ -15,7 +15,7 @@ use Rattle.book.specs.Expect.{Expect, free, refused, given, ◌>>=◌, IsRefused
 use Rattle.named_files.specs.Names.{file_stage, name_of}
 use Rattle.book.specs.Request.{Task, files, chapters, asked}
 use Rattle.words.specs.Asked.{FormatWords}
-use Rattle.book.specs.Document.{Texts, Document, document_of}
+use Rattle.book.specs.Document.{Texts, Document, document_of, grid_of}
 use Rattle.book.specs.Answer.{Book}
 use Rattle.book.specs.Flow.{HasEnd, HasNoReferences}
 use Rattle.book.specs.Keeps.{IsWholeBook}
@@ -46,17 +46,25 @@ abbrev pub texts_named : FormatWords → (List ℕ → Told) → Expect Texts
 texts_named names told = text_of file.Metrics (told names.metrics) >>= λ metrics.
     text_of file.Html (told names.html) >>= λ html.
     sheets_from 1 told names.sheets >>= λ sheets.
-    given (record { passes = names.passes; output = output.Listing; metrics = metrics; html = html; sheets = sheets })
+    given (record {
+      passes = names.passes;
+      grid = grid_of names;
+      output = output.Listing;
+      metrics = metrics;
+      html = html;
+      sheets = sheets;
+    })
 
 -- the document of the files that are named, or the first refusal
 abbrev pub document_named : (List ℕ → SheetOf) → FormatWords → (List ℕ → Told) → Expect Document
 document_named reading names told = texts_named names told >>= document_of reading
 
--- the texts of a sample book of so many chapters, which is to settle in 8 passes at most, and of which the counts are
--- told
+-- the texts of a sample book of so many chapters, which is to settle in 8 passes at most, in one column, and of which
+-- the counts are told
 abbrev pub sample_texts : ℕ → Texts
 sample_texts count = record {
   passes = 8;
+  grid = record { columns = 1; gap = 0 };
   output = output.Counts count;
   metrics = metrics_text;
   html = html_of count;
@@ -118,7 +126,7 @@ Stops free o = Unit {0}
 Stops (refused p) o = (o ≡ p) ⊎ ComesBefore o p
 Stops (given b) o = IsUnforeseen o
 
--- the limits that the passes over a document pass: the flow of one has more text than is laid out, or more pages
+-- the limits that the passes over a document pass: the flow of one has more text than is laid out, or more frames
 abbrev pub Passes : Document → LimitOf → Type 0
 Passes d limit.Text = HasEnd d long
 Passes d limit.Pages = HasEnd d many

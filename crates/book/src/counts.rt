@@ -7,7 +7,7 @@ ghost use Rattle.book.specs.Counts.{counts_line, is_line, lines_of, lines_on};
 
 use bk_io::put_all::put_texts;
 use bk_io::sink::{Failed, Sink};
-use boxes::page::{Page, SolidKind};
+use boxes::page::{Page, PageList, SolidKind};
 use itoa::Buffer;
 use passes::settle::Settled;
 
@@ -44,20 +44,25 @@ fn lines_of(pages: &[Page]) -> u128
     lines
 }
 
-/// Puts the line that tells the counts of a sample of so many chapters.
+/// Puts the line that tells the counts of a sample of so many chapters, which settled on these pages.
 ///
 /// # Errors
 ///
 /// `Failed` where a put failed. Then a prefix of the line was put.
 #[tactic(auto, unfolding(crate::specs::Counts::counts_line))]
-pub(crate) fn put_counts<O: Sink>(out: &mut O, chapters: u32, laid: &Settled) -> Result<(), Failed>
-    requires { length laid.now.pages.pages ≤ most_pages }
+pub(crate) fn put_counts<O: Sink>(
+    out: &mut O,
+    chapters: u32,
+    laid: &Settled,
+    pages: &PageList,
+) -> Result<(), Failed>
+    requires { length pages.now.pages ≤ most_pages }
     ensures bytes { AppendsAllOrPrefix (O.taken out.old) (O.taken out.new)
-        (counts_line chapters (length laid.now.pages.pages) (lines_of laid.now.pages.pages) (length laid.now.flow.notes)
+        (counts_line chapters (length pages.now.pages) (lines_of pages.now.pages) (length laid.now.flow.notes)
         (length laid.now.table) laid.now.passes) result }
     ensures cause { HasCause (O.faults out.old) (O.faults out.new) result }
 {
-    let pages = laid.pages.pages.as_slice();
+    let pages = pages.pages.as_slice();
     let (mut sample, mut listed, mut lines) = (Buffer::new(), Buffer::new(), Buffer::new());
     let (mut notes, mut references, mut passes) = (Buffer::new(), Buffer::new(), Buffer::new());
     put_texts(

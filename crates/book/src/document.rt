@@ -35,12 +35,20 @@ pub enum Output {
     Counts(u32),
 }
 
-/// In how many passes at most a document is to settle, what is to be put of it, the faces of the metrics text, the
-/// tree, the texts of the files' sheets, and what the document's sheets and their page rules are read as, in the order
-/// of the cascade.
+/// The columns of each page: how many, from 1 to 8, and the gap between them, in whole px, at most 1,000.
+#[derive(Clone, Copy, Debug)]
+pub struct ColumnGrid {
+    pub columns: u32,
+    pub gap: u32,
+}
+
+/// In how many passes at most a document is to settle, the columns of its pages, what is to be put of it, the faces of
+/// the metrics text, the tree, the texts of the files' sheets, and what the document's sheets and their page rules are
+/// read as, in the order of the cascade.
 #[derive(Drop)]
 pub struct Document<'a> {
     pub passes: u32,
+    pub grid: ColumnGrid,
     pub output: Output,
     pub faces: Faces,
     pub dom: Dom,
@@ -49,11 +57,12 @@ pub struct Document<'a> {
     pub pages: Items<PageRule>,
 }
 
-/// In how many passes at most a book is to settle, what is to be put of it, and its texts, the first two less a leading
-/// U+FEFF.
+/// In how many passes at most a book is to settle, the columns of its pages, what is to be put of it, and its texts,
+/// the first two less a leading U+FEFF.
 #[derive(Clone, Copy, Debug)]
 pub struct Texts<'a> {
     pub passes: u32,
+    pub grid: ColumnGrid,
     pub output: Output,
     pub metrics: &'a str,
     pub html: &'a str,
@@ -144,6 +153,7 @@ pub fn read_document<'a>(alloc: Global, texts: Texts<'a>) -> Result<Box<Document
         let document = document_of reading (texts_in texts.entry) in
         MatchResult result (λ d. IsGiven document (document_in d.value)) (λ o. IsRefusedUnlessMemory document o) }
     ensures passes { IfOk result (λ d. d.value.passes ≡ texts.entry.passes) }
+    ensures grid { IfOk result (λ d. d.value.grid ≡ texts.entry.grid) }
     ensures read { IfOk result (λ d. HasSheets d.value) }
     ensures of_texts { IfErr result IsOfTexts }
 {
@@ -154,6 +164,7 @@ pub fn read_document<'a>(alloc: Global, texts: Texts<'a>) -> Result<Box<Document
         alloc,
         Document {
             passes: texts.passes,
+            grid: texts.grid,
             output: texts.output,
             faces,
             dom,

@@ -2,6 +2,7 @@
 
 ghost use Rattle.std.specs.Prelude.{◌≡◌, ◌≤◌, MatchResult, IfErr, IfOk, string_len};
 ghost use Rattle.bk_num.specs.Limits.{most_file_bytes};
+ghost use Rattle.book.specs.Document.{grid_of};
 ghost use Rattle.book.specs.Expect.{IsGiven};
 ghost use Rattle.book.specs.FilesView.{listed_texts};
 ghost use Rattle.book.specs.Run.{texts_named, Stops, IsOfFiles, KeepsFaults};
@@ -20,7 +21,8 @@ pub(crate) fn texts_of_files<F: Shelf>(
     shelf: &mut F,
 ) -> Result<FileTexts, Outcome>
     ensures texts { let texts = texts_named (format_view names.now) (F.told shelf.old) in
-        MatchResult result (λ t. IsGiven texts (listed_texts names.now.passes t)) (λ o. Stops texts o) }
+        let grid = grid_of (format_view names.now) in
+        MatchResult result (λ t. IsGiven texts (listed_texts names.now.passes grid t)) (λ o. Stops texts o) }
     ensures small { IfOk result (λ t. string_len t.metrics ≤ most_file_bytes) }
     ensures count { MatchResult result (λ _. F.faults shelf.new ≡ F.faults shelf.old)
         (KeepsFaults (F.faults shelf.old) (F.faults shelf.new)) }

@@ -3,37 +3,46 @@
 ghost use Rattle.std.specs.Prelude.{◌≡◌, ◌<◌, ◌≤◌, All, IfOk, IfErr, length};
 ghost use Rattle.bk_io.specs.Causes.{Rose};
 ghost use Rattle.bk_num.specs.Limits.{most_pages};
+ghost use Rattle.boxes.specs.Frames.{IsPerPage};
 ghost use Rattle.paint.specs.Order.{IsPageOf};
 ghost use Rattle.passes.specs.Conditions.{IsGoodFlow};
 ghost use Rattle.passes.specs.Passes.{settled};
 ghost use Rattle.style.specs.Styles.{initial_style};
 ghost use Rattle.listing.specs.Puts.{HasPutCause, Puts};
+ghost use Rattle.page_seq.specs.Folds.{fold_of};
+ghost use Rattle.book.specs.Document.{IsGoodGrid};
 ghost use Rattle.book.specs.DocumentView.{document_in, HasSheets};
-ghost use Rattle.book.specs.Laid.{AreBoxesOf, AreGoodStyles, CanPut, EndSo, StopsBy, WritesBy, listing_by, outcome_of, output_by};
+ghost use Rattle.book.specs.Flow.{gap_units};
+ghost use Rattle.book.specs.Laid.{AreBoxesOf, AreColumnsOf, AreGoodStyles, CanPut, EndSo, StopsBy, WritesBy, listing_by, outcome_of, output_by};
 ghost use Rattle.book.specs.Laws.{PageLaws};
 ghost use Rattle.book.specs.Run.{IsOfBook, PutsOnlyABook, Writes};
 
 use crate::counts::put_counts;
-use crate::document::{Document, Output};
+use crate::document::{ColumnGrid, Document, Output};
 use crate::outcome::{LimitOf, Outcome};
 use crate::styled::{Styled, in_styles};
 use bk_io::sink::Sink;
 use bk_num::name::NoMem;
 use bk_num::steps::Steps;
 use boxes::page::PageList;
+use columns::columns::Columns;
 use listing::pages::Printer;
 use listing::print::{PrintErr, print};
 use page_ctx::resolve::{PageStyles, resolve};
 use page_list::laws::{
     breaks_hold, main_stands_once, notes_begin_in_time, notes_stand_once, pages_end_inside,
 };
+use page_seq::fold::fold;
+use page_seq::laws::folds_keep_all;
 use page_seq::numbers::numbers;
-use page_seq::pages::Pages;
 use passes::settle::{Input, PassErr, Settled, settle};
 use std::alloc::Global;
 use std::sync::ledger::Ledger;
 use strings::assigned::Strings;
 use style::lists::Families;
+
+/// How many units are 1 px.
+const UNITS: u32 = 64;
 
 /// A document that was laid out, and what is put of it was: how many pages, and in how many passes it settled.
 #[derive(Clone, Copy, Debug, PartialEq, Eq)]
@@ -96,7 +105,26 @@ fn boxes_of<'s>(
     resolve(alloc, styled.rules.as_slice(), &styled.names, initial)
 }
 
-/// The flow whose page references print the numbers of its own pages, with these pages.
+/// The gap between columns, in units.
+fn gap_of(grid: ColumnGrid) -> i64
+    requires { IsGoodGrid grid }
+    ensures { result ≡ gap_units grid }
+{
+    i64::from(grid.gap * UNITS)
+}
+
+/// The columns of the frames that the page rules of a document give.
+fn columns_of(alloc: Global, styled: &Styled, boxes: &PageStyles<'_>) -> Result<Columns, NoMem>
+    requires grid { IsGoodGrid styled.now.grid }
+    requires boxes { AreBoxesOf styled.now boxes.now }
+    ensures { IfOk result (λ columns. AreColumnsOf styled.now columns) }
+{
+    let table = boxes.table.copy(alloc)?;
+    let grid = styled.grid;
+    Ok(Columns::new(table, grid.columns, gap_of(grid)))
+}
+
+/// The flow whose page references print the numbers of its own pages, with its frames.
 fn settle_passes<L: Ledger>(
     alloc: Global,
     styled: &Styled,
@@ -104,15 +132,16 @@ fn settle_passes<L: Ledger>(
     steps: &mut Steps<L>,
 ) -> Result<Settled, Outcome>
     requires passes { 0 < styled.now.passes }
+    requires grid { IsGoodGrid styled.now.grid }
     requires good { AreGoodStyles styled.now }
     requires boxes { AreBoxesOf styled.now boxes.now }
     ensures settled { IfOk result (λ s. EndSo styled.now (settled s.passes s.flow s.pages.pages s.table)) }
     ensures good { IfOk result (λ s. IsGoodFlow styled.now.faces s.flow) }
-    ensures pages { IfOk result (λ s. All (IsPageOf s.flow) s.pages.pages) }
+    ensures frames { IfOk result (λ s. All (IsPageOf s.flow) s.pages.pages) }
     ensures few { IfOk result (λ s. length s.pages.pages ≤ most_pages) }
     ensures stops { IfErr result (λ o. StopsBy styled.now o) }
 {
-    let frames = Pages::new(boxes.table.copy(alloc)?);
+    let frames = columns_of(alloc, styled, boxes)?;
     let input = Input {
         dom: &styled.dom,
         styles: &styled.styles,
@@ -122,27 +151,30 @@ fn settle_passes<L: Ledger>(
     Ok(settle(alloc, &input, &frames, styled.passes, steps)?)
 }
 
-/// Puts the listing of the pages that settled. Their numbers and the running strings along them are found once, for all
-/// pages.
+/// Puts the listing of the pages of frames that settled. Their numbers and the running strings along them are found
+/// once, for all pages.
 fn print_settled<O: Sink>(
     alloc: Global,
     styled: &Styled,
     boxes: &PageStyles<'_>,
     laid: &Settled,
+    pages: &PageList,
     out: &mut O,
 ) -> Result<(), PrintErr>
-    requires { CanPut styled.now boxes.now laid.now }
-    ensures bytes { Puts (O.taken out.old) (O.taken out.new) (listing_by styled.now laid.now) result }
+    requires { CanPut styled.now boxes.now laid.now pages.now }
+    ensures bytes { Puts (O.taken out.old) (O.taken out.new) (listing_by styled.now laid.now pages.now) result }
     ensures cause { HasPutCause (O.faults out.old) (O.faults out.new) result }
 {
-    let numbers = numbers(alloc, &laid.flow, &laid.pages)?;
-    let strings = Strings::new(alloc, &laid.flow, &laid.pages)?;
+    let numbers = numbers(alloc, &laid.flow, pages)?;
+    let strings = Strings::new(alloc, &laid.flow, pages)?;
     let printer = Printer {
         passes: laid.passes,
         faces: &styled.faces,
         flow: &laid.flow,
+        frames: &laid.pages,
+        per: styled.grid.columns,
         names: &styled.names,
-        list: &laid.pages,
+        list: pages,
         numbers: numbers.as_slice(),
         strings: &strings,
         styles: boxes,
@@ -150,22 +182,34 @@ fn print_settled<O: Sink>(
     print(alloc, &printer, out)
 }
 
-/// Puts what is asked for of the pages that settled.
+/// Puts what is asked for of the pages of frames that settled.
 fn put_settled<O: Sink>(
     alloc: Global,
     styled: &Styled,
     boxes: &PageStyles<'_>,
     laid: &Settled,
+    pages: &PageList,
     out: &mut O,
 ) -> Result<(), PrintErr>
-    requires { CanPut styled.now boxes.now laid.now }
-    ensures bytes { Puts (O.taken out.old) (O.taken out.new) (output_by styled.now laid.now) result }
+    requires { CanPut styled.now boxes.now laid.now pages.now }
+    ensures bytes { Puts (O.taken out.old) (O.taken out.new) (output_by styled.now laid.now pages.now) result }
     ensures cause { HasPutCause (O.faults out.old) (O.faults out.new) result }
 {
     match styled.output {
-        Output::Listing => print_settled(alloc, styled, boxes, laid, out),
-        Output::Counts(chapters) => Ok(put_counts(out, chapters, laid)?),
+        Output::Listing => print_settled(alloc, styled, boxes, laid, pages, out),
+        Output::Counts(chapters) => Ok(put_counts(out, chapters, laid, pages)?),
     }
+}
+
+/// The pages of frames, so many on each.
+fn pages_of(alloc: Global, frames: &PageList, per: u32) -> Result<PageList, NoMem>
+    requires per { IsPerPage per }
+    requires few { length frames.now.pages ≤ most_pages }
+    ensures pages { IfOk result (λ list. list.pages ≡ fold_of per frames.now.pages) }
+    ensures few { IfOk result (λ list. length list.pages ≤ most_pages) }
+{
+    folds_keep_all();
+    fold(alloc, frames, per)
 }
 
 /// How many pages there are.
@@ -186,20 +230,22 @@ fn put_styled<O: Sink, L: Ledger>(
     steps: &mut Steps<L>,
 ) -> Result<Done, Outcome>
     requires passes { 0 < styled.now.passes }
+    requires grid { IsGoodGrid styled.now.grid }
     requires good { AreGoodStyles styled.now }
     requires boxes { AreBoxesOf styled.now boxes.now }
     ensures writes { WritesBy styled.now (O.taken out.old) (O.taken out.new) (outcome_of result) }
     ensures fault { outcome_of result ≡ Outcome.WriteFault → Rose (O.faults out.old) (O.faults out.new) }
 {
     let laid = settle_passes(alloc, styled, boxes, steps)?;
-    put_settled(alloc, styled, boxes, &laid, out)?;
+    let pages = pages_of(alloc, &laid.pages, styled.grid.columns)?;
+    put_settled(alloc, styled, boxes, &laid, &pages, out)?;
     Ok(Done {
-        pages: count_of(&laid.pages),
+        pages: count_of(&pages),
         passes: laid.passes,
     })
 }
 
-/// What holds of all page lists.
+/// What holds of all page lists, and of the pages on which frames stand.
 fn page_laws()
     ensures { PageLaws }
 {
@@ -208,6 +254,7 @@ fn page_laws()
     breaks_hold();
     pages_end_inside();
     notes_begin_in_time();
+    folds_keep_all();
 }
 
 /// Lays out a document in its styles, in the pages that its page rules give, and puts what is asked for.
@@ -218,6 +265,7 @@ fn put_on_pages<O: Sink, L: Ledger>(
     steps: &mut Steps<L>,
 ) -> Result<Done, Outcome>
     requires passes { 0 < styled.now.passes }
+    requires grid { IsGoodGrid styled.now.grid }
     requires good { AreGoodStyles styled.now }
     ensures writes { WritesBy styled.now (O.taken out.old) (O.taken out.new) (outcome_of result) }
     ensures fault { outcome_of result ≡ Outcome.WriteFault → Rose (O.faults out.old) (O.faults out.new) }
@@ -235,6 +283,7 @@ pub(crate) fn lay_out<O: Sink, L: Ledger>(
     steps: &mut Steps<L>,
 ) -> Result<Done, Outcome>
     requires passes { 0 < document.value.passes }
+    requires grid { IsGoodGrid document.value.grid }
     requires sheets { HasSheets document.value }
     ensures writes { Writes (document_in document.entry.value) (O.taken out.old) (O.taken out.new) (outcome_of result) }
     ensures put { PutsOnlyABook (O.taken out.old) (O.taken out.new) (outcome_of result) }

@@ -20,7 +20,7 @@ use named_files::{FileOf, file_words};
 
 /// How the program is called.
 const USAGE: &str =
-    "bookfmt: usage: bookfmt format [--passes N] METRICS HTML [CSS ...] or bookfmt sample N\n";
+    "bookfmt: usage: bookfmt format [--passes N] [--columns N] [--gap PX] METRICS HTML [CSS ...] or bookfmt sample N\n";
 
 #[tactic(auto, unfolding(crate::specs::Message::why_text))]
 fn why_text(why: MetricsWhy) -> &'static str

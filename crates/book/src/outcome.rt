@@ -59,7 +59,7 @@ pub enum Outcome {
 }
 
 /// What is limited: 400,000 nodes, elements 200 deep, 16 sheets, 20,000 rules of a sheet, 33,554,432 bytes of text,
-/// 100,000 pages.
+/// 100,000 frames of pages.
 #[derive(Clone, Copy, Debug, PartialEq, Eq)]
 pub enum LimitOf {
     Nodes,

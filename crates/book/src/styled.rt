@@ -10,7 +10,7 @@ ghost use Rattle.book.specs.DocumentView.{document_in, HasSheets};
 ghost use Rattle.book.specs.Laid.{AreGoodStyles, IsStyledOf};
 
 use crate::boxed::boxed;
-use crate::document::{Document, Output};
+use crate::document::{ColumnGrid, Document, Output};
 use bk_num::items::Items;
 use bk_num::name::NoMem;
 use cascade::sheet::ReadSheet;
@@ -26,10 +26,12 @@ use style::names::Names;
 use style::styles::Styles;
 
 /// A document's nodes in their styles, the values of its counters, the faces that set it, the rules of its pages, and
-/// their names: what all passes over it read, of which there are at most so many, and what is to be put of it.
+/// their names: what all passes over it read, of which there are at most so many; the columns of its pages, and what is
+/// to be put of it.
 #[derive(Drop)]
 pub struct Styled {
     pub passes: u32,
+    pub grid: ColumnGrid,
     pub output: Output,
     pub faces: Faces,
     pub dom: Dom,
@@ -96,6 +98,7 @@ fn with_computed(document: Box<Document<'_>>, computed: Box<Computed>) -> Styled
     let computed = Box::into_inner(computed);
     Styled {
         passes: document.passes,
+        grid: document.grid,
         output: document.output,
         faces: document.faces,
         dom: document.dom,

@@ -10,7 +10,7 @@ use Rattle.clap.specs.declared.builder.value_parser.ValueParser.TheVariants as p
 use Rattle.clap.specs.declared.parser.matches.ArgMatches.{ArgMatches}
 use Rattle.clap.specs.Words.{IsSignedIn}
 use Rattle.clap.proofs.OnLiterals.{clap_on_literals}
-use Rattle.words.specs.Grammar.{chapters_rule, format_app, name_rule, passes_rule, sample_app}
+use Rattle.words.specs.Grammar.{chapters_rule, columns_rule, format_app, gap_rule, name_rule, passes_rule, sample_app}
 use Rattle.words.specs.Asked.{Answers, Asked, number_in, unless_fault}
 use Rattle.words.specs.Parsed.{IsLeaf, IsParseBy, IsRefusal}
 use Rattle.words.specs.declared.fault.WordsErr.{WordsErr}
@@ -45,29 +45,55 @@ pub sample_is_leaf : IsLeaf sample_app
 unfolding sample_app
 sample_is_leaf = record { leaf = refl; subs = refl }
 
-passes_alone : (j : ℕ) (e : Rule) → j < 4 → bytes_eq (slice_index_or format_app.top.rules j e).id (codes "passes") ≡ true → j ≡ 0
+passes_alone : (j : ℕ) (e : Rule) → j < 6 → bytes_eq (slice_index_or format_app.top.rules j e).id (codes "passes") ≡ true → j ≡ 0
 unfolding format_app
 passes_alone zero e lt h = refl
 passes_alone (suc zero) e lt h = let bad : false ≡ true = h in cc
 passes_alone (suc (suc zero)) e lt h = let bad : false ≡ true = h in cc
 passes_alone (suc (suc (suc zero))) e lt h = let bad : false ≡ true = h in cc
-passes_alone (suc (suc (suc (suc j)))) e lt h = absurd (omega arith)
+passes_alone (suc (suc (suc (suc zero)))) e lt h = let bad : false ≡ true = h in cc
+passes_alone (suc (suc (suc (suc (suc zero))))) e lt h = let bad : false ≡ true = h in cc
+passes_alone (suc (suc (suc (suc (suc (suc j)))))) e lt h = absurd (omega arith)
 
-metrics_alone : (j : ℕ) (e : Rule) → j < 4 → bytes_eq (slice_index_or format_app.top.rules j e).id (codes "metrics") ≡ true → j ≡ 1
+columns_alone : (j : ℕ) (e : Rule) → j < 6 → bytes_eq (slice_index_or format_app.top.rules j e).id (codes "columns") ≡ true → j ≡ 1
+unfolding format_app
+columns_alone zero e lt h = let bad : false ≡ true = h in cc
+columns_alone (suc zero) e lt h = refl
+columns_alone (suc (suc zero)) e lt h = let bad : false ≡ true = h in cc
+columns_alone (suc (suc (suc zero))) e lt h = let bad : false ≡ true = h in cc
+columns_alone (suc (suc (suc (suc zero)))) e lt h = let bad : false ≡ true = h in cc
+columns_alone (suc (suc (suc (suc (suc zero))))) e lt h = let bad : false ≡ true = h in cc
+columns_alone (suc (suc (suc (suc (suc (suc j)))))) e lt h = absurd (omega arith)
+
+gap_alone : (j : ℕ) (e : Rule) → j < 6 → bytes_eq (slice_index_or format_app.top.rules j e).id (codes "gap") ≡ true → j ≡ 2
+unfolding format_app
+gap_alone zero e lt h = let bad : false ≡ true = h in cc
+gap_alone (suc zero) e lt h = let bad : false ≡ true = h in cc
+gap_alone (suc (suc zero)) e lt h = refl
+gap_alone (suc (suc (suc zero))) e lt h = let bad : false ≡ true = h in cc
+gap_alone (suc (suc (suc (suc zero)))) e lt h = let bad : false ≡ true = h in cc
+gap_alone (suc (suc (suc (suc (suc zero))))) e lt h = let bad : false ≡ true = h in cc
+gap_alone (suc (suc (suc (suc (suc (suc j)))))) e lt h = absurd (omega arith)
+
+metrics_alone : (j : ℕ) (e : Rule) → j < 6 → bytes_eq (slice_index_or format_app.top.rules j e).id (codes "metrics") ≡ true → j ≡ 3
 unfolding format_app
 metrics_alone zero e lt h = let bad : false ≡ true = h in cc
-metrics_alone (suc zero) e lt h = refl
+metrics_alone (suc zero) e lt h = let bad : false ≡ true = h in cc
 metrics_alone (suc (suc zero)) e lt h = let bad : false ≡ true = h in cc
-metrics_alone (suc (suc (suc zero))) e lt h = let bad : false ≡ true = h in cc
-metrics_alone (suc (suc (suc (suc j)))) e lt h = absurd (omega arith)
+metrics_alone (suc (suc (suc zero))) e lt h = refl
+metrics_alone (suc (suc (suc (suc zero)))) e lt h = let bad : false ≡ true = h in cc
+metrics_alone (suc (suc (suc (suc (suc zero))))) e lt h = let bad : false ≡ true = h in cc
+metrics_alone (suc (suc (suc (suc (suc (suc j)))))) e lt h = absurd (omega arith)
 
-html_alone : (j : ℕ) (e : Rule) → j < 4 → bytes_eq (slice_index_or format_app.top.rules j e).id (codes "html") ≡ true → j ≡ 2
+html_alone : (j : ℕ) (e : Rule) → j < 6 → bytes_eq (slice_index_or format_app.top.rules j e).id (codes "html") ≡ true → j ≡ 4
 unfolding format_app
 html_alone zero e lt h = let bad : false ≡ true = h in cc
 html_alone (suc zero) e lt h = let bad : false ≡ true = h in cc
-html_alone (suc (suc zero)) e lt h = refl
+html_alone (suc (suc zero)) e lt h = let bad : false ≡ true = h in cc
 html_alone (suc (suc (suc zero))) e lt h = let bad : false ≡ true = h in cc
-html_alone (suc (suc (suc (suc j)))) e lt h = absurd (omega arith)
+html_alone (suc (suc (suc (suc zero)))) e lt h = refl
+html_alone (suc (suc (suc (suc (suc zero))))) e lt h = let bad : false ≡ true = h in cc
+html_alone (suc (suc (suc (suc (suc (suc j)))))) e lt h = absurd (omega arith)
 
 chapters_alone : (j : ℕ) (e : Rule) → j < 1 → bytes_eq (slice_index_or sample_app.top.rules j e).id (codes "n") ≡ true → j ≡ 0
 chapters_alone zero e lt h = refl
@@ -78,7 +104,7 @@ module _ (m : ArgMatches) (by : IsParseBy format_app m) where
   unfolding format_app
   format_plain = plain_command by.command format_app by.shape refl refl refl
 
-  format_args : length (args_of by.command) ≡ 4
+  format_args : length (args_of by.command) ≡ 6
   unfolding format_app
   format_args = arg_count by.command format_app by.shape
 
@@ -91,19 +117,19 @@ module _ (m : ArgMatches) (by : IsParseBy format_app m) where
   unfolding format_app
   takes_passes = takes_one by.command format_app by.shape 0 format_arg passes_rule (omega arith) refl refl refl refl refl refl refl passes_alone
 
-  takes_metrics : TakesOne by.command 1 format_arg (name_rule (codes "metrics"))
+  takes_metrics : TakesOne by.command 3 format_arg (name_rule (codes "metrics"))
   unfolding format_app
-  takes_metrics = takes_one by.command format_app by.shape 1 format_arg (name_rule (codes "metrics")) (omega arith) refl refl refl refl refl refl refl metrics_alone
+  takes_metrics = takes_one by.command format_app by.shape 3 format_arg (name_rule (codes "metrics")) (omega arith) refl refl refl refl refl refl refl metrics_alone
 
-  takes_html : TakesOne by.command 2 format_arg (name_rule (codes "html"))
+  takes_html : TakesOne by.command 4 format_arg (name_rule (codes "html"))
   unfolding format_app
-  takes_html = takes_one by.command format_app by.shape 2 format_arg (name_rule (codes "html")) (omega arith) refl refl refl refl refl refl refl html_alone
+  takes_html = takes_one by.command format_app by.shape 4 format_arg (name_rule (codes "html")) (omega arith) refl refl refl refl refl refl refl html_alone
 
   pub metrics_given : is_some (first_value (found_of m) (codes "metrics")) ≡ true
-  metrics_given = required_given by.command 1 format_arg (name_rule (codes "metrics")) takes_metrics m by.parsed format_plain refl
+  metrics_given = required_given by.command 3 format_arg (name_rule (codes "metrics")) takes_metrics m by.parsed format_plain refl
 
   pub html_given : is_some (first_value (found_of m) (codes "html")) ≡ true
-  html_given = required_given by.command 2 format_arg (name_rule (codes "html")) takes_html m by.parsed format_plain refl
+  html_given = required_given by.command 4 format_arg (name_rule (codes "html")) takes_html m by.parsed format_plain refl
 
   passes_given : (t : Text) × (one_text (found_of m) (codes "passes") ≡ Some (without_minus t)) × IsSignedIn (pos 1) (pos 64) t
   passes_given = default_read by.command 0 format_arg passes_rule takes_passes m by.parsed format_plain (parser.Signed (pos 1) (pos 64)) refl refl (omega arith)
@@ -111,6 +137,28 @@ module _ (m : ArgMatches) (by : IsParseBy format_app m) where
   pub passes_read : (r : Option ℕ) → Reads 8 (found_of m) (codes "passes") r
       → (n : ℕ) × (r ≡ Some n) × (1 ≤ n) × (n ≤ 64) × (n ≡ number_in (rows_of (found_of m)) (codes "passes"))
   passes_read r reads = number_read 8 1 64 (found_of m) (codes "passes") r passes_given.0 passes_given.1 reads (omega arith) passes_given.2
+
+  takes_columns : TakesOne by.command 1 format_arg columns_rule
+  unfolding format_app
+  takes_columns = takes_one by.command format_app by.shape 1 format_arg columns_rule (omega arith) refl refl refl refl refl refl refl columns_alone
+
+  columns_given : (t : Text) × (one_text (found_of m) (codes "columns") ≡ Some (without_minus t)) × IsSignedIn (pos 1) (pos 8) t
+  columns_given = default_read by.command 1 format_arg columns_rule takes_columns m by.parsed format_plain (parser.Signed (pos 1) (pos 8)) refl refl (omega arith)
+
+  pub columns_read : (r : Option ℕ) → Reads 8 (found_of m) (codes "columns") r
+      → (n : ℕ) × (r ≡ Some n) × (1 ≤ n) × (n ≤ 8) × (n ≡ number_in (rows_of (found_of m)) (codes "columns"))
+  columns_read r reads = number_read 8 1 8 (found_of m) (codes "columns") r columns_given.0 columns_given.1 reads (omega arith) columns_given.2
+
+  takes_gap : TakesOne by.command 2 format_arg gap_rule
+  unfolding format_app
+  takes_gap = takes_one by.command format_app by.shape 2 format_arg gap_rule (omega arith) refl refl refl refl refl refl refl gap_alone
+
+  gap_given : (t : Text) × (one_text (found_of m) (codes "gap") ≡ Some (without_minus t)) × IsSignedIn (pos 0) (pos 1000) t
+  gap_given = default_read by.command 2 format_arg gap_rule takes_gap m by.parsed format_plain (parser.Signed (pos 0) (pos 1000)) refl refl (omega arith)
+
+  pub gap_read : (r : Option ℕ) → Reads 16 (found_of m) (codes "gap") r
+      → (n : ℕ) × (r ≡ Some n) × (0 ≤ n) × (n ≤ 1000) × (n ≡ number_in (rows_of (found_of m)) (codes "gap"))
+  gap_read r reads = number_read 16 0 1000 (found_of m) (codes "gap") r gap_given.0 gap_given.1 reads (omega arith) gap_given.2
 
 module _ (m : ArgMatches) (by : IsParseBy sample_app m) where
   sample_plain : IsPlainCommand by.command

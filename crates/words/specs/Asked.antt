@@ -5,7 +5,7 @@ use Rattle.std.specs.Str.Parse.{digits_value, without_leading_plus}
 use Rattle.clap.specs.Words.{Kinds, Row, Text, all_of, fault_of, first_of, matches_of, one_of}
 use Rattle.clap.specs.declared.error.ErrorKind.{ErrorKind}
 use Rattle.clap.specs.declared.error.ErrorKind.TheVariants as kind
-use Rattle.words.specs.Grammar.{format_app, most_chapters, most_passes, sample_app}
+use Rattle.words.specs.Grammar.{format_app, most_chapters, most_columns, most_passes, sample_app, widest_gap}
 use Rattle.words.specs.declared.fault.WordsErr.{WordsErr}
 use Rattle.words.specs.declared.fault.WordsErr.TheVariants as err
 use Rattle.words.specs.declared.fault.WordsFault.{WordsFault}
@@ -14,9 +14,12 @@ use Rattle.words.specs.declared.request.Format.{Format}
 use Rattle.words.specs.declared.request.Request.{Request}
 use Rattle.words.specs.declared.request.Request.TheVariants as request
 
--- what `format` is asked for: the most passes, and the names of the files, sheets in the order of the words
+-- what `format` is asked for: the most passes, the columns of each page and the gap between them in px, and the names of
+-- the files, sheets in the order of the words
 pub record FormatWords : Type 0 where
   pub passes : ℕ
+  pub columns : ℕ
+  pub gap : ℕ
   pub metrics : Text
   pub html : Text
   pub sheets : List Text
@@ -47,6 +50,8 @@ number_in rows id = digits_value 10 (without_leading_plus (unwrap_or (one_of id 
 abbrev pub format_in : List Row → FormatWords
 format_in rows = record {
   passes = number_in rows (codes "passes");
+  columns = number_in rows (codes "columns");
+  gap = number_in rows (codes "gap");
   metrics = text_in rows (codes "metrics");
   html = text_in rows (codes "html");
   sheets = unwrap_or (all_of (codes "css") rows) [];
@@ -82,8 +87,14 @@ asked (command ∷ words) =
 
 -- the words of `format` as contracts see them
 abbrev pub format_view : Format → FormatWords
-format_view f =
-    record { passes = f.passes; metrics = f.metrics.now; html = f.html.now; sheets = map (λ s. s.now) f.sheets.items }
+format_view f = record {
+  passes = f.passes;
+  columns = f.columns;
+  gap = f.gap;
+  metrics = f.metrics.now;
+  html = f.html.now;
+  sheets = map (λ s. s.now) f.sheets.items;
+}
 
 -- a request as contracts see it
 abbrev pub request_of : Request → Asked
@@ -96,7 +107,15 @@ Answers asked (Ok r) = request_of r ≡ asked
 Answers asked (Err (err.Fault f)) = refused f ≡ asked
 Answers asked (Err err.NoMemory) = Unit {0}
 
--- the passes and the chapters lie from 1 to the most that may be asked for
+-- the numbers of `format` lie in their ranges
+pub record AreInRange (f : Format) : Type 0 where
+  pub passes_least : 1 ≤ f.passes
+  pub passes_most : f.passes ≤ most_passes
+  pub columns_least : 1 ≤ f.columns
+  pub columns_most : f.columns ≤ most_columns
+  pub gap_most : f.gap ≤ widest_gap
+
+-- the numbers lie in the ranges that may be asked for
 abbrev pub IsInRange : Request → Type 0
-IsInRange (request.Format f) = (1 ≤ f.passes) × (f.passes ≤ most_passes)
+IsInRange (request.Format f) = AreInRange f
 IsInRange (request.Sample n) = (1 ≤ n) × (n ≤ most_chapters)

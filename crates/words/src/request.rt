@@ -5,6 +5,10 @@
 pub struct Format<'a> {
     /// How many passes may be made, from 1 to 64.
     pub passes: u8,
+    /// How many columns a page has, from 1 to 8.
+    pub columns: u8,
+    /// The gap between columns, in whole px, at most 1,000.
+    pub gap: u16,
     /// The name of the metrics text.
     pub metrics: &'a str,
     /// The name of the HTML.

@@ -2,8 +2,8 @@
 
 ghost use Rattle.std.specs.Prelude.{◌≡◌, ◌≤◌, IfOk, IfErr, codes, is_some, true, unwrap_or, map, []};
 ghost use Rattle.clap.specs.Words.{found_of, first_value, all_of, rows_of};
-ghost use Rattle.words.specs.Grammar.{format_app, most_chapters, most_passes, sample_app};
-ghost use Rattle.words.specs.Asked.{format_view, format_in, number_in, text_in};
+ghost use Rattle.words.specs.Grammar.{format_app, most_chapters, most_columns, most_passes, sample_app, widest_gap};
+ghost use Rattle.words.specs.Asked.{AreInRange, format_view, format_in, number_in, text_in};
 ghost use Rattle.words.specs.Parsed.{IsParseBy};
 
 use crate::fault::WordsErr;
@@ -41,6 +41,25 @@ fn passes_in(matches: &ArgMatches<'_>) -> u8
     matches.get_one::<u8>("passes").unwrap()
 }
 
+/// How many columns a page has.
+fn columns_in(matches: &ArgMatches<'_>) -> u8
+    requires { IsParseBy format_app matches.now }
+    ensures columns { result ≡ number_in (rows_of (found_of matches.now)) (codes "columns") }
+    ensures least { 1 ≤ result }
+    ensures most { result ≤ most_columns }
+{
+    matches.get_one::<u8>("columns").unwrap()
+}
+
+/// The gap between columns, in px.
+fn gap_in(matches: &ArgMatches<'_>) -> u16
+    requires { IsParseBy format_app matches.now }
+    ensures gap { result ≡ number_in (rows_of (found_of matches.now)) (codes "gap") }
+    ensures most { result ≤ widest_gap }
+{
+    matches.get_one::<u16>("gap").unwrap()
+}
+
 /// How many chapters a sample has.
 pub(crate) fn chapters_in(matches: &ArgMatches<'_>) -> u32
     requires { IsParseBy sample_app matches.now }
@@ -55,12 +74,14 @@ pub(crate) fn chapters_in(matches: &ArgMatches<'_>) -> u32
 pub(crate) fn format_in<'a>(alloc: Global, matches: &ArgMatches<'a>) -> Result<Format<'a>, WordsErr>
     requires { IsParseBy format_app matches.now }
     ensures words { IfOk result (λ f. format_view f ≡ format_in (rows_of (found_of matches.now))) }
-    ensures passes { IfOk result (λ f. (1 ≤ f.passes) × (f.passes ≤ most_passes)) }
+    ensures range { IfOk result AreInRange }
     ensures fault { IfErr result (λ e. e ≡ WordsErr.NoMemory) }
 {
     let sheets = sheets_in(alloc, matches)?;
     Ok(Format {
         passes: passes_in(matches),
+        columns: columns_in(matches),
+        gap: gap_in(matches),
         metrics: text_in(matches, "metrics"),
         html: text_in(matches, "html"),
         sheets,

@@ -7,4 +7,5 @@ returns c = record {
   breaks = c.breaks_hold.ensures;
   inside = c.pages_end_inside.ensures;
   begins = c.notes_begin_in_time.ensures;
+  folds = c.folds_keep_all.ensures;
 }

@@ -10,6 +10,8 @@ use Rattle.book.proofs.lay_out.print_settled.Goals as goal
 pub print-requires : goal.print-requires
 print-requires g c = record {
   painted = can_be_painted c.args.styled.now.faces c.args.laid.now.flow c.requires.good;
+  frames = c.requires.frames;
+  per = c.requires.grid.per;
   pages = c.requires.pages;
   numbers = c.as_slice.ensures.value ∙ c.in_ok-numbers.ensures;
   strings = c.in_ok-strings.ensures;
@@ -19,8 +21,9 @@ print-requires g c = record {
 pub returns-clause-bytes : goal.returns-clause-bytes
 returns-clause-bytes g c =
     let s = c.args.styled.now in
-    subst (λ (p : Print). Puts (g.O.Sink.taken c.args.out.now) (g.O.Sink.taken c.print.new.out) (listing_of p c.args.laid.now.pages.pages) c.print.result)
-    (print_is s.rules s.names s.faces c.args.laid.now.passes c.args.laid.now.flow c.args.boxes.now c.requires.boxes.table c.requires.boxes.boxes) c.print.ensures.bytes
+    let laid = c.args.laid.now in
+    subst (λ (p : Print). Puts (g.O.Sink.taken c.args.out.now) (g.O.Sink.taken c.print.new.out) (listing_of p c.args.pages.now.pages) c.print.result)
+    (print_is s.rules s.names s.faces s.grid.columns laid.passes laid.flow laid.pages.pages c.args.boxes.now c.requires.boxes.table c.requires.boxes.boxes) c.print.ensures.bytes
 
 pub returns-in_err-numbers-clause-bytes : goal.returns-in_err-numbers-clause-bytes
 returns-in_err-numbers-clause-bytes g c =

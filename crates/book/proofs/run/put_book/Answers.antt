@@ -1,6 +1,6 @@
 use Rattle.std.proofs.Common.{◌≡◌, ℕ, ◌<◌, subst, sym}
 use Rattle.std.proofs.lemmas.Result.{err_from_is_err_and}
-use Rattle.book.specs.Document.{document_of}
+use Rattle.book.specs.Document.{IsGoodGrid, document_of}
 use Rattle.book.specs.DocumentView.{document_in, texts_in}
 use Rattle.book.specs.Laid.{outcome_of}
 use Rattle.book.specs.Run.{IsOfTexts}
@@ -10,6 +10,9 @@ use Rattle.book.proofs.run.put_book.Goals as goal
 
 pub lay_out-requires-clause-passes : goal.lay_out-requires-clause-passes
 lay_out-requires-clause-passes g c = subst (λ (n : ℕ). 0 < n) (sym c.in_ok-document.ensures.passes) c.requires.some
+
+pub lay_out-requires-clause-grid : goal.lay_out-requires-clause-grid
+lay_out-requires-clause-grid g c = subst IsGoodGrid (sym c.in_ok-document.ensures.grid) c.requires.grid
 
 pub returns-in_err-document-clause-answers : goal.returns-in_err-document-clause-answers
 returns-in_err-document-clause-answers g c =

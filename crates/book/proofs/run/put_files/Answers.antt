@@ -1,7 +1,8 @@
-use Rattle.std.proofs.Common.{◌≡◌, ◌∙◌, ℕ, ◌<◌, subst, sym}
+use Rattle.std.proofs.Common.{◌≡◌, ◌∙◌, ℕ, ◌<◌, arith, subst, sym}
 use Rattle.std.proofs.lemmas.Result.{err_from_is_err_and}
 use Rattle.words.specs.Asked.{format_view}
-use Rattle.book.specs.Document.{Texts}
+use Rattle.book.specs.Document.{IsGoodGrid, Texts, grid_of}
+use Rattle.book.specs.declared.document.ColumnGrid.{ColumnGrid}
 use Rattle.book.specs.DocumentView.{texts_in}
 use Rattle.book.specs.Expect.{IsGiven}
 use Rattle.book.specs.FilesView.{listed_texts}
@@ -36,14 +37,19 @@ returns-in_err-files-clause-fault g c =
     rw (p.1, p.2) (λ e. absurd (none e))
 
 pub put_book-requires-clause-some : goal.put_book-requires-clause-some
-put_book-requires-clause-some g c = subst (λ (n : ℕ). 0 < n) (sym (c.listed_texts-texts.ensures.passes ∙ c.from.ensures)) c.requires
+put_book-requires-clause-some g c = subst (λ (n : ℕ). 0 < n) (sym (c.listed_texts-texts.ensures.passes ∙ c.from.ensures)) (let least = c.requires.passes_least in omega arith)
+
+pub put_book-requires-clause-grid : goal.put_book-requires-clause-grid
+put_book-requires-clause-grid g c = subst IsGoodGrid (sym c.listed_texts-texts.ensures.grid) c.grid_of.ensures.good
 
 pub returns-clause-answers : goal.returns-clause-answers
 returns-clause-answers g c = λ reading h.
     let names = texts_named (format_view c.args.names.now) (g.F.Shelf.told c.args.shelf.now) in
     let files = c.in_ok-files.files in
-    let read : IsGiven names (listed_texts c.from.result files) = subst (λ (n : ℕ). IsGiven names (listed_texts n files)) (sym c.from.ensures) c.in_ok-files.ensures.texts in
-    texts_meet reading names (texts_in c.listed_texts-texts.result) _ _ (outcome_of c.put_book.result) (subst (λ (t : Texts). IsGiven names t) (sym c.listed_texts-texts.ensures.texts) read) (c.put_book.ensures.answers reading h)
+    let grid = grid_of (format_view c.args.names.now) in
+    let read : IsGiven names (listed_texts c.from.result grid files) = subst (λ (n : ℕ). IsGiven names (listed_texts n grid files)) (sym c.from.ensures) c.in_ok-files.ensures.texts in
+    let same : IsGiven names (listed_texts c.from.result c.grid_of.result files) = subst (λ (g : ColumnGrid). IsGiven names (listed_texts c.from.result g files)) (sym c.grid_of.ensures.grid) read in
+    texts_meet reading names (texts_in c.listed_texts-texts.result) _ _ (outcome_of c.put_book.result) (subst (λ (t : Texts). IsGiven names t) (sym c.listed_texts-texts.ensures.texts) same) (c.put_book.ensures.answers reading h)
 
 pub returns-clause-cause : goal.returns-clause-cause
 returns-clause-cause g c = book_cause (format_view c.args.names.now) (g.F.Shelf.told c.args.shelf.now) _ _ _ (outcome_of c.put_book.result) c.put_book.ensures.of_book

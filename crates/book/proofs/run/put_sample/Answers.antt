@@ -1,4 +1,4 @@
-use Rattle.std.proofs.Common.{◌≡◌, ◌∙◌, ◌∷◌, [], ap, subst}
+use Rattle.std.proofs.Common.{◌≡◌, ◌∙◌, ◌∷◌, [], ap, arith, subst}
 use Rattle.sheets.specs.Files.{file_texts}
 use Rattle.sample.specs.Texts.{css_text}
 use Rattle.book.specs.Document.{Texts, document_of}
@@ -16,3 +16,6 @@ returns-clause-answers g c = λ reading h.
     subst (λ (t : Texts). Meets (document_of reading t) (g.O.Sink.taken c.args.out.now) (g.O.Sink.taken c.put_book.new.out) (outcome_of c.put_book.result))
     (texts_are c.args.chapters c.as_str-2.result.now c.as_str-3.result.now (file_texts c.deref.result.now) (c.as_str-2.ensures ∙ c.in_ok-book.ensures.2) (c.as_str-3.ensures ∙ c.in_ok-book.ensures.0) sheets)
     (c.put_book.ensures.answers reading h)
+
+pub put_book-requires-clause-grid : goal.put_book-requires-clause-grid
+put_book-requires-clause-grid g c = record { per = record { low = omega arith; high = omega arith }; gap = omega arith }

@@ -4,6 +4,7 @@ use Rattle.book.proofs.styled.with_computed.Goals as goal
 pub returns-clause-of : goal.returns-clause-of
 returns-clause-of c = rw (c.into_inner-document.ensures, c.into_inner-computed.ensures) (record {
   passes = refl;
+  grid = refl;
   output = refl;
   nodes = refl;
   faces = refl;
