@@ -1,6 +1,6 @@
 //! From a line to a line, and from a question to its answer.
 
-use crate::{breaks, documents, lines, pages, plain, trees};
+use crate::{breaks, documents, lines, pages, plain, plans, trees};
 use bk_num::name::NoMem;
 use rows::{is_among, part, parts_from, question_of};
 use std::alloc::{AllocError, Global};
@@ -16,6 +16,8 @@ fn of_text(alloc: Global, parts: &[&str]) -> Result<String, NoMem> {
         "collapse" => breaks::collapsed(alloc, parts_from(parts, 1)),
         "breaks" => breaks::marked_text(alloc, parts),
         "line" | "height" | "runs" => lines::answer(alloc, parts),
+        "plan" => plans::planned(alloc, part(parts, 1), part(parts, 2)),
+        "checked" => plans::judged(alloc, parts),
         _ => plain::answer(alloc, parts),
     }
 }

@@ -1,4 +1,4 @@
-//! Worked rows of flows: trees of boxes, texts and their lines, seams, frames. A line of standard input is
+//! Worked rows of flows: trees of boxes, texts and their lines, plans, seams, frames. A line of standard input is
 //! `CALL|PART|PART.. => ANSWER`, with the answer that is wanted; it is printed again with the answer that the library
 //! gives. So the file `stdout` is a copy of `stdin`, and what differs is a wrong answer.
 #![tactic(auto)]
@@ -11,6 +11,7 @@ mod leaves;
 mod lines;
 mod pages;
 mod plain;
+mod plans;
 mod seam_rows;
 mod trees;
 

@@ -18,6 +18,7 @@ const FRAME: Frame = Frame {
 
 fn demand_of(word: &str) -> Demand {
     match word {
+        "column" => Demand::Column,
         "left" => Demand::Left,
         "right" => Demand::Right,
         _ => Demand::Page,

@@ -24,6 +24,7 @@ fn class_word(class: Class) -> &'static str {
 
 fn demand_word(demand: Option<Demand>) -> &'static str {
     match demand {
+        Some(Demand::Column) => "column",
         Some(Demand::Page) => "page",
         Some(Demand::Left) => "left",
         Some(Demand::Right) => "right",
@@ -79,6 +80,8 @@ fn given_seam(part: &str) -> SeamInfo {
     };
     let forced = if part.contains("left") {
         Some(Demand::Left)
+    } else if part.contains("column") {
+        Some(Demand::Column)
     } else {
         None
     };

@@ -1,0 +1,7 @@
+pub mod CertificateLemmas
+pub mod ChoiceLemmas
+pub mod CostLemmas
+pub mod ExistLemmas
+pub mod PlanLemmas
+pub mod RestLemmas
+pub mod SuffixLemmas
