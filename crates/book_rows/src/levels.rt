@@ -7,7 +7,7 @@ use crate::books::Section;
 use crate::files::{METRICS, files_of};
 use bk_num::name::{Name, NoMem};
 use bk_num::steps::Steps;
-use book::document::{Output, Texts, read_document};
+use book::document::{ColumnGrid, Output, Texts, read_document};
 use book::styled::{Styled, in_styles};
 use boxes::page::{Page, PageList};
 use page_ctx::resolve::resolve;
@@ -35,6 +35,7 @@ fn styled_of(alloc: Global, html: &str, sheets: &[String]) -> Result<Box<Styled>
 {
     let texts = Texts {
         passes: 8,
+        grid: ColumnGrid { columns: 1, gap: 0 },
         output: Output::Listing,
         metrics: METRICS,
         html,

@@ -14,6 +14,7 @@ mod painted;
 mod records;
 mod references;
 mod running_strings;
+mod side_by_side;
 mod tree_pages;
 
 use crate::notation::unknown;
@@ -28,6 +29,7 @@ enum Topic {
     LinesCut,
     TreePages,
     PagePlaces,
+    SideBySide,
     References,
     RunningStrings,
     PageRules,
@@ -44,6 +46,7 @@ fn topic_of(call: &str) -> Topic {
         "cut" | "read" => Topic::LinesCut,
         "tops" | "pages" | "solids" | "walks" | "cut_at" => Topic::TreePages,
         "frame" | "side" | "place" | "numbers" => Topic::PagePlaces,
+        "column" | "met" | "fold" => Topic::SideBySide,
         "shown" | "changed" | "difference" => Topic::References,
         "strings" | "string_on" | "assigned" => Topic::RunningStrings,
         "tops_of" | "page_box" | "box_text" | "box_font" | "box_place" => Topic::PageRules,
@@ -61,6 +64,7 @@ fn answer_to(alloc: Global, parts: &[&str]) -> Result<String, NoMem> {
         Topic::LinesCut => lines_cut::answer(alloc, parts),
         Topic::TreePages => tree_pages::answer(alloc, parts),
         Topic::PagePlaces => page_places::answer(alloc, parts),
+        Topic::SideBySide => side_by_side::answer(alloc, parts),
         Topic::References => references::answer(alloc, parts),
         Topic::RunningStrings => running_strings::answer(alloc, parts),
         Topic::PageRules => page_rules::answer(alloc, parts),

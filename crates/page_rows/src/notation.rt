@@ -80,12 +80,22 @@ fn line(word: &str) -> Placed {
     }
 }
 
-/// Adds a line of the main tree, or, as `note0`, one of a note.
-fn add_line(page: &mut Page, word: &str) -> Result<(), NoMem> {
-    match word.strip_prefix("note") {
-        Some(note) => page.notes.push((count(note), line("1"))),
-        None => page.solids.push(line(word)),
+/// Adds a line of the main tree, or, as `note0`, one of a note; or sets the level of the page, as `level2`, its name,
+/// as `name1`, or the height of its frame, as `high20`.
+fn add_word(page: &mut Page, word: &str) -> Result<(), NoMem> {
+    if let Some(note) = word.strip_prefix("note") {
+        return page.notes.push((count(note), line("1")));
     }
+    if let Some(level) = word.strip_prefix("level") {
+        page.level = count(level).min(3) as u8;
+    } else if let Some(name) = word.strip_prefix("name") {
+        page.name = NameId(count(name));
+    } else if let Some(height) = word.strip_prefix("high") {
+        page.frame.height = i64::from(units(height));
+    } else {
+        return page.solids.push(line(word));
+    }
+    Ok(())
 }
 
 /// A page of lines, which may begin with `blank` or `notes`.
@@ -110,7 +120,7 @@ fn page_of(alloc: Global, index: u32, words: &str) -> Result<Page, NoMem> {
         level: 0,
     };
     for word in words.split_whitespace() {
-        add_line(&mut page, word)?;
+        add_word(&mut page, word)?;
     }
     Ok(page)
 }
@@ -138,6 +148,7 @@ fn space(word: &str) -> Space {
 fn break_at(word: &str) -> BreakAt {
     match word {
         "avoid" => BreakAt::Avoid,
+        "column" => BreakAt::Column,
         "page" => BreakAt::Page,
         "left" => BreakAt::Left,
         "right" => BreakAt::Right,

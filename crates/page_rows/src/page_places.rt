@@ -1,8 +1,10 @@
 //! The frames of a table, the sides of pages, the pages of places, and page numbers.
 
 ghost use Rattle.std.specs.Prelude.{◌≤◌, IfOk};
+ghost use Rattle.std.specs.List.{All};
 ghost use Rattle.boxes.specs.Frames.{IsGoodFrame};
-ghost use Rattle.page_seq.specs.Frames.{HasGoodCells, IsGoodTable};
+ghost use Rattle.columns.specs.Columns.{IsNearFrame};
+ghost use Rattle.page_seq.specs.Frames.{HasCells, HasGoodCells, IsGoodTable};
 
 use crate::notation::{count, pages_of, position, tree_in_short, units, unknown};
 use bk_num::ids::NameId;
@@ -22,7 +24,8 @@ use std::alloc::Global;
 
 /// A cell that the height of its frame tells from others.
 fn cell(height: u8) -> PageCell
-    ensures { IsGoodFrame result.frame }
+    ensures good { IsGoodFrame result.frame }
+    ensures near { IsNearFrame result.frame }
 {
     PageCell {
         width: 100,
@@ -30,7 +33,7 @@ fn cell(height: u8) -> PageCell
         right: 0,
         bottom: 0,
         frame: Frame {
-            left: 0,
+            left: 5,
             top: 0,
             width: 100,
             height: i64::from(height),
@@ -41,7 +44,8 @@ fn cell(height: u8) -> PageCell
 /// A row whose cells are numbered from a height on.
 fn row(first: u8) -> PageRow
     requires { first ≤ 100 }
-    ensures { HasGoodCells result }
+    ensures good { HasGoodCells result }
+    ensures near { HasCells IsNearFrame result }
 {
     PageRow {
         cells: [
@@ -56,8 +60,9 @@ fn row(first: u8) -> PageRow
 }
 
 /// The pages of no name and of one name: cells from 10 and from 20 on.
-fn table(alloc: Global) -> Result<PageTable, NoMem>
-    ensures { IfOk result (λ table. IsGoodTable table.rows) }
+pub(crate) fn table(alloc: Global) -> Result<PageTable, NoMem>
+    ensures good { IfOk result (λ table. IsGoodTable table.rows) }
+    ensures near { IfOk result (λ table. All (HasCells IsNearFrame) table.rows) }
 {
     let rows = Vec::from_array(alloc, [row(10), row(20)])?;
     Ok(PageTable {
@@ -65,7 +70,7 @@ fn table(alloc: Global) -> Result<PageTable, NoMem>
     })
 }
 
-fn kind_of(word: &str) -> PageKind {
+pub(crate) fn kind_of(word: &str) -> PageKind {
     match word {
         "blank" => PageKind::Blank,
         "notes" => PageKind::Notes,
@@ -74,7 +79,7 @@ fn kind_of(word: &str) -> PageKind {
 }
 
 /// The index of a page, from 1 on.
-fn index_of(word: &str) -> u32
+pub(crate) fn index_of(word: &str) -> u32
     ensures low { 1 ≤ result }
     ensures high { result ≤ 1000 }
 {

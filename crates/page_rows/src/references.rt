@@ -1,6 +1,6 @@
 //! Tables of page references: elements on pages and in notes, and where tables differ.
 
-ghost use Rattle.std.specs.Prelude.{◌≡◌, ◌≤◌, length, map, IfOk};
+ghost use Rattle.std.specs.Prelude.{map, IfOk};
 ghost use Rattle.std.specs.List.{All};
 ghost use Rattle.page_seq.specs.Numbers.{IsSmallReset};
 ghost use Rattle.page_seq.specs.Places.{NeverFall};

@@ -1,7 +1,7 @@
 //! What the keywords of `string()` give on pages, in a flow of seven paragraphs of a line each. The first opens at
 //! event 1, and each three events after the one before it.
 
-ghost use Rattle.std.specs.Prelude.{◌≡◌, ◌<◌, length, map, IfOk};
+ghost use Rattle.std.specs.Prelude.{◌≡◌, ◌<◌, map, IfOk};
 ghost use Rattle.page_seq.specs.Places.{NeverFall};
 
 use crate::notation::{count, pages_of, tree_in_short, unknown};

@@ -77,6 +77,7 @@ fn word<'s>(style: &'s Style, names: &'s Names, property: &str) -> &'s str {
         "list-style-type" => marker_word(style.list_style_type),
         "line-height-as" => height_word(&style.line_height),
         "break-after" if style.break_after == BreakAt::Avoid => "avoid",
+        "break-after" if style.break_after == BreakAt::Column => "column",
         "box-decoration-break" if style.box_decoration_break => "clone",
         "box-decoration-break" => "slice",
         "white-space" if style.white_space == WhiteSpace::Pre => "pre",

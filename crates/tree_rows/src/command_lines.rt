@@ -20,15 +20,17 @@ fn push_quoted(line: &mut String, names: &[&str]) -> Result<(), AllocError> {
     Ok(())
 }
 
-/// The passes, and the names in quotes: of the metrics, of the HTML, and of the sheets.
+/// The passes, the columns, the gap, and the names in quotes: of the metrics, of the HTML, and of the sheets.
 fn format(alloc: Global, format: &Format<'_>) -> Result<String, AllocError> {
     let Format {
         passes,
+        columns,
+        gap,
         metrics,
         html,
         ..
     } = format;
-    let mut line = format!(in alloc; "format {passes} '{metrics}' '{html}'")?;
+    let mut line = format!(in alloc; "format {passes} {columns} {gap} '{metrics}' '{html}'")?;
     push_quoted(&mut line, &format.sheets)?;
     Ok(line)
 }

@@ -1,4 +1,3 @@
-use Rattle.std.proofs.Common.{◌≡◌}
 use Rattle.cuts.specs.Areas.{IsArea}
 use Rattle.cuts.specs.Prefixes.{HasRead}
 use Rattle.page_rows.proofs.lines_cut.lines_read.Given as goal
