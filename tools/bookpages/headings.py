@@ -26,7 +26,8 @@ def size_of(texts):
 def headings_of(pages, sizes=None):
     """The lines in the given sizes, by default those larger than most of the text; the largest are of level 1.
 
-    Lines that follow one another on a page in one size, with no more than half a line between, are one heading."""
+    Lines that follow one another in one size, with no more than half a line between, are one heading; a line at the head
+    of the next column follows none."""
     if sizes is None:
         usual = usual_size(pages)
         larger = {size_of(texts) for page in pages for _, texts in lines_of(page)[0]} - {None}
@@ -40,7 +41,7 @@ def headings_of(pages, sizes=None):
             if size in levels:
                 text = "".join(it.string for it in texts if it.size == size).replace("\u00ad", "").replace("\n", " ")
                 text = " ".join(text.split())
-                if before and before[0] == size and line.y - before[1] <= line.height // 2:
+                if before and before[0] == size and abs(line.y - before[1]) <= line.height // 2:
                     found[-1] = found[-1]._replace(text=f"{found[-1].text} {text}")
                 else:
                     found.append(Heading(levels[size], text, page.index, line.x, line.y))

@@ -73,6 +73,10 @@ class Book(Folder):
             f"serif/normal/400={self.font}",
             "--passes",
             "3",
+            "--gap",
+            "20",
+            "--columns",
+            "2",
             "--unproved",
             "-o",
             "c.pdf",
@@ -82,7 +86,7 @@ class Book(Folder):
             "T",
         )
         self.assertEqual(status, 0, err)
-        self.assertEqual(self.read("words"), "--unproved format --passes 3 -- m.txt b.html a.css\n")
+        self.assertEqual(self.read("words"), "--unproved format --passes 3 --columns 2 --gap 20 -- m.txt b.html a.css\n")
         self.assertEqual(self.read("kept"), LISTING)
         self.assertTrue(os.path.exists(self.path("c.pdf")))
 

@@ -8,7 +8,7 @@ import look
 from bookpages.listing import read_listing
 from bookpages.metrics import read_metrics
 
-EXAMPLES = ("manual", "handbook")
+EXAMPLES = ("manual", "glossary", "handbook")
 
 
 class Examples(unittest.TestCase):

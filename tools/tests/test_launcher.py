@@ -204,9 +204,11 @@ class Launcher(Folder):
     def test_unproved(self):
         self.write("b.html", "html")
         self.write("-c", "css")
-        status, out, err = self.start("--unproved", "format", "--passes", "3", "nosuch", "b.html", "--", "-c")
+        options = "--passes", "3", "--gap=8", "--columns", "2"
+        status, out, err = self.start("--unproved", "format", *options, "nosuch", "b.html", "--", "-c")
         self.assertEqual(status, 4)
-        self.assertEqual(out, "data file-2: html\ndata file-3: css\nwords: format --passes 3 file-1 file-2 -- file-3\n")
+        words = f"format {' '.join(options)} file-1 file-2 -- file-3"
+        self.assertEqual(out, f"data file-2: html\ndata file-3: css\nwords: {words}\n")
         self.assertEqual(
             err,
             "bookfmt: unproved: nothing that README.md says is proved holds of this run\n"
