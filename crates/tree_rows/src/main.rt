@@ -8,6 +8,7 @@ mod documents;
 mod faces;
 mod html;
 mod numbers;
+mod points;
 mod texts;
 
 use rows::{is_among, part, question_of};
@@ -20,6 +21,8 @@ fn answer_to(alloc: Global, call: &str, parts: &[&str]) -> Result<String, AllocE
         numbers::answer(alloc, parts)
     } else if is_among(call, "faces,many,choose,choice,label,scaled,paired") {
         faces::answer(alloc, parts)
+    } else if call == "points" {
+        points::answer(alloc, parts)
     } else if is_among(call, "tokens,html,copies") {
         html::answer(alloc, parts)
     } else if call == "dom" {

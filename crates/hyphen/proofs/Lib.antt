@@ -1,0 +1,10 @@
+pub mod GreatestLemmas
+pub mod LineLemmas
+pub mod MostLemmas
+pub mod PieceLemmas
+pub mod PointLemmas
+pub mod PutLemmas
+pub mod RaiseLemmas
+pub mod ReadLemmas
+pub mod RollLemmas
+pub mod TreeLemmas

@@ -1,0 +1,9 @@
+pub mod Fields
+pub mod Laws
+pub mod Meaning
+pub mod Pattern
+pub mod Pieces
+pub mod Points
+pub mod Read
+pub mod Text
+pub mod Tree
