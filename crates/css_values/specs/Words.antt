@@ -123,6 +123,10 @@ inside_breaks = (codes "auto", false) ∷ (codes "avoid", true) ∷ (codes "avoi
 unfoldable pub decoration_breaks : List (List ℕ × Bool)
 decoration_breaks = (codes "slice", false) ∷ (codes "clone", true) ∷ []
 
+-- whether words are hyphenated by patterns; `none` is as `manual` (css-text-3, 5.3)
+unfoldable pub hyphenations : List (List ℕ × Bool)
+hyphenations = (codes "none", false) ∷ (codes "manual", false) ∷ (codes "auto", true) ∷ []
+
 -- the words of `page-break-inside` (CSS 2.1, 13.3.1)
 unfoldable pub inside_page_breaks : List (List ℕ × Bool)
 inside_page_breaks = (codes "auto", false) ∷ (codes "avoid", true) ∷ []

@@ -156,6 +156,17 @@ pub(crate) fn decoration_break(reader: &mut Reader<'_>) -> Result<bool, Unread>
     word_in(reader, &[("slice", false), ("clone", true)])
 }
 
+/// Reads whether words are hyphenated by patterns.
+#[tactic(auto, unfolding(crate::specs::Words::hyphenations))]
+pub(crate) fn hyphens(reader: &mut Reader<'_>) -> Result<bool, Unread>
+    ensures { Reads (λ x. x) (word_in spec.hyphenations reader.old) result reader.new }
+{
+    word_in(
+        reader,
+        &[("none", false), ("manual", false), ("auto", true)],
+    )
+}
+
 /// Reads whether breaks inside are avoided, by the words of `page-break-inside`.
 #[tactic(auto, unfolding(crate::specs::Words::inside_page_breaks))]
 pub(crate) fn page_break_inside(reader: &mut Reader<'_>) -> Result<bool, Unread>

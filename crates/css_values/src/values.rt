@@ -8,8 +8,8 @@ ghost use Rattle.css_values.specs.Values as spec;
 use crate::colors::{color, color_or};
 use crate::fonts::{count, families, font_size, font_weight, line_height, page_name};
 use crate::keywords::{
-    break_at, break_inside, decoration_break, display, float, overflow_wrap, slope, text_align,
-    white_space,
+    break_at, break_inside, decoration_break, display, float, hyphens, overflow_wrap, slope,
+    text_align, white_space,
 };
 use crate::measures::{indents, read_measure, widths};
 use crate::sides::{SideKind, side_value};
@@ -72,6 +72,7 @@ fn read_word(reader: &mut Reader<'_>, hand: Longhand) -> Result<Long, Unread>
         Longhand::BreakAfter => given!(BreakAfter, break_at(reader)),
         Longhand::BreakInside => given!(BreakInside, break_inside(reader)),
         Longhand::BoxDecorationBreak => given!(BoxDecorationBreak, decoration_break(reader)),
+        Longhand::Hyphens => given!(Hyphens, hyphens(reader)),
         _ => unreachable!(),
     }
 }
@@ -139,7 +140,8 @@ pub(crate) fn read_value(
         | Longhand::BreakBefore
         | Longhand::BreakAfter
         | Longhand::BreakInside
-        | Longhand::BoxDecorationBreak => read_word(reader, hand),
+        | Longhand::BoxDecorationBreak
+        | Longhand::Hyphens => read_word(reader, hand),
         Longhand::Width
         | Longhand::TextIndent
         | Longhand::FontSize
@@ -205,5 +207,6 @@ pub(crate) fn wide_long(hand: Longhand, wide: Wide) -> Long
         Longhand::Orphans => Long::Orphans(given_by(wide)),
         Longhand::Page => Long::Page(given_by(wide)),
         Longhand::BoxDecorationBreak => Long::BoxDecorationBreak(given_by(wide)),
+        Longhand::Hyphens => Long::Hyphens(given_by(wide)),
     }
 }

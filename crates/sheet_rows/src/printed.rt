@@ -211,7 +211,8 @@ fn print_alone(into: &mut String, long: &Long) -> Written {
         | Long::FontStyle(given)
         | Long::OverflowWrap(given)
         | Long::BreakInside(given)
-        | Long::BoxDecorationBreak(given) => given.print(into),
+        | Long::BoxDecorationBreak(given)
+        | Long::Hyphens(given) => given.print(into),
         Long::Widows(given) | Long::Orphans(given) => given.print(into),
         Long::Page(given) => given.print(into),
         _ => Ok(()),

@@ -70,6 +70,7 @@ initial_with families color = record {
   orphans = initial_lines;
   page = record { 0 = 0 };
   box_decoration_break = false;
+  hyphens = false;
 }
 
 -- the initial style
@@ -133,4 +134,5 @@ child_style p = record {
   page = p.page;
   box_decoration_break =
       passed longhand.BoxDecorationBreak p.box_decoration_break initial_style.box_decoration_break;
+  hyphens = passed longhand.Hyphens p.hyphens initial_style.hyphens;
 }

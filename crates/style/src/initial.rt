@@ -53,6 +53,9 @@ pub const INITIAL_INSIDE: bool = false;
 /// Whether borders and paddings initially stand again where a page parts a box: they don't (css-break-3, 5.4).
 pub const INITIAL_CLONES: bool = false;
 
+/// Whether words are initially hyphenated by patterns: they aren't (css-text-3, 5.3).
+pub const INITIAL_HYPHENS: bool = false;
+
 /// The initial number of widows and of orphans (CSS 2.1, 13.3.2).
 pub const INITIAL_LINES: u32 = 2;
 

@@ -71,6 +71,7 @@ pub enum Long {
     Orphans(Given<u32>),
     Page(Given<Option<Name>>),
     BoxDecorationBreak(Given<bool>),
+    Hyphens(Given<bool>),
 }
 
 /// A declaration of a longhand that there is for each side of a box.
@@ -214,6 +215,7 @@ impl Long {
             Long::Orphans(_) => Longhand::Orphans,
             Long::Page(_) => Longhand::Page,
             Long::BoxDecorationBreak(_) => Longhand::BoxDecorationBreak,
+            Long::Hyphens(_) => Longhand::Hyphens,
             _ => unreachable!(),
         }
     }
@@ -245,6 +247,7 @@ impl Long {
             Long::BreakAfter(given) => Long::BreakAfter(*given),
             Long::BreakInside(given) => Long::BreakInside(*given),
             Long::BoxDecorationBreak(given) => Long::BoxDecorationBreak(*given),
+            Long::Hyphens(given) => Long::Hyphens(*given),
             Long::Widows(given) => Long::Widows(*given),
             Long::Orphans(given) => Long::Orphans(*given),
             _ => unreachable!(),
