@@ -45,7 +45,7 @@ fn push_ends(ends: &mut Vec<usize>, count: usize, at: usize) -> Result<(), NoMem
 
 impl JoinedText {
     /// No text, with room for some bytes.
-    pub(crate) fn new(alloc: Global, room: usize) -> Result<JoinedText, NoMem>
+    pub fn new(alloc: Global, room: usize) -> Result<JoinedText, NoMem>
         ensures { IfOk result (λ joined. joined ≡ laid_texts []) }
     {
         Ok(JoinedText {
@@ -55,7 +55,7 @@ impl JoinedText {
     }
 
     /// Completes texts, until there is a number of them.
-    pub(crate) fn reach(&mut self, count: usize) -> Result<(), NoMem>
+    pub fn reach(&mut self, count: usize) -> Result<(), NoMem>
         ensures { OnOk result (self.new ≡ reached self.old count) }
     {
         let at = self.text.len();
@@ -63,7 +63,7 @@ impl JoinedText {
     }
 
     /// Adds to the text with a number, before which all are completed.
-    pub(crate) fn push_str(&mut self, number: usize, more: &str) -> Result<(), NoMem>
+    pub fn push_str(&mut self, number: usize, more: &str) -> Result<(), NoMem>
         ensures { OnOk result (self.new ≡ laid_on self.old number more.now) }
     {
         self.reach(number)?;
@@ -72,7 +72,7 @@ impl JoinedText {
     }
 
     /// Adds a character to the text with a number, before which all are completed.
-    pub(crate) fn push(&mut self, number: usize, c: char) -> Result<(), NoMem>
+    pub fn push(&mut self, number: usize, c: char) -> Result<(), NoMem>
         ensures { OnOk result (self.new ≡ laid_on self.old number (encode_utf8 c)) }
     {
         self.reach(number)?;

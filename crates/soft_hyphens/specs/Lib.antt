@@ -1,0 +1,4 @@
+pub mod Hyphenated
+pub mod Laws
+pub mod Pass
+pub mod Words
