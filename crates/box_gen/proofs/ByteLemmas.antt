@@ -7,6 +7,7 @@ use Rattle.boxes.specs.Tree.{Tree, innermost_of, takes_leaf, with_box, with_leaf
 use Rattle.dom.specs.declared.walk.Step.{Step}
 use Rattle.dom.specs.declared.walk.Step.TheVariants.{Enter, Leave}
 use Rattle.style.specs.declared.style.Style.{Style}
+use Rattle.soft_hyphens.specs.Words.{Points}
 use Rattle.box_gen.specs.declared.inline.InlineItem.{InlineItem}
 use Rattle.box_gen.specs.declared.leaf.LeafStyle.{LeafStyle}
 use Rattle.boxes.specs.declared.leaf.Span.{Span}
@@ -32,20 +33,20 @@ leaves-shut t = by (innermost_of t.events)
     by (Some b) = refl
 
 -- a run that is put adds its text
-pub bytes-put : (look : LeafStyle) (anonymous : BoxProps) (wrap : Bool) (b : Built) (items : List InlineItem) → leaf_bytes (put look anonymous wrap b items).tree.leaves ≡ leaf_bytes b.tree.leaves + length (text_of items)
+pub bytes-put : (points : Option Points) (look : LeafStyle) (anonymous : BoxProps) (wrap : Bool) (b : Built) (items : List InlineItem) → leaf_bytes (put points look anonymous wrap b items).tree.leaves ≡ leaf_bytes b.tree.leaves + length (text_of points items)
 unfolding leaf_by
-bytes-put look anonymous wrap b items = by (length (text_of items) == 0) refl wrap
+bytes-put points look anonymous wrap b items = by (length (text_of points items) == 0) refl wrap
   where
     leaf : LeafData
-    leaf = leaf_by (text_of items) (spans_of items) look b.pending
+    leaf = leaf_by (text_of points items) (spans_of points items) look b.pending
 
-    by : (e : Bool) → (length (text_of items) == 0) ≡ e → (w : Bool) → leaf_bytes (put_by e w look anonymous b items).tree.leaves ≡ leaf_bytes b.tree.leaves + length (text_of items)
-    by true e w = let z : length (text_of items) ≡ 0 = grind (arith, nat_tests) in omega (arith, z)
+    by : (e : Bool) → (length (text_of points items) == 0) ≡ e → (w : Bool) → leaf_bytes (put_by e w points look anonymous b items).tree.leaves ≡ leaf_bytes b.tree.leaves + length (text_of points items)
+    by true e w = let z : length (text_of points items) ≡ 0 = grind (arith, nat_tests) in omega (arith, z)
     by false e true = ap leaf_bytes (leaves-shut (with_leaf (with_box b.tree anonymous) leaf)) ∙ bytes-push b.tree.leaves leaf
     by false e false = bytes-push b.tree.leaves leaf
 
-pub bytes-run : (src : Source) (s : Style) (wrap : Bool) (b : Built) (items : List InlineItem) → leaf_bytes (with_run src s wrap b items).tree.leaves ≡ leaf_bytes b.tree.leaves + length (text_of items)
-bytes-run src s wrap b items = bytes-put (leaf_style_of s (src.face s)) (anonymous_props s) wrap b items
+pub bytes-run : (src : Source) (s : Style) (wrap : Bool) (b : Built) (items : List InlineItem) → leaf_bytes (with_run src s wrap b items).tree.leaves ≡ leaf_bytes b.tree.leaves + length (text_of src.points items)
+bytes-run src s wrap b items = bytes-put src.points (leaf_style_of s (src.face s)) (anonymous_props s) wrap b items
 
 pub bytes-ended : (src : Source) (s : Style) (g : Gathered) → leaf_bytes (ended src s g).built.tree.leaves ≡ leaf_bytes (with_run src s (not (takes_leaf g.built.tree.events)) g.built g.run).tree.leaves
 bytes-ended src s g = ap leaf_bytes (leaves-shut (with_run src s (not (takes_leaf g.built.tree.events)) g.built g.run).tree)

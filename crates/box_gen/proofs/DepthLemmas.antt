@@ -48,12 +48,12 @@ depth-shut t m d = by (innermost_of t.events)
 
 -- a run opens one box at most
 pub depth-run : (src : Source) (s : Style) (wrap : Bool) (b : Built) (items : List InlineItem) (m : ℕ) → depth_of b.tree.events ≤ m → length (opens b.tree) < m → depth_of (with_run src s wrap b items).tree.events ≤ m
-depth-run src s wrap b items m d few = by (length (text_of items) == 0) wrap
+depth-run src s wrap b items m d few = by (length (text_of src.points items) == 0) wrap
   where
     leaf : LeafData
-    leaf = leaf_by (text_of items) (spans_of items) (leaf_style_of s (src.face s)) b.pending
+    leaf = leaf_by (text_of src.points items) (spans_of src.points items) (leaf_style_of s (src.face s)) b.pending
 
-    by : (e w : Bool) → depth_of (put_by e w (leaf_style_of s (src.face s)) (anonymous_props s) b items).tree.events ≤ m
+    by : (e w : Bool) → depth_of (put_by e w src.points (leaf_style_of s (src.face s)) (anonymous_props s) b items).tree.events ≤ m
     by true w = d
     by false true = depth-shut (with_leaf (with_box b.tree (anonymous_props s)) leaf) m (depth-leaf (with_box b.tree (anonymous_props s)) leaf m (depth-box b.tree (anonymous_props s) m d few))
     by false false = depth-leaf b.tree leaf m d

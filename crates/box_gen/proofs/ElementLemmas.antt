@@ -11,6 +11,7 @@ use Rattle.inline_text.specs.declared.space.TextPart.{TextPart}
 use Rattle.style.specs.declared.style.Style.{Style}
 use Rattle.style.specs.Nodes.{NodeStyles, style_at}
 use Rattle.style.specs.Styles.{initial_style}
+use Rattle.soft_hyphens.specs.Words.{Points}
 use Rattle.box_gen.specs.declared.inline.InlineItem.{InlineItem}
 use Rattle.box_gen.specs.declared.inline.InlineItem.TheVariants as item
 use Rattle.box_gen.specs.Flow.{Built, bodies_in, bodies_of, built_of, calls_of, first_items, generated_by, generated_items, last_items, node_bodies, nothing, put_by, represented_items, starts_by, text_item, with_run}
@@ -45,17 +46,17 @@ from-nodes event at (item.Text t ∷ items) [] = from-nodes event at items []
 from-nodes event at (item.Text t ∷ items) (x ∷ ts) = from-nodes event (at + length x) items ts
 from-nodes event at (item.Start n ∷ items) ts = ap (λ (l : List ℕ). n.0 ∷ l) (from-nodes event at items ts)
 
-starts-nodes : (starts : List Start) (event : ℕ) (items : List InlineItem) → nodes_in (starts ++ starts_by event (starts_of items)) ≡ nodes_in starts ++ run_nodes items
+starts-nodes : (points : Option Points) (starts : List Start) (event : ℕ) (items : List InlineItem) → nodes_in (starts ++ starts_by event (starts_of points items)) ≡ nodes_in starts ++ run_nodes items
 unfolding starts_of
-starts-nodes starts event items = map-append (λ (a : Start). a.node.0) starts (starts_by event (starts_of items)) ∙ ap (λ (l : List ℕ). nodes_in starts ++ l) (from-nodes event 0 items (printed_in items))
+starts-nodes points starts event items = map-append (λ (a : Start). a.node.0) starts (starts_by event (starts_of points items)) ∙ ap (λ (l : List ℕ). nodes_in starts ++ l) (from-nodes event 0 items (printed_in points items))
 
 pub run-nodes : (src : Source) (s : Style) (wrap : Bool) (b : Built) (items : List InlineItem) → nodes_in (with_run src s wrap b items).starts ≡ nodes_in b.starts ++ run_nodes items
-run-nodes src s wrap b items = by (length (text_of items) == 0) wrap
+run-nodes src s wrap b items = by (length (text_of src.points items) == 0) wrap
   where
-    by : (e w : Bool) → nodes_in (put_by e w (leaf_style_of s (src.face s)) (anonymous_props s) b items).starts ≡ nodes_in b.starts ++ run_nodes items
-    by true w = starts-nodes b.starts (length b.tree.events) items
-    by false true = starts-nodes b.starts (suc (length b.tree.events)) items
-    by false false = starts-nodes b.starts (length b.tree.events) items
+    by : (e w : Bool) → nodes_in (put_by e w src.points (leaf_style_of s (src.face s)) (anonymous_props s) b items).starts ≡ nodes_in b.starts ++ run_nodes items
+    by true w = starts-nodes src.points b.starts (length b.tree.events) items
+    by false true = starts-nodes src.points b.starts (suc (length b.tree.events)) items
+    by false false = starts-nodes src.points b.starts (length b.tree.events) items
 
 -- generated texts hold no element
 pub no-generated : (src : Source) (n : ℕ) (p : Pseudo) → run_nodes (generated_items src n p) ≡ []

@@ -100,20 +100,20 @@ spans-faced faces at (s ∷ ss) (t ∷ ts) a = by (ltb at (at + length t)) (All-
 
 -- ---- leaves
 
-leaf-faced : (faces : List FontFace) (src : Source) (s : Style) (items : List InlineItem) (leads : List Lead) → HasStyleFaces faces src → All (IsLeadFaced faces) leads → AreTextsFaced faces items → IsLeafFaced faces (leaf_by (text_of items) (spans_of items) (leaf_style_of s (src.face s)) leads)
+leaf-faced : (faces : List FontFace) (src : Source) (s : Style) (items : List InlineItem) (leads : List Lead) → HasStyleFaces faces src → All (IsLeadFaced faces) leads → AreTextsFaced faces items → IsLeafFaced faces (leaf_by (text_of src.points items) (spans_of src.points items) (leaf_style_of s (src.face s)) leads)
 unfolding leaf_by spans_of
-leaf-faced faces src s items leads there l t = (record { strut = there s; spans = spans-faced faces 0 (styles_in (marks_in items)) (printed_in items) t }, l)
+leaf-faced faces src s items leads there l t = (record { strut = there s; spans = spans-faced faces 0 (styles_in (marks_in items)) (printed_in src.points items) t }, l)
 
 run-leaves : (faces : List FontFace) (src : Source) (s : Style) (wrap : Bool) (b : Built) (items : List InlineItem) → HasStyleFaces faces src → All (IsLeafFaced faces) b.tree.leaves → All (IsLeadFaced faces) b.pending → AreTextsFaced faces items → All (IsLeafFaced faces) (with_run src s wrap b items).tree.leaves
-run-leaves faces src s wrap b items there ls ds ts = by (length (text_of items) == 0) wrap
+run-leaves faces src s wrap b items there ls ds ts = by (length (text_of src.points items) == 0) wrap
   where
     leaf : LeafData
-    leaf = leaf_by (text_of items) (spans_of items) (leaf_style_of s (src.face s)) b.pending
+    leaf = leaf_by (text_of src.points items) (spans_of src.points items) (leaf_style_of s (src.face s)) b.pending
 
     more : All (IsLeafFaced faces) (b.tree.leaves ++ leaf ∷ [])
     more = all-append (IsLeafFaced faces) b.tree.leaves (leaf ∷ []) ls (All-cons (IsLeafFaced faces) leaf [] (leaf-faced faces src s items b.pending there ds ts) (All-nil (IsLeafFaced faces)))
 
-    by : (e w : Bool) → All (IsLeafFaced faces) (put_by e w (leaf_style_of s (src.face s)) (anonymous_props s) b items).tree.leaves
+    by : (e w : Bool) → All (IsLeafFaced faces) (put_by e w src.points (leaf_style_of s (src.face s)) (anonymous_props s) b items).tree.leaves
     by true w = ls
     by false true = subst (All (IsLeafFaced faces)) (sym (leaves-shut (with_leaf (with_box b.tree (anonymous_props s)) leaf))) more
     by false false = more

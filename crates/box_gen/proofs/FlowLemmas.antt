@@ -1,15 +1,20 @@
 -- What the nodes gather one after the other is the content put into what is built.
-use Rattle.std.proofs.Common.{◌≡◌, ◌∙◌, ℕ, Bool, true, false, not, ◌||◌, List, [], ◌∷◌, ◌++◌, append-nil, length, refl, sym, ap, subst, ◌⊎◌, inl, inr}
+use Rattle.std.proofs.Common.{◌≡◌, ◌∙◌, ℕ, Bool, true, false, not, ◌||◌, List, [], ◌∷◌, ◌++◌, append-nil, length, refl, sym, ap, subst, ◌⊎◌, inl, inr, Option, None, Some}
 use Rattle.boxes.specs.declared.flow.Start.{Start}
 use Rattle.boxes.specs.Tree.{takes_leaf}
 use Rattle.bk_num.specs.declared.values.Pseudo.TheVariants as pseudo
+use Rattle.boxes.specs.declared.props.BoxProps.{BoxProps}
+use Rattle.soft_hyphens.specs.Hyphenated.{hyphenated}
+use Rattle.soft_hyphens.specs.Words.{Points}
 use Rattle.style.specs.declared.style.Style.{Style}
+use Rattle.box_gen.specs.declared.leaf.LeafStyle.{LeafStyle}
 use Rattle.box_gen.specs.declared.inline.InlineItem.{InlineItem}
 use Rattle.box_gen.specs.declared.inline.InlineItem.TheVariants as item
-use Rattle.box_gen.specs.Props.{props_of}
+use Rattle.box_gen.specs.Leaves.{leaf_style_of}
+use Rattle.box_gen.specs.Props.{anonymous_props, props_of}
 use Rattle.box_gen.specs.Runs.{text_of, starts_of}
 use Rattle.box_gen.specs.Trees.{Source, Forest, none, node, Role, text, hidden, inline, block, note, role_of}
-use Rattle.box_gen.specs.Flow.{Content, end, run, box, with_item, with_items, with_node, content_of, has_block, Built, built, grown, with_run, closed, opened, text_item, first_items, generated_items, last_items}
+use Rattle.box_gen.specs.Flow.{Content, end, run, box, with_item, with_items, with_node, content_of, has_block, Built, built, grown, put, with_run, closed, opened, text_item, first_items, generated_items, last_items}
 use Rattle.box_gen.specs.Gather.{Gathered, make, adds, begun}
 use Rattle.box_gen.proofs.TreeLemmas.{opens, opens-opened, opens-run, opens-shut, EndsClosed, shut-ends, ends-takes, box-takes}
 use Rattle.box_gen.proofs.Gathering.{gather_node, gathered}
@@ -41,9 +46,13 @@ items-box x [] n s i c = refl
 items-box x (y ∷ r) n s i c = ap (with_item x) (items-box y r n s i c)
 
 -- a run without items does nothing
+put-none : (points : Option Points) (look : LeafStyle) (anonymous : BoxProps) (w : Bool) (b : Built) → put points look anonymous w b [] ≡ b
+unfolding text_of starts_of hyphenated
+put-none None look anonymous w b = ap (λ (l : List Start). built b.tree l b.pending) (append-nil b.starts)
+put-none (Some p) look anonymous w b = ap (λ (l : List Start). built b.tree l b.pending) (append-nil b.starts)
+
 pub run-none : (src : Source) (s : Style) (w : Bool) (b : Built) → with_run src s w b [] ≡ b
-unfolding text_of starts_of
-run-none src s w b = ap (λ (l : List Start). built b.tree l b.pending) (append-nil b.starts)
+run-none src s w b = put-none src.points (leaf_style_of s (src.face s)) (anonymous_props s) w b
 
 pub grown-end : (src : Source) (s : Style) (w : Bool) (b : Built) (r : List InlineItem) → grown src s w b (with_items r end) ≡ with_run src s w b r
 grown-end src s w b [] = sym (run-none src s w b)

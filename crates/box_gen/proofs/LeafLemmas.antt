@@ -1,5 +1,5 @@
 -- The spans of a run cover its text, and are as good as its texts.
-use Rattle.std.proofs.Common.{◌≡◌, ◌∙◌, ℕ, ◌+◌, ◌<◌, ◌≤◌, Bool, true, false, cond, ltb, List, [], ◌∷◌, ◌++◌, length, refl, sym, ap, subst, arith, length-append, append_assoc, append-nil}
+use Rattle.std.proofs.Common.{◌≡◌, ◌∙◌, ℕ, ◌+◌, ◌<◌, ◌≤◌, Bool, true, false, cond, ltb, List, [], ◌∷◌, ◌++◌, length, refl, sym, ap, subst, arith, length-append, append_assoc, append-nil, Option}
 use Rattle.std.specs.List.{All}
 use Rattle.std.specs.Str.{IsCharBoundary}
 use Rattle.std.proofs.lemmas.List.Elements.{All-nil, All-cons, All-head, All-tail}
@@ -8,6 +8,7 @@ use Rattle.bk_num.specs.Limits.{most_text_bytes}
 use Rattle.boxes.specs.Contents.{AreSpans, IsGoodSpan}
 use Rattle.boxes.specs.declared.leaf.Span.{Span}
 use Rattle.inline_text.specs.Joined.{ends_from, joined}
+use Rattle.soft_hyphens.specs.Words.{Points}
 use Rattle.box_gen.specs.declared.text_style.TextStyle.{TextStyle}
 use Rattle.box_gen.specs.TextStyles.{IsGoodTextStyle, span_by}
 use Rattle.box_gen.specs.declared.inline.InlineItem.{InlineItem}
@@ -45,12 +46,12 @@ spans_good at (s ∷ ss) (t ∷ ts) a = by (ltb at (at + length t)) (All-head Is
     by false g more = more
 
 -- a run whose text and spans are these is good
-pub good_run : (items : List InlineItem) (r : RunText) → r.text ≡ joined (printed_in items) → r.spans ≡ spans_from 0 (styles_in (marks_in items)) (printed_in items) → All (IsCharBoundary r.text) (ends_from 0 (printed_in items)) → length r.text ≤ most_text_bytes → IsGoodRun r
-good_run items r text spans u short =
+pub good_run : (points : Option Points) (items : List InlineItem) (r : RunText) → r.text ≡ joined (printed_in points items) → r.spans ≡ spans_from 0 (styles_in (marks_in items)) (printed_in points items) → All (IsCharBoundary r.text) (ends_from 0 (printed_in points items)) → length r.text ≤ most_text_bytes → IsGoodRun r
+good_run points items r text spans u short =
     let ss : List TextStyle = styles_in (marks_in items) in
-    let ts : List (List ℕ) = printed_in items in
+    let ts : List (List ℕ) = printed_in points items in
     record {
-      spans = subst (AreSpans r.text 0) (sym spans) (spans_cover r.text [] ss ts (printed-length items) text u);
+      spans = subst (AreSpans r.text 0) (sym spans) (spans_cover r.text [] ss ts (printed-length points items) text u);
       few = (let n = spans_few 0 ss ts in let a = ap (λ (l : List ℕ). length l) text in let b = ap (λ (l : List Span). length l) spans in omega (arith, n, a, b));
       short = short;
     }

@@ -1,5 +1,7 @@
 pub mod Gathering
 pub mod Walkable
+pub mod HyphenLemmas
+pub mod RunLawLemmas
 pub mod TextLemmas
 pub mod LeafLemmas
 pub mod FillLemmas

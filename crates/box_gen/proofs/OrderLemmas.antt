@@ -17,6 +17,7 @@ use Rattle.page_seq.specs.Places.{NeverFall, is_before}
 use Rattle.style.specs.declared.style.Style.{Style}
 use Rattle.style.specs.Nodes.{style_at}
 use Rattle.style.specs.Styles.{initial_style}
+use Rattle.soft_hyphens.specs.Words.{Points}
 use Rattle.box_gen.specs.declared.inline.InlineItem.{InlineItem}
 use Rattle.box_gen.specs.declared.inline.ItemMark.{ItemMark}
 use Rattle.box_gen.specs.declared.inline.ItemMark.TheVariants as mark
@@ -94,11 +95,11 @@ starts-rise event at (mark.Text s ∷ marks) (t ∷ ts) =
     subst (λ n. Rise (place event at) (places (starts_by event (starts_from (at + length t) marks ts))) (place event n)) sum more
 starts-rise event at (mark.Start n ∷ marks) ts = (here (place event at), starts-rise event at marks ts)
 
-run-rises : (event : ℕ) (items : List InlineItem) → Rise (place event 0) (places (starts_by event (starts_of items))) (place event (length (text_of items)))
+run-rises : (points : Option Points) (event : ℕ) (items : List InlineItem) → Rise (place event 0) (places (starts_by event (starts_of points items))) (place event (length (text_of points items)))
 unfolding starts_of text_of
-run-rises event items =
-    let size : 0 + length (joined (printed_in items)) ≡ length (joined (printed_in items)) = omega arith in
-    subst (λ n. Rise (place event 0) (places (starts_by event (starts_from 0 (marks_in items) (printed_in items)))) (place event n)) size (starts-rise event 0 (marks_in items) (printed_in items))
+run-rises points event items =
+    let size : 0 + length (joined (printed_in points items)) ≡ length (joined (printed_in points items)) = omega arith in
+    subst (λ n. Rise (place event 0) (places (starts_by event (starts_from 0 (marks_in items) (printed_in points items)))) (place event n)) size (starts-rise event 0 (marks_in items) (printed_in points items))
 
 -- ---- what is built
 
@@ -134,37 +135,37 @@ opened-in-order src n s b h = more-starts b.starts (start_at n (length b.tree.ev
 closed-in-order : (b : Built) → InOrder b → InOrder (closed b)
 closed-in-order b h = rise-to (place 0 0) (places b.starts) (next b.tree) (next (shut b.tree)) h (longer b.tree (shut b.tree) (shut-longer b.tree))
 
-put-in-order : (look : LeafStyle) (anonymous : BoxProps) (wrap : Bool) (b : Built) (items : List InlineItem) → InOrder b → InOrder (put look anonymous wrap b items)
-put-in-order look anonymous wrap b items h = by (length (text_of items) == 0) wrap refl
+put-in-order : (points : Option Points) (look : LeafStyle) (anonymous : BoxProps) (wrap : Bool) (b : Built) (items : List InlineItem) → InOrder b → InOrder (put points look anonymous wrap b items)
+put-in-order points look anonymous wrap b items h = by (length (text_of points items) == 0) wrap refl
   where
     leaf : LeafData
-    leaf = leaf_by (text_of items) (spans_of items) look b.pending
+    leaf = leaf_by (text_of points items) (spans_of points items) look b.pending
 
     begin : ℕ
     begin = length b.tree.events
 
     at : ℕ → List Position
-    at event = places (starts_by event (starts_of items))
+    at event = places (starts_by event (starts_of points items))
 
-    by : (e w : Bool) → (length (text_of items) == 0) ≡ e → InOrder (put_by e w look anonymous b items)
+    by : (e w : Bool) → (length (text_of points items) == 0) ≡ e → InOrder (put_by e w points look anonymous b items)
     by true w e =
-        let none : length (text_of items) ≡ 0 = grind (arith, nat_tests) in
-        more-starts b.starts (starts_by begin (starts_of items)) b.tree b.tree h (subst (λ k. Rise (next b.tree) (at begin) (place begin k)) none (run-rises begin items))
+        let none : length (text_of points items) ≡ 0 = grind (arith, nat_tests) in
+        more-starts b.starts (starts_by begin (starts_of points items)) b.tree b.tree h (subst (λ k. Rise (next b.tree) (at begin) (place begin k)) none (run-rises points begin items))
     by false true e =
         let boxed : Tree = with_leaf (with_box b.tree anonymous) leaf in
         let one : length (with_box b.tree anonymous).events ≡ begin + 1 = length-append b.tree.events (Opens (length b.tree.boxes) ∷ []) in
         let two : length boxed.events ≡ length (with_box b.tree anonymous).events + 1 = length-append (with_box b.tree anonymous).events (Leaf (length b.tree.leaves) ∷ []) in
         let all : length boxed.events ≤ length (shut boxed).events = shut-longer boxed in
-        more-starts b.starts (starts_by (suc begin) (starts_of items)) b.tree (shut boxed) h
+        more-starts b.starts (starts_by (suc begin) (starts_of points items)) b.tree (shut boxed) h
         (rise-from (next b.tree) (place (suc begin) 0) (at (suc begin)) (next (shut boxed)) (earlier (omega arith))
-        (rise-to (place (suc begin) 0) (at (suc begin)) (place (suc begin) (length (text_of items))) (next (shut boxed)) (run-rises (suc begin) items) (earlier (omega arith))))
+        (rise-to (place (suc begin) 0) (at (suc begin)) (place (suc begin) (length (text_of points items))) (next (shut boxed)) (run-rises points (suc begin) items) (earlier (omega arith))))
     by false false e =
         let one : length (with_leaf b.tree leaf).events ≡ begin + 1 = length-append b.tree.events (Leaf (length b.tree.leaves) ∷ []) in
-        more-starts b.starts (starts_by begin (starts_of items)) b.tree (with_leaf b.tree leaf) h
-        (rise-to (next b.tree) (at begin) (place begin (length (text_of items))) (next (with_leaf b.tree leaf)) (run-rises begin items) (earlier (omega arith)))
+        more-starts b.starts (starts_by begin (starts_of points items)) b.tree (with_leaf b.tree leaf) h
+        (rise-to (next b.tree) (at begin) (place begin (length (text_of points items))) (next (with_leaf b.tree leaf)) (run-rises points begin items) (earlier (omega arith)))
 
 run-in-order : (src : Source) (s : Style) (wrap : Bool) (b : Built) (items : List InlineItem) → InOrder b → InOrder (with_run src s wrap b items)
-run-in-order src s wrap b items h = put-in-order (leaf_style_of s (src.face s)) (anonymous_props s) wrap b items h
+run-in-order src s wrap b items h = put-in-order src.points (leaf_style_of s (src.face s)) (anonymous_props s) wrap b items h
 
 grown-in-order : (src : Source) (s : Style) (wrap : Bool) (b : Built) (c : Content) → InOrder b → InOrder (grown src s wrap b c)
 grown-in-order src s wrap b end h = h

@@ -1,5 +1,5 @@
 -- What is put into the tree: the leaf of a run, and what closes.
-use Rattle.std.proofs.Common.{◌≡◌, ◌∙◌, ℕ, suc, Bool, true, false, cond, List, [], ◌∷◌, ◌++◌, ◌==◌, length, refl, sym, ap, subst, arith}
+use Rattle.std.proofs.Common.{◌≡◌, ◌∙◌, ℕ, suc, Bool, true, false, cond, List, [], ◌∷◌, ◌++◌, ◌==◌, length, refl, sym, ap, subst, arith, Option}
 use Rattle.std.specs.Option.{ForSome}
 use Rattle.std.specs.List.{All, Contains}
 use Rattle.std.proofs.lemmas.List.Elements.{All-weaker}
@@ -7,6 +7,7 @@ use Rattle.boxes.specs.declared.leaf.Leaf.{Leaf as LeafData}
 use Rattle.boxes.specs.declared.leaf.Lead.{Lead}
 use Rattle.boxes.specs.declared.props.BoxProps.{BoxProps}
 use Rattle.boxes.specs.Tree.{Tree, HaveOwners, with_box, with_leaf, with_close, innermost_of, first_of}
+use Rattle.soft_hyphens.specs.Words.{Points}
 use Rattle.box_gen.specs.declared.inline.InlineItem.{InlineItem}
 use Rattle.box_gen.specs.declared.leaf.LeafStyle.{LeafStyle}
 use Rattle.boxes.specs.declared.leaf.Span.{Span}
@@ -19,10 +20,10 @@ use Rattle.box_gen.specs.Sites.{with_any, with_text}
 use Rattle.box_gen.proofs.TreeLemmas.{opens, opens-box, opens-leaf, shut-is}
 
 -- a run is put by its text, its spans and its starts
-pub put-any : (wrap : Bool) (look : LeafStyle) (anonymous : BoxProps) (b : Built) (items : List InlineItem) → with_any wrap look anonymous b (text_of items) (spans_of items) (starts_of items) ≡ put look anonymous wrap b items
-put-any wrap look anonymous b items = by (length (text_of items) == 0) wrap
+pub put-any : (points : Option Points) (wrap : Bool) (look : LeafStyle) (anonymous : BoxProps) (b : Built) (items : List InlineItem) → with_any wrap look anonymous b (text_of points items) (spans_of points items) (starts_of points items) ≡ put points look anonymous wrap b items
+put-any points wrap look anonymous b items = by (length (text_of points items) == 0) wrap
   where
-    by : (e w : Bool) → cond e (put_by true w look anonymous b items) (with_text w look anonymous b (text_of items) (spans_of items) (starts_of items)) ≡ put_by e w look anonymous b items
+    by : (e w : Bool) → cond e (put_by true w points look anonymous b items) (with_text w look anonymous b (text_of points items) (spans_of points items) (starts_of points items)) ≡ put_by e w points look anonymous b items
     by true w = refl
     by false true = refl
     by false false = refl

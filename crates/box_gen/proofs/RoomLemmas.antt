@@ -68,15 +68,15 @@ shut-more t = by (innermost_of t.events)
     by (Some b) = let n = length-append t.events (Closes b ∷ []) in omega (arith, n)
 
 pub events-run : (src : Source) (s : Style) (wrap : Bool) (b : Built) (items : List InlineItem) → length (with_run src s wrap b items).tree.events ≤ length b.tree.events + 3
-events-run src s wrap b items = by (length (text_of items) == 0) wrap
+events-run src s wrap b items = by (length (text_of src.points items) == 0) wrap
   where
     leaf : LeafData
-    leaf = leaf_by (text_of items) (spans_of items) (leaf_style_of s (src.face s)) b.pending
+    leaf = leaf_by (text_of src.points items) (spans_of src.points items) (leaf_style_of s (src.face s)) b.pending
 
     boxed : Tree
     boxed = with_box b.tree (anonymous_props s)
 
-    by : (e w : Bool) → length (put_by e w (leaf_style_of s (src.face s)) (anonymous_props s) b items).tree.events ≤ length b.tree.events + 3
+    by : (e w : Bool) → length (put_by e w src.points (leaf_style_of s (src.face s)) (anonymous_props s) b items).tree.events ≤ length b.tree.events + 3
     by true w = omega arith
     by false true =
         let one : length boxed.events ≡ length b.tree.events + 1 = length-append b.tree.events (Opens (length b.tree.boxes) ∷ []) in

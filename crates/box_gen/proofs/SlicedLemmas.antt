@@ -6,6 +6,7 @@ use Rattle.boxes.specs.Clones.{AreSliced}
 use Rattle.boxes.specs.Tree.{Tree, innermost_of, with_box, with_leaf}
 use Rattle.boxes.specs.declared.props.BoxProps.{BoxProps}
 use Rattle.style.specs.declared.style.Style.{Style}
+use Rattle.soft_hyphens.specs.Words.{Points}
 use Rattle.box_gen.specs.declared.inline.InlineItem.{InlineItem}
 use Rattle.box_gen.specs.Flow.{Built, Content, end, run, box, body_in, close_by, closed, grown, has_block, note_content, note_root, opened, put_by, shut, with_run}
 use Rattle.box_gen.specs.Runs.{spans_of, text_of}
@@ -25,13 +26,13 @@ shut-sliced t h = by (innermost_of t.events)
     by None = h
     by (Some b) = h
 
-put-sliced : (empty wrap : Bool) (look : LeafStyle) (s : Style) (b : Built) (items : List InlineItem) → AreSliced b.tree.boxes → AreSliced (put_by empty wrap look (anonymous_props s) b items).tree.boxes
-put-sliced true wrap look s b items h = h
-put-sliced false true look s b items h = shut-sliced (with_leaf (with_box b.tree (anonymous_props s)) (leaf_by (text_of items) (spans_of items) look b.pending)) (more-sliced b.tree.boxes (anonymous_props s) h refl)
-put-sliced false false look s b items h = h
+put-sliced : (empty wrap : Bool) (points : Option Points) (look : LeafStyle) (s : Style) (b : Built) (items : List InlineItem) → AreSliced b.tree.boxes → AreSliced (put_by empty wrap points look (anonymous_props s) b items).tree.boxes
+put-sliced true wrap points look s b items h = h
+put-sliced false true points look s b items h = shut-sliced (with_leaf (with_box b.tree (anonymous_props s)) (leaf_by (text_of points items) (spans_of points items) look b.pending)) (more-sliced b.tree.boxes (anonymous_props s) h refl)
+put-sliced false false points look s b items h = h
 
 run-sliced : (src : Source) (s : Style) (wrap : Bool) (b : Built) (items : List InlineItem) → AreSliced b.tree.boxes → AreSliced (with_run src s wrap b items).tree.boxes
-run-sliced src s wrap b items h = put-sliced (length (text_of items) == 0) wrap (leaf_style_of s (src.face s)) s b items h
+run-sliced src s wrap b items h = put-sliced (length (text_of src.points items) == 0) wrap src.points (leaf_style_of s (src.face s)) s b items h
 
 sliced-clone : (src : Source) (s : Style) (n : ℕ) → src.clones ≡ false → (props_of src.clones s n).clones ≡ false
 sliced-clone src s n sliced = subst (λ (c : Bool). (c && s.box_decoration_break) ≡ false) (sym sliced) refl

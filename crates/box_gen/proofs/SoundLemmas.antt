@@ -96,21 +96,21 @@ pub fine-adds : (os : List ℕ) (g : Gathered) (items : List InlineItem) → Are
 fine-adds os g items good f = record { opened = f.opened; last = f.last; owners = f.owners; leads = f.leads; texts = good-append g.run items f.texts good }
 
 pub pending-run : (P : Lead → Type 0) (src : Source) (s : Style) (wrap : Bool) (b : Built) (items : List InlineItem) → All P b.pending → All P (with_run src s wrap b items).pending
-pending-run P src s wrap b items h = by (length (text_of items) == 0) wrap
+pending-run P src s wrap b items h = by (length (text_of src.points items) == 0) wrap
   where
-    by : (e w : Bool) → All P (put_by e w (leaf_style_of s (src.face s)) (anonymous_props s) b items).pending
+    by : (e w : Bool) → All P (put_by e w src.points (leaf_style_of s (src.face s)) (anonymous_props s) b items).pending
     by true w = h
     by false true = All-nil P
     by false false = All-nil P
 
 -- a run that is put is no last event, where it is wrapped
 run-last : (src : Source) (s : Style) (b : Built) (items : List InlineItem) → is_leaf (last_event b.tree.events) ≡ false → is_leaf (last_event (with_run src s true b items).tree.events) ≡ false
-run-last src s b items last = by (length (text_of items) == 0)
+run-last src s b items last = by (length (text_of src.points items) == 0)
   where
     leaf : LeafData
-    leaf = leaf_by (text_of items) (spans_of items) (leaf_style_of s (src.face s)) b.pending
+    leaf = leaf_by (text_of src.points items) (spans_of src.points items) (leaf_style_of s (src.face s)) b.pending
 
-    by : (e : Bool) → is_leaf (last_event (put_by e true (leaf_style_of s (src.face s)) (anonymous_props s) b items).tree.events) ≡ false
+    by : (e : Bool) → is_leaf (last_event (put_by e true src.points (leaf_style_of s (src.face s)) (anonymous_props s) b items).tree.events) ≡ false
     by true = last
     by false = let x = shut-ends (with_leaf (with_box b.tree (anonymous_props s)) leaf) (length b.tree.boxes) (opens b.tree) (filled b.tree (anonymous_props s) leaf) in ap is_leaf x.1
 

@@ -1,5 +1,5 @@
 -- Open boxes and last events of what is built.
-use Rattle.std.proofs.Common.{◌≡◌, ◌∙◌, ℕ, ◌-◌, Bool, true, false, List, [], ◌∷◌, ◌++◌, Some, length, slice_get, ◌==◌, refl, ap, arith, length-append}
+use Rattle.std.proofs.Common.{◌≡◌, ◌∙◌, ℕ, ◌-◌, Bool, true, false, List, [], ◌∷◌, ◌++◌, Some, length, slice_get, ◌==◌, refl, ap, arith, length-append, Option}
 use Rattle.boxes.specs.Tree.{Tree, with_box, with_leaf, with_close, open_after, first_of, rest_of, last_event, is_opening, takes_leaf}
 use Rattle.boxes.specs.declared.leaf.Leaf.{Leaf as LeafData}
 use Rattle.boxes.specs.declared.place.Event.{Event}
@@ -8,6 +8,7 @@ use Rattle.boxes.specs.declared.props.BoxProps.{BoxProps}
 use Rattle.boxes.proofs.ListLemmas.{get-end}
 use Rattle.boxes.proofs.TreeLemmas.{open-append}
 use Rattle.style.specs.declared.style.Style.{Style}
+use Rattle.soft_hyphens.specs.Words.{Points}
 use Rattle.box_gen.specs.declared.inline.InlineItem.{InlineItem}
 use Rattle.box_gen.specs.declared.leaf.LeafStyle.{LeafStyle}
 use Rattle.box_gen.specs.Leaves.{leaf_by, leaf_style_of}
@@ -53,19 +54,19 @@ ends-takes t (b, e) = ap is_opening e
 pub box-takes : (t : Tree) (p : BoxProps) → takes_leaf (with_box t p).events ≡ true
 box-takes t p = ap is_opening (last-push t.events (Opens (length t.boxes)))
 
-pub opens-put : (block : LeafStyle) (anonymous : BoxProps) (wrap : Bool) (b : Built) (items : List InlineItem) → opens (put block anonymous wrap b items).tree ≡ opens b.tree
-opens-put block anonymous wrap b items = by (length (text_of items) == 0) wrap
+pub opens-put : (points : Option Points) (block : LeafStyle) (anonymous : BoxProps) (wrap : Bool) (b : Built) (items : List InlineItem) → opens (put points block anonymous wrap b items).tree ≡ opens b.tree
+opens-put points block anonymous wrap b items = by (length (text_of points items) == 0) wrap
   where
     leaf : LeafData
-    leaf = leaf_by (text_of items) (spans_of items) block b.pending
+    leaf = leaf_by (text_of points items) (spans_of points items) block b.pending
 
-    by : (e w : Bool) → opens (put_by e w block anonymous b items).tree ≡ opens b.tree
+    by : (e w : Bool) → opens (put_by e w points block anonymous b items).tree ≡ opens b.tree
     by true w = refl
     by false true = opens-shut (with_leaf (with_box b.tree anonymous) leaf) (length b.tree.boxes) (opens b.tree) (opens-leaf (with_box b.tree anonymous) leaf ∙ opens-box b.tree anonymous)
     by false false = opens-leaf b.tree leaf
 
 pub opens-run : (src : Source) (s : Style) (wrap : Bool) (b : Built) (items : List InlineItem) → opens (with_run src s wrap b items).tree ≡ opens b.tree
-opens-run src s wrap b items = opens-put (leaf_style_of s (src.face s)) (anonymous_props s) wrap b items
+opens-run src s wrap b items = opens-put src.points (leaf_style_of s (src.face s)) (anonymous_props s) wrap b items
 
 pub opens-opened : (src : Source) (n : ℕ) (s : Style) (b : Built) → opens (opened src n s b).tree ≡ length b.tree.boxes ∷ opens b.tree
 opens-opened src n s b = opens-box b.tree (props_of src.clones s n)

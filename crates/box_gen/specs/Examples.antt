@@ -1,8 +1,9 @@
 -- Small documents and their flows.
-use Rattle.std.specs.Prelude.{◌≡◌, ℕ, true, false, List, [], ◌∷◌, Option, None, Some, map, codes}
+use Rattle.std.specs.Prelude.{◌≡◌, ℕ, ◌==◌, ◌||◌, true, false, List, [], ◌∷◌, Option, None, Some, map, codes}
 use Rattle.bk_num.specs.declared.values.WhiteSpace.TheVariants as space
 use Rattle.boxes.specs.declared.place.Event.TheVariants.{Opens, Closes, Leaf}
 use Rattle.dom.specs.Nodes.{Node, Element, Text}
+use Rattle.soft_hyphens.specs.Words.{Points}
 use Rattle.style.specs.declared.style.Style.{Style}
 use Rattle.style.specs.declared.values.Display.TheVariants as display
 use Rattle.style.specs.Nodes.{NodeStyles, no_styles, own_style}
@@ -26,6 +27,13 @@ block_style = record initial_style { display = display.Block }
 abbrev pub pre_style : Style
 pre_style = record block_style { white_space = space.Pre }
 
+-- a block whose words are hyphenated, and an inline element in it
+abbrev pub auto_style : Style
+auto_style = record block_style { hyphens = true }
+
+abbrev pub inline_auto_style : Style
+inline_auto_style = record initial_style { hyphens = true }
+
 -- the styles of a shown element without pseudo-elements
 abbrev pub shown : Style → NodeStyles
 shown s = own_style s true false false
@@ -41,6 +49,7 @@ plain nodes styles = record {
   is_note = λ n. false;
   clones = true;
   assigned = λ n. [];
+  points = None;
 }
 
 -- `<html><div>a<p>b</p>c</div>`
@@ -63,6 +72,19 @@ tabbed = plain
     (element_in None 1 (codes "html") ∷ element_in (Some 0) 2 (codes "pre") ∷ text_in 1 3 (97 ∷ 9 ∷ 98 ∷ 10 ∷ []) ∷ [])
     (shown block_style ∷ shown pre_style ∷ no_styles ∷ [])
 
+-- whether a place of a word is 2 or 6
+abbrev pub two_points : Points
+two_points word place = place == 2 || place == 6
+
+-- `<html><p>hy<b>phenation</b></p>`, with the points 2 and 6
+abbrev pub hyphened : Source
+hyphened = record (plain
+    (element_in None 1 (codes "html") ∷ element_in (Some 0) 2 (codes "p") ∷ text_in 1 3 (codes "hy") ∷
+    element_in (Some 1) 3 (codes "b") ∷ text_in 3 4 (codes "phenation") ∷ [])
+    (shown block_style ∷ shown auto_style ∷ no_styles ∷ shown inline_auto_style ∷ no_styles ∷ [])) {
+      points = Some two_points;
+    }
+
 -- the texts of the leaves that a document builds
 abbrev pub leaf_texts : Source → List (List ℕ)
 leaf_texts src = map (λ l. l.text) (built_of src).tree.leaves
@@ -82,3 +104,10 @@ pub record Collapses : Type 0 where
   pub normal : leaf_texts spaced ≡ codes "a b" ∷ []
   pub kept : leaf_texts tabbed ≡ (97 ∷ 32 ∷ 32 ∷ 32 ∷ 32 ∷ 32 ∷ 32 ∷ 32 ∷ 32 ∷ 98 ∷ 10 ∷ []) ∷ []
   pub starts : map (λ a. a.at.offset) (built_of spaced).starts ≡ 0 ∷ 0 ∷ 2 ∷ []
+
+-- a soft hyphen stands at each point of a word that stands in two elements, in the span of the character before it
+pub record Hyphenates : Type 0 where
+  pub texts : leaf_texts hyphened ≡ (104 ∷ 121 ∷ 194 ∷ 173 ∷ 112 ∷ 104 ∷ 101 ∷ 110 ∷ 194 ∷ 173 ∷ 97 ∷ 116 ∷ 105 ∷
+      111 ∷ 110 ∷ []) ∷ []
+  pub starts : map (λ a. a.at.offset) (built_of hyphened).starts ≡ 0 ∷ 0 ∷ 4 ∷ []
+  pub spans : map (λ l. map (λ s. s.to) l.spans) (built_of hyphened).tree.leaves ≡ (4 ∷ 15 ∷ []) ∷ []

@@ -15,6 +15,7 @@ use Rattle.boxes.specs.declared.props.BoxProps.{BoxProps}
 use Rattle.boxes.specs.Tree.{Tree, no_tree, with_box, with_leaf, with_close, innermost_of}
 use Rattle.counters.specs.Markers.{has_marker}
 use Rattle.inline_text.specs.declared.space.TextPart.{TextPart}
+use Rattle.soft_hyphens.specs.Words.{Points}
 use Rattle.style.specs.declared.style.Style.{Style}
 use Rattle.style.specs.Nodes.{style_at}
 use Rattle.style.specs.Styles.{initial_style}
@@ -167,24 +168,26 @@ abbrev pub starts_by : ℕ → List InlineStart → List Start
 starts_by event starts = map (λ a. start_at a.node.0 event a.offset) starts
 
 -- a run is put, where its text is empty or not, in an anonymous box or not
-abbrev pub put_by : Bool → Bool → LeafStyle → BoxProps → Built → List InlineItem → Built
-put_by true wrap look anonymous b items =
-    built b.tree (b.starts ++ starts_by (length b.tree.events) (starts_of items)) b.pending
-put_by false true look anonymous b items =
-    built (shut (with_leaf (with_box b.tree anonymous) (leaf_by (text_of items) (spans_of items) look b.pending)))
-    (b.starts ++ starts_by (suc (length b.tree.events)) (starts_of items)) []
-put_by false false look anonymous b items =
-    built (with_leaf b.tree (leaf_by (text_of items) (spans_of items) look b.pending))
-    (b.starts ++ starts_by (length b.tree.events) (starts_of items)) []
+abbrev pub put_by : Bool → Bool → Option Points → LeafStyle → BoxProps → Built → List InlineItem → Built
+put_by true wrap points look anonymous b items =
+    built b.tree (b.starts ++ starts_by (length b.tree.events) (starts_of points items)) b.pending
+put_by false true points look anonymous b items =
+    built (shut (with_leaf (with_box b.tree anonymous)
+    (leaf_by (text_of points items) (spans_of points items) look b.pending)))
+    (b.starts ++ starts_by (suc (length b.tree.events)) (starts_of points items)) []
+put_by false false points look anonymous b items =
+    built (with_leaf b.tree (leaf_by (text_of points items) (spans_of points items) look b.pending))
+    (b.starts ++ starts_by (length b.tree.events) (starts_of points items)) []
 
 -- a run is a leaf, which stands in an anonymous box beside blocks and takes the markers that wait. A run without a
 -- character is none, and its elements begin at the next event
-abbrev pub put : LeafStyle → BoxProps → Bool → Built → List InlineItem → Built
-put look anonymous wrap b items = put_by (length (text_of items) == 0) wrap look anonymous b items
+abbrev pub put : Option Points → LeafStyle → BoxProps → Bool → Built → List InlineItem → Built
+put points look anonymous wrap b items =
+    put_by (length (text_of points items) == 0) wrap points look anonymous b items
 
 -- a run in a block of a style
 abbrev pub with_run : Source → Style → Bool → Built → List InlineItem → Built
-with_run src s wrap b items = put (leaf_style_of s (src.face s)) (anonymous_props s) wrap b items
+with_run src s wrap b items = put src.points (leaf_style_of s (src.face s)) (anonymous_props s) wrap b items
 
 -- content put into the innermost unclosed box, which is that of a block of a style
 abbrev pub grown : Source → Style → Bool → Built → Content → Built

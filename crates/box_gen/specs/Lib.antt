@@ -3,6 +3,7 @@ pub mod Props
 pub mod Represented
 pub mod Markers
 pub mod Runs
+pub mod Hyphens
 pub mod Leaves
 pub mod Trees
 pub mod Flow

@@ -1,5 +1,5 @@
 -- What a flow is made from, as the arguments have it.
-use Rattle.std.specs.Prelude.{◌≡◌, ◌&&◌, not, true, ℕ, IsTrue, List, Some, slice_get, ℤ}
+use Rattle.std.specs.Prelude.{◌≡◌, ◌&&◌, not, true, ℕ, IsTrue, List, Option, Some, option_map, slice_get, ℤ}
 use Rattle.bk_num.specs.declared.values.Pseudo.{Pseudo}
 use Rattle.bk_num.specs.declared.values.Pseudo.TheVariants as pseudo
 use Rattle.counters.specs.At.{counter_values}
@@ -7,6 +7,7 @@ use Rattle.dom.specs.Nodes.{Node}
 use Rattle.gen_text.specs.declared.generated.NodeTexts.{NodeTexts}
 use Rattle.gen_text.specs.Generated.{assigned_strings, generated_text}
 use Rattle.metrics.specs.Face.{FontFace}
+use Rattle.soft_hyphens.specs.Words.{Points, points_in}
 use Rattle.style.specs.declared.style.Style.{Style}
 use Rattle.style.specs.Nodes.{NodeStyles, is_note_in, is_shown_in, style_at}
 pub use Rattle.style.specs.Ranges.{AreInRange, IsInRange}
@@ -18,10 +19,12 @@ use Rattle.box_gen.specs.Trees.{Source}
 
 -- ---- the source
 
--- nodes with their styles, the values of counters at places, and generated texts, set in some faces
+-- nodes with their styles, the values of counters at places, and generated texts, set in some faces, and where words
+-- may be hyphenated
 abbrev pub source_of :
-    List Node → List NodeStyles → (ℕ → Pseudo → List ℕ → List ℤ) → List FontFace → List NodeTexts → Source
-source_of nodes styles values faces texts = record {
+    List Node → List NodeStyles → (ℕ → Pseudo → List ℕ → List ℤ) → List FontFace → List NodeTexts → Option Points →
+    Source
+source_of nodes styles values faces texts points = record {
   nodes = nodes;
   styles = styles;
   items = λ n. list_values values n;
@@ -30,14 +33,16 @@ source_of nodes styles values faces texts = record {
   is_note = λ n. is_note_in (slice_get styles n);
   clones = true;
   assigned = λ n. assigned_strings texts n;
+  points = points;
 }
 
 -- what a flow is made from, and in a note what is in the note
 abbrev pub source_in : FlowInput → Source
-source_in i = record (source_of i.dom.now i.styles.now (counter_values i.counters.now) i.faces.now i.texts.now) {
-  is_note = λ n. not i.in_note && is_note_in (slice_get i.styles.now n);
-  clones = not i.in_note;
-}
+source_in i = record (source_of i.dom.now i.styles.now (counter_values i.counters.now) i.faces.now i.texts.now
+    (points_in (option_map (λ p. p.now) i.patterns))) {
+      is_note = λ n. not i.in_note && is_note_in (slice_get i.styles.now n);
+      clones = not i.in_note;
+    }
 
 -- ---- the root
 

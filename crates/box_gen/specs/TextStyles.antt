@@ -25,6 +25,7 @@ text_style_of s space face = record {
   color = s.color;
   wrap = wraps space;
   anywhere = s.overflow_wrap;
+  hyphens = s.hyphens;
 }
 
 -- a text from one offset to another, set so

@@ -4,6 +4,7 @@ use Rattle.bk_num.specs.declared.ids.FaceId.{FaceId}
 use Rattle.bk_num.specs.declared.values.Pseudo.{Pseudo}
 use Rattle.dom.specs.Nodes.{Node, parents_of, text_at}
 use Rattle.dom.specs.Walk.{children_of}
+use Rattle.soft_hyphens.specs.Words.{Points}
 use Rattle.style.specs.declared.style.Style.{Style}
 use Rattle.style.specs.declared.values.Display.{Display}
 use Rattle.style.specs.declared.values.Display.TheVariants as display
@@ -30,7 +31,8 @@ forest_of nodes = node 0 (below (parents_of nodes) (length nodes - 1) 0) none
 
 -- what a flow is made from: nodes with their styles, the values of the counter of list items at each element (the
 -- outermost scope first), the face of each style, what each pseudo-element's content prints, which elements float to
--- the notes, whether edges may stand again where a page parts a box, and the running strings that each element assigns
+-- the notes, whether edges may stand again where a page parts a box, the running strings that each element assigns, and
+-- where words may be hyphenated, if patterns are given
 pub record Source : Type 0 where
   pub nodes : List Node
   pub styles : List NodeStyles
@@ -40,6 +42,7 @@ pub record Source : Type 0 where
   pub is_note : ℕ → Bool
   pub clones : Bool
   pub assigned : ℕ → List (List ℕ × List ℕ)
+  pub points : Option Points
 
 -- whether `display` is of block level (CSS 2.1, 9.2.1)
 abbrev pub is_block_level : Display → Bool

@@ -1,6 +1,6 @@
 //! The flow of a document.
 
-ghost use Rattle.std.specs.Prelude.{◌≡◌, ◌<◌, ◌≤◌, ◌++◌, [], ◌∷◌, length, map, IfErr, IfOk, OnOk};
+ghost use Rattle.std.specs.Prelude.{◌≡◌, ◌<◌, ◌≤◌, ◌++◌, [], ◌∷◌, length, map, option_map, IfErr, IfOk, OnOk};
 ghost use Rattle.std.specs.List.{All};
 ghost use Rattle.bk_num.specs.Limits.{most_entries, most_events, most_open, most_text_bytes};
 ghost use Rattle.boxes.specs.Tree.{IsWhole, depth_of};
@@ -28,6 +28,7 @@ ghost use Rattle.box_gen.specs.Faces.{AreFaced};
 ghost use Rattle.box_gen.specs.Notes.{AreNotesOf, IsGoodBody, bytes_in, events_in};
 ghost use Rattle.box_gen.specs.Sites.{built_in};
 ghost use Rattle.box_gen.specs.Sources.{AreInRange, IsInput, IsRootShown, source_in, source_of};
+ghost use Rattle.soft_hyphens.specs.Words.{points_in};
 
 use crate::builder::FlowBuilder;
 use crate::inline::BuildErr;
@@ -42,6 +43,7 @@ use boxes::place::Position;
 use counters::at::CounterAt;
 use dom::Dom;
 use gen_text::generated::Generated;
+use hyphen::Patterns;
 use metrics::Faces;
 use std::alloc::Global;
 use style::style::Style;
@@ -318,9 +320,10 @@ fn flow_by(alloc: Global, input: &FlowInput) -> Result<Flow, BuildErr>
 
 /// The flow of a document by its styles, its counters and its generated texts, set in some faces. Its main tree is
 /// whole where the root is shown, and so are the bodies of its notes; each has at most 2,048 boxes open at once, and
-/// its faces are there.
+/// its faces are there. Where patterns are given, U+00AD stands at the points of the words that are hyphenated.
 ///
-/// A document of `n` nodes is walked once; each character of it is passed once, and what is left of it is copied once.
+/// A document of `n` nodes is walked once; each character of it is passed once, and what is left of it is copied once,
+/// and once more in a leaf with words that are hyphenated.
 ///
 /// # Errors
 ///
@@ -333,16 +336,19 @@ pub fn build(
     counters: &CounterAt,
     faces: &Faces,
     texts: &Generated,
+    patterns: Option<&Patterns>,
 ) -> Result<Flow, BuildErr>
     requires { AreInRange styles.now }
     ensures flow { IfOk result (λ flow. flow ≡
-        flow_of (source_of dom.now styles.now (counter_values counters.now) faces.now texts.now)) }
+        flow_of (source_of dom.now styles.now (counter_values counters.now) faces.now texts.now
+        (points_in (option_map (λ p. p.now) patterns.entry)))) }
     ensures whole { IsRootShown styles.now → IfOk result (λ flow. IsWhole flow.main.events) }
     ensures depth { IfOk result (λ flow. depth_of flow.main.events ≤ most_open) }
     ensures faced { IfOk result (λ flow. AreFaced faces.now flow.main.leaves) }
     ensures bodies { IfOk result (λ flow. All (IsGoodBody faces.now) flow.notes) }
     ensures notes { IfOk result (λ flow.
-        AreNotesOf (source_of dom.now styles.now (counter_values counters.now) faces.now texts.now) flow.notes) }
+        AreNotesOf (source_of dom.now styles.now (counter_values counters.now) faces.now texts.now
+        (points_in (option_map (λ p. p.now) patterns.entry))) flow.notes) }
     ensures calls { IfOk result (λ flow. NeverFall (map (λ n. n.call) flow.notes)) }
     ensures few { IfOk result (λ flow. bytes_in flow ≤ most_text_bytes) }
     ensures events { IfOk result (λ flow. events_in flow ≤ most_events) }
@@ -351,7 +357,8 @@ pub fn build(
     ensures resets { IfOk result (λ flow. NeverFall (map (λ r. r.at) flow.resets)) }
     ensures small { IfOk result (λ flow. All IsSmallReset flow.resets) }
     ensures cause { IfErr result (λ e. e ≡ BuildErr.Text → most_text_bytes <
-        bytes_in (flow_of (source_of dom.now styles.now (counter_values counters.now) faces.now texts.now))) }
+        bytes_in (flow_of (source_of dom.now styles.now (counter_values counters.now) faces.now texts.now
+        (points_in (option_map (λ p. p.now) patterns.entry))))) }
 {
     prove!(dom.len() > 0);
     prove!(faces.len() > 0);
@@ -364,6 +371,7 @@ pub fn build(
         counters,
         faces,
         texts,
+        patterns,
         initial: &initial,
         in_note: false,
     };

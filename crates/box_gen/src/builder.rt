@@ -232,7 +232,15 @@ fn enter_block<'a>(
 {
     let around = innermost(input, &builder.blocks);
     let items = std::mem::replace(&mut builder.run, Vec::new(alloc));
-    put_run(alloc, input.faces, around, true, &mut builder.site, items)?;
+    put_run(
+        alloc,
+        input.faces,
+        input.patterns,
+        around,
+        true,
+        &mut builder.site,
+        items,
+    )?;
     let Ok(()) = open_box(alloc, input, node, style, &mut builder.site) else {
         return Err(BuildErr::NoMemory);
     };
@@ -276,7 +284,15 @@ pub(crate) fn leave_block<'a>(
     };
     let wrap = !builder.site.tree.takes_leaf();
     let items = std::mem::replace(&mut builder.run, Vec::new(alloc));
-    put_run(alloc, input.faces, style, wrap, &mut builder.site, items)?;
+    put_run(
+        alloc,
+        input.faces,
+        input.patterns,
+        style,
+        wrap,
+        &mut builder.site,
+        items,
+    )?;
     let Ok(()) = close_box(&mut builder.site) else {
         return Err(BuildErr::NoMemory);
     };

@@ -1,6 +1,6 @@
 //! The leaves of inline text.
 
-ghost use Rattle.std.specs.Prelude.{◌≡◌, ◌<◌, ◌≤◌, ◌++◌, ◌∷◌, [], List, ℕ, length, IfOk, IfErr, OnOk};
+ghost use Rattle.std.specs.Prelude.{◌≡◌, ◌<◌, ◌≤◌, ◌++◌, ◌∷◌, [], List, ℕ, length, option_map, IfOk, IfErr, OnOk};
 ghost use Rattle.std.specs.List.{All};
 ghost use Rattle.std.specs.Str.{IsCharBoundary};
 ghost use Rattle.inline_text.specs.Joined.{ends_from, laid_texts};
@@ -8,6 +8,7 @@ ghost use Rattle.bk_num.specs.Limits.{most_text_bytes};
 ghost use Rattle.bk_num.specs.Ranges.{IsNotAuto};
 ghost use Rattle.boxes.specs.Contents.{IsGoodLeaf, IsGoodSpan};
 ghost use Rattle.metrics.specs.Choice.{Chooses};
+ghost use Rattle.soft_hyphens.specs.Words.{points_in};
 ghost use Rattle.box_gen.specs.Faces.{face_of};
 ghost use Rattle.box_gen.specs.Leaves.{IsGoodRun, leaf_by, leaf_style_of};
 ghost use Rattle.box_gen.specs.Runs.{
@@ -15,6 +16,7 @@ ghost use Rattle.box_gen.specs.Runs.{
   mark_of,
   marks_in,
   parts_in,
+  printed_in,
   span_between,
   spans_from,
   spans_of,
@@ -25,6 +27,7 @@ ghost use Rattle.box_gen.specs.Runs.{
 };
 ghost use Rattle.box_gen.specs.TextStyles.{IsGoodTextStyle};
 
+use crate::hyphens::hyphenated;
 use crate::inline::{BuildErr, InlineItem, InlineStart, ItemMark};
 use crate::text_style::{TextStyle, span_by, text_style};
 use bk_num::ids::NodeId;
@@ -33,6 +36,7 @@ use bk_num::length::Len;
 use bk_num::name::NoMem;
 use bk_num::values::Align;
 use boxes::leaf::{Leads, Leaf, Span, Spans};
+use hyphen::Patterns;
 use inline_text::joined::JoinedText;
 use inline_text::part::BorrowedPart;
 use inline_text::places::opportunities;
@@ -105,6 +109,22 @@ fn split<'a>(
         push_item(&mut parts, &mut marks, item)?;
     }
     Ok((parts, marks))
+}
+
+/// The texts of a run with its white space collapsed and its words hyphenated, and the run without its letters.
+fn printed<'a>(
+    alloc: Global,
+    items: Vec<InlineItem<'a>>,
+    patterns: Option<&Patterns>,
+) -> Result<(JoinedText, Vec<ItemMark>), NoMem>
+    ensures texts { IfOk result (λ r. r.0 ≡
+        laid_texts (printed_in (points_in (option_map (λ p. p.now) patterns.entry)) items.entry.items)) }
+    ensures marks { IfOk result (λ r. r.1.items ≡ marks_in items.entry.items) }
+{
+    let (parts, marks) = split(alloc, items)?;
+    let texts = collapse_joined(alloc, &parts)?;
+    let texts = hyphenated(alloc, &marks, texts, patterns)?;
+    Ok((texts, marks))
 }
 
 /// Adds a span, unless it is empty.
@@ -181,34 +201,41 @@ fn marked_run(alloc: Global, marks: &[ItemMark], joined: JoinedText) -> Result<R
     })
 }
 
-/// The text of a run with its white space collapsed, its spans, and where its elements begin.
+/// The text of a run with its white space collapsed and its words hyphenated, its spans, and where its elements begin.
 ///
-/// Each character is passed once, and what is left of it is copied once, from where it stands in the document.
+/// Each character is passed once, and what is left of it is copied once, from where it stands in the document; where
+/// patterns are given and some text of the run is hyphenated, it is passed and copied once more.
 ///
 /// # Errors
 ///
 /// `Text` where the text has more bytes than `most`, at most 33,554,432.
 #[tactic(auto, unfolding(crate::specs::Runs::text_of, crate::specs::Runs::spans_of, crate::specs::Runs::starts_of))]
-pub fn run_text(alloc: Global, items: Vec<InlineItem>, most: u32) -> Result<RunText, BuildErr>
+pub fn run_text(
+    alloc: Global,
+    items: Vec<InlineItem>,
+    most: u32,
+    patterns: Option<&Patterns>,
+) -> Result<RunText, BuildErr>
     requires { most ≤ most_text_bytes }
-    ensures text { IfOk result (λ run. run.text ≡ text_of items.entry.items) }
-    ensures spans { IfOk result (λ run. run.spans ≡ spans_of items.entry.items) }
-    ensures starts { IfOk result (λ run. run.starts ≡ starts_of items.entry.items) }
+    ensures text { IfOk result (λ run. run.text ≡
+        text_of (points_in (option_map (λ p. p.now) patterns.entry)) items.entry.items) }
+    ensures spans { IfOk result (λ run. run.spans ≡
+        spans_of (points_in (option_map (λ p. p.now) patterns.entry)) items.entry.items) }
+    ensures starts { IfOk result (λ run. run.starts ≡
+        starts_of (points_in (option_map (λ p. p.now) patterns.entry)) items.entry.items) }
     ensures good { IfOk result (λ run. IsGoodRun run) }
     ensures sizes { AreGoodTexts items.entry.items → IfOk result (λ run. All IsGoodSpan run.spans) }
     ensures most { IfOk result (λ run. length run.text ≤ most) }
-    ensures cause { IfErr result (λ e. e ≡ BuildErr.Text → most < length (text_of items.entry.items)) }
+    ensures cause { IfErr result (λ e. e ≡ BuildErr.Text →
+        most < length (text_of (points_in (option_map (λ p. p.now) patterns.entry)) items.entry.items)) }
 {
-    let Ok((parts, marks)) = split(alloc, items) else {
+    let Ok((texts, marks)) = printed(alloc, items, patterns) else {
         return Err(BuildErr::NoMemory);
     };
-    let Ok(joined) = collapse_joined(alloc, &parts) else {
-        return Err(BuildErr::NoMemory);
-    };
-    if joined.text().len() > most as usize {
+    if texts.text().len() > most as usize {
         return Err(BuildErr::Text);
     }
-    match marked_run(alloc, &marks, joined) {
+    match marked_run(alloc, &marks, texts) {
         Ok(run) => Ok(run),
         Err(_) => Err(BuildErr::NoMemory),
     }

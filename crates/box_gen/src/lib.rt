@@ -3,6 +3,7 @@
 
 pub mod build;
 mod builder;
+mod hyphens;
 pub mod inline;
 mod input;
 pub mod laws;

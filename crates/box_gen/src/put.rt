@@ -1,6 +1,6 @@
 //! A run is put into the tree.
 
-ghost use Rattle.std.specs.Prelude.{◌≡◌, suc, ◌+◌, ◌<◌, ◌≤◌, ◌++◌, length, OnOk, IfErr, IsTrue, if◌then◌else◌};
+ghost use Rattle.std.specs.Prelude.{◌≡◌, suc, ◌+◌, ◌<◌, ◌≤◌, ◌++◌, length, option_map, OnOk, IfErr, IsTrue, if◌then◌else◌};
 ghost use Rattle.std.specs.List.{All};
 ghost use Rattle.bk_num.specs.Limits.{most_text_bytes};
 ghost use Rattle.boxes.specs.Contents.{IsGoodBox, IsGoodLeaf, IsGoodSpan};
@@ -13,6 +13,7 @@ ghost use Rattle.box_gen.specs.Props as props;
 ghost use Rattle.box_gen.specs.Runs.{AreGoodTexts};
 ghost use Rattle.box_gen.specs.Sites.{IsCounted, TakesRun, built_in, leaf_bytes, with_any, with_text};
 ghost use Rattle.box_gen.specs.Sources.{IsInRange};
+ghost use Rattle.soft_hyphens.specs.Words.{points_in};
 
 use crate::inline::{BuildErr, InlineItem, InlineStart};
 use crate::leaf::{RunText, leaf_of, leaf_style, run_text};
@@ -25,6 +26,7 @@ use boxes::leaf::{Lead, Leaf};
 use boxes::place::Position;
 use boxes::props::BoxProps;
 use boxes::tree::BoxTree;
+use hyphen::Patterns;
 use metrics::Faces;
 use std::alloc::Global;
 use style::style::Style;
@@ -208,6 +210,7 @@ fn put_text(
 pub(crate) fn put_run<'a>(
     alloc: Global,
     faces: &Faces,
+    patterns: Option<&Patterns>,
     style: &Style,
     wrap: bool,
     site: &mut Site,
@@ -218,15 +221,17 @@ pub(crate) fn put_run<'a>(
     requires takes { TakesRun wrap site.old }
     requires count { IsCounted site.old }
     ensures built { OnOk result (built_in site.new ≡
-        put (leaf_style_of style.now (face_of faces.now style.now)) (props.anonymous_props style.now) wrap
+        put (points_in (option_map (λ p. p.now) patterns.entry))
+        (leaf_style_of style.now (face_of faces.now style.now)) (props.anonymous_props style.now) wrap
         (built_in site.old) items.entry.items) }
     ensures count { OnOk result (IsCounted site.new) }
     ensures room { OnOk result (site.new.room ≡ site.old.room) }
     ensures cause { IfErr result (λ e. e ≡ BuildErr.Text → site.old.room.bytes < leaf_bytes
-        (put (leaf_style_of style.now (face_of faces.now style.now)) (props.anonymous_props style.now) wrap
+        (put (points_in (option_map (λ p. p.now) patterns.entry))
+        (leaf_style_of style.now (face_of faces.now style.now)) (props.anonymous_props style.now) wrap
         (built_in site.old) items.entry.items).tree.leaves) }
 {
-    match run_text(alloc, items, site.room.bytes - site.bytes) {
+    match run_text(alloc, items, site.room.bytes - site.bytes, patterns) {
         Err(e) => Err(e),
         Ok(run) => match put_text(alloc, faces, style, wrap, site, run) {
             Ok(()) => Ok(()),

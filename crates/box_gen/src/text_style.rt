@@ -15,7 +15,8 @@ use metrics::Faces;
 use metrics::chosen::choose;
 use style::style::Style;
 
-/// How a text is set: its face, its size and used line height in units, its colour, and whether lines end in it.
+/// How a text is set: its face, its size and used line height in units, its colour, whether lines end in it, and
+/// whether its words are hyphenated.
 #[derive(Clone, Copy, Debug)]
 pub struct TextStyle {
     pub face: FaceId,
@@ -24,6 +25,7 @@ pub struct TextStyle {
     pub color: Color,
     pub wrap: bool,
     pub anywhere: bool,
+    pub hyphens: bool,
 }
 
 /// Whether lines end in a text whose white space is treated so.
@@ -60,6 +62,7 @@ pub fn text_style(faces: &Faces, style: &Style, space: WhiteSpace) -> TextStyle
         color: style.color,
         wrap: wraps(space),
         anywhere: style.overflow_wrap,
+        hyphens: style.hyphens,
     }
 }
 

@@ -86,7 +86,7 @@ fn flow_by(
 {
     let table = Table::of(Items::new(alloc));
     let texts = generate(alloc, dom, styles, counters, &table)?;
-    match build(alloc, dom, styles, counters, faces, &texts) {
+    match build(alloc, dom, styles, counters, faces, &texts, None) {
         Ok(flow) => Ok(flow),
         Err(_) => Err(NoMem),
     }

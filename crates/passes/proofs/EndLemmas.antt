@@ -31,6 +31,7 @@ one_source w a b texts strings = λ i. record {
   is_note = (source_for w a).is_note;
   clones = (source_for w a).clones;
   assigned = λ n. strings n i;
+  points = w.points;
 }
 
 module _ (texts : GeneratedIsOne) (list : HasOnePageList) (nothing : LeavesNothing) (w : Work) (tree : IsTree w.nodes) where

@@ -1,5 +1,5 @@
 -- What the passes over a document answer.
-use Rattle.std.specs.Prelude.{ℕ, List, Result, Ok, Err}
+use Rattle.std.specs.Prelude.{ℕ, List, Result, Ok, Err, option_map}
 use Rattle.bk_num.specs.declared.ids.NodeId.{NodeId}
 use Rattle.counters.specs.At.{counter_values}
 use Rattle.gen_text.specs.References.{AreTargets}
@@ -10,6 +10,7 @@ use Rattle.passes.specs.declared.settle.PassErr.{PassErr}
 use Rattle.passes.specs.declared.settle.PassErr.TheVariants as err
 use Rattle.passes.specs.Passes.{End, settled, unsettled, long, many, EndsIn}
 use Rattle.passes.specs.Work.{Work}
+use Rattle.soft_hyphens.specs.Words.{points_in}
 
 -- what the passes over a document read, with the frames of its pages, how many stand on each, and the elements that its
 -- page references lead to
@@ -19,6 +20,7 @@ work_of input frames per targets = record {
   rows = input.styles.now;
   values = counter_values input.counters.now;
   faces = input.faces.now;
+  points = points_in (option_map (λ p. p.now) input.patterns);
   frames = frames;
   per = per;
   targets = targets;

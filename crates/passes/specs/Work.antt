@@ -1,5 +1,5 @@
 -- What the passes over a document read, and the flow of a pass.
-use Rattle.std.specs.Prelude.{◌≡◌, ℕ, ℤ, List, codes, slice_get, true}
+use Rattle.std.specs.Prelude.{◌≡◌, ℕ, ℤ, List, Option, codes, slice_get, true}
 use Rattle.bk_num.specs.declared.ids.NodeId.{NodeId}
 use Rattle.bk_num.specs.declared.values.Pseudo.{Pseudo}
 use Rattle.bk_num.specs.declared.values.Pseudo.TheVariants as pseudo
@@ -13,15 +13,17 @@ use Rattle.gen_text.specs.declared.generated.NodeTexts.{NodeTexts}
 use Rattle.gen_text.specs.declared.table.Entry.{Entry}
 use Rattle.metrics.specs.Face.{FontFace}
 use Rattle.boxes.specs.Frames.{PageFrames}
+use Rattle.soft_hyphens.specs.Words.{Points}
 use Rattle.style.specs.Nodes.{NodeStyles, is_note_in}
 
--- what is the same in all passes: nodes with their styles, the values of counters, faces, the frames of pages and how
--- many stand on each, and the elements that page references lead to
+-- what is the same in all passes: nodes with their styles, the values of counters, faces, where words may be
+-- hyphenated, the frames of pages and how many stand on each, and the elements that page references lead to
 pub record Work : Type 0 where
   pub nodes : List Node
   pub rows : List NodeStyles
   pub values : ℕ → Pseudo → List ℕ → List ℤ
   pub faces : List FontFace
+  pub points : Option Points
   pub frames : PageFrames
   pub per : ℕ
   pub targets : List NodeId
@@ -37,6 +39,7 @@ source_for w texts = record {
   is_note = λ n. is_note_in (slice_get w.rows n);
   clones = true;
   assigned = λ n. assigned_strings texts n;
+  points = w.points;
 }
 
 -- the flow under a table: page references print the numbers that the table has (css-gcpm-3, target-counter)

@@ -57,6 +57,7 @@ fn flow_under(alloc: Global, input: &Input<'_>, table: &Table) -> Result<Flow, P
         input.counters,
         input.faces,
         &texts,
+        input.patterns,
     )?;
     // a tree of boxes is one that can be built
     let _count = flow.main.count();

@@ -23,6 +23,7 @@ use dom::Dom;
 use fragment::paginate::PageErr;
 use gen_text::references::targets;
 use gen_text::table::{Entry, Table};
+use hyphen::Patterns;
 use metrics::Faces;
 use refs::difference::first_difference;
 use refs::opening::opening;
@@ -32,13 +33,15 @@ use std::sync::ledger::Ledger;
 use style::styles::Styles;
 use thiserror::Error;
 
-/// A document with its styles and counters, and the faces that set it.
+/// A document with its styles and counters, the faces that set it, and the patterns by which words are hyphenated, if
+/// there are any.
 #[derive(Clone, Copy)]
 pub struct Input<'a> {
     pub dom: &'a Dom,
     pub styles: &'a Styles,
     pub counters: &'a CounterAt,
     pub faces: &'a Faces,
+    pub patterns: Option<&'a Patterns>,
 }
 
 /// A flow whose pages show the table under which its texts are made, with the frames of these pages, as the list that
