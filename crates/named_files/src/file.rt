@@ -11,6 +11,7 @@ pub enum FileOf {
     Metrics,
     Html,
     Sheet(u64),
+    Patterns,
 }
 
 /// The word for a file, and the number of a sheet.
@@ -23,5 +24,6 @@ pub fn file_words(file: FileOf, buffer: &mut Buffer) -> (&'static str, &str)
         FileOf::Metrics => ("metrics", ""),
         FileOf::Html => ("html", ""),
         FileOf::Sheet(number) => ("sheet ", buffer.format(number)),
+        FileOf::Patterns => ("patterns", ""),
     }
 }

@@ -1,11 +1,11 @@
 //! Reads the texts of the files.
 
-ghost use Rattle.std.specs.Prelude.{◌≡◌, ◌≤◌, IfErr, IfOk, map, string_len};
+ghost use Rattle.std.specs.Prelude.{◌≡◌, ◌≤◌, IfErr, IfOk, IfSome, map, option_map, string_len};
 ghost use Rattle.std.specs.List.{AllZip};
 ghost use Rattle.bk_num.specs.Limits.{most_file_bytes};
 ghost use Rattle.bk_io.specs.Reads.{HasTextFault, IsTextOf};
 ghost use Rattle.words.specs.Asked.{format_view};
-ghost use Rattle.named_files.specs.Texts.{AreTextsOf, IsFirstFault, IsSheetFault, KeepsCount};
+ghost use Rattle.named_files.specs.Texts.{AreTextsOf, IsFirstFault, IsPatternsFault, IsSheetFault, IsTextIfNamed, KeepsCount};
 
 use crate::fault::FileFault;
 use crate::file::FileOf;
@@ -21,6 +21,8 @@ pub struct FileTexts {
     pub metrics: String,
     pub html: String,
     pub sheets: Vec<String>,
+    /// There where the file is named.
+    pub patterns: Option<String>,
 }
 
 /// The text of one file, a leading U+FEFF included.
@@ -75,9 +77,29 @@ fn sheet_texts<F: Shelf>(
     Ok(texts)
 }
 
+/// The text of the patterns, where they are named.
+fn patterns_text<F: Shelf>(
+    alloc: Global,
+    shelf: &mut F,
+    name: Option<&str>,
+) -> Result<Option<String>, FileFault>
+    ensures told { F.told shelf.new ≡ F.told shelf.old }
+    ensures count { KeepsCount (F.faults shelf.old) (F.faults shelf.new) result }
+    ensures text { IfOk result (IsTextIfNamed (F.told shelf.old) (option_map (λ n. n.now) name.entry)) }
+    ensures small { IfOk result (λ text. IfSome text (λ t. string_len t ≤ most_file_bytes)) }
+    ensures later { F.faults shelf.old ≤ F.faults shelf.new }
+    ensures fault { IfErr result (IsPatternsFault (option_map (λ n. n.now) name.entry) (F.told shelf.old)
+        (F.faults shelf.old) (F.faults shelf.new) (F.last_fault shelf.new)) }
+{
+    match name {
+        None => Ok(None),
+        Some(name) => Ok(Some(text_of(alloc, shelf, name, FileOf::Patterns)?)),
+    }
+}
+
 /// The texts of the files that are named, each of at most 16,777,216 bytes, read whole one after the other: the
-/// metrics text, the HTML, and the sheets in their order. It stops at the first that gives no text, and asks for no other
-/// file.
+/// metrics text, the HTML, the sheets in their order, and the patterns. It stops at the first that gives no text, and
+/// asks for no other file.
 pub fn read_files<F: Shelf>(
     alloc: Global,
     names: &Format<'_>,
@@ -87,15 +109,18 @@ pub fn read_files<F: Shelf>(
     ensures count { KeepsCount (F.faults shelf.old) (F.faults shelf.new) result }
     ensures texts { IfOk result (AreTextsOf (format_view names.now) (F.told shelf.old)) }
     ensures small { IfOk result (λ t. string_len t.metrics ≤ most_file_bytes) }
+    ensures small_patterns { IfOk result (λ t. IfSome t.patterns (λ p. string_len p ≤ most_file_bytes)) }
     ensures fault { IfErr result (IsFirstFault (format_view names.now) (F.told shelf.old) (F.faults shelf.old)
         (F.faults shelf.new) (F.last_fault shelf.new)) }
 {
     let metrics = text_of(alloc, shelf, names.metrics, FileOf::Metrics)?;
     let html = text_of(alloc, shelf, names.html, FileOf::Html)?;
     let sheets = sheet_texts(alloc, shelf, names.sheets.as_slice())?;
+    let patterns = patterns_text(alloc, shelf, names.patterns)?;
     Ok(FileTexts {
         metrics,
         html,
         sheets,
+        patterns,
     })
 }

@@ -20,7 +20,8 @@ fn push_quoted(line: &mut String, names: &[&str]) -> Result<(), AllocError> {
     Ok(())
 }
 
-/// The passes, the columns, the gap, and the names in quotes: of the metrics, of the HTML, and of the sheets.
+/// The passes, the columns, the gap, and the names in quotes: of the metrics, of the HTML, of the sheets, and of the
+/// patterns if there is one.
 fn format(alloc: Global, format: &Format<'_>) -> Result<String, AllocError> {
     let Format {
         passes,
@@ -32,6 +33,9 @@ fn format(alloc: Global, format: &Format<'_>) -> Result<String, AllocError> {
     } = format;
     let mut line = format!(in alloc; "format {passes} {columns} {gap} '{metrics}' '{html}'")?;
     push_quoted(&mut line, &format.sheets)?;
+    if let Some(name) = format.patterns {
+        push_all(&mut line, &[" patterns '", name, "'"])?;
+    }
     Ok(line)
 }
 

@@ -9,7 +9,7 @@ use named_files::{FileOf, file_words};
 
 /// How the program is called.
 const USAGE: &str =
-    "unread: usage: unread format [--passes N] [--columns N] [--gap PX] METRICS HTML [CSS ...]\n";
+    "unread: usage: unread format [--passes N] [--columns N] [--gap PX] [--patterns FILE] METRICS HTML [CSS ...]\n";
 
 /// Puts a line that tells of a file.
 fn put_file_line<E: Sink>(

@@ -45,7 +45,7 @@ pub sample_is_leaf : IsLeaf sample_app
 unfolding sample_app
 sample_is_leaf = record { leaf = refl; subs = refl }
 
-passes_alone : (j : ℕ) (e : Rule) → j < 6 → bytes_eq (slice_index_or format_app.top.rules j e).id (codes "passes") ≡ true → j ≡ 0
+passes_alone : (j : ℕ) (e : Rule) → j < 7 → bytes_eq (slice_index_or format_app.top.rules j e).id (codes "passes") ≡ true → j ≡ 0
 unfolding format_app
 passes_alone zero e lt h = refl
 passes_alone (suc zero) e lt h = let bad : false ≡ true = h in cc
@@ -53,9 +53,10 @@ passes_alone (suc (suc zero)) e lt h = let bad : false ≡ true = h in cc
 passes_alone (suc (suc (suc zero))) e lt h = let bad : false ≡ true = h in cc
 passes_alone (suc (suc (suc (suc zero)))) e lt h = let bad : false ≡ true = h in cc
 passes_alone (suc (suc (suc (suc (suc zero))))) e lt h = let bad : false ≡ true = h in cc
-passes_alone (suc (suc (suc (suc (suc (suc j)))))) e lt h = absurd (omega arith)
+passes_alone (suc (suc (suc (suc (suc (suc zero)))))) e lt h = let bad : false ≡ true = h in cc
+passes_alone (suc (suc (suc (suc (suc (suc (suc j))))))) e lt h = absurd (omega arith)
 
-columns_alone : (j : ℕ) (e : Rule) → j < 6 → bytes_eq (slice_index_or format_app.top.rules j e).id (codes "columns") ≡ true → j ≡ 1
+columns_alone : (j : ℕ) (e : Rule) → j < 7 → bytes_eq (slice_index_or format_app.top.rules j e).id (codes "columns") ≡ true → j ≡ 1
 unfolding format_app
 columns_alone zero e lt h = let bad : false ≡ true = h in cc
 columns_alone (suc zero) e lt h = refl
@@ -63,9 +64,10 @@ columns_alone (suc (suc zero)) e lt h = let bad : false ≡ true = h in cc
 columns_alone (suc (suc (suc zero))) e lt h = let bad : false ≡ true = h in cc
 columns_alone (suc (suc (suc (suc zero)))) e lt h = let bad : false ≡ true = h in cc
 columns_alone (suc (suc (suc (suc (suc zero))))) e lt h = let bad : false ≡ true = h in cc
-columns_alone (suc (suc (suc (suc (suc (suc j)))))) e lt h = absurd (omega arith)
+columns_alone (suc (suc (suc (suc (suc (suc zero)))))) e lt h = let bad : false ≡ true = h in cc
+columns_alone (suc (suc (suc (suc (suc (suc (suc j))))))) e lt h = absurd (omega arith)
 
-gap_alone : (j : ℕ) (e : Rule) → j < 6 → bytes_eq (slice_index_or format_app.top.rules j e).id (codes "gap") ≡ true → j ≡ 2
+gap_alone : (j : ℕ) (e : Rule) → j < 7 → bytes_eq (slice_index_or format_app.top.rules j e).id (codes "gap") ≡ true → j ≡ 2
 unfolding format_app
 gap_alone zero e lt h = let bad : false ≡ true = h in cc
 gap_alone (suc zero) e lt h = let bad : false ≡ true = h in cc
@@ -73,27 +75,30 @@ gap_alone (suc (suc zero)) e lt h = refl
 gap_alone (suc (suc (suc zero))) e lt h = let bad : false ≡ true = h in cc
 gap_alone (suc (suc (suc (suc zero)))) e lt h = let bad : false ≡ true = h in cc
 gap_alone (suc (suc (suc (suc (suc zero))))) e lt h = let bad : false ≡ true = h in cc
-gap_alone (suc (suc (suc (suc (suc (suc j)))))) e lt h = absurd (omega arith)
+gap_alone (suc (suc (suc (suc (suc (suc zero)))))) e lt h = let bad : false ≡ true = h in cc
+gap_alone (suc (suc (suc (suc (suc (suc (suc j))))))) e lt h = absurd (omega arith)
 
-metrics_alone : (j : ℕ) (e : Rule) → j < 6 → bytes_eq (slice_index_or format_app.top.rules j e).id (codes "metrics") ≡ true → j ≡ 3
+metrics_alone : (j : ℕ) (e : Rule) → j < 7 → bytes_eq (slice_index_or format_app.top.rules j e).id (codes "metrics") ≡ true → j ≡ 4
 unfolding format_app
 metrics_alone zero e lt h = let bad : false ≡ true = h in cc
 metrics_alone (suc zero) e lt h = let bad : false ≡ true = h in cc
 metrics_alone (suc (suc zero)) e lt h = let bad : false ≡ true = h in cc
-metrics_alone (suc (suc (suc zero))) e lt h = refl
-metrics_alone (suc (suc (suc (suc zero)))) e lt h = let bad : false ≡ true = h in cc
+metrics_alone (suc (suc (suc zero))) e lt h = let bad : false ≡ true = h in cc
+metrics_alone (suc (suc (suc (suc zero)))) e lt h = refl
 metrics_alone (suc (suc (suc (suc (suc zero))))) e lt h = let bad : false ≡ true = h in cc
-metrics_alone (suc (suc (suc (suc (suc (suc j)))))) e lt h = absurd (omega arith)
+metrics_alone (suc (suc (suc (suc (suc (suc zero)))))) e lt h = let bad : false ≡ true = h in cc
+metrics_alone (suc (suc (suc (suc (suc (suc (suc j))))))) e lt h = absurd (omega arith)
 
-html_alone : (j : ℕ) (e : Rule) → j < 6 → bytes_eq (slice_index_or format_app.top.rules j e).id (codes "html") ≡ true → j ≡ 4
+html_alone : (j : ℕ) (e : Rule) → j < 7 → bytes_eq (slice_index_or format_app.top.rules j e).id (codes "html") ≡ true → j ≡ 5
 unfolding format_app
 html_alone zero e lt h = let bad : false ≡ true = h in cc
 html_alone (suc zero) e lt h = let bad : false ≡ true = h in cc
 html_alone (suc (suc zero)) e lt h = let bad : false ≡ true = h in cc
 html_alone (suc (suc (suc zero))) e lt h = let bad : false ≡ true = h in cc
-html_alone (suc (suc (suc (suc zero)))) e lt h = refl
-html_alone (suc (suc (suc (suc (suc zero))))) e lt h = let bad : false ≡ true = h in cc
-html_alone (suc (suc (suc (suc (suc (suc j)))))) e lt h = absurd (omega arith)
+html_alone (suc (suc (suc (suc zero)))) e lt h = let bad : false ≡ true = h in cc
+html_alone (suc (suc (suc (suc (suc zero))))) e lt h = refl
+html_alone (suc (suc (suc (suc (suc (suc zero)))))) e lt h = let bad : false ≡ true = h in cc
+html_alone (suc (suc (suc (suc (suc (suc (suc j))))))) e lt h = absurd (omega arith)
 
 chapters_alone : (j : ℕ) (e : Rule) → j < 1 → bytes_eq (slice_index_or sample_app.top.rules j e).id (codes "n") ≡ true → j ≡ 0
 chapters_alone zero e lt h = refl
@@ -104,7 +109,7 @@ module _ (m : ArgMatches) (by : IsParseBy format_app m) where
   unfolding format_app
   format_plain = plain_command by.command format_app by.shape refl refl refl
 
-  format_args : length (args_of by.command) ≡ 6
+  format_args : length (args_of by.command) ≡ 7
   unfolding format_app
   format_args = arg_count by.command format_app by.shape
 
@@ -117,19 +122,19 @@ module _ (m : ArgMatches) (by : IsParseBy format_app m) where
   unfolding format_app
   takes_passes = takes_one by.command format_app by.shape 0 format_arg passes_rule (omega arith) refl refl refl refl refl refl refl passes_alone
 
-  takes_metrics : TakesOne by.command 3 format_arg (name_rule (codes "metrics"))
+  takes_metrics : TakesOne by.command 4 format_arg (name_rule (codes "metrics"))
   unfolding format_app
-  takes_metrics = takes_one by.command format_app by.shape 3 format_arg (name_rule (codes "metrics")) (omega arith) refl refl refl refl refl refl refl metrics_alone
+  takes_metrics = takes_one by.command format_app by.shape 4 format_arg (name_rule (codes "metrics")) (omega arith) refl refl refl refl refl refl refl metrics_alone
 
-  takes_html : TakesOne by.command 4 format_arg (name_rule (codes "html"))
+  takes_html : TakesOne by.command 5 format_arg (name_rule (codes "html"))
   unfolding format_app
-  takes_html = takes_one by.command format_app by.shape 4 format_arg (name_rule (codes "html")) (omega arith) refl refl refl refl refl refl refl html_alone
+  takes_html = takes_one by.command format_app by.shape 5 format_arg (name_rule (codes "html")) (omega arith) refl refl refl refl refl refl refl html_alone
 
   pub metrics_given : is_some (first_value (found_of m) (codes "metrics")) ≡ true
-  metrics_given = required_given by.command 3 format_arg (name_rule (codes "metrics")) takes_metrics m by.parsed format_plain refl
+  metrics_given = required_given by.command 4 format_arg (name_rule (codes "metrics")) takes_metrics m by.parsed format_plain refl
 
   pub html_given : is_some (first_value (found_of m) (codes "html")) ≡ true
-  html_given = required_given by.command 4 format_arg (name_rule (codes "html")) takes_html m by.parsed format_plain refl
+  html_given = required_given by.command 5 format_arg (name_rule (codes "html")) takes_html m by.parsed format_plain refl
 
   passes_given : (t : Text) × (one_text (found_of m) (codes "passes") ≡ Some (without_minus t)) × IsSignedIn (pos 1) (pos 64) t
   passes_given = default_read by.command 0 format_arg passes_rule takes_passes m by.parsed format_plain (parser.Signed (pos 1) (pos 64)) refl refl (omega arith)

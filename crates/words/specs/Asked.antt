@@ -1,5 +1,5 @@
 -- What the words of the command line ask for.
-use Rattle.std.specs.Prelude.{◌≡◌, ◌≤◌, ℕ, Bool, List, [], ◌∷◌, Result, Ok, Err, codes, map, unwrap_or, if◌then◌else◌}
+use Rattle.std.specs.Prelude.{◌≡◌, ◌≤◌, ℕ, Bool, List, [], ◌∷◌, Option, Result, Ok, Err, codes, map, option_map, unwrap_or, if◌then◌else◌}
 use Rattle.std.specs.Str.{bytes_eq}
 use Rattle.std.specs.Str.Parse.{digits_value, without_leading_plus}
 use Rattle.clap.specs.Words.{Kinds, Row, Text, all_of, fault_of, first_of, matches_of, one_of}
@@ -14,12 +14,13 @@ use Rattle.words.specs.declared.request.Format.{Format}
 use Rattle.words.specs.declared.request.Request.{Request}
 use Rattle.words.specs.declared.request.Request.TheVariants as request
 
--- what `format` is asked for: the most passes, the columns of each page and the gap between them in px, and the names of
--- the files, sheets in the order of the words
+-- what `format` is asked for: the most passes, the columns of each page and the gap between them in px, and the names
+-- of the files, that of patterns where it is given, sheets in the order of the words
 pub record FormatWords : Type 0 where
   pub passes : ℕ
   pub columns : ℕ
   pub gap : ℕ
+  pub patterns : Option Text
   pub metrics : Text
   pub html : Text
   pub sheets : List Text
@@ -52,6 +53,7 @@ format_in rows = record {
   passes = number_in rows (codes "passes");
   columns = number_in rows (codes "columns");
   gap = number_in rows (codes "gap");
+  patterns = first_of (codes "patterns") rows;
   metrics = text_in rows (codes "metrics");
   html = text_in rows (codes "html");
   sheets = unwrap_or (all_of (codes "css") rows) [];
@@ -91,6 +93,7 @@ format_view f = record {
   passes = f.passes;
   columns = f.columns;
   gap = f.gap;
+  patterns = option_map (λ s. s.now) f.patterns;
   metrics = f.metrics.now;
   html = f.html.now;
   sheets = map (λ s. s.now) f.sheets.items;

@@ -53,6 +53,10 @@ columns_rule = option_rule (codes "columns") default_columns 1 most_columns
 abbrev pub gap_rule : Rule
 gap_rule = option_rule (codes "gap") default_gap 0 widest_gap
 
+-- `--patterns`, the name of a file
+abbrev pub patterns_rule : Rule
+patterns_rule = record (new_rule (codes "patterns")) { long = Some (codes "patterns"); action = Some Set }
+
 -- a name that has to be given at its place
 abbrev pub name_rule : List ℕ → Rule
 name_rule id = record (new_rule id) { action = Some Set; required = true }
@@ -79,9 +83,11 @@ without_name app = record app { top = record app.top { no_binary_name = true } }
 -- the options of `format`
 abbrev pub format_options : App
 format_options =
-    with_rule (with_rule (with_rule (without_name (new_app (codes "format"))) passes_rule) columns_rule) gap_rule
+    with_rule
+    (with_rule (with_rule (with_rule (without_name (new_app (codes "format"))) passes_rule) columns_rule) gap_rule)
+    patterns_rule
 
--- `format [--passes N] [--columns N] [--gap PX] METRICS HTML [CSS ...]`
+-- `format [--passes N] [--columns N] [--gap PX] [--patterns FILE] METRICS HTML [CSS ...]`
 unfoldable pub format_app : App
 format_app = with_rule (with_rule (with_rule format_options (name_rule (codes "metrics"))) (name_rule (codes "html")))
     (names_rule (codes "css"))

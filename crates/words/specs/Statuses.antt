@@ -1,6 +1,6 @@
 -- The exit statuses of the programs: each number once. docs/COMMAND.md and docs/UNREAD.md say which answer has which.
 use Rattle.std.specs.Prelude.{◌≡◌, ℕ}
-use Rattle.words.specs.declared.status.TheConstants.{DONE, CANNOT_READ, USAGE, NOT_UTF8, BAD_METRICS, NOT_SETTLED, CANNOT_WRITE, PAST_LIMIT, NO_MEMORY}
+use Rattle.words.specs.declared.status.TheConstants.{DONE, CANNOT_READ, USAGE, NOT_UTF8, BAD_PATTERNS, BAD_METRICS, NOT_SETTLED, CANNOT_WRITE, PAST_LIMIT, NO_MEMORY}
 
 -- all is done, or help was asked for
 abbrev pub all_done : ℕ
@@ -17,6 +17,10 @@ usage = 2
 -- a file isn't UTF-8
 abbrev pub not_utf8 : ℕ
 not_utf8 = 3
+
+-- the patterns text has no reading
+abbrev pub bad_patterns : ℕ
+bad_patterns = 4
 
 -- the metrics text has no reading
 abbrev pub bad_metrics : ℕ
@@ -44,6 +48,7 @@ pub record StatusesAgree : Type 0 where
   pub cannot_read_is : CANNOT_READ ≡ cannot_read
   pub usage_is : USAGE ≡ usage
   pub not_utf8_is : NOT_UTF8 ≡ not_utf8
+  pub bad_patterns_is : BAD_PATTERNS ≡ bad_patterns
   pub bad_metrics_is : BAD_METRICS ≡ bad_metrics
   pub not_settled_is : NOT_SETTLED ≡ not_settled
   pub cannot_write_is : CANNOT_WRITE ≡ cannot_write

@@ -2,7 +2,7 @@
 
 ghost use Rattle.std.specs.Prelude.{◌≡◌, IfOk, false};
 ghost use Rattle.clap.specs.Words.{app_of, new_app, rule_of};
-ghost use Rattle.words.specs.Grammar.{format_app, format_options, sample_app, passes_rule, columns_rule, gap_rule, name_rule, names_rule, chapters_rule, without_name};
+ghost use Rattle.words.specs.Grammar.{format_app, format_options, sample_app, passes_rule, columns_rule, gap_rule, patterns_rule, name_rule, names_rule, chapters_rule, without_name};
 
 use clap::{Arg, ArgAction, Command, value_parser};
 use std::alloc::{AllocError, Global};
@@ -64,6 +64,16 @@ fn gap_option<'a>(alloc: Global) -> Arg<'a>
         .value_parser(value_parser!(u16).range(0..WIDEST_GAP + 1))
 }
 
+/// The option `--patterns`.
+fn patterns_option<'a>(alloc: Global) -> Arg<'a>
+    ensures rule { rule_of result ≡ patterns_rule }
+    ensures local { result.global ≡ false }
+{
+    Arg::new(alloc, "patterns")
+        .long("patterns")
+        .action(ArgAction::Set)
+}
+
 /// A name that has to be given.
 fn name_argument<'a>(alloc: Global, id: &'a str) -> Arg<'a>
     ensures rule { rule_of result ≡ name_rule id.entry.now }
@@ -105,10 +115,11 @@ fn options_command<'a>(alloc: Global) -> Result<Command<'a>, AllocError>
     let plain = nameless_command(alloc, "format");
     let passes = plain.arg(passes_option(alloc))?;
     let columns = passes.arg(columns_option(alloc))?;
-    columns.arg(gap_option(alloc))
+    let gap = columns.arg(gap_option(alloc))?;
+    gap.arg(patterns_option(alloc))
 }
 
-/// `format [--passes N] [--columns N] [--gap PX] METRICS HTML [CSS ...]`.
+/// `format [--passes N] [--columns N] [--gap PX] [--patterns FILE] METRICS HTML [CSS ...]`.
 pub(crate) fn format_command<'a>(alloc: Global) -> Result<Command<'a>, AllocError>
     ensures { IfOk result (λ c. app_of c ≡ format_app) }
 {

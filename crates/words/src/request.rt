@@ -9,6 +9,8 @@ pub struct Format<'a> {
     pub columns: u8,
     /// The gap between columns, in whole px, at most 1,000.
     pub gap: u16,
+    /// The name of the patterns text, where one is given.
+    pub patterns: Option<&'a str>,
     /// The name of the metrics text.
     pub metrics: &'a str,
     /// The name of the HTML.

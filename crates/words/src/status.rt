@@ -14,6 +14,9 @@ pub const USAGE: u8 = 2;
 /// A file isn't UTF-8.
 pub const NOT_UTF8: u8 = 3;
 
+/// The patterns text has no reading.
+pub const BAD_PATTERNS: u8 = 4;
+
 /// The metrics text has no reading.
 pub const BAD_METRICS: u8 = 5;
 

@@ -1,7 +1,7 @@
 //! What the matches of a parse ask for.
 
-ghost use Rattle.std.specs.Prelude.{◌≡◌, ◌≤◌, IfOk, IfErr, codes, is_some, true, unwrap_or, map, []};
-ghost use Rattle.clap.specs.Words.{found_of, first_value, all_of, rows_of};
+ghost use Rattle.std.specs.Prelude.{◌≡◌, ◌≤◌, IfOk, IfErr, codes, is_some, true, unwrap_or, map, option_map, []};
+ghost use Rattle.clap.specs.Words.{found_of, first_value, first_of, all_of, rows_of};
 ghost use Rattle.words.specs.Grammar.{format_app, most_chapters, most_columns, most_passes, sample_app, widest_gap};
 ghost use Rattle.words.specs.Asked.{AreInRange, format_view, format_in, number_in, text_in};
 ghost use Rattle.words.specs.Parsed.{IsParseBy};
@@ -17,6 +17,13 @@ fn text_in<'a>(matches: &ArgMatches<'a>, id: &str) -> &'a str
     ensures { result.now ≡ text_in (rows_of (found_of matches.now)) id.now }
 {
     matches.get_str(id).unwrap()
+}
+
+/// The text of an argument, if it has one.
+fn name_in<'a>(matches: &ArgMatches<'a>, id: &str) -> Option<&'a str>
+    ensures { option_map (λ s. s.now) result ≡ first_of id.now (rows_of (found_of matches.now)) }
+{
+    matches.get_str(id)
 }
 
 /// The names of the sheets.
@@ -82,6 +89,7 @@ pub(crate) fn format_in<'a>(alloc: Global, matches: &ArgMatches<'a>) -> Result<F
         passes: passes_in(matches),
         columns: columns_in(matches),
         gap: gap_in(matches),
+        patterns: name_in(matches, "patterns"),
         metrics: text_in(matches, "metrics"),
         html: text_in(matches, "html"),
         sheets,
