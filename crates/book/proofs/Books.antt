@@ -42,6 +42,7 @@ module _ (d : Document) (s : Styled) (is : IsStyledOf d s) where
         rows = s.styles;
         values = values i;
         faces = is.faces i;
+        points = is.points i;
         frames = page_frames s.rules s.names (is.grid i);
         per = (is.grid i).columns;
         targets = targets;
@@ -100,6 +101,7 @@ module _ (d : Document) (s : Styled) (is : IsStyledOf d s) where
   laid_out laws good old new (out.TooLarge f) h = absurd h.0
   laid_out laws good old new (out.NotUtf8 f at) h = absurd h.0
   laid_out laws good old new (out.BadMetrics line why) h = absurd h.0
+  laid_out laws good old new (out.BadPatterns line) h = absurd h.0
 
 -- the columns are those of the document
 pub good_grid : (d : Document) (s : Styled) → IsStyledOf d s → IsGoodGrid d.grid → IsGoodGrid s.grid
@@ -121,6 +123,7 @@ stops_write s old (out.ReadFault f) h = absurd h
 stops_write s old (out.TooLarge f) h = absurd h
 stops_write s old (out.NotUtf8 f at) h = absurd h
 stops_write s old (out.BadMetrics line why) h = absurd h
+stops_write s old (out.BadPatterns line) h = absurd h
 stops_write s old out.WriteFault h = absurd h
 
 -- what is put of the pages that settled

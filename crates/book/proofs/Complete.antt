@@ -9,7 +9,7 @@ use Rattle.named_files.specs.Names.{name_of}
 use Rattle.book.specs.Request.{Task, files, chapters, asked}
 use Rattle.words.specs.Asked.{FormatWords}
 use Rattle.book.specs.Document.{Texts, Document, document_of}
-use Rattle.book.specs.Run.{text_of, sheets_from, texts_for, texts_named, expected, Writes, Meets, HasReadCause, IsFaultOf, IsComplete, IsDoneOrUnsettled}
+use Rattle.book.specs.Run.{text_of, patterns_named, sheets_from, texts_for, texts_named, expected, Writes, Meets, HasReadCause, IsFaultOf, IsComplete, IsDoneOrUnsettled}
 use Rattle.book.specs.declared.outcome.Outcome.{Outcome}
 use Rattle.book.specs.declared.outcome.Outcome.TheVariants as out
 use Rattle.named_files.specs.declared.file.FileOf.{FileOf}
@@ -50,6 +50,21 @@ sheets_absent told k zero (n ∷ names) name texts m a e =
 sheets_absent told k (suc place) (n ∷ names) name texts m a e =
     after_text (text_of (file.Sheet k) (told n)) (sheets_from (suc k) told names) texts (λ more h. sheets_absent told (suc k) place names name more m a h) e
 
+-- no text comes of patterns that aren't there
+no_patterns : (reading : List ℕ → SheetOf) (x : Expect (Option (List ℕ))) (k : Option (List ℕ) → Expect Texts) (d : Document) → ((y : Option (List ℕ)) → x ≡ given y → ⊥) → ((x >>= k) >>= document_of reading) ≡ given d → ⊥
+no_patterns reading free k d n e = absurd (cc)
+no_patterns reading (refused p) k d n e = absurd (cc)
+no_patterns reading (given y) k d n e = n y refl
+
+refused_patterns : (o : Outcome) (text : Option (List ℕ)) → refused o ≡ given text → ⊥
+refused_patterns o text e = absurd (cc)
+
+patterns_absent : (told : List ℕ → Told) (named : Option (List ℕ)) (name : List ℕ) → named ≡ Some name → told name ≡ absent → (y : Option (List ℕ)) → patterns_named told named ≡ given y → ⊥
+patterns_absent told None name m a y e = none-some name m
+patterns_absent told (Some n) name m a y e =
+    let there : told n ≡ absent = rw (same_Some n name m) a in
+    refused_patterns (out.ReadFault file.Patterns) y (rw there at e)
+
 -- each file that a document comes of is there
 is_there : (reading : List ℕ → SheetOf) (names : FormatWords) (told : List ℕ → Told) (f : FileOf) (name : List ℕ) (d : Document) → name_of names f ≡ Some name → told name ≡ absent → (texts_named names told >>= document_of reading) ≡ given d → ⊥
 is_there reading names told file.Metrics name d m a e = let b : told names.metrics ≡ absent = rw (same_Some names.metrics name m) a in refused_gives (out.ReadFault file.Metrics) d (rw b at e)
@@ -58,6 +73,10 @@ is_there reading names told (file.Sheet zero) name d m a e = none-some name m
 is_there reading names told (file.Sheet (suc place)) name d m a e = through reading (text_of file.Metrics (told names.metrics)) _ d (λ t g.
     through reading (text_of file.Html (told names.html)) _ d (λ h i.
     no_sheets reading (sheets_from 1 told names.sheets) _ d (λ texts j. sheets_absent told 1 place names.sheets name texts m a j) i) g) e
+is_there reading names told file.Patterns name d m a e = through reading (text_of file.Metrics (told names.metrics)) _ d (λ t g.
+    through reading (text_of file.Html (told names.html)) _ d (λ h i.
+    through reading (sheets_from 1 told names.sheets) _ d (λ ss j.
+    no_patterns reading (patterns_named told names.patterns) _ d (patterns_absent told names.patterns name m a) j) i) g) e
 
 named_rose : (reading : List ℕ → SheetOf) (names : FormatWords) (told : List ℕ → Told) (before now : ℕ) (last : Option (List ℕ)) (f : FileOf) (d : Document) (n : Option (List ℕ)) → name_of names f ≡ n → (texts_named names told >>= document_of reading) ≡ given d → IsFaultOf n told before now last → Rose before now
 named_rose reading names told before now last f d None i e h = absurd h
@@ -85,6 +104,7 @@ module _ (reading : List ℕ → SheetOf) (ws : List (List ℕ)) (told : List �
   laid_out d (out.TooLarge f) e m h w n k = absurd m
   laid_out d (out.NotUtf8 f at) e m h w n k = absurd m
   laid_out d (out.BadMetrics line why) e m h w n k = absurd m
+  laid_out d (out.BadPatterns line) e m h w n k = absurd m
   laid_out d (out.NotSettled target one other) e m h w n k = tt
 
   complete_by : (e : Expect Document) (o : Outcome) → expected reading ws told ≡ e → Meets e old new o → HasReadCause (asked ws) told before now last o → (o ≡ out.WriteFault → OutRose) → IsComplete e (Rose before now) OutRose o

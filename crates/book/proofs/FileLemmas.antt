@@ -1,5 +1,5 @@
 -- What is expected of files by their texts, or by the first that gives none.
-use Rattle.std.proofs.Common.{◌≡◌, ◌≢◌, ℕ, zero, suc, ◌+◌, ◌<◌, List, [], ◌∷◌, length, nat_lt, slice_get, string_bytes, true, false, inl, inr, refl, ap, sym, arith, subst, Option, Some, String}
+use Rattle.std.proofs.Common.{◌≡◌, ◌≢◌, ℕ, zero, suc, ◌+◌, ◌<◌, List, [], ◌∷◌, length, nat_lt, slice_get, string_bytes, true, false, inl, inr, refl, ap, sym, arith, subst, option_map, Option, None, Some, String}
 use Rattle.std.specs.Global.{Global}
 use Rattle.std.specs.List.{AllZip}
 use Rattle.std.proofs.lemmas.Bool.Decides.{nat_tests}
@@ -10,8 +10,8 @@ use Rattle.bk_io.specs.Shelf.{Told, untold, absent, holds, IfHolds}
 use Rattle.bk_io.specs.Texts.{unmarked}
 use Rattle.bk_io.specs.declared.read_text.TextErr.{TextErr}
 use Rattle.bk_io.specs.declared.read_text.TextErr.TheVariants as text
-use Rattle.named_files.specs.Names.{file_stage, name_of}
-use Rattle.named_files.specs.Texts.{AreTextsOf, IsFirstFault, IsReadable}
+use Rattle.named_files.specs.Names.{IsBefore, name_of}
+use Rattle.named_files.specs.Texts.{AreTextsOf, IsFirstFault, IsReadable, IsTextIfNamed}
 use Rattle.named_files.specs.declared.fault.FileFault.{FileFault}
 use Rattle.named_files.specs.declared.file.FileOf.{FileOf}
 use Rattle.named_files.specs.declared.file.FileOf.TheVariants as file
@@ -22,10 +22,10 @@ use Rattle.book.specs.Expect.{IsGiven, IsRefused}
 use Rattle.book.specs.Document.{grid_of}
 use Rattle.book.specs.FilesView.{listed_texts}
 use Rattle.book.specs.Refusals.{file_refusal}
-use Rattle.book.specs.Run.{IsFaultOf, IsOfFiles, KeepsFaults, Stops, StopsAt, sheets_from, text_of, texts_named}
+use Rattle.book.specs.Run.{IsFaultOf, IsOfFiles, KeepsFaults, Stops, StopsAt, patterns_named, sheets_from, text_of, texts_named}
 use Rattle.book.specs.declared.outcome.Outcome.{Outcome}
 use Rattle.book.specs.declared.outcome.Outcome.TheVariants as out
-use Rattle.book.proofs.Stopping.{after_given, later_bind, later_names, later_text, stops_at, stops_at_html, stops_at_metrics, stops_at_sheets, stops_in, texts_given}
+use Rattle.book.proofs.Stopping.{after_given, later_bind, later_names, later_text, stops_at, stops_at_html, stops_at_metrics, stops_at_patterns, stops_at_sheets, stops_in, texts_given}
 
 -- a text of a file is the one that is expected
 given_text : (f : FileOf) (told : Told) (t : String Global) → IsTextOf told most_file_bytes t → IsGiven (text_of f told) (unmarked (string_bytes t))
@@ -55,13 +55,33 @@ given_sheets told k (n ∷ names) (t ∷ ts) h =
     after_given (text_of (file.Sheet k) (told n)) (unmarked (string_bytes t)) _ (λ e. IsGiven e (file_texts (t ∷ ts))) tt (given_text (file.Sheet k) (told n) t h.0) (
     after_given (sheets_from (suc k) told names) (file_texts ts) _ (λ e. IsGiven e (file_texts (t ∷ ts))) tt (given_sheets told (suc k) names ts h.1) refl)
 
+given_patterns : (told : List ℕ → Told) (name : Option (List ℕ)) (t : Option (String Global)) → IsTextIfNamed told name t → IsGiven (patterns_named told name) (option_map (λ p. unmarked (string_bytes p)) t)
+given_patterns told None None h = refl
+given_patterns told None (Some t) h = absurd h
+given_patterns told (Some name) None h = absurd h
+given_patterns told (Some name) (Some t) h =
+    after_given (text_of file.Patterns (told name)) (unmarked (string_bytes t)) _ (λ e. IsGiven e (Some (unmarked (string_bytes t)))) tt (given_text file.Patterns (told name) t h) refl
+
+-- texts are expected of sheets that can all be read
+readable_sheets : (told : List ℕ → Told) (k : ℕ) (names : List (List ℕ)) → ((j : ℕ) (other : List ℕ) → slice_get names j ≡ Some other → IfHolds (told other) IsReadable) → (ss : List (List ℕ)) × IsGiven (sheets_from k told names) ss
+readable_sheets told k [] all = ([], refl)
+readable_sheets told k (n ∷ names) all =
+    let first = readable_given (file.Sheet k) (told n) (all 0 n refl) in
+    let rest = readable_sheets told (suc k) names (λ j other is. all (suc j) other is) in (
+      first.0 ∷ rest.0,
+      after_given (text_of (file.Sheet k) (told n)) first.0 _ (λ e. IsGiven e (first.0 ∷ rest.0)) tt first.1 (
+          after_given (sheets_from (suc k) told names) rest.0 _ (λ e. IsGiven e (first.0 ∷ rest.0)) tt rest.1 refl),
+    )
+
 -- the texts of the files are those that are expected
 pub given_files : (told : List ℕ → Told) (names : FormatWords) (t : FileTexts) → AreTextsOf names told t → IsGiven (texts_named names told) (listed_texts names.passes (grid_of names) t)
 given_files told names t h =
     texts_given told names (unmarked (string_bytes t.metrics)) (unmarked (string_bytes t.html)) (file_texts t.sheets.items)
+    (option_map (λ p. unmarked (string_bytes p)) t.patterns)
     (given_text file.Metrics (told names.metrics) t.metrics h.metrics)
     (given_text file.Html (told names.html) t.html h.html)
     (given_sheets told 1 names.sheets t.sheets.items h.sheets)
+    (given_patterns told names.patterns t.patterns h.patterns)
 
 large_refused : (f : FileOf) (told : Told) → IfHolds told (λ bytes. most_file_bytes < length bytes) → IsRefused (text_of f told) (out.TooLarge f)
 large_refused f untold h = tt
@@ -96,7 +116,7 @@ stops_sheets told k m (n ∷ names) zero name o e is first s =
     let number : m ≡ k = omega (arith, e) in
     let here : StopsAt (file.Sheet k) (text_of (file.Sheet k) (told n)) o = subst (λ (j : ℕ). StopsAt (file.Sheet j) (text_of (file.Sheet j) (told n)) o) number (subst (λ (x : List ℕ). StopsAt (file.Sheet m) (text_of (file.Sheet m) (told x)) o) (sym same) s) in
     stops_at (file.Sheet k) (text_of (file.Sheet k) (told n)) o _ (later_text (file.Sheet k) (file.Sheet k) (told n) (omega arith)) (λ t.
-    later_bind (file.Sheet k) _ _ (later_names (file.Sheet k) told (suc k) names (omega arith)) (λ ts. tt)) here
+    later_bind (file.Sheet k) _ _ (later_names (file.Sheet k) told (suc k) names (λ j low. omega arith)) (λ ts. tt)) here
 stops_sheets told k m (n ∷ names) (suc place) name o e is first s =
     let g = readable_given (file.Sheet k) (told n) (first 0 n (omega arith) refl) in
     let next : m ≡ suc k + place = omega (arith, e) in
@@ -106,7 +126,7 @@ stops_sheets told k m (n ∷ names) (suc place) name o e is first s =
 
 -- the first file that gives no text stops the reads of all
 stops_file : (told : List ℕ → Told) (names : FormatWords) (f : FileOf) (why : TextErr) (name : List ℕ) (before now : ℕ) (last : Option (List ℕ)) → name_of names f ≡ Some name →
-    ((g : FileOf) (other : List ℕ) → file_stage g < file_stage f → name_of names g ≡ Some other → IfHolds (told other) IsReadable) →
+    ((g : FileOf) (other : List ℕ) → IsBefore g f → name_of names g ≡ Some other → IfHolds (told other) IsReadable) →
     HasTextFault (told name) name most_file_bytes before now last why → Stops (texts_named names told) (file_refusal f why)
 stops_file told names file.Metrics why name before now last is first h =
     let same : name ≡ names.metrics = sym (same_Some names.metrics name is) in
@@ -114,17 +134,23 @@ stops_file told names file.Metrics why name before now last is first h =
     (subst (λ (n : List ℕ). StopsAt file.Metrics (text_of file.Metrics (told n)) (file_refusal file.Metrics why)) same (stops_fault file.Metrics (told name) name before now last why h))
 stops_file told names file.Html why name before now last is first h =
     let same : name ≡ names.html = sym (same_Some names.html name is) in
-    let m = readable_given file.Metrics (told names.metrics) (first file.Metrics names.metrics (omega arith) refl) in
+    let m = readable_given file.Metrics (told names.metrics) (first file.Metrics names.metrics (λ h. omega (arith, h)) refl) in
     stops_at_html told names (file_refusal file.Html why) m.0 m.1
     (subst (λ (n : List ℕ). StopsAt file.Html (text_of file.Html (told n)) (file_refusal file.Html why)) same (stops_fault file.Html (told name) name before now last why h))
 stops_file told names (file.Sheet zero) why name before now last is first h = absurd (none-some name is)
 stops_file told names (file.Sheet (suc place)) why name before now last is first h =
-    let m = readable_given file.Metrics (told names.metrics) (first file.Metrics names.metrics (omega arith) refl) in
-    let d = readable_given file.Html (told names.html) (first file.Html names.html (omega arith) refl) in
+    let m = readable_given file.Metrics (told names.metrics) (first file.Metrics names.metrics (λ h. omega (arith, h)) refl) in
+    let d = readable_given file.Html (told names.html) (first file.Html names.html (λ h. omega (arith, h)) refl) in
     let number : suc place ≡ 1 + place = omega arith in
     stops_at_sheets told names (file_refusal (file.Sheet (suc place)) why) m.0 d.0 m.1 d.1
-    (stops_sheets told 1 (suc place) names.sheets place name (file_refusal (file.Sheet (suc place)) why) number is (λ j other low i. first (file.Sheet (suc j)) other (omega arith) i)
+    (stops_sheets told 1 (suc place) names.sheets place name (file_refusal (file.Sheet (suc place)) why) number is (λ j other low i. first (file.Sheet (suc j)) other (λ h. omega (arith, h, low)) i)
     (stops_fault (file.Sheet (suc place)) (told name) name before now last why h))
+stops_file told names file.Patterns why name before now last is first h =
+    let m = readable_given file.Metrics (told names.metrics) (first file.Metrics names.metrics (λ h. h) refl) in
+    let d = readable_given file.Html (told names.html) (first file.Html names.html (λ h. h) refl) in
+    let ss = readable_sheets told 1 names.sheets (λ j other i. first (file.Sheet (suc j)) other (λ h. h) i) in
+    stops_at_patterns told names (file_refusal file.Patterns why) m.0 d.0 m.1 d.1 ss.0 name ss.1 is
+    (stops_fault file.Patterns (told name) name before now last why h)
 
 pub stops_files : (told : List ℕ → Told) (names : FormatWords) (before now : ℕ) (last : Option (List ℕ)) (e : FileFault) → IsFirstFault names told before now last e → Stops (texts_named names told) (file_refusal e.file e.why)
 stops_files told names before now last e h = stops_file told names e.file e.why h.name before now last h.is h.first h.cause

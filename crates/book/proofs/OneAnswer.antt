@@ -15,7 +15,7 @@ use Rattle.css_page.specs.declared.rules.PageRule.{PageRule}
 use Rattle.sheets.specs.Readings.{SheetOf}
 use Rattle.sheets.specs.Sheets.{author_texts, element_sheets}
 use Rattle.book.specs.Answer.{Book, IsBookOf}
-use Rattle.book.specs.Document.{Document, Texts, document_of, faces_expected, nodes_expected, sheets_expected}
+use Rattle.book.specs.Document.{Document, Texts, document_of, faces_expected, nodes_expected, patterns_expected, sheets_expected}
 use Rattle.book.specs.Expect.{Expect, free, refused, given, ◌>>=◌}
 use Rattle.book.specs.Flow.{HasEnd, HasNoReferences, IsWorkOf}
 use Rattle.book.specs.Laws.{AnswersFollowEnds, ExpectedIsTree, HasOneBook, HasOneEnd, IsAnswerAt, OneBookIsExpected, OneEndIsExpected, SettlesWith}
@@ -52,9 +52,10 @@ document_or d (given e) = e
 document_tree : TextsAreTrees → (reading : List ℕ → SheetOf) (t : Texts) (d : Document) → document_of reading t ≡ given d → IsTree d.nodes
 document_tree trees reading t d e =
     let (faces, e1, f) = given_through (faces_expected (faces_of t.metrics)) _ d e in
-    let (nodes, e2, n) = given_through (nodes_expected (tree_of t.html)) _ d e1 in
-    let (few, e3, s) = given_through (sheets_expected reading (author_texts (element_sheets nodes) t.sheets)) _ d e2 in
-    let same : nodes ≡ d.nodes = ap (λ (x : Expect Document). (document_or d x).nodes) e3 in
+    let (points, e2, p) = given_through (patterns_expected t.patterns) _ d e1 in
+    let (nodes, e3, n) = given_through (nodes_expected (tree_of t.html)) _ d e2 in
+    let (few, e4, s) = given_through (sheets_expected reading (author_texts (element_sheets nodes) t.sheets)) _ d e3 in
+    let same : nodes ≡ d.nodes = ap (λ (x : Expect Document). (document_or d x).nodes) e4 in
     subst (λ (ns : List Node). IsTree ns) same (trees t.html nodes (nodes_given (tree_of t.html) nodes n))
 
 pub expected_tree : TextsAreTrees → ExpectedIsTree
@@ -106,6 +107,7 @@ module _ (d : Document) (end : End) (one : (a : End) → HasEnd d a → end ≡ 
   follow (out.TooLarge f) m = m
   follow (out.NotUtf8 f at) m = m
   follow (out.BadMetrics line why) m = m
+  follow (out.BadPatterns line) m = m
 
 pub follow_ends : OneIsExpected → OneEndIsExpected → AnswersFollowEnds
 follow_ends one ends ws told old new d end o x p answers = follow d end (λ a q. ends ws told d d end a x x p q) old new o (of_expected one ws told old new d o x answers)
@@ -135,6 +137,7 @@ module _ (law : SettleAtOnce) (d : Document) (none : HasNoReferences d) where
   at_once old new (out.TooLarge f) m = tt
   at_once old new (out.NotUtf8 f at) m = tt
   at_once old new (out.BadMetrics line why) m = tt
+  at_once old new (out.BadPatterns line) m = tt
 
 pub settles_at_once : SettleAtOnce → OneIsExpected → (ws : List (List ℕ)) (told : List ℕ → Told) (old new : Option (List ℕ)) (o : Outcome) → Answers ws told old new o → SettlesAtOnce ws told o
 settles_at_once law one ws told old new o answers = λ d x none. at_once law d none old new o (of_expected one ws told old new d o x answers)

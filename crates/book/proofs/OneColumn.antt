@@ -54,6 +54,7 @@ work_is d gap rules names w one of =
       rows = of.rows;
       values = values_of d.nodes of.rows;
       faces = d.faces;
+      points = d.points;
       frames = frames i;
       per = d.grid.columns;
       targets = of.targets;

@@ -8,11 +8,11 @@ use Rattle.sheets.specs.Readings.{SheetOf}
 use Rattle.sheets.specs.Sheets.{author_texts, element_sheets}
 use Rattle.words.specs.Asked.{FormatWords}
 use Rattle.book.specs.Answer.{IsBookOf}
-use Rattle.book.specs.Document.{Document, Texts, document_of, faces_expected, grid_of, nodes_expected, sheets_expected}
+use Rattle.book.specs.Document.{Document, Texts, document_of, faces_expected, grid_of, nodes_expected, patterns_expected, sheets_expected}
 use Rattle.book.specs.Expect.{Expect, free, refused, given, ◌>>=◌}
 use Rattle.book.specs.Laws.{ExpectedIsTree, HasOneBook, OneColumnIsExpected, with_gap}
 use Rattle.book.specs.Request.{Task}
-use Rattle.book.specs.Run.{OneIsExpected, expected, sheets_from, text_of, texts_for, texts_named}
+use Rattle.book.specs.Run.{OneIsExpected, expected, patterns_named, sheets_from, text_of, texts_for, texts_named}
 use Rattle.book.specs.declared.document.ColumnGrid.{ColumnGrid}
 use Rattle.book.proofs.OneAnswer.{document_or, given_through}
 use Rattle.book.proofs.OneColumn.{has_no_gap}
@@ -49,16 +49,18 @@ named_again : (names : FormatWords) (gap : ℕ) (told : List ℕ → Told) → t
 named_again names gap told =
     changed_next (texts_gap gap) _ _ (λ metrics.
     changed_next (texts_gap gap) _ _ (λ html.
-    changed_next (texts_gap gap) _ _ (λ sheets. refl)
-    (sheets_from 1 told names.sheets)) (text_of file.Html (told names.html))) (text_of file.Metrics (told names.metrics))
+    changed_next (texts_gap gap) _ _ (λ sheets.
+    changed_next (texts_gap gap) _ _ (λ patterns. refl)
+    (patterns_named told names.patterns)) (sheets_from 1 told names.sheets)) (text_of file.Html (told names.html))) (text_of file.Metrics (told names.metrics))
 
 module _ (reading : List ℕ → SheetOf) where
   document_again : (gap : ℕ) (t : Texts) → document_of reading (texts_gap gap t) ≡ changed (with_gap gap) (document_of reading t)
   document_again gap t =
       changed_next (with_gap gap) _ _ (λ faces.
+      changed_next (with_gap gap) _ _ (λ points.
       changed_next (with_gap gap) _ _ (λ nodes.
       changed_next (with_gap gap) _ _ (λ few. refl)
-      (sheets_expected reading (author_texts (element_sheets nodes) t.sheets))) (nodes_expected (tree_of t.html))) (faces_expected (faces_of t.metrics))
+      (sheets_expected reading (author_texts (element_sheets nodes) t.sheets))) (nodes_expected (tree_of t.html))) (patterns_expected t.patterns)) (faces_expected (faces_of t.metrics))
 
   both_again : (names : FormatWords) (gap : ℕ) (told : List ℕ → Told) → (texts_named (words_gap gap names) told >>= document_of reading) ≡ changed (with_gap gap) (texts_named names told >>= document_of reading)
   both_again names gap told =
@@ -68,16 +70,18 @@ module _ (reading : List ℕ → SheetOf) where
   text_grid : (t : Texts) (d : Document) → document_of reading t ≡ given d → t.grid ≡ d.grid
   text_grid t d e =
       let (faces, e1, f) = given_through (faces_expected (faces_of t.metrics)) _ d e in
-      let (nodes, e2, n) = given_through (nodes_expected (tree_of t.html)) _ d e1 in
-      let (few, e3, s) = given_through (sheets_expected reading (author_texts (element_sheets nodes) t.sheets)) _ d e2 in
-      ap (λ (x : Expect Document). (document_or d x).grid) e3
+      let (points, e2, p) = given_through (patterns_expected t.patterns) _ d e1 in
+      let (nodes, e3, n) = given_through (nodes_expected (tree_of t.html)) _ d e2 in
+      let (few, e4, s) = given_through (sheets_expected reading (author_texts (element_sheets nodes) t.sheets)) _ d e3 in
+      ap (λ (x : Expect Document). (document_or d x).grid) e4
 
   named_grid : (names : FormatWords) (told : List ℕ → Told) (t : Texts) → texts_named names told ≡ given t → grid_of names ≡ t.grid
   named_grid names told t e =
       let (metrics, e1, m) = given_through (text_of file.Metrics (told names.metrics)) _ t e in
       let (html, e2, h) = given_through (text_of file.Html (told names.html)) _ t e1 in
       let (sheets, e3, s) = given_through (sheets_from 1 told names.sheets) _ t e2 in
-      ap (λ (x : Expect Texts). (texts_or t x).grid) e3
+      let (patterns, e4, p) = given_through (patterns_named told names.patterns) _ t e3 in
+      ap (λ (x : Expect Texts). (texts_or t x).grid) e4
 
   asked_grid : (names : FormatWords) (told : List ℕ → Told) (d : Document) → (texts_named names told >>= document_of reading) ≡ given d → grid_of names ≡ d.grid
   asked_grid names told d e =

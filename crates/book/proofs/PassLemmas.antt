@@ -1,5 +1,5 @@
 -- How the passes over a document in its styles end is how they end in the frames of its page rules.
-use Rattle.std.proofs.Common.{◌≡◌, ◌∙◌, ℕ, List, Err, subst, arith}
+use Rattle.std.proofs.Common.{◌≡◌, ◌∙◌, ℕ, List, Option, Err, subst, arith}
 use Rattle.std.proofs.lemmas.Int.{ints}
 use Rattle.bk_num.specs.declared.ids.NodeId.{NodeId}
 use Rattle.gen_text.specs.References.{AreTargets}
@@ -13,20 +13,21 @@ use Rattle.passes.specs.declared.settle.PassErr.TheVariants as err
 use Rattle.columns.specs.Columns.{AreColumns, column_frames}
 use Rattle.columns.specs.declared.columns.Columns.{Columns}
 use Rattle.page_ctx.specs.declared.resolve.PageStyles.{PageStyles}
+use Rattle.soft_hyphens.specs.Words.{Points, points_in}
 use Rattle.book.specs.Document.{IsGoodGrid}
 use Rattle.book.specs.Flow.{gap_units, page_frames}
 use Rattle.book.specs.Laid.{AreBoxesOf, AreColumnsOf, EndSo, StopsBy, of_passes, work_in}
 use Rattle.book.specs.declared.styled.Styled.{Styled}
 use Rattle.book.proofs.Tables.{frames_are}
 
-abbrev pub work_with : Styled → List NodeId → PageFrames → ℕ → Work
-work_with s targets frames per = record (work_in s targets) { frames = frames; per = per }
+abbrev pub work_with : Styled → Option Points → List NodeId → PageFrames → ℕ → Work
+work_with s points targets frames per = record (work_in s targets) { points = points; frames = frames; per = per }
 
-pub in_frames : (s : Styled) (frames : PageFrames) (per : ℕ) (end : End) → frames ≡ page_frames s.rules s.names s.grid → per ≡ s.grid.columns → (targets : List NodeId) → AreTargets s.dom s.styles targets → EndsIn (work_with s targets frames per) s.passes end → EndSo s end
-in_frames s frames per end same count targets are ends = record {
+pub in_frames : (s : Styled) (points : Option Points) (frames : PageFrames) (per : ℕ) (end : End) → points ≡ points_in s.patterns → frames ≡ page_frames s.rules s.names s.grid → per ≡ s.grid.columns → (targets : List NodeId) → AreTargets s.dom s.styles targets → EndsIn (work_with s points targets frames per) s.passes end → EndSo s end
+in_frames s points frames per end by same count targets are ends = record {
   targets = targets;
   are = are;
-  ends = subst (λ (w : Work). EndsIn w s.passes end) (λ i. work_with s targets (same i) (count i)) ends;
+  ends = subst (λ (w : Work). EndsIn w s.passes end) (λ i. work_with s (by i) targets (same i) (count i)) ends;
 }
 
 pub stops_by : (s : Styled) (input : Input) (frames : PageFrames) (per : ℕ) → ((end : End) → HasEnd input frames per s.passes end → EndSo s end) → (e : PassErr) → Settles input frames per s.passes (Err e) → StopsBy s (of_passes e)

@@ -1,5 +1,5 @@
 -- The texts of a sample book are those that are expected.
-use Rattle.std.proofs.Common.{◌≡◌, ℕ, ◌≤◌, List, [], ◌∷◌, length, refl, ap, ◌∙◌, arith}
+use Rattle.std.proofs.Common.{◌≡◌, ℕ, ◌≤◌, List, [], ◌∷◌, length, None, refl, ap, ◌∙◌, arith}
 use Rattle.bk_num.specs.Limits.{most_text_bytes}
 use Rattle.bk_io.specs.Texts.{unmarked}
 use Rattle.sample.specs.Html.{html_of}
@@ -21,5 +21,5 @@ pub sheets_are : (css : List ℕ) → css ≡ css_text → unmarked css ∷ [] �
 sheets_are css is = ap (λ (z : List ℕ). unmarked z ∷ []) is ∙ ap (λ (z : List ℕ). z ∷ []) css_unmarked
 
 pub texts_are : (n : ℕ) (m h : List ℕ) (s : List (List ℕ)) → m ≡ metrics_text → h ≡ html_of n → s ≡ css_text ∷ [] →
-    ◌≡◌ {A = Texts} (record { passes = 8; grid = record { columns = 1; gap = 0 }; output = output.Counts n; metrics = m; html = h; sheets = s }) (sample_texts n)
-texts_are n m h s a b c = λ i. record { passes = 8; grid = record { columns = 1; gap = 0 }; output = output.Counts n; metrics = a i; html = b i; sheets = c i }
+    ◌≡◌ {A = Texts} (record { passes = 8; grid = record { columns = 1; gap = 0 }; output = output.Counts n; metrics = m; patterns = None; html = h; sheets = s }) (sample_texts n)
+texts_are n m h s a b c = λ i. record { passes = 8; grid = record { columns = 1; gap = 0 }; output = output.Counts n; metrics = a i; patterns = None; html = b i; sheets = c i }

@@ -13,14 +13,16 @@ use Rattle.dom.specs.Nodes.{Node}
 use Rattle.dom.specs.declared.dom.DomErr.{DomErr}
 use Rattle.dom.specs.declared.dom.DomErr.TheVariants as dom_err
 use Rattle.html_tree.specs.Tree.{tree_of}
+use Rattle.hyphen.specs.Pattern.{Pattern}
+use Rattle.hyphen.specs.Text.{patterns_of}
 use Rattle.sheets.specs.Sheets.{author_texts, element_sheets}
 use Rattle.sheets.specs.Readings.{SheetOf}
 use Rattle.sheets.specs.Sources.{has_many_rules}
-use Rattle.named_files.specs.Names.{file_stage}
+use Rattle.named_files.specs.Names.{IsNoLater}
 use Rattle.book.specs.Request.{Task, files, chapters}
 use Rattle.words.specs.Asked.{FormatWords}
-use Rattle.book.specs.Document.{Texts, Document, document_of, faces_expected, grid_of, nodes_expected, sheets_expected}
-use Rattle.book.specs.Run.{text_of, StopsAt, Stops, Ends, ComesBefore, IsReadBefore, IsUnforeseen, Meets, PutsOnlyABook, Writes, document_for, sheets_from, texts_for, texts_named, HasFileCause, HasReadCause, HasTaskCause, HasWordsCause, IsOfBook, IsOfFiles, IsOfTexts, IsOfWords, KeepsFaults}
+use Rattle.book.specs.Document.{Texts, Document, document_of, faces_expected, grid_of, nodes_expected, patterns_expected, points_expected, sheets_expected}
+use Rattle.book.specs.Run.{text_of, StopsAt, Stops, Ends, ComesBefore, IsReadBefore, IsUnforeseen, Meets, PutsOnlyABook, Writes, document_for, patterns_named, sheets_from, texts_for, texts_named, HasFileCause, HasReadCause, HasTaskCause, HasWordsCause, IsOfBook, IsOfFiles, IsOfTexts, IsOfWords, KeepsFaults}
 use Rattle.book.specs.declared.document.Output.TheVariants as output
 use Rattle.named_files.specs.declared.file.FileOf.{FileOf}
 use Rattle.named_files.specs.declared.file.FileOf.TheVariants as file
@@ -54,7 +56,7 @@ later_cond : {A : Type 0} (f : FileOf) (b : Bool) (x y : Expect A) → Later f x
 later_cond f true x y h k = h
 later_cond f false x y h k = k
 
-pub later_text : (f g : FileOf) (told : Told) → file_stage f ≤ file_stage g → Later f (text_of g told)
+pub later_text : (f g : FileOf) (told : Told) → IsNoLater f g → Later f (text_of g told)
 later_text f g untold h = tt
 later_text f g absent h = h
 later_text f g (holds bytes) h = later_cond f (nat_lt most_file_bytes (length bytes)) _ _ h (later_cond f (is_utf8 bytes) _ _ tt h)
@@ -62,6 +64,14 @@ later_text f g (holds bytes) h = later_cond f (nat_lt most_file_bytes (length by
 later_faces : (f : FileOf) (read : Result (List FontFace) (ℕ × MetricsWhy)) → Later f (faces_expected read)
 later_faces f (Ok faces) = tt
 later_faces f (Err (line, why)) = tt
+
+later_read : (f : FileOf) (read : Result (List Pattern) ℕ) → Later f (points_expected read)
+later_read f (Ok ps) = tt
+later_read f (Err line) = tt
+
+later_points : (f : FileOf) (text : Option (List ℕ)) → Later f (patterns_expected text)
+later_points f None = tt
+later_points f (Some text) = later_read f (patterns_of text)
 
 later_nodes : (f : FileOf) (read : Result (List Node) DomErr) → Later f (nodes_expected read)
 later_nodes f (Ok nodes) = tt
@@ -75,13 +85,18 @@ later_sheets f reading texts = later_cond f (nat_lt most_sheets (length texts)) 
 later_book : (reading : List ℕ → SheetOf) (f : FileOf) (t : Texts) → Later f (document_of reading t)
 later_book reading f t =
     later_bind f _ _ (later_faces f (faces_of t.metrics)) (λ faces.
+    later_bind f _ _ (later_points f t.patterns) (λ points.
     later_bind f _ _ (later_nodes f (tree_of t.html)) (λ nodes.
-    later_bind f _ _ (later_sheets f reading (author_texts (element_sheets nodes) t.sheets)) (λ few. tt)))
+    later_bind f _ _ (later_sheets f reading (author_texts (element_sheets nodes) t.sheets)) (λ few. tt))))
 
-pub later_names : (f : FileOf) (told : List ℕ → Told) (k : ℕ) (names : List (List ℕ)) → file_stage f ≤ 2 + k → Later f (sheets_from k told names)
+pub later_names : (f : FileOf) (told : List ℕ → Told) (k : ℕ) (names : List (List ℕ)) → ((j : ℕ) → k ≤ j → IsNoLater f (file.Sheet j)) → Later f (sheets_from k told names)
 later_names f told k [] h = tt
-later_names f told k (name ∷ names) h = later_bind f _ _ (later_text f (file.Sheet k) (told name) h) (λ text.
-    later_bind f _ _ (later_names f told (suc k) names (omega arith)) (λ texts. tt))
+later_names f told k (name ∷ names) h = later_bind f _ _ (later_text f (file.Sheet k) (told name) (h k (omega arith))) (λ text.
+    later_bind f _ _ (later_names f told (suc k) names (λ j low. h j (omega arith))) (λ texts. tt))
+
+pub later_patterns : (f : FileOf) (told : List ℕ → Told) (name : Option (List ℕ)) → Later f (patterns_named told name)
+later_patterns f told None = tt
+later_patterns f told (Some name) = later_bind f _ _ (later_text f file.Patterns (told name) tt) (λ text. tt)
 
 unforeseen_before : (f : FileOf) (p o : Outcome) → IsReadBefore f p → (o ≡ out.ReadFault f) ⊎ (o ≡ out.NoMemory) → ComesBefore o p
 unforeseen_before f p o l u = elim u [ inl e ↦ rw e l | inr e ↦ rw e tt ]
@@ -102,27 +117,49 @@ stops_in free k o h s = tt
 stops_in (refused p) k o h s = s
 stops_in (given x) k o h s = h x s
 
+-- what no input explains stops before the patterns
+unforeseen_patterns : {A : Type 0} (told : List ℕ → Told) (name : Option (List ℕ)) (k : Option (List ℕ) → A) (o : Outcome) → IsUnforeseen o → Stops (patterns_named told name >>= λ p. given (k p)) o
+unforeseen_patterns told name k (out.ReadFault f) u = stops_unforeseen f _ _ (later_bind f _ _ (later_patterns f told name) (λ p. tt)) (inl refl)
+unforeseen_patterns told name k out.NoMemory u = stops_unforeseen file.Metrics _ _ (later_bind file.Metrics _ _ (later_patterns file.Metrics told name) (λ p. tt)) (inr refl)
+unforeseen_patterns told name k o u = absurd u
+
+-- the patterns are given no text: they are named, and their file gives none
+stops_named : {A : Type 0} (told : List ℕ → Told) (named : Option (List ℕ)) (name : List ℕ) (k : Option (List ℕ) → A) (o : Outcome) → named ≡ Some name → StopsAt file.Patterns (text_of file.Patterns (told name)) o → Stops (patterns_named told named >>= λ p. given (k p)) o
+stops_named told named name k o is s = rw is (stops_in (text_of file.Patterns (told name) >>= λ text. given (Some text)) _ o (λ x u. u)
+    (stops_at file.Patterns (text_of file.Patterns (told name)) o _ (later_text file.Patterns file.Patterns (told name) tt) (λ t. tt) s))
+
 module _ (told : List ℕ → Told) (names : FormatWords) (o : Outcome) where
   pub stops_at_metrics : StopsAt file.Metrics (text_of file.Metrics (told names.metrics)) o → Stops (texts_named names told) o
   stops_at_metrics s = stops_at file.Metrics _ o _ (later_text file.Metrics file.Metrics (told names.metrics) (omega arith)) (λ m.
       later_bind file.Metrics _ _ (later_text file.Metrics file.Html (told names.html) (omega arith)) (λ h.
-      later_bind file.Metrics _ _ (later_names file.Metrics told 1 names.sheets (omega arith)) (λ s. tt))) s
+      later_bind file.Metrics _ _ (later_names file.Metrics told 1 names.sheets (λ j low. omega arith)) (λ ss.
+      later_bind file.Metrics _ _ (later_patterns file.Metrics told names.patterns) (λ p. tt)))) s
 
   pub stops_at_html : (m : List ℕ) → IsGiven (text_of file.Metrics (told names.metrics)) m → StopsAt file.Html (text_of file.Html (told names.html)) o → Stops (texts_named names told) o
   stops_at_html m given_m s = after_given (text_of file.Metrics (told names.metrics)) m _ (λ e. Stops e o) tt given_m (
       stops_at file.Html _ o _ (later_text file.Html file.Html (told names.html) (omega arith)) (λ h.
-      later_bind file.Html _ _ (later_names file.Html told 1 names.sheets (omega arith)) (λ s. tt)) s)
+      later_bind file.Html _ _ (later_names file.Html told 1 names.sheets (λ j low. omega arith)) (λ ss.
+      later_bind file.Html _ _ (later_patterns file.Html told names.patterns) (λ p. tt))) s)
 
-  pub stops_at_sheets : (m h : List ℕ) → IsGiven (text_of file.Metrics (told names.metrics)) m → IsGiven (text_of file.Html (told names.html)) h → Stops (sheets_from 1 told names.sheets) o → Stops (texts_named names told) o
-  stops_at_sheets m h given_m given_h s = after_given (text_of file.Metrics (told names.metrics)) m _ (λ e. Stops e o) tt given_m (
-      after_given (text_of file.Html (told names.html)) h _ (λ e. Stops e o) tt given_h (
-      stops_in (sheets_from 1 told names.sheets) _ o (λ x u. u) s))
+  module _ (m h : List ℕ) (given_m : IsGiven (text_of file.Metrics (told names.metrics)) m) (given_h : IsGiven (text_of file.Html (told names.html)) h) where
+    pub stops_at_sheets : Stops (sheets_from 1 told names.sheets) o → Stops (texts_named names told) o
+    stops_at_sheets s = after_given (text_of file.Metrics (told names.metrics)) m _ (λ e. Stops e o) tt given_m (
+        after_given (text_of file.Html (told names.html)) h _ (λ e. Stops e o) tt given_h (
+        stops_in (sheets_from 1 told names.sheets) _ o (λ ss u. unforeseen_patterns told names.patterns _ o u) s))
 
-pub texts_given : (told : List ℕ → Told) (names : FormatWords) (m h : List ℕ) (ss : List (List ℕ)) → IsGiven (text_of file.Metrics (told names.metrics)) m → IsGiven (text_of file.Html (told names.html)) h → IsGiven (sheets_from 1 told names.sheets) ss → IsGiven (texts_named names told) (record { passes = names.passes; grid = grid_of names; output = output.Listing; metrics = m; html = h; sheets = ss })
-texts_given told names m h ss given_m given_h given_s =
-    after_given (text_of file.Metrics (told names.metrics)) m _ (λ e. IsGiven e (record { passes = names.passes; grid = grid_of names; output = output.Listing; metrics = m; html = h; sheets = ss })) tt given_m (
-    after_given (text_of file.Html (told names.html)) h _ (λ e. IsGiven e (record { passes = names.passes; grid = grid_of names; output = output.Listing; metrics = m; html = h; sheets = ss })) tt given_h (
-    after_given (sheets_from 1 told names.sheets) ss _ (λ e. IsGiven e (record { passes = names.passes; grid = grid_of names; output = output.Listing; metrics = m; html = h; sheets = ss })) tt given_s refl))
+    pub stops_at_patterns : (ss : List (List ℕ)) (name : List ℕ) → IsGiven (sheets_from 1 told names.sheets) ss → names.patterns ≡ Some name → StopsAt file.Patterns (text_of file.Patterns (told name)) o → Stops (texts_named names told) o
+    stops_at_patterns ss name given_s is s = after_given (text_of file.Metrics (told names.metrics)) m _ (λ e. Stops e o) tt given_m (
+        after_given (text_of file.Html (told names.html)) h _ (λ e. Stops e o) tt given_h (
+        after_given (sheets_from 1 told names.sheets) ss _ (λ e. Stops e o) tt given_s (
+        stops_named told names.patterns name _ o is s)))
+
+pub texts_given : (told : List ℕ → Told) (names : FormatWords) (m h : List ℕ) (ss : List (List ℕ)) (p : Option (List ℕ)) → IsGiven (text_of file.Metrics (told names.metrics)) m → IsGiven (text_of file.Html (told names.html)) h → IsGiven (sheets_from 1 told names.sheets) ss → IsGiven (patterns_named told names.patterns) p → IsGiven (texts_named names told) (record { passes = names.passes; grid = grid_of names; output = output.Listing; metrics = m; html = h; sheets = ss; patterns = p })
+texts_given told names m h ss p given_m given_h given_s given_p =
+    let all : Texts = record { passes = names.passes; grid = grid_of names; output = output.Listing; metrics = m; html = h; sheets = ss; patterns = p } in
+    after_given (text_of file.Metrics (told names.metrics)) m _ (λ e. IsGiven e all) tt given_m (
+    after_given (text_of file.Html (told names.html)) h _ (λ e. IsGiven e all) tt given_h (
+    after_given (sheets_from 1 told names.sheets) ss _ (λ e. IsGiven e all) tt given_s (
+    after_given (patterns_named told names.patterns) p _ (λ e. IsGiven e all) tt given_p refl)))
 
 -- ---- causes
 
@@ -135,6 +172,7 @@ reading_cause names told before now last out.WriteFault h = absurd h
 reading_cause names told before now last (out.TooLarge k) h = tt
 reading_cause names told before now last (out.NotUtf8 k at) h = tt
 reading_cause names told before now last (out.BadMetrics line why) h = tt
+reading_cause names told before now last (out.BadPatterns line) h = tt
 reading_cause names told before now last (out.NotSettled target one other) h = tt
 reading_cause names told before now last (out.Limit what) h = tt
 reading_cause names told before now last out.NoMemory h = tt
@@ -147,6 +185,7 @@ book_cause names told before now last out.WriteFault h = tt
 book_cause names told before now last (out.TooLarge k) h = tt
 book_cause names told before now last (out.NotUtf8 k at) h = tt
 book_cause names told before now last (out.BadMetrics line why) h = tt
+book_cause names told before now last (out.BadPatterns line) h = tt
 book_cause names told before now last (out.NotSettled target one other) h = tt
 book_cause names told before now last (out.Limit what) h = tt
 book_cause names told before now last out.NoMemory h = tt
@@ -159,6 +198,7 @@ of_book out.WriteFault h = tt
 of_book (out.TooLarge k) h = tt
 of_book (out.NotUtf8 k at) h = tt
 of_book (out.BadMetrics line why) h = tt
+of_book (out.BadPatterns line) h = tt
 of_book (out.NotSettled target one other) h = tt
 of_book (out.Limit what) h = tt
 of_book out.NoMemory h = tt
@@ -172,6 +212,7 @@ kept_count before now out.WriteFault e = e
 kept_count before now (out.TooLarge k) e = e
 kept_count before now (out.NotUtf8 k at) e = e
 kept_count before now (out.BadMetrics line why) e = e
+kept_count before now (out.BadPatterns line) e = e
 kept_count before now (out.NotSettled target one other) e = e
 kept_count before now (out.Limit what) e = e
 kept_count before now out.NoMemory e = e
@@ -189,6 +230,7 @@ puts_nothing a out.WriteFault = tt
 puts_nothing a (out.TooLarge k) = keeps_same a
 puts_nothing a (out.NotUtf8 k at) = keeps_same a
 puts_nothing a (out.BadMetrics line why) = keeps_same a
+puts_nothing a (out.BadPatterns line) = keeps_same a
 puts_nothing a (out.NotSettled target one other) = keeps_same a
 puts_nothing a (out.Limit what) = keeps_same a
 puts_nothing a out.NoMemory = keeps_same a
@@ -202,6 +244,7 @@ task_cause_of (files names) told before now last out.WriteFault h = (tt, tt)
 task_cause_of (files names) told before now last (out.TooLarge k) h = (tt, tt)
 task_cause_of (files names) told before now last (out.NotUtf8 k at) h = (tt, tt)
 task_cause_of (files names) told before now last (out.BadMetrics line why) h = (tt, tt)
+task_cause_of (files names) told before now last (out.BadPatterns line) h = (tt, tt)
 task_cause_of (files names) told before now last (out.NotSettled target one other) h = (tt, tt)
 task_cause_of (files names) told before now last (out.Limit what) h = (tt, tt)
 task_cause_of (files names) told before now last out.NoMemory h = (tt, tt)
@@ -212,6 +255,7 @@ task_cause_of (chapters count) told before now last out.WriteFault h = (tt, tt)
 task_cause_of (chapters count) told before now last (out.TooLarge k) h = (tt, tt)
 task_cause_of (chapters count) told before now last (out.NotUtf8 k at) h = (tt, tt)
 task_cause_of (chapters count) told before now last (out.BadMetrics line why) h = (tt, tt)
+task_cause_of (chapters count) told before now last (out.BadPatterns line) h = (tt, tt)
 task_cause_of (chapters count) told before now last (out.NotSettled target one other) h = (tt, tt)
 task_cause_of (chapters count) told before now last (out.Limit what) h = (tt, tt)
 task_cause_of (chapters count) told before now last out.NoMemory h = (tt, tt)
@@ -228,6 +272,7 @@ ends_unforeseen d (out.NotRead k) u = absurd u
 ends_unforeseen d (out.TooLarge f) u = absurd u
 ends_unforeseen d (out.NotUtf8 f at) u = absurd u
 ends_unforeseen d (out.BadMetrics line why) u = absurd u
+ends_unforeseen d (out.BadPatterns line) u = absurd u
 ends_unforeseen d (out.NotSettled target one other) u = absurd u
 ends_unforeseen d (out.Limit what) u = absurd u
 ends_unforeseen d out.WriteFault u = absurd u
@@ -245,6 +290,7 @@ ends_write d old new out.WriteFault h = absurd h
 ends_write d old new (out.TooLarge k) h = h
 ends_write d old new (out.NotUtf8 k at) h = h
 ends_write d old new (out.BadMetrics line why) h = h
+ends_write d old new (out.BadPatterns line) h = h
 ends_write d old new (out.NotSettled target one other) h = h
 ends_write d old new (out.Limit what) h = h
 ends_write d old new out.NoMemory h = h
@@ -264,6 +310,7 @@ unforeseen_halts (refused p) (out.NotRead k) l u = absurd u
 unforeseen_halts (refused p) (out.TooLarge f) l u = absurd u
 unforeseen_halts (refused p) (out.NotUtf8 f at) l u = absurd u
 unforeseen_halts (refused p) (out.BadMetrics line why) l u = absurd u
+unforeseen_halts (refused p) (out.BadPatterns line) l u = absurd u
 unforeseen_halts (refused p) (out.NotSettled target one other) l u = absurd u
 unforeseen_halts (refused p) (out.Limit what) l u = absurd u
 unforeseen_halts (refused p) out.WriteFault l u = absurd u
@@ -284,6 +331,7 @@ refused_halts (refused p) (out.NotRead k) r = inl r
 refused_halts (refused p) (out.TooLarge f) r = inl r
 refused_halts (refused p) (out.NotUtf8 f at) r = inl r
 refused_halts (refused p) (out.BadMetrics line why) r = inl r
+refused_halts (refused p) (out.BadPatterns line) r = inl r
 refused_halts (refused p) (out.NotSettled target one other) r = inl r
 refused_halts (refused p) (out.Limit what) r = inl r
 refused_halts (refused p) out.WriteFault r = inl r
@@ -294,6 +342,7 @@ refused_halts (given d) (out.NotRead k) r = absurd r
 refused_halts (given d) (out.TooLarge f) r = absurd r
 refused_halts (given d) (out.NotUtf8 f at) r = absurd r
 refused_halts (given d) (out.BadMetrics line why) r = absurd r
+refused_halts (given d) (out.BadPatterns line) r = absurd r
 refused_halts (given d) (out.NotSettled target one other) r = absurd r
 refused_halts (given d) (out.Limit what) r = absurd r
 refused_halts (given d) out.WriteFault r = absurd r
@@ -314,6 +363,7 @@ words_cause (refused p) told before now last (out.ReadFault f) w r n = absurd w
 words_cause (refused p) told before now last (out.TooLarge f) w r n = absurd w
 words_cause (refused p) told before now last (out.NotUtf8 f at) w r n = absurd w
 words_cause (refused p) told before now last (out.BadMetrics line why) w r n = absurd w
+words_cause (refused p) told before now last (out.BadPatterns line) w r n = absurd w
 words_cause (refused p) told before now last (out.NotSettled target one other) w r n = absurd w
 words_cause (refused p) told before now last (out.Limit what) w r n = absurd w
 words_cause (refused p) told before now last out.WriteFault w r n = absurd w
@@ -322,6 +372,7 @@ words_cause (given x) told before now last (out.ReadFault f) w r n = absurd w
 words_cause (given x) told before now last (out.TooLarge f) w r n = absurd w
 words_cause (given x) told before now last (out.NotUtf8 f at) w r n = absurd w
 words_cause (given x) told before now last (out.BadMetrics line why) w r n = absurd w
+words_cause (given x) told before now last (out.BadPatterns line) w r n = absurd w
 words_cause (given x) told before now last (out.NotSettled target one other) w r n = absurd w
 words_cause (given x) told before now last (out.Limit what) w r n = absurd w
 words_cause (given x) told before now last out.WriteFault w r n = absurd w
@@ -340,6 +391,7 @@ memory_bind e k (out.NotRead w) r = refused_bind e k _ r
 memory_bind e k (out.TooLarge f) r = refused_bind e k _ r
 memory_bind e k (out.NotUtf8 f at) r = refused_bind e k _ r
 memory_bind e k (out.BadMetrics line why) r = refused_bind e k _ r
+memory_bind e k (out.BadPatterns line) r = refused_bind e k _ r
 memory_bind e k (out.NotSettled target one other) r = refused_bind e k _ r
 memory_bind e k (out.Limit what) r = refused_bind e k _ r
 memory_bind e k out.WriteFault r = refused_bind e k _ r
@@ -352,6 +404,7 @@ nothing_told A (out.NotRead w) = tt
 nothing_told A (out.TooLarge f) = tt
 nothing_told A (out.NotUtf8 f at) = tt
 nothing_told A (out.BadMetrics line why) = tt
+nothing_told A (out.BadPatterns line) = tt
 nothing_told A (out.NotSettled target one other) = tt
 nothing_told A (out.Limit what) = tt
 nothing_told A out.WriteFault = tt
@@ -384,6 +437,7 @@ words_halt reading (given x) told (out.ReadFault f) r = absurd r
 words_halt reading (given x) told (out.TooLarge f) r = absurd r
 words_halt reading (given x) told (out.NotUtf8 f at) r = absurd r
 words_halt reading (given x) told (out.BadMetrics line why) r = absurd r
+words_halt reading (given x) told (out.BadPatterns line) r = absurd r
 words_halt reading (given x) told (out.NotSettled target one other) r = absurd r
 words_halt reading (given x) told (out.Limit what) r = absurd r
 words_halt reading (given x) told out.WriteFault r = absurd r

@@ -34,6 +34,7 @@ before_words kind (out.NotRead k) b = absurd b
 before_words kind (out.TooLarge f) b = absurd b
 before_words kind (out.NotUtf8 f at) b = absurd b
 before_words kind (out.BadMetrics line why) b = absurd b
+before_words kind (out.BadPatterns line) b = absurd b
 before_words kind (out.NotSettled target one other) b = absurd b
 before_words kind (out.Limit what) b = absurd b
 before_words kind out.WriteFault b = absurd b

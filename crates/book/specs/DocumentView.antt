@@ -1,8 +1,10 @@
 -- What texts and a document in memory stand for.
+use Rattle.std.specs.Prelude.{option_map}
 use Rattle.std.specs.List.{AllZip}
 use Rattle.sheets.specs.Sheets.{author_texts, element_sheets}
 use Rattle.sheets.specs.Files.{file_texts}
 use Rattle.sheets.specs.Sources.{sources_of, IsReadFrom}
+use Rattle.soft_hyphens.specs.Words.{points_in}
 use Rattle.book.specs.Document.{Document, Texts}
 use Rattle.book.specs.Flow.{AreRulesOf}
 use Rattle.book.specs.declared.document.Document.{Document as InMemory}
@@ -15,6 +17,7 @@ texts_in t = record {
   grid = t.grid;
   output = t.output;
   metrics = t.metrics.now;
+  patterns = option_map (λ p. p.now) t.patterns;
   html = t.html.now;
   sheets = file_texts t.sheets.now;
 }
@@ -26,6 +29,7 @@ document_in d = record {
   grid = d.grid;
   output = d.output;
   faces = d.faces;
+  points = points_in d.patterns;
   nodes = d.dom;
   sheets = file_texts d.sheets.now;
 }

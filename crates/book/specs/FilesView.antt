@@ -1,5 +1,5 @@
 -- What the texts of files in memory stand for.
-use Rattle.std.specs.Prelude.{ℕ, string_bytes}
+use Rattle.std.specs.Prelude.{ℕ, option_map, string_bytes}
 use Rattle.bk_io.specs.Texts.{unmarked}
 use Rattle.sheets.specs.Files.{file_texts}
 use Rattle.book.specs.Document.{Texts}
@@ -14,6 +14,7 @@ listed_texts passes grid t = record {
   grid = grid;
   output = output.Listing;
   metrics = unmarked (string_bytes t.metrics);
+  patterns = option_map (λ p. unmarked (string_bytes p)) t.patterns;
   html = unmarked (string_bytes t.html);
   sheets = file_texts t.sheets.items;
 }

@@ -55,13 +55,15 @@ pub record AreStylesBy (d : Document) (names : List (List ℕ)) (rows : List Nod
   pub styles : AreDocumentStyles names d.nodes sheets rows
 
 -- what the passes over a document read: its nodes in their styles, the values of its counters by them (CSS 2.1, 12.4),
--- its faces, the columns of the frames that its page rules give, and the elements that its page references lead to
+-- its faces, the points of its words, the columns of the frames that its page rules give, and the elements that its
+-- page references lead to
 abbrev pub work_by : Document → List PageRule → List (List ℕ) → List NodeStyles → List NodeId → Work
 work_by d rules names rows targets = record {
   nodes = d.nodes;
   rows = rows;
   values = values_of d.nodes rows;
   faces = d.faces;
+  points = d.points;
   frames = page_frames rules names d.grid;
   per = d.grid.columns;
   targets = targets;

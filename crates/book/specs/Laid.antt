@@ -26,6 +26,7 @@ use Rattle.passes.specs.Conditions.{IsGoodFlow}
 use Rattle.passes.specs.Passes.{End, EndsIn, settled, unsettled, long, many}
 use Rattle.passes.specs.Work.{Work}
 use Rattle.passes.specs.declared.settle.Settled.{Settled}
+use Rattle.soft_hyphens.specs.Words.{points_in}
 use Rattle.passes.specs.declared.settle.PassErr.{PassErr}
 use Rattle.passes.specs.declared.settle.PassErr.TheVariants as err
 use Rattle.book.specs.Answer.{Book, output_of, print_of}
@@ -52,6 +53,7 @@ pub record IsStyledOf (d : Document) (s : Styled) : Type 0 where
   pub output : s.output ≡ d.output
   pub nodes : s.dom ≡ d.nodes
   pub faces : s.faces ≡ d.faces
+  pub points : points_in s.patterns ≡ d.points
   pub styles : AreStylesBy d s.names s.styles
   pub values : (n : ℕ) (p : Pseudo) (x : List ℕ) → counter_values s.counters n p x ≡ values_of d.nodes s.styles n p x
   pub rules : AreRulesOf d s.rules
@@ -97,6 +99,7 @@ work_in s targets = record {
   rows = s.styles;
   values = counter_values s.counters;
   faces = s.faces;
+  points = points_in s.patterns;
   frames = page_frames s.rules s.names s.grid;
   per = s.grid.columns;
   targets = targets;

@@ -45,7 +45,7 @@ unfoldable pub texts_of : Outcome → List (List ℕ)
 texts_of (out.Done pages passes) =
     codes "bookfmt: " ∷ decimal pages ∷ codes " pages, " ∷ decimal passes ∷ codes " passes\n" ∷ []
 texts_of (out.NotRead kind) =
-    codes "bookfmt: usage: bookfmt format [--passes N] [--columns N] [--gap PX] METRICS HTML [CSS ...] or bookfmt sample N\n" ∷ []
+    codes "bookfmt: usage: bookfmt format [--passes N] [--columns N] [--gap PX] [--patterns FILE] METRICS HTML [CSS ...] or bookfmt sample N\n" ∷ []
 texts_of (out.ReadFault f) = codes "bookfmt: cannot read " ∷ (file_words f).0 ∷ (file_words f).1 ∷ codes "\n" ∷ []
 texts_of (out.TooLarge f) =
     codes "bookfmt: " ∷ (file_words f).0 ∷ (file_words f).1 ∷ codes " has more than " ∷ decimal most_file_bytes
@@ -54,6 +54,7 @@ texts_of (out.NotUtf8 f at) =
     codes "bookfmt: " ∷ (file_words f).0 ∷ (file_words f).1 ∷ codes " is not UTF-8 at " ∷ decimal at ∷ codes "\n" ∷ []
 texts_of (out.BadMetrics line reason) =
     codes "bookfmt: metrics line " ∷ decimal line ∷ codes ": " ∷ why_text reason ∷ codes "\n" ∷ []
+texts_of (out.BadPatterns line) = codes "bookfmt: patterns line " ∷ decimal line ∷ codes "\n" ∷ []
 texts_of (out.NotSettled target before after) =
     codes "bookfmt: page reference to " ∷ shown_target target ∷ codes " not settled: "
     ∷ signed_decimal before ∷ codes " then " ∷ signed_decimal after ∷ codes "\n" ∷ []
@@ -76,6 +77,7 @@ status_of (out.ReadFault f) = status.cannot_read
 status_of (out.TooLarge f) = status.past_limit
 status_of (out.NotUtf8 f at) = status.not_utf8
 status_of (out.BadMetrics line reason) = status.bad_metrics
+status_of (out.BadPatterns line) = status.bad_patterns
 status_of (out.Limit what) = status.past_limit
 status_of (out.NotSettled target before after) = status.not_settled
 status_of out.WriteFault = status.cannot_write

@@ -12,7 +12,7 @@ use Rattle.sheets.specs.Readings.{SheetOf, AreReadings}
 use Rattle.sample.specs.Html.{html_of}
 use Rattle.sample.specs.Texts.{css_text, metrics_text}
 use Rattle.book.specs.Expect.{Expect, free, refused, given, ◌>>=◌, IsRefused}
-use Rattle.named_files.specs.Names.{file_stage, name_of}
+use Rattle.named_files.specs.Names.{IsNoLater, name_of}
 use Rattle.book.specs.Request.{Task, files, chapters, asked}
 use Rattle.words.specs.Asked.{FormatWords}
 use Rattle.book.specs.Document.{Texts, Document, document_of, grid_of}
@@ -41,16 +41,23 @@ sheets_from k told (name ∷ names) = text_of (file.Sheet k) (told name) >>= λ 
     sheets_from (suc k) told names >>= λ texts.
     given (text ∷ texts)
 
+-- the text of the patterns, where they are named
+abbrev pub patterns_named : (List ℕ → Told) → Option (List ℕ) → Expect (Option (List ℕ))
+patterns_named told None = given None
+patterns_named told (Some name) = text_of file.Patterns (told name) >>= λ text. given (Some text)
+
 -- the texts of the files that are named, or the first refusal in the order of the steps
 abbrev pub texts_named : FormatWords → (List ℕ → Told) → Expect Texts
 texts_named names told = text_of file.Metrics (told names.metrics) >>= λ metrics.
     text_of file.Html (told names.html) >>= λ html.
     sheets_from 1 told names.sheets >>= λ sheets.
+    patterns_named told names.patterns >>= λ patterns.
     given (record {
       passes = names.passes;
       grid = grid_of names;
       output = output.Listing;
       metrics = metrics;
+      patterns = patterns;
       html = html;
       sheets = sheets;
     })
@@ -67,6 +74,7 @@ sample_texts count = record {
   grid = record { columns = 1; gap = 0 };
   output = output.Counts count;
   metrics = metrics_text;
+  patterns = None;
   html = html_of count;
   sheets = css_text ∷ [];
 }
@@ -103,9 +111,9 @@ OneIsExpected = (ws : List (List ℕ)) (told : List ℕ → Told) (d e : Expect 
 -- a file is read before this refusal comes
 abbrev pub IsReadBefore : FileOf → Outcome → Type 0
 IsReadBefore f (out.NotRead k) = ⊥
-IsReadBefore f (out.ReadFault g) = file_stage f ≤ file_stage g
-IsReadBefore f (out.TooLarge g) = file_stage f ≤ file_stage g
-IsReadBefore f (out.NotUtf8 g n) = file_stage f ≤ file_stage g
+IsReadBefore f (out.ReadFault g) = IsNoLater f g
+IsReadBefore f (out.TooLarge g) = IsNoLater f g
+IsReadBefore f (out.NotUtf8 g n) = IsNoLater f g
 IsReadBefore f o = Unit {0}
 
 -- an outcome that no input explains comes in the place of a refusal only before it

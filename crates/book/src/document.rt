@@ -1,6 +1,6 @@
 //! Reads the texts of the files as a document.
 
-ghost use Rattle.std.specs.Prelude.{◌≡◌, ℕ, ◌≤◌, List, MatchResult, IfErr, IfOk, length};
+ghost use Rattle.std.specs.Prelude.{◌≡◌, ℕ, ◌≤◌, List, MatchResult, IfErr, IfOk, IfSome, length, option_map};
 ghost use Rattle.std.specs.List.{AllZip};
 ghost use Rattle.bk_num.specs.Limits.{most_text_bytes};
 ghost use Rattle.metrics.specs.Text.{faces_of};
@@ -9,8 +9,9 @@ ghost use Rattle.sheets.specs.Sheets.{author_texts, element_sheets};
 ghost use Rattle.sheets.specs.Files.{file_texts};
 ghost use Rattle.sheets.specs.Readings.{SheetOf, AreReadings};
 ghost use Rattle.sheets.specs.Sources.{ArePageRules, IsReadFrom, authors_of, sources_of};
+ghost use Rattle.soft_hyphens.specs.Words.{points_in};
 ghost use Rattle.book.specs.Expect.{IsRefusedUnlessMemory, IsGiven};
-ghost use Rattle.book.specs.Document.{document_of, faces_expected, nodes_expected, sheets_expected};
+ghost use Rattle.book.specs.Document.{document_of, faces_expected, nodes_expected, patterns_expected, sheets_expected};
 ghost use Rattle.book.specs.DocumentView.{document_in, texts_in, HasSheets};
 ghost use Rattle.book.specs.Run.{IsOfTexts};
 
@@ -22,6 +23,7 @@ use cascade::sheet::ReadSheet;
 use css_page::rules::PageRule;
 use dom::{Dom, DomErr};
 use html_tree::read_html;
+use hyphen::{PatErr, Patterns, read_patterns};
 use metrics::{Faces, MetricsErr, read_metrics};
 use sheets::read::{Sheets, SheetsErr, read_sheets};
 use std::alloc::{AllocError, Global};
@@ -43,14 +45,15 @@ pub struct ColumnGrid {
 }
 
 /// In how many passes at most a document is to settle, the columns of its pages, what is to be put of it, the faces of
-/// the metrics text, the tree, the texts of the files' sheets, and what the document's sheets and their page rules are
-/// read as, in the order of the cascade.
+/// the metrics text, the patterns if there are any, the tree, the texts of the files' sheets, and what the document's
+/// sheets and their page rules are read as, in the order of the cascade.
 #[derive(Drop)]
 pub struct Document<'a> {
     pub passes: u32,
     pub grid: ColumnGrid,
     pub output: Output,
     pub faces: Faces,
+    pub patterns: Option<Patterns>,
     pub dom: Dom,
     pub sheets: &'a [String],
     pub read: Items<ReadSheet>,
@@ -58,13 +61,14 @@ pub struct Document<'a> {
 }
 
 /// In how many passes at most a book is to settle, the columns of its pages, what is to be put of it, and its texts,
-/// the first two less a leading U+FEFF.
+/// all but the sheets less a leading U+FEFF.
 #[derive(Clone, Copy, Debug)]
 pub struct Texts<'a> {
     pub passes: u32,
     pub grid: ColumnGrid,
     pub output: Output,
     pub metrics: &'a str,
+    pub patterns: Option<&'a str>,
     pub html: &'a str,
     pub sheets: &'a [String],
 }
@@ -102,6 +106,23 @@ fn read_faces(alloc: Global, metrics: &str) -> Result<Faces, Outcome>
         Ok(faces) => Ok(faces),
         Err(MetricsErr::Line { line, why }) => Err(Outcome::BadMetrics { line, why }),
         Err(MetricsErr::NoMemory) => Err(Outcome::NoMemory),
+    }
+}
+
+/// The patterns of the patterns text, if there is one.
+fn read_hyphens(alloc: Global, patterns: Option<&str>) -> Result<Option<Patterns>, Outcome>
+    requires { IfSome patterns (λ text. length text.now ≤ most_text_bytes) }
+    ensures points { let points = patterns_expected (option_map (λ text. text.now) patterns.entry) in
+        MatchResult result (λ p. IsGiven points (points_in p)) (λ o. IsRefusedUnlessMemory points o) }
+    ensures of_texts { IfErr result IsOfTexts }
+{
+    let Some(text) = patterns else {
+        return Ok(None);
+    };
+    match read_patterns(alloc, text) {
+        Ok(patterns) => Ok(Some(patterns)),
+        Err(PatErr::Line { line }) => Err(Outcome::BadPatterns { line }),
+        Err(PatErr::NoMemory) => Err(Outcome::NoMemory),
     }
 }
 
@@ -148,7 +169,8 @@ fn read_run_sheets(alloc: Global, dom: &Dom, files: &[String]) -> Result<Sheets,
 
 /// The document of the texts.
 pub fn read_document<'a>(alloc: Global, texts: Texts<'a>) -> Result<Box<Document<'a>>, Outcome>
-    requires { length texts.metrics.now ≤ most_text_bytes }
+    requires small { length texts.metrics.now ≤ most_text_bytes }
+    requires small_patterns { IfSome texts.patterns (λ text. length text.now ≤ most_text_bytes) }
     ensures document { (reading : List ℕ → SheetOf) → AreReadings reading →
         let document = document_of reading (texts_in texts.entry) in
         MatchResult result (λ d. IsGiven document (document_in d.value)) (λ o. IsRefusedUnlessMemory document o) }
@@ -158,6 +180,7 @@ pub fn read_document<'a>(alloc: Global, texts: Texts<'a>) -> Result<Box<Document
     ensures of_texts { IfErr result IsOfTexts }
 {
     let faces = read_faces(alloc, texts.metrics)?;
+    let patterns = read_hyphens(alloc, texts.patterns)?;
     let dom = read_tree(alloc, texts.html)?;
     let sheets = read_run_sheets(alloc, &dom, texts.sheets)?;
     Ok(boxed(
@@ -167,6 +190,7 @@ pub fn read_document<'a>(alloc: Global, texts: Texts<'a>) -> Result<Box<Document
             grid: texts.grid,
             output: texts.output,
             faces,
+            patterns,
             dom,
             sheets: texts.sheets,
             read: sheets.read,

@@ -1,6 +1,6 @@
 //! Reads the texts of files.
 
-ghost use Rattle.std.specs.Prelude.{◌≡◌, ◌≤◌, MatchResult, IfErr, IfOk, string_len};
+ghost use Rattle.std.specs.Prelude.{◌≡◌, ◌≤◌, MatchResult, IfErr, IfOk, IfSome, string_len};
 ghost use Rattle.bk_num.specs.Limits.{most_file_bytes};
 ghost use Rattle.book.specs.Document.{grid_of};
 ghost use Rattle.book.specs.Expect.{IsGiven};
@@ -24,6 +24,7 @@ pub(crate) fn texts_of_files<F: Shelf>(
         let grid = grid_of (format_view names.now) in
         MatchResult result (λ t. IsGiven texts (listed_texts names.now.passes grid t)) (λ o. Stops texts o) }
     ensures small { IfOk result (λ t. string_len t.metrics ≤ most_file_bytes) }
+    ensures small_patterns { IfOk result (λ t. IfSome t.patterns (λ p. string_len p ≤ most_file_bytes)) }
     ensures count { MatchResult result (λ _. F.faults shelf.new ≡ F.faults shelf.old)
         (KeepsFaults (F.faults shelf.old) (F.faults shelf.new)) }
     ensures cause { IfErr result (λ o. IsOfFiles (format_view names.now) (F.told shelf.old) (F.faults shelf.old)

@@ -1,6 +1,6 @@
 //! Lays a document out, and puts what is asked for of its book.
 
-ghost use Rattle.std.specs.Prelude.{◌≡◌, ◌<◌, ◌≤◌, All, IfOk, IfErr, length};
+ghost use Rattle.std.specs.Prelude.{◌≡◌, ◌<◌, ◌≤◌, All, IfOk, IfErr, length, option_map};
 ghost use Rattle.bk_io.specs.Causes.{Rose};
 ghost use Rattle.bk_num.specs.Limits.{most_pages};
 ghost use Rattle.boxes.specs.Frames.{IsPerPage};
@@ -26,6 +26,7 @@ use bk_num::name::NoMem;
 use bk_num::steps::Steps;
 use boxes::page::PageList;
 use columns::columns::Columns;
+use hyphen::Patterns;
 use listing::pages::Printer;
 use listing::print::{PrintErr, print};
 use page_ctx::resolve::{PageStyles, resolve};
@@ -124,6 +125,16 @@ fn columns_of(alloc: Global, styled: &Styled, boxes: &PageStyles<'_>) -> Result<
     Ok(Columns::new(table, grid.columns, gap_of(grid)))
 }
 
+/// The patterns by which the words of a document are hyphenated, if there are any.
+fn patterns_of(styled: &Styled) -> Option<&Patterns>
+    ensures { option_map (λ p. p.now) result ≡ styled.now.patterns }
+{
+    match &styled.patterns {
+        None => None,
+        Some(patterns) => Some(patterns),
+    }
+}
+
 /// The flow whose page references print the numbers of its own pages, with its frames.
 fn settle_passes<L: Ledger>(
     alloc: Global,
@@ -147,6 +158,7 @@ fn settle_passes<L: Ledger>(
         styles: &styled.styles,
         counters: &styled.counters,
         faces: &styled.faces,
+        patterns: patterns_of(styled),
     };
     Ok(settle(alloc, &input, &frames, styled.passes, steps)?)
 }

@@ -20,7 +20,7 @@ use named_files::{FileOf, file_words};
 
 /// How the program is called.
 const USAGE: &str =
-    "bookfmt: usage: bookfmt format [--passes N] [--columns N] [--gap PX] METRICS HTML [CSS ...] or bookfmt sample N\n";
+    "bookfmt: usage: bookfmt format [--passes N] [--columns N] [--gap PX] [--patterns FILE] METRICS HTML [CSS ...] or bookfmt sample N\n";
 
 #[tactic(auto, unfolding(crate::specs::Message::why_text))]
 fn why_text(why: MetricsWhy) -> &'static str
@@ -122,6 +122,16 @@ fn put_metrics_line<E: Sink>(err: &mut E, line: u32, why: MetricsWhy) -> Result<
     )
 }
 
+/// Puts the line that tells which line of a patterns text has no reading.
+fn put_patterns_line<E: Sink>(err: &mut E, line: u32) -> Result<(), Failed>
+    ensures bytes { AppendsAllOrPrefix (E.taken err.old) (E.taken err.new)
+        (flat_map (λ t. t) (codes "bookfmt: patterns line " ∷ decimal line ∷ codes "\n" ∷ [])) result }
+    ensures cause { HasCause (E.faults err.old) (E.faults err.new) result }
+{
+    let mut buffer = Buffer::new();
+    put_texts(err, &["bookfmt: patterns line ", buffer.format(line), "\n"])
+}
+
 /// Puts the line that tells how many pages there are.
 fn put_pages_line<E: Sink>(err: &mut E, pages: u32, passes: u32) -> Result<(), Failed>
     ensures bytes { AppendsAllOrPrefix (E.taken err.old) (E.taken err.new)
@@ -218,6 +228,7 @@ pub fn put_message<E: Sink>(err: &mut E, outcome: &Outcome) -> Result<(), Failed
             put_bytes_line(err, *file, " is not UTF-8 at ", *at, "\n")
         }
         Outcome::BadMetrics { line, why } => put_metrics_line(err, *line, *why),
+        Outcome::BadPatterns { line } => put_patterns_line(err, *line),
         Outcome::NotSettled {
             target,
             before,

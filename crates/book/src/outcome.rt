@@ -41,6 +41,10 @@ pub enum Outcome {
         line: u32,
         why: MetricsWhy,
     },
+    /// The patterns text has no reading: its first bad line, from 1.
+    BadPatterns {
+        line: u32,
+    },
     /// A number passes its limit.
     Limit {
         what: LimitOf,
@@ -115,6 +119,7 @@ impl Outcome {
             Outcome::NotRead { .. } => status::USAGE,
             Outcome::NotUtf8 { .. } => status::NOT_UTF8,
             Outcome::BadMetrics { .. } => status::BAD_METRICS,
+            Outcome::BadPatterns { .. } => status::BAD_PATTERNS,
             Outcome::NotSettled { .. } => status::NOT_SETTLED,
             Outcome::WriteFault => status::CANNOT_WRITE,
             Outcome::TooLarge { .. } => status::PAST_LIMIT,

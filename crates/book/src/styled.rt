@@ -20,20 +20,22 @@ use counters::at::CounterAt;
 use counters::number::number_all;
 use css_page::rules::PageRule;
 use dom::Dom;
+use hyphen::Patterns;
 use metrics::Faces;
 use std::alloc::Global;
 use style::names::Names;
 use style::styles::Styles;
 
-/// A document's nodes in their styles, the values of its counters, the faces that set it, the rules of its pages, and
-/// their names: what all passes over it read, of which there are at most so many; the columns of its pages, and what is
-/// to be put of it.
+/// A document's nodes in their styles, the values of its counters, the faces that set it, the patterns by which its
+/// words are hyphenated, the rules of its pages, and their names: what all passes over it read, of which there are at
+/// most so many; the columns of its pages, and what is to be put of it.
 #[derive(Drop)]
 pub struct Styled {
     pub passes: u32,
     pub grid: ColumnGrid,
     pub output: Output,
     pub faces: Faces,
+    pub patterns: Option<Patterns>,
     pub dom: Dom,
     pub rules: Items<PageRule>,
     pub names: Names,
@@ -101,6 +103,7 @@ fn with_computed(document: Box<Document<'_>>, computed: Box<Computed>) -> Styled
         grid: document.grid,
         output: document.output,
         faces: document.faces,
+        patterns: document.patterns,
         dom: document.dom,
         rules: document.pages,
         names: computed.names,

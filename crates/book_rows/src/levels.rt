@@ -30,7 +30,7 @@ fn text_of<'a>(files: &'a [(Name, Vec<u8>)], name: &str) -> &'a str {
 }
 
 /// A document in its styles, by its HTML and its sheet.
-fn styled_of(alloc: Global, html: &str, sheets: &[String]) -> Result<Box<Styled>, NoMem>
+fn styled_of<'x>(alloc: Global, html: &'x str, sheets: &'x [String]) -> Result<Box<Styled>, NoMem>
     ensures { IfOk result (λ s. AreGoodStyles s.value) }
 {
     let texts = Texts {
@@ -38,6 +38,7 @@ fn styled_of(alloc: Global, html: &str, sheets: &[String]) -> Result<Box<Styled>
         grid: ColumnGrid { columns: 1, gap: 0 },
         output: Output::Listing,
         metrics: METRICS,
+        patterns: None,
         html,
         sheets,
     };
@@ -70,6 +71,7 @@ fn settled_pages<L: Ledger>(
         styles: &styled.styles,
         counters: &styled.counters,
         faces: &styled.faces,
+        patterns: styled.patterns.as_ref(),
     };
     match settle(alloc, &input, frames, 8, steps) {
         Ok(settled) => Ok(settled.pages),

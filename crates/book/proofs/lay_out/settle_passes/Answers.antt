@@ -1,4 +1,6 @@
+use Rattle.std.proofs.Common.{ap}
 use Rattle.std.proofs.lemmas.Result.{err_from_is_err_and}
+use Rattle.soft_hyphens.specs.Words.{points_in}
 use Rattle.columns.specs.Columns.{column_frames}
 use Rattle.book.proofs.BoundLemmas.{are_pages, table_good}
 use Rattle.book.proofs.PassLemmas.{in_frames, stops_by}
@@ -9,7 +11,7 @@ returns-clause-settled g c =
     let columns = c.in_ok-frames.frames in
     let of = c.in_ok-frames.ensures in
     let is = c.in_ok-settle.ensures.settles in
-    in_frames c.args.styled.now (column_frames columns.pages.table.rows columns.count columns.gap) columns.count _ of.frames of.per is.targets is.are is.ends
+    in_frames c.args.styled.now _ (column_frames columns.pages.table.rows columns.count columns.gap) columns.count _ (ap points_in c.patterns_of.ensures) of.frames of.per is.targets is.are is.ends
 
 pub returns-clause-frames : goal.returns-clause-frames
 returns-clause-frames g c =
@@ -24,4 +26,4 @@ returns-in_err-settle-clause-stops g c =
     let of = c.in_ok-frames.ensures in
     let frames = column_frames columns.pages.table.rows columns.count columns.gap in
     let p = err_from_is_err_and c.from_residual-in_err-settle.result c.from_residual-in_err-settle.ensures.1 in
-    rw (p.1, p.2) (stops_by s _ frames columns.count (λ end is. in_frames s frames columns.count end of.frames of.per is.targets is.are is.ends) c.in_err-settle.field-0.0 c.in_err-settle.ensures.settles)
+    rw (p.1, p.2) (stops_by s _ frames columns.count (λ end is. in_frames s _ frames columns.count end (ap points_in c.patterns_of.ensures) of.frames of.per is.targets is.are is.ends) c.in_err-settle.field-0.0 c.in_err-settle.ensures.settles)

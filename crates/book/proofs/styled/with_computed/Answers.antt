@@ -8,6 +8,7 @@ returns-clause-of c = rw (c.into_inner-document.ensures, c.into_inner-computed.e
   output = refl;
   nodes = refl;
   faces = refl;
+  points = refl;
   styles = record { sheets = c.args.document.value.read; read = c.requires.sheets.read; styles = c.requires.styles };
   values = c.requires.counters;
   rules = c.requires.sheets.pages;
