@@ -129,8 +129,8 @@ fn column_of(count: u32, gap: i64, frame: Frame, place: u32) -> Frame
 }
 
 impl Columns {
-    /// Columns of the frames of a table: from 1 to 8 on each page, with gaps from 0 to 64,000 units between them. It takes
-    /// no memory.
+    /// Columns of the frames of a table: from 1 to 8 on each page, with gaps from 0 to 64,000 units between them. It
+    /// takes no memory.
     pub fn new(table: PageTable, count: u32, gap: i64) -> Columns
         requires { AreColumns table.rows count gap }
         ensures pages { result.pages.table ≡ table }

@@ -92,8 +92,9 @@ fn page_of_frames(alloc: Global, place: usize, frames: &[Page]) -> Result<Page, 
     joined_at(alloc, place as u32 + 1, &frames[0], frames)
 }
 
-/// The pages of a list of frames, `per` of which stand on each: their solids and notes in order, with the name, kind and
-/// frame of the first frame of each page, and the greatest of its frames' levels. It takes time in proportion to the list.
+/// The pages of a list of frames, `per` of which stand on each: their solids and notes in order, with the name, kind
+/// and frame of the first frame of each page, and the greatest of its frames' levels. It takes time in proportion to
+/// the list.
 pub fn fold(alloc: Global, list: &PageList, per: u32) -> Result<PageList, NoMem>
     requires per { IsPerPage per }
     requires few { length list.now.pages ≤ most_entries }
