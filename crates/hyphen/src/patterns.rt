@@ -1,6 +1,6 @@
 //! Patterns, and the points of a word.
 
-ghost use Rattle.std.specs.Prelude.{◌≡◌, ℕ, ◌+◌, ◌-◌, ◌≤◌, ◌<◌, ◌^◌, Bool, List, length, map, max, IfOk, OnOk, slice_index, ◌==◌, ◌&&◌, ◌%◌, nat_le};
+ghost use Rattle.std.specs.Prelude.{◌≡◌, ℕ, ◌+◌, ◌-◌, ◌≤◌, ◌<◌, ◌^◌, List, length, map, max, IfOk, OnOk, slice_index, ◌==◌, ◌&&◌, ◌%◌, nat_le};
 ghost use Rattle.std.specs.Char.{to_ascii_lowercase};
 ghost use Rattle.bk_num.specs.Limits.{most_text_bytes};
 ghost use Rattle.hyphen.specs.Fields.{two_values};

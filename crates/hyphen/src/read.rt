@@ -14,7 +14,7 @@ use bk_num::name::NoMem;
 use std::alloc::Global;
 
 /// The patterns of a text, or its first line that has no reading. A line is a pattern: a dot or none,
-/// 1 to 32 letters, each behind at most one digit and the last before at most one, and a dot or none.
+/// 1 to 32 letters, each after at most one digit and the last before at most one, and a dot or none.
 /// Blank lines are skipped, and those that a `#` or `%` begins.
 pub fn read_patterns(alloc: Global, text: &str) -> Result<Patterns, PatErr>
     requires { length text.now ≤ most_text_bytes }

@@ -1,6 +1,6 @@
 //! Values by letters, as a tree: each letter leads to the node of the letters that go on with it.
 
-ghost use Rattle.std.specs.Prelude.{◌≡◌, ℕ, ◌+◌, ◌-◌, ◌≤◌, ◌<◌, Bool, true, false, List, [], ◌∷◌, length, max, nat_le, OnOk, MatchOption, slice_index, if◌then◌else◌, ◌==◌, ◌&&◌};
+ghost use Rattle.std.specs.Prelude.{◌≡◌, ℕ, ◌+◌, ◌-◌, ◌≤◌, ◌<◌, Bool, false, List, [], ◌∷◌, length, max, nat_le, OnOk, MatchOption, slice_index, if◌then◌else◌, ◌==◌, ◌&&◌};
 ghost use Rattle.std.specs.Bool.{beq};
 ghost use Rattle.std.specs.Str.{bytes_eq};
 ghost use Rattle.hyphen.specs.Tree.{node_values, values_in};
