@@ -13,13 +13,13 @@ use Rattle.box_gen.specs.declared.leaf.RunText.{RunText}
 use Rattle.box_gen.specs.TextStyles.{span_by, text_style_of}
 
 -- what a block of a style gives to the leaves in it: its strut (CSS 2.1, 10.8.1), the indent of the first line (16.1),
--- and how lines are aligned (16.2)
+-- how lines are aligned (16.2), and whether they are chosen for a paragraph as a whole
 abbrev pub leaf_style_of : Style → FaceId → LeafStyle
 leaf_style_of s face = record {
   strut = text_style_of s s.white_space face;
   indent = s.text_indent;
-  align =
-      s.text_align;
+  align = s.text_align;
+  fit = s.book_fill;
 }
 
 -- the leaf of a text in a block, with the markers that hang before its first line
@@ -32,6 +32,7 @@ leaf_by text spans block leads = record {
   leads = leads;
   indent = block.indent;
   align = block.align;
+  fit = block.fit;
   strut = span_by block.strut 0 (length text);
 }
 

@@ -65,6 +65,7 @@ applied_flow p c s (long.BreakInside g) = record s {
 applied_flow p c s (long.BoxDecorationBreak g) = record s {
   box_decoration_break = given_by same g p.box_decoration_break initial_style.box_decoration_break;
 }
+applied_flow p c s (long.BookFill g) = record s { book_fill = given_by same g p.book_fill initial_style.book_fill }
 applied_flow p c s (long.Hyphens g) = record s { hyphens = given_by same g p.hyphens initial_style.hyphens }
 applied_flow p c s (long.Widows g) = record s { widows = given_by same g p.widows initial_style.widows }
 applied_flow p c s (long.Orphans g) = record s { orphans = given_by same g p.orphans initial_style.orphans }

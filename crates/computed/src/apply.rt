@@ -16,7 +16,7 @@ use computed_values::given::{chosen, chosen_color};
 use std::alloc::Global;
 use style::content::Content;
 use style::initial::{
-    INITIAL_ALIGN, INITIAL_BACKGROUND, INITIAL_BREAK, INITIAL_CLONES, INITIAL_DISPLAY,
+    INITIAL_ALIGN, INITIAL_BACKGROUND, INITIAL_BREAK, INITIAL_CLONES, INITIAL_DISPLAY, INITIAL_FIT,
     INITIAL_FLOAT, INITIAL_HYPHENS, INITIAL_INSIDE, INITIAL_ITALIC, INITIAL_LINES, INITIAL_MARKER,
     INITIAL_SPACE, INITIAL_WRAP, initial_content, initial_counters, initial_strings,
 };
@@ -152,6 +152,7 @@ fn apply_flow(style: &mut Style, parent: &Style, context: &ElementContext, long:
         Long::BoxDecorationBreak(g) => {
             style.box_decoration_break = chosen(g, parent.box_decoration_break, INITIAL_CLONES);
         }
+        Long::BookFill(g) => style.book_fill = chosen(g, parent.book_fill, INITIAL_FIT),
         Long::Hyphens(g) => style.hyphens = chosen(g, parent.hyphens, INITIAL_HYPHENS),
         Long::Widows(g) => style.widows = chosen(g, parent.widows, INITIAL_LINES),
         Long::Orphans(g) => style.orphans = chosen(g, parent.orphans, INITIAL_LINES),

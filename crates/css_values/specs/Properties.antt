@@ -46,7 +46,7 @@ lone_hands =
     (codes "break-before", hand.BreakBefore) ∷ (codes "break-after", hand.BreakAfter) ∷
     (codes "break-inside", hand.BreakInside) ∷ (codes "widows", hand.Widows) ∷ (codes "orphans", hand.Orphans) ∷
     (codes "page", hand.Page) ∷ (codes "box-decoration-break", hand.BoxDecorationBreak) ∷
-    (codes "hyphens", hand.Hyphens) ∷
+    (codes "book-fill", hand.BookFill) ∷ (codes "hyphens", hand.Hyphens) ∷
     (codes "word-wrap", hand.OverflowWrap) ∷
     (codes "background", hand.BackgroundColor) ∷ (codes "list-style", hand.ListStyleType) ∷ []
 

@@ -14,7 +14,7 @@ use Rattle.css_content.specs.Basics.{word_in}
 use Rattle.css_content.specs.Grammar.{content, counter_list, string_sets}
 use Rattle.css_content.specs.declared.content.ContentPlace.TheVariants as place
 use Rattle.css_content.specs.Numerals.{styles}
-use Rattle.css_values.specs.Words.{displays, floats, slopes, aligns, spaces, wraps, breaks, decoration_breaks, hyphenations, inside_breaks}
+use Rattle.css_values.specs.Words.{displays, floats, slopes, aligns, spaces, wraps, breaks, decoration_breaks, fills, hyphenations, inside_breaks}
 use Rattle.css_values.specs.Measures.{read_measure, widths, indents}
 use Rattle.css_values.specs.Colors.{color, color_or}
 use Rattle.css_values.specs.Fonts.{families, font_size, font_weight, line_height, count, page_name}
@@ -65,6 +65,7 @@ read_value hand.Widows = as_long long.Widows count
 read_value hand.Orphans = as_long long.Orphans count
 read_value hand.Page = as_long long.Page page_name
 read_value hand.BoxDecorationBreak = as_long long.BoxDecorationBreak (word_in decoration_breaks)
+read_value hand.BookFill = as_long long.BookFill (word_in fills)
 read_value hand.Hyphens = as_long long.Hyphens (word_in hyphenations)
 
 -- the longhands whose values are words
@@ -80,6 +81,7 @@ is_worded hand.BreakBefore = true
 is_worded hand.BreakAfter = true
 is_worded hand.BreakInside = true
 is_worded hand.BoxDecorationBreak = true
+is_worded hand.BookFill = true
 is_worded hand.Hyphens = true
 is_worded h = false
 
@@ -144,4 +146,5 @@ wide_long hand.Widows w = long.Widows (given_by w)
 wide_long hand.Orphans w = long.Orphans (given_by w)
 wide_long hand.Page w = long.Page (given_by w)
 wide_long hand.BoxDecorationBreak w = long.BoxDecorationBreak (given_by w)
+wide_long hand.BookFill w = long.BookFill (given_by w)
 wide_long hand.Hyphens w = long.Hyphens (given_by w)

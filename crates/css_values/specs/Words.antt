@@ -123,7 +123,11 @@ inside_breaks = (codes "auto", false) ∷ (codes "avoid", true) ∷ (codes "avoi
 unfoldable pub decoration_breaks : List (List ℕ × Bool)
 decoration_breaks = (codes "slice", false) ∷ (codes "clone", true) ∷ []
 
--- whether words are hyphenated by patterns; `none` is as `manual` (css-text-3, 5.3)
+-- whether lines are chosen for a paragraph as a whole (the project's own property)
+unfoldable pub fills : List (List ℕ × Bool)
+fills = (codes "greedy", false) ∷ (codes "fit", true) ∷ []
+
+-- whether words are hyphenated by patterns; `none` is as `manual` (css-text-3, 5.4)
 unfoldable pub hyphenations : List (List ℕ × Bool)
 hyphenations = (codes "none", false) ∷ (codes "manual", false) ∷ (codes "auto", true) ∷ []
 

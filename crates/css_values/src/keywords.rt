@@ -156,6 +156,14 @@ pub(crate) fn decoration_break(reader: &mut Reader<'_>) -> Result<bool, Unread>
     word_in(reader, &[("slice", false), ("clone", true)])
 }
 
+/// Reads whether lines are chosen for a paragraph as a whole.
+#[tactic(auto, unfolding(crate::specs::Words::fills))]
+pub(crate) fn book_fill(reader: &mut Reader<'_>) -> Result<bool, Unread>
+    ensures { Reads (λ x. x) (word_in spec.fills reader.old) result reader.new }
+{
+    word_in(reader, &[("greedy", false), ("fit", true)])
+}
+
 /// Reads whether words are hyphenated by patterns.
 #[tactic(auto, unfolding(crate::specs::Words::hyphenations))]
 pub(crate) fn hyphens(reader: &mut Reader<'_>) -> Result<bool, Unread>

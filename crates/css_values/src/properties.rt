@@ -99,6 +99,7 @@ fn lone_hand(name: &str) -> Option<Longhand>
             ("orphans", Longhand::Orphans),
             ("page", Longhand::Page),
             ("box-decoration-break", Longhand::BoxDecorationBreak),
+            ("book-fill", Longhand::BookFill),
             ("hyphens", Longhand::Hyphens),
             ("word-wrap", Longhand::OverflowWrap),
             ("background", Longhand::BackgroundColor),

@@ -8,8 +8,8 @@ ghost use Rattle.css_values.specs.Values as spec;
 use crate::colors::{color, color_or};
 use crate::fonts::{count, families, font_size, font_weight, line_height, page_name};
 use crate::keywords::{
-    break_at, break_inside, decoration_break, display, float, hyphens, overflow_wrap, slope,
-    text_align, white_space,
+    book_fill, break_at, break_inside, decoration_break, display, float, hyphens, overflow_wrap,
+    slope, text_align, white_space,
 };
 use crate::measures::{indents, read_measure, widths};
 use crate::sides::{SideKind, side_value};
@@ -72,6 +72,7 @@ fn read_word(reader: &mut Reader<'_>, hand: Longhand) -> Result<Long, Unread>
         Longhand::BreakAfter => given!(BreakAfter, break_at(reader)),
         Longhand::BreakInside => given!(BreakInside, break_inside(reader)),
         Longhand::BoxDecorationBreak => given!(BoxDecorationBreak, decoration_break(reader)),
+        Longhand::BookFill => given!(BookFill, book_fill(reader)),
         Longhand::Hyphens => given!(Hyphens, hyphens(reader)),
         _ => unreachable!(),
     }
@@ -141,6 +142,7 @@ pub(crate) fn read_value(
         | Longhand::BreakAfter
         | Longhand::BreakInside
         | Longhand::BoxDecorationBreak
+        | Longhand::BookFill
         | Longhand::Hyphens => read_word(reader, hand),
         Longhand::Width
         | Longhand::TextIndent
@@ -207,6 +209,7 @@ pub(crate) fn wide_long(hand: Longhand, wide: Wide) -> Long
         Longhand::Orphans => Long::Orphans(given_by(wide)),
         Longhand::Page => Long::Page(given_by(wide)),
         Longhand::BoxDecorationBreak => Long::BoxDecorationBreak(given_by(wide)),
+        Longhand::BookFill => Long::BookFill(given_by(wide)),
         Longhand::Hyphens => Long::Hyphens(given_by(wide)),
     }
 }

@@ -7,7 +7,7 @@ use Rattle.style.specs.declared.longhand.TheConstants.{LONGHANDS}
 
 -- how many longhands there are, those of a box by each side
 abbrev pub longhand_count : ℕ
-longhand_count = 47
+longhand_count = 48
 
 -- the code has as many
 abbrev pub LonghandsAgree : Type 0
@@ -46,7 +46,8 @@ number_of longhand.Widows = 42
 number_of longhand.Orphans = 43
 number_of longhand.Page = 44
 number_of longhand.BoxDecorationBreak = 45
-number_of longhand.Hyphens = 46
+number_of longhand.BookFill = 46
+number_of longhand.Hyphens = 47
 
 -- whether an element without a declaration of it has its parent's value
 abbrev pub is_inherited : Longhand → Bool
@@ -81,4 +82,5 @@ is_inherited longhand.Widows = true
 is_inherited longhand.Orphans = true
 is_inherited longhand.Page = false
 is_inherited longhand.BoxDecorationBreak = false
+is_inherited longhand.BookFill = true
 is_inherited longhand.Hyphens = true

@@ -57,6 +57,7 @@ longhand_of (long.Widows g) = longhand.Widows
 longhand_of (long.Orphans g) = longhand.Orphans
 longhand_of (long.Page g) = longhand.Page
 longhand_of (long.BoxDecorationBreak g) = longhand.BoxDecorationBreak
+longhand_of (long.BookFill g) = longhand.BookFill
 longhand_of (long.Hyphens g) = longhand.Hyphens
 
 -- what it gives to which side of a box; none where its longhand has no sides

@@ -70,6 +70,7 @@ initial_with families color = record {
   orphans = initial_lines;
   page = record { 0 = 0 };
   box_decoration_break = false;
+  book_fill = false;
   hyphens = false;
 }
 
@@ -134,5 +135,6 @@ child_style p = record {
   page = p.page;
   box_decoration_break =
       passed longhand.BoxDecorationBreak p.box_decoration_break initial_style.box_decoration_break;
+  book_fill = passed longhand.BookFill p.book_fill initial_style.book_fill;
   hyphens = passed longhand.Hyphens p.hyphens initial_style.hyphens;
 }

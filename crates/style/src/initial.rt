@@ -53,7 +53,10 @@ pub const INITIAL_INSIDE: bool = false;
 /// Whether borders and paddings initially stand again where a page parts a box: they don't (css-break-3, 5.4).
 pub const INITIAL_CLONES: bool = false;
 
-/// Whether words are initially hyphenated by patterns: they aren't (css-text-3, 5.3).
+/// Whether lines are initially chosen for a paragraph as a whole: they aren't, each is filled as far as it goes.
+pub const INITIAL_FIT: bool = false;
+
+/// Whether words are initially hyphenated by patterns: they aren't (css-text-3, 5.4).
 pub const INITIAL_HYPHENS: bool = false;
 
 /// The initial number of widows and of orphans (CSS 2.1, 13.3.2).

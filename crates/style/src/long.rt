@@ -71,6 +71,7 @@ pub enum Long {
     Orphans(Given<u32>),
     Page(Given<Option<Name>>),
     BoxDecorationBreak(Given<bool>),
+    BookFill(Given<bool>),
     Hyphens(Given<bool>),
 }
 
@@ -215,6 +216,7 @@ impl Long {
             Long::Orphans(_) => Longhand::Orphans,
             Long::Page(_) => Longhand::Page,
             Long::BoxDecorationBreak(_) => Longhand::BoxDecorationBreak,
+            Long::BookFill(_) => Longhand::BookFill,
             Long::Hyphens(_) => Longhand::Hyphens,
             _ => unreachable!(),
         }
@@ -247,6 +249,7 @@ impl Long {
             Long::BreakAfter(given) => Long::BreakAfter(*given),
             Long::BreakInside(given) => Long::BreakInside(*given),
             Long::BoxDecorationBreak(given) => Long::BoxDecorationBreak(*given),
+            Long::BookFill(given) => Long::BookFill(*given),
             Long::Hyphens(given) => Long::Hyphens(*given),
             Long::Widows(given) => Long::Widows(*given),
             Long::Orphans(given) => Long::Orphans(*given),

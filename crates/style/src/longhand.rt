@@ -6,7 +6,7 @@ ghost use Rattle.style.specs.Longhands.{LonghandsAgree, number_of};
 use bk_num::sides::BoxSide;
 
 /// How many longhands there are, those of a box by each side.
-pub const LONGHANDS: usize = 47;
+pub const LONGHANDS: usize = 48;
 
 /// They are as many as specs say.
 pub fn longhands_agree()
@@ -47,6 +47,7 @@ pub enum Longhand {
     Orphans,
     Page,
     BoxDecorationBreak,
+    BookFill,
     Hyphens,
 }
 
@@ -87,7 +88,8 @@ impl Longhand {
             Longhand::Orphans => 43,
             Longhand::Page => 44,
             Longhand::BoxDecorationBreak => 45,
-            Longhand::Hyphens => 46,
+            Longhand::BookFill => 46,
+            Longhand::Hyphens => 47,
         }
     }
 }

@@ -7,9 +7,9 @@ ghost use Rattle.style.specs.Styles.{child_style, initial_style, initial_with, z
 use crate::content::Content;
 use crate::initial::{
     INITIAL_ALIGN, INITIAL_BACKGROUND, INITIAL_BORDER, INITIAL_BREAK, INITIAL_CLONES,
-    INITIAL_COLOR, INITIAL_DISPLAY, INITIAL_FLOAT, INITIAL_HYPHENS, INITIAL_INSIDE, INITIAL_ITALIC,
-    INITIAL_LINES, INITIAL_MARKER, INITIAL_SPACE, INITIAL_WRAP, initial_content, initial_counters,
-    initial_strings, medium_size, normal_height, normal_weight,
+    INITIAL_COLOR, INITIAL_DISPLAY, INITIAL_FIT, INITIAL_FLOAT, INITIAL_HYPHENS, INITIAL_INSIDE,
+    INITIAL_ITALIC, INITIAL_LINES, INITIAL_MARKER, INITIAL_SPACE, INITIAL_WRAP, initial_content,
+    initial_counters, initial_strings, medium_size, normal_height, normal_weight,
 };
 use crate::lists::{CounterList, Families, StringSets};
 use crate::values::{BorderStyle, Display, LineHeight};
@@ -72,6 +72,7 @@ pub struct Style {
     pub orphans: u32,
     pub page: NameId,
     pub box_decoration_break: bool,
+    pub book_fill: bool,
     pub hyphens: bool,
 }
 
@@ -100,6 +101,7 @@ impl Style {
         style.list_style_type = parent.list_style_type;
         style.widows = parent.widows;
         style.orphans = parent.orphans;
+        style.book_fill = parent.book_fill;
         style.hyphens = parent.hyphens;
         style.page = parent.page;
         Ok(style)
@@ -303,6 +305,7 @@ fn initial_with(alloc: Global, families: Families, color: Color) -> Style
         orphans: INITIAL_LINES,
         page: NameId(0),
         box_decoration_break: INITIAL_CLONES,
+        book_fill: INITIAL_FIT,
         hyphens: INITIAL_HYPHENS,
     }
 }

@@ -20,12 +20,13 @@ pub record IsSpanLike (strut s : Span) : Type 0 where
   pub size : s.size ≡ strut.size
   pub line_height : s.line_height ≡ strut.line_height
 
--- a text of at most 1,000 bytes in the first face, in one style
+-- a text of at most 1,000 bytes in the first face, in one style, whose lines go as far as they fit
 pub record IsShortLeaf (leaf : Leaf) : Type 0 where
   pub text : ArePlainBytes leaf.text
   pub spans : All (IsSpanLike leaf.strut) leaf.spans
   pub face : leaf.strut.face.0 ≡ 0
   pub few : length leaf.text ≤ 1000
+  pub greedy : leaf.fit ≡ false
 
 -- how many bytes the texts of leaves have together
 abbrev pub bytes_of : List Leaf → ℕ

@@ -89,6 +89,7 @@ pub fn leaf_of(alloc: Global, text: &str) -> Result<Leaf, NoMem>
         leads: Items::of(Vec::new(alloc)),
         indent: Len::Px(px(0)),
         align: Align::Left,
+        fit: false,
         strut: span_to(0),
     })
 }
