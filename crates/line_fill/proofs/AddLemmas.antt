@@ -70,7 +70,7 @@ module _ (old : List KeptLeaf) (z : KeptLeaf) where
   push_grows lines = record {
     places = λ at key measure l. record { leaf = l.leaf; has = get-keep old (z ∷ []) at l.leaf l.has; key_is = l.key_is; measure_is = l.measure_is };
     same = record {
-      keeps = λ b l h. record { at = h.at; leaf = h.leaf; has = get-keep old (z ∷ []) h.at h.leaf h.has; key_is = h.key_is; measure_is = h.measure_is; place = h.place; there = h.there; from_is = h.from_is };
+      keeps = λ b l h. let w = h.stands in record { stands = record { at = w.at; leaf = w.leaf; has = get-keep old (z ∷ []) w.at w.leaf w.has; key_is = w.key_is; measure_is = w.measure_is; place = w.place; there = w.there; from_is = w.from_is }; asked = h.asked };
       only = λ b l h. ⊎_elim
           (λ (w : (h.at ≡ length old) × (h.leaf ≡ z)). absurd (none_some (subst (λ (ls : List KeptLine). slice_get ls h.place ≡ Some l) (ap (λ (v : KeptLeaf). v.lines.items) w.1 ∙ lines) h.there)))
           (λ (w : slice_get old h.at ≡ Some h.leaf). record { at = h.at; leaf = h.leaf; has = w; key_is = h.key_is; measure_is = h.measure_is; place = h.place; there = h.there; from_is = h.from_is })

@@ -6,14 +6,14 @@ use Rattle.metrics.specs.Face.{FontFace}
 use Rattle.boxes.specs.Lines.{LineView}
 use Rattle.boxes.specs.declared.leaf.Leaf.{Leaf}
 use Rattle.line_fill.specs.LineEnd.{IsLine}
-use Rattle.line_fill.specs.Kept.{AreKept, Asked, HasAsked, Holds, HoldsNow, HoldsSame, IsLeafAt, KeepsPlaces, asked_of}
+use Rattle.line_fill.specs.Kept.{AreKept, Asked, HasAsked, HasLine, Holds, HoldsNow, HoldsSame, IsLeafAt, KeepsPlaces, asked_of}
 use Rattle.line_fill.specs.KeptLines.{AreRising}
 use Rattle.line_fill.specs.KeptSound.{IsSoundBy}
 use Rattle.line_fill.specs.KeptSteps.{AsksLine, IsSameLeaf}
 use Rattle.line_fill.specs.declared.kept.KeptLeaf.{KeptLeaf}
 use Rattle.line_fill.specs.declared.lines.KeptLine.{KeptLine}
 use Rattle.line_fill.proofs.InsertLemmas.{some_same}
-use Rattle.line_fill.proofs.SetLemmas.{Goes, goes_on, sound_set, places_set, same_lines, has_asked, are_kept, line_is, held, filled}
+use Rattle.line_fill.proofs.SetLemmas.{Goes, IsOwnLine, goes_on, sound_set, places_set, same_lines, has_asked, are_kept, line_is, held, filled}
 use Rattle.line_fill.specs.Keys.{key_in, key_of}
 
 pub if_ok : {T E : Type 0} {P Q : T → Type 0} → ((x : T) → P x → Q x) → (r : Result T E) → IfOk r P → IfOk r Q
@@ -44,10 +44,10 @@ pub record IsAnswered {E : Type 0} (faces : List FontFace) (leaf : Leaf) (from :
 
 pub answered : {E : Type 0} (faces : List FontFace) (leaf : Leaf) (from : ℕ) (measure : ℤ) (old : List KeptLeaf) (last : ℕ → Option ℕ) (at : ℕ) (x y : KeptLeaf) (steps steps' : ℕ) (r : Result LineView E) → IsSoundBy old last → AreKept faces old → IsLeafAt old at (key_of leaf) measure → x ≡ get_or old at x → IsSameLeaf x y → IfOk r (λ line. AsksLine faces leaf from measure x.lines.items line y.lines.items steps steps') → OnErr r (y.lines.items ≡ x.lines.items) → IsAnswered faces leaf from measure old (slice_set old at y) last steps steps' r
 answered {E = E} faces leaf from measure old last at x y steps steps' r sound kept l value same ok err = record {
-  sound = sound_set old at x y has same last sound (either (λ line a. (on line a).rising up) (λ e. subst (λ (ls : List KeptLine). AreRising ls) (sym e) up) r ok err);
+  sound = sound_set old at x y has same last sound (either (λ line a. (on line a).rising) (λ e. subst (λ (ls : List KeptLine). AreRising ls) (sym e) up) r ok err);
   line = if_ok (λ line a. line_is old at x y has same faces leaf from measure line steps steps' key wide kept a) r ok;
-  kept = either (λ line a. are_kept old at x y has same leaf from measure line key wide (on line a) faces kept (line_is old at x y has same faces leaf from measure line steps steps' key wide kept a)) (λ e. kept_same faces old (slice_set old at y) (same_lines old at x y has same e) kept) r ok err;
-  asked = if_ok (λ line a. has_asked old at x y has same leaf from measure line key wide (on line a)) r ok;
+  kept = either (λ line a. are_kept old at x y has same leaf from measure line key wide (IsOwnLine faces leaf measure) (on line a) faces kept (line_is old at x y has same faces leaf from measure line steps steps' key wide kept a) (λ l is. is)) (λ e. kept_same faces old (slice_set old at y) (same_lines old at x y has same e) kept) r ok err;
+  asked = if_ok (λ line a. has_asked old at x y has same leaf from measure line key wide (IsOwnLine faces leaf measure) (on line a)) r ok;
   held_is = if_ok (λ line a. held old at x y has same faces leaf from measure line steps steps' key wide last sound a) r ok;
   fresh_is = if_ok (λ line a. filled old at x y has same faces leaf from measure line steps steps' key wide a) r ok;
   same = on_err (λ e. same_lines old at x y has same e) r err;
@@ -69,8 +69,12 @@ answered {E = E} faces leaf from measure old last at x y steps steps' r sound ke
     up : AreRising x.lines.items
     up = sound.rising at x has
 
-    on : (line : LineView) → AsksLine faces leaf from measure x.lines.items line y.lines.items steps steps' → Goes from line x.lines.items y.lines.items
-    on line a = goes_on faces leaf from measure x.lines.items line y.lines.items steps steps' a
+    on : (line : LineView) → AsksLine faces leaf from measure x.lines.items line y.lines.items steps steps' → Goes from (IsOwnLine faces leaf measure) line x.lines.items y.lines.items
+    on line a = goes_on faces leaf from measure x.lines.items line y.lines.items steps steps' up a
+
+-- a line that is held was held
+pub had_line : (old new : List KeptLeaf) → HoldsSame old new → (a : Asked) (l : KeptLine) → HasLine new a l → HasLine old a l
+had_line old new s a l h = record { stands = s.only a l h.stands; asked = h.asked }
 
 -- what is asked of kept lines that hold the same
 pub asked_through : (a : Asked) (old mid new : List KeptLeaf) → HoldsSame old mid → HasAsked a mid new → HasAsked a old new
@@ -83,13 +87,13 @@ asked_through a old mid new s h = record {
 }
   where
     holds_back : (b : Asked) → Holds mid b → Holds old b
-    holds_back b v = (v.0, s.only b v.0 v.1)
+    holds_back b v = (v.0, had_line old mid s b v.0 v.1)
 
     now_back : (b : Asked) → HoldsNow mid b → HoldsNow old b
-    now_back b v = (v.0, s.only b v.0 v.1, v.2)
+    now_back b v = (v.0, had_line old mid s b v.0 v.1, v.2)
 
 pub holds_on : (a : Asked) (old mid : List KeptLeaf) → HoldsSame old mid → Holds old a → Holds mid a
 holds_on a old mid s h = (h.0, s.keeps a h.0 h.1)
 
 pub holds_off : (a : Asked) (old mid : List KeptLeaf) → HoldsSame old mid → Holds mid a → Holds old a
-holds_off a old mid s h = (h.0, s.only a h.0 h.1)
+holds_off a old mid s h = (h.0, had_line old mid s a h.0 h.1)

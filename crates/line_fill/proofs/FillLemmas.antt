@@ -16,7 +16,8 @@ use Rattle.line_fill.specs.declared.line_width.LineWidth.{LineWidth}
 use Rattle.line_fill.specs.declared.found.Found.{Found}
 use Rattle.line_fill.specs.Widths.{span_at, pen_of, unit_at, is_hyphened, hyphen_at, hyphen_in}
 use Rattle.line_fill.specs.Fill.{FitsIn, IsFilled, AreWidths, AreFound, noted, chosen, passed_to}
-use Rattle.line_fill.specs.LineEnd.{shown_len, stop_of, IsOrdinary, IsEmergency, IsLineEnd, at_ordinary, ends_anywhere}
+use Rattle.line_fill.specs.Breaks.{at_ordinary}
+use Rattle.line_fill.specs.LineEnd.{shown_len, stop_of, IsOrdinary, IsEmergency, IsLineEnd, ends_anywhere}
 use Rattle.line_fill.proofs.LineLemmas.{IsNext, widths-mono, shown-le, sum_from-le, stop-step, stop-newline, stop-after, stop-last, between_places, none_there}
 use Rattle.line_fill.proofs.WidthLemmas.{IsShown, run_shown, goes_on, stop_quiet}
 use Rattle.line_fill.proofs.FoundLemmas.{Says, found_skip, found_noted, end_chosen}
@@ -70,6 +71,21 @@ no_hyphen faces leaf to (inl h) = let e : eqb (get_or leaf.text (to - 1) 0) 173 
     by true true true = refl
 no_hyphen faces leaf to (inr h) = let e : ltb to (length leaf.text) ≡ false = grind (arith, nat_tests) in rw e refl
 
+-- what is shown up to the end of a stretch in one span, of which only the last byte may be a newline
+pub shown_run : (faces : List FontFace) (leaf : Leaf) (span : Span) (from at to : ℕ) (r r' : LineWidth) →
+    ((k : ℕ) → span.from ≤ k → k < span.to → span_at leaf.spans k ≡ Some span) → span.from ≤ at → at < to → to ≤ span.to → from ≤ at →
+    AreWidths (unit_at faces leaf from) leaf.text from at r → ((k : ℕ) → at ≤ k → k + 1 < to → get_or leaf.text k 0 ≢ 10) →
+    r' ≡ passed_to (byte_width (pen_of faces span) leaf.text (max from span.from)) leaf.text at (to - at) r →
+    IsShown (unit_at faces leaf from) leaf.text from to r'
+shown_run faces leaf span from at to r r' here low less high begun widths quiet r_is =
+    let n = to - at - 1 in
+    let s : suc n ≡ to - at = omega arith in
+    let t : suc (at + n) ≡ to = omega arith in
+    let same : passed_to (byte_width (pen_of faces span) leaf.text (max from span.from)) leaf.text at (suc n) r ≡ passed_to (unit_at faces leaf from) leaf.text at (suc n) r = passed_same _ _ leaf.text at (suc n) r (λ k a b. unit_here faces leaf span here from k (omega arith) (omega arith)) in
+    let run : IsShown (unit_at faces leaf from) leaf.text from (suc (at + n)) (passed_to (unit_at faces leaf from) leaf.text at (suc n) r) = run_shown (unit_at faces leaf from) leaf.text from at n r begun widths (λ k a b. quiet k a (omega arith)) in
+    let e : r' ≡ passed_to (unit_at faces leaf from) leaf.text at (suc n) r = rw (← s) at r_is ∙ same in
+    subst (λ z. IsShown (unit_at faces leaf from) leaf.text from z r') t (rw e run)
+
 -- a stretch inside a span from a place up to another
 module _ (faces : List FontFace) (leaf : Leaf) (span : Span) (from : ℕ) (room : ℤ) (at to : ℕ) (r r' : LineWidth) (f : Found)
     (here : (k : ℕ) → span.from ≤ k → k < span.to → span_at leaf.spans k ≡ Some span)
@@ -87,14 +103,7 @@ module _ (faces : List FontFace) (leaf : Leaf) (span : Span) (from : ℕ) (room 
   back = omega arith
 
   pub shown_behind : IsShown (unit_at faces leaf from) leaf.text from to r'
-  shown_behind =
-      let n = to - at - 1 in
-      let s : suc n ≡ to - at = omega arith in
-      let t : suc (at + n) ≡ to = omega arith in
-      let same : passed_to (byte_width (pen_of faces span) leaf.text (max from span.from)) leaf.text at (suc n) r ≡ passed_to (unit_at faces leaf from) leaf.text at (suc n) r = passed_same _ _ leaf.text at (suc n) r (λ k a b. unit_here faces leaf span here from k (omega arith) (omega arith)) in
-      let run : IsShown (unit_at faces leaf from) leaf.text from (suc (at + n)) (passed_to (unit_at faces leaf from) leaf.text at (suc n) r) = run_shown (unit_at faces leaf from) leaf.text from at n r is.low is.widths (λ k a b. quiet k a (omega arith)) in
-      let e : r' ≡ passed_to (unit_at faces leaf from) leaf.text at (suc n) r = rw (← s) at r_is ∙ same in
-      subst (λ z. IsShown (unit_at faces leaf from) leaf.text from z r') t (rw e run)
+  shown_behind = shown_run faces leaf span from at to r r' here low less high is.low is.widths quiet r_is
 
   stop_before : stop_of leaf.text from ≡ stop_of leaf.text (to - 1)
   stop_before = let e : at + (to - 1 - at) ≡ to - 1 = omega arith in is.same_stop ∙ rw e at (stop_quiet leaf.text at (to - 1 - at) (omega arith) (λ k a b. quiet k a (omega arith)))

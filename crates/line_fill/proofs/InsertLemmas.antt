@@ -93,3 +93,12 @@ rising-set xs place a y up has e = λ i j b c h eb ec.
         let s : old ≡ a = some_same (sym eo ∙ (ap (slice_get xs) w.0 ∙ has)) in
         ap (λ (l : KeptLine). l.line.from) w.1 ∙ (sym e ∙ ap (λ (l : KeptLine). l.line.from) (sym s))
     same i b old eo (inr w) = ap (λ (l : KeptLine). l.line.from) w.1
+
+-- one line begins at an offset
+pub one-line : (xs : List KeptLine) (i j : ℕ) (a b : KeptLine) → AreRising xs → slice_get xs i ≡ Some a → slice_get xs j ≡ Some b → a.line.from ≡ b.line.from → a ≡ b
+one-line xs i j a b up ea eb e = by (cases_lt i j) (cases_lt j i)
+  where
+    by : (i < j) ⊎ (j ≤ i) → (j < i) ⊎ (i ≤ j) → a ≡ b
+    by (inl l) r = let t = up i j a b l ea eb in absurd (omega (arith, t, e))
+    by (inr g) (inl l) = let t = up j i b a l eb ea in absurd (omega (arith, t, e))
+    by (inr g) (inr h) = let p : i ≡ j = omega arith in some_same (sym ea ∙ (ap (slice_get xs) p ∙ eb))

@@ -2,8 +2,10 @@
 use Rattle.std.proofs.Common.{◌≡◌, ◌⊎◌, inl, inr, ⊎_elim, ℕ, zero, suc, List, [], ◌∷◌, Some, slice_get, sym, ap, subst, ◌∙◌}
 use Rattle.std.specs.List.{Contains}
 use Rattle.bk_num.proofs.ListLemmas.{contains-get, get-contains}
-use Rattle.line_fill.specs.Kept.{AreAsked, Asked, Holds, HoldsNow, KeepWhatWasAsked, LeavesAreApart, asked_of}
+use Rattle.line_fill.specs.Kept.{AreAsked, Asked, Holds, HoldsNow, KeepWhatWasAsked, LeavesAreApart, Stands, asked_of}
 use Rattle.line_fill.specs.declared.kept.KeptLeaf.{KeptLeaf}
+use Rattle.line_fill.specs.declared.lines.KeptLine.{KeptLine}
+use Rattle.line_fill.proofs.AskLemmas.{had_line}
 use Rattle.line_fill.proofs.InsertLemmas.{none_some, some_same}
 
 -- what was asked for in a pass stays so
@@ -19,7 +21,7 @@ now_asked (a ∷ asks) old new r (suc k) b e = now_asked asks r.0 new r.2 k b e
 
 -- and nothing else
 was_asked : (asks : List Asked) (old new : List KeptLeaf) (b : Asked) → AreAsked asks old new → HoldsNow new b → HoldsNow old b ⊎ ((k : ℕ) × (slice_get asks k ≡ Some b))
-was_asked [] old new b s h = inl (h.0, s.only b h.0 h.1, h.2)
+was_asked [] old new b s h = inl (h.0, had_line old new s b h.0 h.1, h.2)
 was_asked (a ∷ asks) old new b r h = by (was_asked asks r.0 new b r.2 h)
   where
     first : HoldsNow old b ⊎ (b ≡ a) → HoldsNow old b ⊎ ((k : ℕ) × (slice_get (a ∷ asks) k ≡ Some b))
@@ -43,6 +45,6 @@ keep_what_was_asked asks old now new none asked turned b = (
 pub leaves_are_apart : LeavesAreApart
 leaves_are_apart leaf other from at measure wide old new apart asked none h = ⊎_elim none (λ (e : asked_of other at wide ≡ asked_of leaf from measure). apart (ap (λ (a : Asked). a.leaf.text) (sym e))) (asked.only (asked_of other at wide) h)
 
--- where no leaf is, no line is held
-pub none_held : (kept : List KeptLeaf) → kept ≡ [] → (a : Asked) → Holds kept a → ⊥
-none_held kept e a h = none_some (ap (λ (xs : List KeptLeaf). slice_get xs h.1.at) (sym e) ∙ h.1.has)
+-- where no leaf is, no line stands
+pub none_stands : (kept : List KeptLeaf) → kept ≡ [] → (a : Asked) (line : KeptLine) → Stands kept a line → ⊥
+none_stands kept e a line h = none_some (ap (λ (xs : List KeptLeaf). slice_get xs h.at) (sym e) ∙ h.has)

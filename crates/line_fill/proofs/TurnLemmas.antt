@@ -8,22 +8,33 @@ use Rattle.std.proofs.lemmas.Option.{slice_get_within, slice_get-get_or}
 use Rattle.bk_num.proofs.ListLemmas.{set-get}
 use Rattle.metrics.specs.Face.{FontFace}
 use Rattle.line_fill.specs.LineEnd.{IsLine}
-use Rattle.line_fill.specs.Kept.{AreKept, Asked, HasLine, HasTurned, KeepsPlaces}
-use Rattle.line_fill.specs.KeptLines.{AreRising, before_of, is_now}
+use Rattle.line_fill.specs.Kept.{AreKept, Asked, HasTurned, KeepsPlaces, Stands}
+use Rattle.line_fill.specs.KeptLines.{AreRising, before_of, is_asked, is_now, is_past, is_this}
 use Rattle.line_fill.specs.KeptSearch.{IsLast}
 use Rattle.line_fill.specs.KeptSound.{IsSoundBy}
 use Rattle.line_fill.specs.KeptSteps.{AreTurned, AreTurnedTo, IsTurned, turned_lines}
 use Rattle.line_fill.specs.declared.kept.KeptLeaf.{KeptLeaf}
 use Rattle.line_fill.specs.declared.lines.KeptLine.{KeptLine}
+use Rattle.line_fill.specs.declared.lines.Pass.{Pass}
+use Rattle.line_fill.specs.declared.lines.Pass.TheVariants.{Now, Before, Ahead}
 use Rattle.line_fill.proofs.InsertLemmas.{none_some, some_same}
 use Rattle.line_fill.proofs.SameLemmas.{print_same}
+
+-- a line of this pass is asked for
+this-past : (p : Pass) → is_this p ≡ true → is_past p ≡ true
+this-past Now e = refl
+this-past Before e = refl
+this-past Ahead e = e
+
+now-asked : (l : KeptLine) → is_now l ≡ true → is_asked l ≡ true
+now-asked l e = this-past l.pass e
 
 -- where a line of this pass stood
 pub record Was (xs : List KeptLine) (y : KeptLine) : Type 0 where
   pub place : ℕ
   pub line : KeptLine
   pub there : slice_get xs place ≡ Some line
-  pub now_is : line.now ≡ true
+  pub now_is : is_now line ≡ true
   pub is : y ≡ before_of line
 
 was_more : (x : KeptLine) (xs : List KeptLine) (y : KeptLine) → Was xs y → Was (x ∷ xs) y
@@ -31,22 +42,22 @@ was_more x xs y w = record { place = suc w.place; line = w.line; there = w.there
 
 pub turn_get : (xs : List KeptLine) (k : ℕ) (y : KeptLine) → slice_get (turned_lines xs) k ≡ Some y → Was xs y
 turn_get [] k y e = absurd (none_some e)
-turn_get (x ∷ xs) k y e = by x.now refl k e (λ k' e'. turn_get xs k' y e')
+turn_get (x ∷ xs) k y e = by (is_now x) refl k e (λ k' e'. turn_get xs k' y e')
   where
-    by : (b : Bool) → x.now ≡ b → (k : ℕ) → slice_get (map before_of (cond b (x ∷ filter is_now xs) (filter is_now xs))) k ≡ Some y → ((k' : ℕ) → slice_get (turned_lines xs) k' ≡ Some y → Was xs y) → Was (x ∷ xs) y
+    by : (b : Bool) → is_now x ≡ b → (k : ℕ) → slice_get (map before_of (cond b (x ∷ filter is_now xs) (filter is_now xs))) k ≡ Some y → ((k' : ℕ) → slice_get (turned_lines xs) k' ≡ Some y → Was xs y) → Was (x ∷ xs) y
     by true n zero e' rest = record { place = zero; line = x; there = refl; now_is = n; is = some_same (sym e') }
     by true n (suc k') e' rest = was_more x xs y (rest k' e')
     by false n k' e' rest = was_more x xs y (rest k' e')
 
-pub get_turn : (xs : List KeptLine) (j : ℕ) (x : KeptLine) → slice_get xs j ≡ Some x → x.now ≡ true → (k : ℕ) × (slice_get (turned_lines xs) k ≡ Some (before_of x))
+pub get_turn : (xs : List KeptLine) (j : ℕ) (x : KeptLine) → slice_get xs j ≡ Some x → is_now x ≡ true → (k : ℕ) × (slice_get (turned_lines xs) k ≡ Some (before_of x))
 get_turn [] j x e n = absurd (none_some e)
 get_turn (z ∷ zs) zero x e n =
     let s : z ≡ x = some_same e in
-    let m : z.now ≡ true = ap (λ (v : KeptLine). v.now) s ∙ n in
+    let m : is_now z ≡ true = ap is_now s ∙ n in
     (zero, subst (λ (b : Bool). slice_get (map before_of (cond b (z ∷ filter is_now zs) (filter is_now zs))) zero ≡ Some (before_of x)) (sym m) (ap (λ (v : KeptLine). Some (before_of v)) s))
-get_turn (z ∷ zs) (suc j) x e n = let r = get_turn zs j x e n in by z.now refl r.0 r.1
+get_turn (z ∷ zs) (suc j) x e n = let r = get_turn zs j x e n in by (is_now z) refl r.0 r.1
   where
-    by : (b : Bool) → z.now ≡ b → (k : ℕ) → slice_get (turned_lines zs) k ≡ Some (before_of x) → (k : ℕ) × (slice_get (turned_lines (z ∷ zs)) k ≡ Some (before_of x))
+    by : (b : Bool) → is_now z ≡ b → (k : ℕ) → slice_get (turned_lines zs) k ≡ Some (before_of x) → (k : ℕ) × (slice_get (turned_lines (z ∷ zs)) k ≡ Some (before_of x))
     by true m k f = (suc k, subst (λ (b : Bool). slice_get (map before_of (cond b (z ∷ filter is_now zs) (filter is_now zs))) (suc k) ≡ Some (before_of x)) (sym m) f)
     by false m k f = (k, subst (λ (b : Bool). slice_get (map before_of (cond b (z ∷ filter is_now zs) (filter is_now zs))) k ≡ Some (before_of x)) (sym m) f)
 
@@ -55,7 +66,7 @@ tail_rise x xs up = λ i j a b h e f. up (suc i) (suc j) a b (omega arith) e f
 
 pub rising_turn : (xs : List KeptLine) → AreRising xs → AreRising (turned_lines xs)
 rising_turn [] up = λ i j a b h e f. absurd (none_some e)
-rising_turn (x ∷ xs) up = by (rising_turn xs (tail_rise x xs up)) x.now refl
+rising_turn (x ∷ xs) up = by (rising_turn xs (tail_rise x xs up)) (is_now x) refl
   where
     first : AreRising (turned_lines xs) → (i j : ℕ) (a b : KeptLine) → i < j → slice_get (before_of x ∷ turned_lines xs) i ≡ Some a → slice_get (before_of x ∷ turned_lines xs) j ≡ Some b → a.line.from < b.line.from
     first rest zero zero a b h e f = absurd (omega arith)
@@ -68,7 +79,7 @@ rising_turn (x ∷ xs) up = by (rising_turn xs (tail_rise x xs up)) x.now refl
     first rest (suc i) zero a b h e f = absurd (omega arith)
     first rest (suc i) (suc j) a b h e f = rest i j a b (omega arith) e f
 
-    by : AreRising (turned_lines xs) → (b : Bool) → x.now ≡ b → AreRising (map before_of (cond x.now (x ∷ filter is_now xs) (filter is_now xs)))
+    by : AreRising (turned_lines xs) → (b : Bool) → is_now x ≡ b → AreRising (map before_of (cond (is_now x) (x ∷ filter is_now xs) (filter is_now xs)))
     by rest true m = subst (λ (b : Bool). AreRising (map before_of (cond b (x ∷ filter is_now xs) (filter is_now xs)))) (sym m) (first rest)
     by rest false m = subst (λ (b : Bool). AreRising (map before_of (cond b (x ∷ filter is_now xs) (filter is_now xs)))) (sym m) rest
 
@@ -128,21 +139,26 @@ module _ (old new : List KeptLeaf) (t : AreTurned old new) where
     once = λ i j z w e f k m. let r = back i z e in let s = back j w f in sound.once i j r.0 s.0 r.1 s.1 (sym r.2.same.key_is ∙ (k ∙ s.2.same.key_is)) (sym r.2.same.measure_is ∙ (m ∙ s.2.same.measure_is));
   }
 
-  -- each kept line is one of the pass
-  was_line : (b : Asked) (l : KeptLine) → HasLine new b l → (m : KeptLine) × HasLine old b m × (m.now ≡ true) × (l ≡ before_of m)
+  -- each line that stands is one of the pass
+  was_line : (b : Asked) (l : KeptLine) → Stands new b l → (m : KeptLine) × Stands old b m × (is_now m ≡ true) × (l ≡ before_of m)
   was_line b l h =
       let r = back h.at h.leaf h.has in
       let e : slice_get (turned_lines r.0.lines.items) h.place ≡ Some l = subst (λ (ls : List KeptLine). slice_get ls h.place ≡ Some l) r.2.lines_is h.there in
       let w = turn_get r.0.lines.items h.place l e in
       (w.line, record { at = h.at; leaf = r.0; has = r.1; key_is = sym r.2.same.key_is ∙ h.key_is; measure_is = sym r.2.same.measure_is ∙ h.measure_is; place = w.place; there = w.there; from_is = ap (λ (v : KeptLine). v.line.from) (sym w.is) ∙ h.from_is }, w.now_is, w.is)
 
+  -- and each line of the pass stands
+  stays_line : (b : Asked) (l : KeptLine) → Stands old b l → is_now l ≡ true → Stands new b (before_of l)
+  stays_line b l h n =
+      let r = there h.at h.leaf h.has in
+      let g = get_turn h.leaf.lines.items h.place l h.there n in
+      record { at = h.at; leaf = r.0; has = r.1; key_is = r.2.same.key_is ∙ h.key_is; measure_is = r.2.same.measure_is ∙ h.measure_is; place = g.0; there = subst (λ (ls : List KeptLine). slice_get ls g.0 ≡ Some (before_of l)) (sym r.2.lines_is) g.1; from_is = h.from_is }
+
   pub has_turned : HasTurned old new
   has_turned = record {
-    keeps = λ b h. let r = there h.1.at h.1.leaf h.1.has in
-        let g = get_turn h.1.leaf.lines.items h.1.place h.0 h.1.there h.2 in
-        (before_of h.0, record { at = h.1.at; leaf = r.0; has = r.1; key_is = r.2.same.key_is ∙ h.1.key_is; measure_is = r.2.same.measure_is ∙ h.1.measure_is; place = g.0; there = subst (λ (ls : List KeptLine). slice_get ls g.0 ≡ Some (before_of h.0)) (sym r.2.lines_is) g.1; from_is = h.1.from_is });
-    only = λ b h. let w = was_line b h.0 h.1 in (w.0, w.1, w.2);
-    none = λ b h. let w = was_line b h.0 h.1 in let e : false ≡ true = ap (λ (v : KeptLine). v.now) (sym w.3) ∙ h.2 in absurd (never e);
+    keeps = λ b h. (before_of h.0, record { stands = stays_line b h.0 h.1.stands h.2; asked = refl });
+    only = λ b h. let w = was_line b h.0 h.1.stands in (w.0, record { stands = w.1; asked = now-asked w.0 w.2 }, w.2);
+    none = λ b h. let w = was_line b h.0 h.1.stands in let e : false ≡ true = ap is_now (sym w.3) ∙ h.2 in absurd (never e);
   }
     where
       never : false ≡ true → ⊥

@@ -5,6 +5,7 @@ use Rattle.boxes.specs.declared.leaf.Leaf.{Leaf}
 use Rattle.line_fill.specs.LineEnd.{IsLine}
 use Rattle.line_fill.specs.declared.kept.KeptLeaf.{KeptLeaf}
 use Rattle.line_fill.specs.declared.lines.KeptLine.{KeptLine}
+use Rattle.line_fill.specs.KeptLines.{is_asked, is_now}
 use Rattle.line_fill.specs.Keys.{LeafKey, key_in, key_of}
 
 -- a line's triple: its leaf as far as lines go, where it begins, and its measure
@@ -24,8 +25,8 @@ pub record IsLeafAt (kept : List KeptLeaf) (at : ℕ) (key : LeafKey) (measure :
   pub key_is : key_in leaf ≡ key
   pub measure_is : leaf.measure ≡ measure
 
--- a line is kept for what was asked
-pub record HasLine (kept : List KeptLeaf) (a : Asked) (line : KeptLine) : Type 0 where
+-- a line stands for a triple
+pub record Stands (kept : List KeptLeaf) (a : Asked) (line : KeptLine) : Type 0 where
   pub at : ℕ
   pub leaf : KeptLeaf
   pub has : slice_get kept at ≡ Some leaf
@@ -35,17 +36,22 @@ pub record HasLine (kept : List KeptLeaf) (a : Asked) (line : KeptLine) : Type 0
   pub there : slice_get leaf.lines.items place ≡ Some line
   pub from_is : line.line.from ≡ a.from
 
+-- a line is kept for what this pass or the one before asked for
+pub record HasLine (kept : List KeptLeaf) (a : Asked) (line : KeptLine) : Type 0 where
+  pub stands : Stands kept a line
+  pub asked : is_asked line ≡ true
+
 -- this pass or the one before asked for a triple
 abbrev pub Holds : List KeptLeaf → Asked → Type 0
 Holds kept a = (line : KeptLine) × HasLine kept a line
 
 -- this pass asked for it
 abbrev pub HoldsNow : List KeptLeaf → Asked → Type 0
-HoldsNow kept a = (line : KeptLine) × HasLine kept a line × (line.now ≡ true)
+HoldsNow kept a = (line : KeptLine) × HasLine kept a line × (is_now line ≡ true)
 
--- each kept line is the line of what was asked, whatever leaf it was asked of
+-- each line that stands is the line of its triple, whatever leaf it is asked of, also where no pass asked for it yet
 abbrev pub AreKept : List FontFace → List KeptLeaf → Type 0
-AreKept faces kept = (a : Asked) (line : KeptLine) (leaf : Leaf) → HasLine kept a line → key_of leaf ≡ a.leaf →
+AreKept faces kept = (a : Asked) (line : KeptLine) (leaf : Leaf) → Stands kept a line → key_of leaf ≡ a.leaf →
     IsLine faces leaf a.from a.measure line.line
 
 -- a triple is asked for in this pass: it is kept, with what was kept before
@@ -56,10 +62,10 @@ pub record HasAsked (a : Asked) (old new : List KeptLeaf) : Type 0 where
   pub only : (b : Asked) → Holds new b → Holds old b ⊎ (b ≡ a)
   pub only_now : (b : Asked) → HoldsNow new b → HoldsNow old b ⊎ (b ≡ a)
 
--- the same lines are kept
+-- the same lines are kept, and no others stand
 pub record HoldsSame (old new : List KeptLeaf) : Type 0 where
   pub keeps : (b : Asked) (line : KeptLine) → HasLine old b line → HasLine new b line
-  pub only : (b : Asked) (line : KeptLine) → HasLine new b line → HasLine old b line
+  pub only : (b : Asked) (line : KeptLine) → Stands new b line → Stands old b line
 
 -- leaves stay at their places
 abbrev pub KeepsPlaces : List KeptLeaf → List KeptLeaf → Type 0

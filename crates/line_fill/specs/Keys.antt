@@ -1,5 +1,5 @@
 -- What the filling of a line reads of a leaf.
-use Rattle.std.specs.Prelude.{ℕ, ℤ, List, [], ◌∷◌}
+use Rattle.std.specs.Prelude.{ℕ, ℤ, Bool, List, [], ◌∷◌}
 use Rattle.std.specs.List.{fold}
 use Rattle.std.specs.Hash.{HashWrites, bool, i32, i64, u16, u32, u8}
 use Rattle.std.specs.Hash.FoldHasher.{finish, initial, write}
@@ -10,13 +10,15 @@ use Rattle.boxes.specs.declared.leaf.Leaf.{Leaf}
 use Rattle.boxes.specs.declared.leaf.Span.{Span}
 use Rattle.line_fill.specs.declared.kept.KeptLeaf.{KeptLeaf}
 
--- a leaf as far as its lines go: its text, its spans, its places of both kinds, and its indent
+-- a leaf as far as its lines go: its text, its spans, its places of both kinds, its indent, and whether its lines are
+-- chosen as a whole
 pub record LeafKey : Type 0 where
   pub text : List ℕ
   pub spans : List Span
   pub places : List ℕ
   pub graphemes : List ℕ
   pub indent : Len
+  pub fit : Bool
 
 -- the key of a leaf
 abbrev pub key_of : Leaf → LeafKey
@@ -26,6 +28,7 @@ key_of leaf = record {
   places = leaf.places;
   graphemes = leaf.graphemes;
   indent = leaf.indent;
+  fit = leaf.fit;
 }
 
 -- the key of a leaf that is kept

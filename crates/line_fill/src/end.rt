@@ -123,7 +123,7 @@ fn pass_span(
 }
 
 /// The span that has a place below a text's end.
-fn first_span(text: &str, spans: &[Span], from: usize) -> usize
+pub(crate) fn first_span(text: &str, spans: &[Span], from: usize) -> usize
     requires spans { AreSpans text.now 0 spans.now }
     requires from { from < length text.now }
     ensures within { result < length spans.now }

@@ -9,12 +9,12 @@ ghost use Rattle.boxes.specs.Contents.{IsGoodLeaf};
 ghost use Rattle.line_fill.specs.LineEnd.{IsLine};
 ghost use Rattle.line_fill.specs.Keys.{key_of, print_of};
 ghost use Rattle.line_fill.specs.Kept.{AreKept, Asked, Grows, HasAsked, HasTurned, Holds, HoldsSame, IsLeafAt, KeepsPlaces, asked_of};
-ghost use Rattle.line_fill.specs.KeptLines.{AreRising, before_of, is_now};
-ghost use Rattle.line_fill.specs.KeptSteps.{AreTurned, AsksLine, IsAdded, IsSameLeaf, IsTurned};
+ghost use Rattle.line_fill.specs.KeptLines.{AreRising, IsFound, IsPlace, before_of, is_now};
+ghost use Rattle.line_fill.specs.KeptSteps.{AreTurned, AsksLine, IsAdded, IsSameLeaf, IsTurned, line_now, step_of};
 
-use crate::fill::next_line;
 use crate::key::{copy_of, print_of};
-use crate::lines::{KeptLine, line_at, place_of};
+use crate::lines::{KeptLine, Pass, line_at, place_of, put_all_ahead};
+use crate::plan::line_from;
 use crate::search::find;
 use bk_num::name::NoMem;
 use bk_num::steps::Steps;
@@ -73,7 +73,59 @@ fn add(
     Ok(at)
 }
 
-/// The line of a leaf that begins at an offset, at the measure of these lines: filled where it isn't kept.
+/// A line that this pass asks for.
+fn line_now(line: Line) -> KeptLine
+    ensures { result ≡ line_now line }
+{
+    KeptLine {
+        line,
+        pass: Pass::Now,
+    }
+}
+
+/// Counts the step that a line takes which stands.
+fn count_step<L: Ledger>(line: &KeptLine, steps: &mut Steps<L>)
+    ensures { steps.new ≡ steps.old + step_of line.now }
+{
+    if !line.is_asked() {
+        steps.tick();
+    }
+}
+
+/// The line of a leaf that begins at an offset, at the measure of these lines, where none of them begins there: it is
+/// filled, and the later lines of its plan are put ahead.
+fn ask_anew<L: Ledger>(
+    kept: &mut KeptLeaf,
+    faces: &Faces,
+    leaf: &Leaf,
+    from: u32,
+    measure: i64,
+    place: usize,
+    steps: &mut Steps<L>,
+) -> Result<Line, NoMem>
+    requires good { IsGoodLeaf leaf.now }
+    requires faced { All (λ s. s.face.0 < length faces.now) leaf.now.spans }
+    requires from { from < length leaf.now.text }
+    requires measure { unsigned_abs measure ≤ 2 ^ 40 }
+    requires rising { AreRising kept.old.lines.items }
+    requires place { IsPlace kept.old.lines.items from place }
+    requires none { IsFound kept.old.lines.items place from None }
+    ensures same { IsSameLeaf kept.old kept.new }
+    ensures line { IfOk result (λ line. AsksLine faces.now leaf.now from measure kept.old.lines.items line
+        kept.new.lines.items steps.old steps.new) }
+    ensures lines { OnErr result (kept.new.lines.items ≡ kept.old.lines.items) }
+    ensures steps { OnErr result (steps.new ≤ steps.old + 1) }
+{
+    let alloc = *kept.lines.allocator();
+    let filled = line_from(alloc, faces, leaf, from, measure, steps)?;
+    if kept.lines.insert(place, line_now(filled.line)).is_err() {
+        return Err(NoMem);
+    }
+    put_all_ahead(&mut kept.lines, filled.ahead.as_slice());
+    Ok(filled.line)
+}
+
+/// The line of a leaf that begins at an offset, at the measure of these lines.
 fn ask<L: Ledger>(
     kept: &mut KeptLeaf,
     faces: &Faces,
@@ -94,26 +146,19 @@ fn ask<L: Ledger>(
     ensures steps { OnErr result (steps.new ≤ steps.old + 1) }
 {
     let place = place_of(kept.lines.as_slice(), from);
-    if let Some(line) = line_at(kept.lines.as_slice(), place, from) {
-        kept.lines[place] = KeptLine { line, now: true };
-        return Ok(line);
-    }
-    let line = next_line(faces, leaf, from, measure, steps);
-    if kept
-        .lines
-        .insert(place, KeptLine { line, now: true })
-        .is_err()
-    {
-        return Err(NoMem);
-    }
-    Ok(line)
+    let Some(found) = line_at(kept.lines.as_slice(), place, from) else {
+        return ask_anew(kept, faces, leaf, from, measure, place, steps);
+    };
+    kept.lines[place] = line_now(found.line);
+    count_step(&found, steps);
+    Ok(found.line)
 }
 
 /// Drops the lines that this pass didn't ask for.
 fn drop_before(lines: &mut Vec<KeptLine>)
     ensures { lines.new.items ≡ filter is_now lines.old.items }
 {
-    lines.retain(|kept| kept.now);
+    lines.retain(|kept| kept.is_now());
 }
 
 /// Lines become those of the pass before.
@@ -121,7 +166,7 @@ fn age(lines: &mut [KeptLine])
     ensures { lines.new ≡ map before_of lines.old }
 {
     for kept in lines.iter_mut() {
-        kept.now = false;
+        kept.pass = Pass::Before;
     }
 }
 

@@ -77,7 +77,8 @@ fn same_indent(a: Len, b: Len) -> bool
 pub(crate) fn is_same(a: &Leaf, b: &Leaf) -> bool
     ensures { MatchBool result (key_of a.now ≡ key_of b.now) (key_of a.now ≢ key_of b.now) }
 {
-    same_indent(a.indent, b.indent)
+    a.fit == b.fit
+        && same_indent(a.indent, b.indent)
         && same_spans(a.spans.as_slice(), b.spans.as_slice())
         && same_text(a.text.as_str(), b.text.as_str())
         && same_offsets(a.places.as_slice(), b.places.as_slice())
@@ -175,6 +176,7 @@ pub(crate) fn copy_of(alloc: Global, leaf: &Leaf) -> Result<Leaf, NoMem>
         leads: Items::new(alloc),
         indent: leaf.indent,
         align: leaf.align,
+        fit: leaf.fit,
         strut: leaf.strut,
     })
 }
