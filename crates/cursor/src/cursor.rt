@@ -1,15 +1,22 @@
 //! Solids one after the other, from a place on.
 
-ghost use Rattle.std.specs.Prelude.{◌≡◌, ◌+◌, ◌^◌, pos, ◌≤ℤ◌, IfSome, MatchOption};
+ghost use Rattle.std.specs.Prelude.{◌≡◌, ◌+◌, ◌≤◌, ◌^◌, pos, ◌≤ℤ◌, IfOk, IfSome, MatchOption, MatchResult, OnErr};
+ghost use Rattle.std.specs.Option.{option_map};
 ghost use Rattle.boxes.specs.Tree.{Holds};
-ghost use Rattle.cursor.specs.Conditions.{CanBeLaidOut};
+ghost use Rattle.line_fill.specs.Kept.{AreKept, HoldsSame};
+ghost use Rattle.cursor.specs.Asks.{AsksNext};
+ghost use Rattle.cursor.specs.Conditions.{CanBeLaidOut, IsGreedy};
 ghost use Rattle.cursor.specs.Cursors.{CanGoOn, next_place};
 ghost use Rattle.cursor.specs.Fields.{solid_view};
+ghost use Rattle.cursor.specs.KeptLines.{ArePlaced, StayPlaced};
 ghost use Rattle.cursor.specs.Remainder.{IsSmallSolid, IsSolid, steps_of};
 ghost use Rattle.seams.specs.Runs.{solid_after};
 
+use crate::kept_lines::KeptLines;
 use crate::next::next_solid;
+use crate::next_kept::next_solid_kept;
 use crate::solid::Solid;
+use bk_num::name::NoMem;
 use bk_num::steps::Steps;
 use boxes::place::Position;
 use boxes::tree::BoxTree;
@@ -86,8 +93,9 @@ impl<'t> Cursor<'t> {
     }
 
     /// The next solid, or None exactly at the tree's end. It takes no memory, a step for a line, and none for an edge
-    /// or at the end.
+    /// or at the end. No leaf's lines are chosen as a whole, which would take memory; `next_kept` asks nothing of that.
     pub fn next<L: Ledger>(&mut self, steps: &mut Steps<L>) -> Option<Solid<'t>>
+        requires greedy { IsGreedy self.old.tree }
         ensures solid { MatchOption result (solid_after self.old.tree self.old.at.event ≡ None)
             (λ s. IsSolid self.old.faces self.old.tree self.old.width self.old.at (solid_view s)) }
         ensures goes { MatchOption result (self.new ≡ self.old)
@@ -105,6 +113,52 @@ impl<'t> Cursor<'t> {
                 self.at = solid.end;
                 Some(solid)
             }
+        }
+    }
+
+    /// The next solid of a tree with a number, or None exactly at the tree's end, where a line is taken from the kept
+    /// ones: it takes a step where it isn't held. Where memory is wanting the walk and the lines that are held are as
+    /// before.
+    pub fn next_kept<L: Ledger>(
+        &mut self,
+        number: u32,
+        lines: &mut KeptLines,
+        steps: &mut Steps<L>,
+    ) -> Result<Option<Solid<'t>>, NoMem>
+        requires kept { AreKept self.old.faces lines.old.kept }
+        requires places { ArePlaced number self.old.tree lines.old }
+        ensures solid { IfOk result (λ o. MatchOption o (solid_after self.old.tree self.old.at.event ≡ None)
+            (λ s. IsSolid self.old.faces self.old.tree self.old.width self.old.at (solid_view s))) }
+        ensures goes { MatchResult result
+            (λ o. MatchOption o (self.new ≡ self.old) (λ s. self.new ≡ record self.old { at = s.end }))
+            (λ e. self.new ≡ self.old) }
+        ensures small { IfOk result (λ o. IfSome o (λ s. IsSmallSolid (solid_view s))) }
+        ensures kept { AreKept self.old.faces lines.new.kept }
+        ensures places { StayPlaced number self.old.tree lines.old lines.new }
+        ensures asks { IfOk result (λ o. AsksNext self.old.tree self.old.width (option_map solid_view o)
+            lines.old.kept lines.new.kept steps.old steps.new) }
+        ensures same { OnErr result (HoldsSame lines.old.kept lines.new.kept) }
+        ensures most { steps.new ≤ steps.old + 1 }
+        ensures on { CanGoOn self.new }
+    {
+        let (tree, faces) = (self.tree, self.faces);
+        let (at, width) = (self.at, self.width);
+        match next_solid_kept(
+            number,
+            tree,
+            faces,
+            at,
+            width,
+            &mut self.widths,
+            lines,
+            steps,
+        ) {
+            Ok(None) => Ok(None),
+            Ok(Some(solid)) => {
+                self.at = solid.end;
+                Ok(Some(solid))
+            }
+            Err(err) => Err(err),
         }
     }
 }

@@ -1,11 +1,15 @@
-use Rattle.std.proofs.Common.{◌≡◌, ℤ, subst, FitsSigned, arith}
+use Rattle.std.proofs.Common.{◌≡◌, ℤ, subst, sym, FitsSigned, arith}
 use Rattle.std.specs.Int.{w64}
 use Rattle.std.proofs.lemmas.Int.{ints, to_z-of_z}
+use Rattle.cursor.specs.Conditions.{IsGreedy}
 use Rattle.cursor.specs.Cursors.{CursorView}
 use Rattle.cursor.specs.Fields.{solid_view}
 use Rattle.cursor.specs.Remainder.{IsSolid}
 use Rattle.seams.specs.Widths.{widths_at}
 use Rattle.cursor.proofs.cursor.Cursor.next.Goals as goal
+
+pub next_solid-requires-clause-greedy : goal.next_solid-requires-clause-greedy
+next_solid-requires-clause-greedy g c = subst (λ (v : CursorView). IsGreedy v.tree) (sym c.self.view_is) c.requires.greedy
 
 pub returns-in-Some-clause-solid : goal.returns-in-Some-clause-solid
 returns-in-Some-clause-solid g c =
