@@ -2,6 +2,7 @@ pub mod CallLemmas
 pub mod CutLemmas
 pub mod FlowLemmas
 pub mod FootLemmas
+pub mod KeptLemmas
 pub mod MissLemmas
 pub mod NearLemmas
 pub mod NotesLemmas

@@ -7,12 +7,14 @@ use Rattle.boxes.specs.Tree.{Tree, Holds}
 use Rattle.boxes.specs.declared.flow.Flow.{Flow}
 use Rattle.boxes.specs.declared.frames.Frame.{Frame}
 use Rattle.cursor.specs.Fields.{solid_view}
+use Rattle.cursor.specs.KeptLines.{KeptLinesView}
 use Rattle.cursor.specs.Remainder.{IsSmallSolid}
 use Rattle.cuts.specs.Areas.{IsArea}
 use Rattle.cuts.specs.Rows.{AreForcedBetween}
 use Rattle.cuts.specs.declared.row.PageRoom.{PageRoom}
 use Rattle.metrics.specs.Face.{FontFace}
 use Rattle.note_list.specs.Conditions.{CanBePaged, IsAtSolid, IsHeld, NotesAscend}
+use Rattle.note_list.specs.Kept.{AreFlowLines}
 use Rattle.note_list.specs.Reads.{EndInNotes, IsReady}
 use Rattle.note_list.specs.declared.carried.Carried.{Carried}
 use Rattle.page_list.specs.Cuts.{rows_of}
@@ -44,9 +46,10 @@ pub record CanCut (flow : Flow) (parts : List Carried) (from : ℕ) (notes : Pag
   pub low : pos 0 ≤ℤ room.height
   pub high : room.height ≤ℤ pos (2 ^ 40)
 
--- a page of a frame begins at a place of a flow, with this room, and the notes that are carried to it are read
+-- a page of a frame begins at a place of a flow, whose lines are kept, with this room, and the notes that are carried to
+-- it are read
 pub record CanRead (faces : List FontFace) (f : Flow) (from : CutFrom) (page : Frame) (room : PageRoom)
-    (notes : PageNotes) : Type 0
+    (notes : PageNotes) (lines : KeptLinesView) : Type 0
   where
     pub flow : CanBePaged faces f
     pub holds : Holds f.main from.at
@@ -54,4 +57,5 @@ pub record CanRead (faces : List FontFace) (f : Flow) (from : CutFrom) (page : F
     pub kept : room.kept ≡ from.kept
     pub height : room.height ≡ page.height
     pub carried : IsArea room.carried
+    pub lines_are : AreFlowLines faces f lines
     pub read : (parts : List Carried) × AreRead faces f page from.at parts [] notes

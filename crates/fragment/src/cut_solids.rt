@@ -11,7 +11,7 @@ ghost use Rattle.cuts.specs.Areas.{AreAreas, AreTold, IsArea, area_after, cut_nu
 ghost use Rattle.cuts.specs.Cuts.{NoteLists, IsPageCut};
 ghost use Rattle.note_list.specs.Calls.{called_before};
 ghost use Rattle.note_list.specs.Conditions.{AreCarried, IsAtSolid};
-ghost use Rattle.note_list.specs.Places.{IsNear};
+ghost use Rattle.note_list.specs.Places.{IsFront, IsNear};
 ghost use Rattle.fragment.specs.Conditions.{ArePageSolids, CanCut};
 ghost use Rattle.fragment.specs.CutsAt.{CutsAt};
 ghost use Rattle.fragment.specs.Solids.{foot_from};
@@ -109,6 +109,7 @@ pub(crate) fn cut_solids(
     ensures holds { IfOk result (λ cut. Holds flow.now.main cut.to) }
     ensures carried { IfOk result (λ cut. AreCarried flow.now cut.to cut.carried) }
     ensures stands { IfOk result (λ cut. All (IsAtSolid flow.now.notes) cut.carried) }
+    ensures front { IfOk result (λ cut. IsFront notes.now.list.solids.items cut.notes) }
     ensures near { IfOk result (λ cut. AreNear cut.solids cut.notes) }
 {
     let cut = cut_rows(&flow.main, read, notes.areas.as_slice(), room);
@@ -171,6 +172,7 @@ pub(crate) fn cut_end(
     ensures holds { IfOk result (λ cut. Holds flow.now.main cut.to) }
     ensures carried { IfOk result (λ cut. AreCarried flow.now cut.to cut.carried) }
     ensures stands { IfOk result (λ cut. All (IsAtSolid flow.now.notes) cut.carried) }
+    ensures front { IfOk result (λ cut. IsFront notes.now.list.solids.items cut.notes) }
     ensures near { IfOk result (λ cut. AreNear cut.solids cut.notes) }
 {
     let left = NoteRoom {

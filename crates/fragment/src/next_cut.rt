@@ -3,8 +3,11 @@
 ghost use Rattle.std.specs.Prelude.{IfOk, All, ◌≤◌};
 ghost use Rattle.boxes.specs.Frames.{IsGoodFrame};
 ghost use Rattle.boxes.specs.Tree.{Holds};
+ghost use Rattle.cursor.specs.Asks.{KeepsHeld, TakesSteps};
+ghost use Rattle.fragment.specs.Kept.{IsPageHeld};
 ghost use Rattle.fragment.specs.Misses.{NoLaterFits};
 ghost use Rattle.note_list.specs.Conditions.{AreCarried, CanBePaged, IsAtSolid};
+ghost use Rattle.note_list.specs.Kept.{AreFlowLines};
 ghost use Rattle.page_list.specs.Cuts.{IsFlowCut};
 ghost use Rattle.page_list.specs.Inside.{AreInside};
 ghost use Rattle.page_list.specs.Pages.{AreNear};
@@ -18,6 +21,7 @@ use bk_num::name::NoMem;
 use bk_num::steps::Steps;
 use boxes::flow::Flow;
 use boxes::frames::Frame;
+use cursor::KeptLines;
 use cuts::row::PageRoom;
 use metrics::Faces;
 use note_list::carried::{Carried, CarriedNotes};
@@ -34,6 +38,7 @@ pub(crate) fn cut_page<L: Ledger>(
     carried: CarriedNotes,
     frame: Frame,
     widths: &mut PageWidths,
+    lines: &mut KeptLines,
     steps: &mut Steps<L>,
 ) -> Result<Cut, NoMem>
     requires flow { CanBePaged faces.now flow.now }
@@ -41,6 +46,11 @@ pub(crate) fn cut_page<L: Ledger>(
     requires carried { AreCarried flow.now from.at carried }
     requires stands { All (IsAtSolid flow.now.notes) carried }
     requires frame { IsGoodFrame frame }
+    requires kept { AreFlowLines faces.now flow.now lines.old }
+    ensures kept { AreFlowLines faces.now flow.now lines.new }
+    ensures keeps { KeepsHeld lines.old.kept lines.new.kept }
+    ensures takes { IfOk result (λ cut. TakesSteps lines.old.kept lines.new.kept steps.old steps.new) }
+    ensures now { IfOk result (λ cut. IsPageHeld flow.now frame.width lines.new.kept cut.solids cut.notes) }
     ensures cut { IfOk result (λ cut. IsFlowCut faces.now flow.now frame from carried cut) }
     ensures holds { IfOk result (λ cut. Holds flow.now.main cut.to) }
     ensures carried { IfOk result (λ cut. AreCarried flow.now cut.to cut.carried) }
@@ -56,6 +66,7 @@ pub(crate) fn cut_page<L: Ledger>(
         &carried,
         frame,
         &mut widths.notes,
+        lines,
         steps,
     )?;
     let called = notes.called;
@@ -65,13 +76,59 @@ pub(crate) fn cut_page<L: Ledger>(
         carried: notes.list.own_area(),
     };
     let read = prefix(
-        alloc, flow, faces, from, frame, &room, &mut notes, widths, steps,
+        alloc, flow, faces, from, frame, &room, &mut notes, widths, lines, steps,
     )?;
     if read.solids.is_empty() {
-        notes.take(flow, faces, from.at, frame, &mut widths.notes, steps)?;
+        notes.take(flow, faces, from.at, frame, &mut widths.notes, lines, steps)?;
         return cut_end(alloc, flow, carried, called, &notes, &room);
     }
     cut_solids(alloc, flow, &read, carried, called, &notes, &room)
+}
+
+/// The cut of the next page of a flow, by kept lines: it is that of `next_cut`. A line takes a step only where it isn't
+/// held, and is held from then on. The flow's main tree has the number 0 among the kept lines, and each note's body the
+/// number after its own. Where memory is wanting further lines may be held.
+pub fn next_cut_kept<L: Ledger>(
+    alloc: Global,
+    flow: &Flow,
+    faces: &Faces,
+    from: CutFrom,
+    carried: &[Carried],
+    frame: Frame,
+    lines: &mut KeptLines,
+    steps: &mut Steps<L>,
+) -> Result<Cut, NoMem>
+    requires flow { CanBePaged faces.now flow.now }
+    requires holds { Holds flow.now.main from.at }
+    requires carried { AreCarried flow.now from.at carried.now }
+    requires frame { IsGoodFrame frame }
+    requires kept { AreFlowLines faces.now flow.now lines.old }
+    ensures kept { AreFlowLines faces.now flow.now lines.new }
+    ensures keeps { KeepsHeld lines.old.kept lines.new.kept }
+    ensures takes { IfOk result (λ cut. TakesSteps lines.old.kept lines.new.kept steps.old steps.new) }
+    ensures now { IfOk result (λ cut. IsPageHeld flow.now frame.width lines.new.kept cut.solids cut.notes) }
+    ensures cut { IfOk result (λ cut. IsFlowCut faces.now flow.now frame from carried.now cut) }
+    ensures holds { IfOk result (λ cut. Holds flow.now.main cut.to) }
+    ensures carried { IfOk result (λ cut. AreCarried flow.now cut.to cut.carried) }
+    ensures stands { IfOk result (λ cut. All (IsAtSolid flow.now.notes) cut.carried) }
+    ensures near { IfOk result (λ cut. AreNear cut.solids cut.notes) }
+    ensures inside { IfOk result (λ cut. cut.level ≤ 2 → AreInside frame.height cut.notes cut.solids) }
+    ensures misses { NoLaterFits faces.now flow.now frame from carried.now }
+{
+    no_later_point_fits();
+    let settled = CarriedNotes::settled(alloc, flow, carried)?;
+    let mut widths = PageWidths::none();
+    cut_page(
+        alloc,
+        flow,
+        faces,
+        from,
+        settled,
+        frame,
+        &mut widths,
+        lines,
+        steps,
+    )
 }
 
 /// The cut of the next page of a flow, whose page has a frame and has to place what is carried to it: where it ends, at
@@ -99,8 +156,6 @@ pub fn next_cut<L: Ledger>(
     ensures inside { IfOk result (λ cut. cut.level ≤ 2 → AreInside frame.height cut.notes cut.solids) }
     ensures misses { NoLaterFits faces.now flow.now frame from carried.now }
 {
-    no_later_point_fits();
-    let settled = CarriedNotes::settled(alloc, flow, carried)?;
-    let mut widths = PageWidths::none();
-    cut_page(alloc, flow, faces, from, settled, frame, &mut widths, steps)
+    let mut lines = KeptLines::new(alloc);
+    next_cut_kept(alloc, flow, faces, from, carried, frame, &mut lines, steps)
 }

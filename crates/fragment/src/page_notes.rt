@@ -5,9 +5,11 @@ ghost use Rattle.bk_num.specs.Limits.{most_entries};
 ghost use Rattle.boxes.specs.Frames.{IsGoodFrame};
 ghost use Rattle.boxes.specs.Tree.{Holds};
 ghost use Rattle.boxes.specs.declared.place.Position.{Position};
+ghost use Rattle.cursor.specs.Asks.{KeepsHeld, TakesSteps};
 ghost use Rattle.cuts.specs.Areas.{IsArea, area_after};
 ghost use Rattle.note_list.specs.Conditions.{AreCarried, CanBePaged};
 ghost use Rattle.note_list.specs.declared.carried.Carried.{Carried};
+ghost use Rattle.note_list.specs.Kept.{AreFlowLines, AreHeldNow};
 ghost use Rattle.note_list.specs.Reads.{EndInNotes, IsReady};
 ghost use Rattle.fragment.specs.Reads.{AreRead, called_by};
 
@@ -16,6 +18,7 @@ use bk_num::steps::Steps;
 use boxes::flow::Flow;
 use boxes::frames::Frame;
 use boxes::place::Position;
+use cursor::KeptLines;
 use metrics::Faces;
 use note_list::calls::{called_before, called_by};
 use note_list::carried::CarriedNotes;
@@ -57,16 +60,22 @@ impl PageNotes {
         carried: &CarriedNotes,
         frame: Frame,
         widths: &mut Widths,
+        lines: &mut KeptLines,
         steps: &mut Steps<L>,
     ) -> Result<PageNotes, NoMem>
         requires flow { CanBePaged faces.now flow.now }
         requires holds { Holds flow.now.main at }
         requires carried { AreCarried flow.now at carried.now }
         requires frame { IsGoodFrame frame }
-        ensures { IfOk result (AreRead faces.now flow.now frame at carried.now []) }
+        requires kept { AreFlowLines faces.now flow.now lines.old }
+        ensures kept { AreFlowLines faces.now flow.now lines.new }
+        ensures keeps { KeepsHeld lines.old.kept lines.new.kept }
+        ensures takes { IfOk result (λ p. TakesSteps lines.old.kept lines.new.kept steps.old steps.new) }
+        ensures now { IfOk result (λ p. AreHeldNow flow.now.notes frame.width lines.new.kept p.list.solids.items) }
+        ensures read { IfOk result (AreRead faces.now flow.now frame at carried.now []) }
     {
         Ok(PageNotes {
-            list: NoteList::carried(alloc, flow, faces, carried, frame, widths, steps)?,
+            list: NoteList::carried(alloc, flow, faces, carried, frame, widths, lines, steps)?,
             called: called_before(flow, at),
             areas: Vec::new(alloc),
         })
@@ -80,6 +89,7 @@ impl PageNotes {
         end: Position,
         frame: Frame,
         widths: &mut Widths,
+        lines: &mut KeptLines,
         steps: &mut Steps<L>,
     ) -> Result<(), NoMem>
         requires flow { CanBePaged faces.now flow.now }
@@ -88,6 +98,13 @@ impl PageNotes {
         requires ready { IsReady self.old.list }
         requires ends { EndInNotes flow.now.notes self.old.list }
         requires called { self.old.called ≤ called_by flow.now.main flow.now.notes end }
+        requires kept { AreFlowLines faces.now flow.now lines.old }
+        ensures kept { AreFlowLines faces.now flow.now lines.new }
+        ensures keeps { KeepsHeld lines.old.kept lines.new.kept }
+        ensures takes { OnOk result (TakesSteps lines.old.kept lines.new.kept steps.old steps.new) }
+        ensures now { OnOk result
+            (AreHeldNow flow.now.notes frame.width lines.old.kept self.old.list.solids.items →
+            AreHeldNow flow.now.notes frame.width lines.new.kept self.new.list.solids.items) }
         ensures called { OnOk result (self.new.called ≡ called_by flow.now.main flow.now.notes end) }
         ensures own { OnOk result (self.new.list.own ≡ self.old.list.own) }
         ensures areas { OnOk result ((area : ℤ) × (self.new.areas.items ≡ self.old.areas.items ++ area ∷ [])) }
@@ -97,7 +114,7 @@ impl PageNotes {
     {
         let to = called_with(flow, self.called, end);
         self.list
-            .call(flow, faces, self.called, to, frame, widths, steps)?;
+            .call(flow, faces, self.called, to, frame, widths, lines, steps)?;
         self.called = to;
         if self.areas.push(self.list.needed()).is_err() {
             return Err(NoMem);

@@ -2,9 +2,13 @@
 
 ghost use Rattle.std.specs.Prelude.{◌≡◌, ℕ, ◌+◌, ◌<◌, ◌≤◌, All, length, true, false, IfOk, IfErr};
 ghost use Rattle.bk_num.specs.Limits.{most_pages};
+ghost use Rattle.cursor.specs.Asks.{KeepsHeld, TakesSteps};
+ghost use Rattle.fragment.specs.Kept.{ArePagesHeld};
 ghost use Rattle.fragment.specs.Misses.{NoPageFitsLater};
 ghost use Rattle.fragment.specs.Runs.{EndsFlow};
+ghost use Rattle.line_fill.specs.Kept.{AreKept};
 ghost use Rattle.note_list.specs.Conditions.{CanBePaged};
+ghost use Rattle.note_list.specs.Kept.{AreFlowLines};
 ghost use Rattle.page_list.specs.Bounds.{HasText, HasTexts, HaveTexts, most_pages_of};
 ghost use Rattle.page_list.specs.Inside.{EndInside};
 ghost use Rattle.page_list.specs.Laws.{HoldsMain};
@@ -25,6 +29,7 @@ use boxes::frames::{Demand, Frame, Frames, PageKind};
 use boxes::page::{Page, PageList, PlacedNote};
 use boxes::place::{Event, Position};
 use boxes::tree::BoxTree;
+use cursor::KeptLines;
 use metrics::Faces;
 use note_list::carried::CarriedNotes;
 use note_list::list::PlacedList;
@@ -216,9 +221,15 @@ fn flow_pages<Fr: Frames, L: Ledger>(
     flow: &Flow,
     faces: &Faces,
     frames: &Fr,
+    lines: &mut KeptLines,
     steps: &mut Steps<L>,
 ) -> Result<FlowPages, PageErr>
     requires flow { CanBePaged faces.now flow.now }
+    requires kept { AreFlowLines faces.now flow.now lines.old }
+    ensures kept { AreFlowLines faces.now flow.now lines.new }
+    ensures keeps { KeepsHeld lines.old.kept lines.new.kept }
+    ensures takes { IfOk result (λ p. TakesSteps lines.old.kept lines.new.kept steps.old steps.new) }
+    ensures held { IfOk result (λ p. ArePagesHeld flow.now lines.new.kept p.pages.items) }
     ensures pages { IfOk result (λ p. EndsFlow faces.now flow.now (Fr.view frames.now) p) }
     ensures tops { IfOk result (λ p. HaveNearTops p.pages.items) }
     ensures many { IfErr result (λ err. err ≡ PageErr.Pages →
@@ -248,7 +259,17 @@ fn flow_pages<Fr: Frames, L: Ledger>(
             Err(err) => return Err(err),
         };
         let frame = frames.frame(index, name, PageKind::Flow);
-        let Ok(cut) = cut_page(alloc, flow, faces, from, carried, frame, &mut widths, steps) else {
+        let Ok(cut) = cut_page(
+            alloc,
+            flow,
+            faces,
+            from,
+            carried,
+            frame,
+            &mut widths,
+            lines,
+            steps,
+        ) else {
             return Err(PageErr::NoMemory);
         };
         let ended = cut.ended;
@@ -282,11 +303,18 @@ fn with_notes<Fr: Frames, L: Ledger>(
     faces: &Faces,
     frames: &Fr,
     made: FlowPages,
+    lines: &mut KeptLines,
     steps: &mut Steps<L>,
 ) -> Result<PageList, PageErr>
     requires flow { CanBePaged faces.now flow.now }
     requires pages { EndsFlow faces.now flow.now (Fr.view frames.now) made }
     requires tops { HaveNearTops made.pages.items }
+    requires held { ArePagesHeld flow.now lines.old.kept made.pages.items }
+    requires kept { AreFlowLines faces.now flow.now lines.old }
+    ensures kept { AreFlowLines faces.now flow.now lines.new }
+    ensures keeps { KeepsHeld lines.old.kept lines.new.kept }
+    ensures takes { IfOk result (λ p. TakesSteps lines.old.kept lines.new.kept steps.old steps.new) }
+    ensures held { IfOk result (λ list. ArePagesHeld flow.now lines.new.kept list.pages) }
     ensures pages { IfOk result (λ list. IsPaged faces.now flow.now (Fr.view frames.now) list.pages) }
     ensures tops { IfOk result (λ list. HaveNearTops list.pages) }
     ensures few { IfOk result (λ list. length list.pages ≤ most_pages) }
@@ -312,7 +340,16 @@ fn with_notes<Fr: Frames, L: Ledger>(
         }
         let index = pages.len() as u32 + 1;
         let frame = frames.frame(index, name, PageKind::Notes);
-        let Ok(placed) = next_notes(alloc, flow, faces, carried, frame, &mut widths, steps) else {
+        let Ok(placed) = next_notes(
+            alloc,
+            flow,
+            faces,
+            carried,
+            frame,
+            &mut widths,
+            lines,
+            steps,
+        ) else {
             return Err(PageErr::NoMemory);
         };
         let PlacedList { notes, left } = placed;
@@ -333,17 +370,66 @@ fn pages_of<Fr: Frames, L: Ledger>(
     flow: &Flow,
     faces: &Faces,
     frames: &Fr,
+    lines: &mut KeptLines,
     steps: &mut Steps<L>,
 ) -> Result<PageList, PageErr>
     requires flow { CanBePaged faces.now flow.now }
+    requires kept { AreFlowLines faces.now flow.now lines.old }
+    ensures kept { AreFlowLines faces.now flow.now lines.new }
+    ensures keeps { KeepsHeld lines.old.kept lines.new.kept }
+    ensures takes { IfOk result (λ p. TakesSteps lines.old.kept lines.new.kept steps.old steps.new) }
+    ensures held { IfOk result (λ list. ArePagesHeld flow.now lines.new.kept list.pages) }
     ensures pages { IfOk result (λ list. IsPaged faces.now flow.now (Fr.view frames.now) list.pages) }
     ensures tops { IfOk result (λ list. HaveNearTops list.pages) }
     ensures few { IfOk result (λ list. length list.pages ≤ most_pages) }
     ensures many { IfErr result (λ err. err ≡ PageErr.Pages →
         LeavesSome faces.now flow.now (Fr.view frames.now) most_pages) }
 {
-    let made = flow_pages(alloc, flow, faces, frames, steps)?;
-    with_notes(alloc, flow, faces, frames, made, steps)
+    let made = flow_pages(alloc, flow, faces, frames, lines, steps)?;
+    with_notes(alloc, flow, faces, frames, made, lines, steps)
+}
+
+/// The pages of a flow, by kept lines: they are those of `paginate`. A line takes a step only where it isn't held, and
+/// is held from then on. What was noted of the places of leaves is forgotten: other trees may have been kept. Where
+/// memory is wanting, or the pages are too many, further lines may be held.
+pub fn paginate_kept<Fr: Frames, L: Ledger>(
+    alloc: Global,
+    flow: &Flow,
+    faces: &Faces,
+    frames: &Fr,
+    lines: &mut KeptLines,
+    steps: &mut Steps<L>,
+) -> Result<PageList, PageErr>
+    requires flow { CanBePaged faces.now flow.now }
+    requires kept { AreKept faces.now lines.old.kept }
+    ensures kept { AreFlowLines faces.now flow.now lines.new }
+    ensures keeps { KeepsHeld lines.old.kept lines.new.kept }
+    ensures takes { IfOk result (λ p. TakesSteps lines.old.kept lines.new.kept steps.old steps.new) }
+    ensures held { IfOk result (λ list. ArePagesHeld flow.now lines.new.kept list.pages) }
+    ensures pages { IfOk result (λ list. IsPaged faces.now flow.now (Fr.view frames.now) list.pages) }
+    ensures main { IfOk result (λ list. HoldsMain flow.now list.pages) }
+    ensures notes { IfOk result (λ list. HoldsNotes flow.now list.pages) }
+    ensures begins { IfOk result (λ list. BeginInTime flow.now list.pages) }
+    ensures breaks { IfOk result (λ list. HoldsBreaks flow.now.main (Fr.view frames.now) list.pages) }
+    ensures inside { IfOk result (λ list. EndInside list.pages) }
+    ensures misses { NoPageFitsLater faces.now flow.now }
+    ensures bound { IfOk result (λ list.
+        length list.pages ≤ most_pages_of (Fr.is_free frames.now) (Fr.bound frames.now) flow.now) }
+    ensures tops { IfOk result (λ list. HaveNearTops list.pages) }
+    ensures few { IfOk result (λ list. length list.pages ≤ most_pages) }
+    ensures many { IfErr result (λ err. err ≡ PageErr.Pages →
+        LeavesSome faces.now flow.now (Fr.view frames.now) most_pages) }
+{
+    main_stands_once();
+    notes_stand_once();
+    notes_begin_in_time();
+    breaks_hold();
+    pages_end_inside();
+    no_later_point_fits();
+    pages_are_few();
+    has_texts(flow);
+    lines.forget();
+    pages_of(alloc, flow, faces, frames, lines, steps)
 }
 
 /// The pages of a flow with its notes, each ended by its best cut, with blank pages where a side is asked, and pages of
@@ -373,13 +459,6 @@ pub fn paginate<Fr: Frames, L: Ledger>(
     ensures many { IfErr result (λ err. err ≡ PageErr.Pages →
         LeavesSome faces.now flow.now (Fr.view frames.now) most_pages) }
 {
-    main_stands_once();
-    notes_stand_once();
-    notes_begin_in_time();
-    breaks_hold();
-    pages_end_inside();
-    no_later_point_fits();
-    pages_are_few();
-    has_texts(flow);
-    pages_of(alloc, flow, faces, frames, steps)
+    let mut lines = KeptLines::new(alloc);
+    paginate_kept(alloc, flow, faces, frames, &mut lines, steps)
 }

@@ -2,8 +2,10 @@
 
 ghost use Rattle.std.specs.Prelude.{◌≡◌, List, All, map, None, [], is_some, IfOk, true, false};
 ghost use Rattle.boxes.specs.Tree.{Holds};
+ghost use Rattle.cursor.specs.Asks.{IsHeldNow, KeepsHeld, TakesSteps};
 ghost use Rattle.cursor.specs.Fields.{solid_view};
 ghost use Rattle.cursor.specs.Remainder.{IsSmallSolid};
+ghost use Rattle.note_list.specs.Kept.{AreFlowLines, AreHeldNow};
 ghost use Rattle.note_list.specs.declared.carried.Carried.{Carried};
 ghost use Rattle.fragment.specs.Conditions.{CanRead};
 ghost use Rattle.fragment.specs.Reads.{AreRead, IsPagePrefix};
@@ -16,8 +18,8 @@ use bk_num::name::NoMem;
 use bk_num::steps::Steps;
 use boxes::flow::Flow;
 use boxes::frames::Frame;
-use cursor::next_solid;
 use cursor::solid::Solid;
+use cursor::{KeptLines, next_solid_kept};
 use cuts::look::Look;
 use cuts::row::PageRoom;
 use metrics::Faces;
@@ -46,9 +48,17 @@ pub(crate) fn prefix<'t, L: Ledger>(
     room: &PageRoom,
     notes: &mut PageNotes,
     widths: &mut PageWidths,
+    lines: &mut KeptLines,
     steps: &mut Steps<L>,
 ) -> Result<PageSolids<'t>, NoMem>
-    requires { CanRead faces.now flow.now from frame room.now notes.old }
+    requires { CanRead faces.now flow.now from frame room.now notes.old lines.old }
+    ensures kept { AreFlowLines faces.now flow.now lines.new }
+    ensures keeps { KeepsHeld lines.old.kept lines.new.kept }
+    ensures takes { IfOk result (λ v. TakesSteps lines.old.kept lines.new.kept steps.old steps.new) }
+    ensures held { IfOk result (λ v. All (λ s. IsHeldNow flow.now.main frame.width lines.new.kept s.placed_at)
+        (map solid_view v.solids.items)) }
+    ensures noted { IfOk result (λ v. AreHeldNow flow.now.notes frame.width lines.old.kept notes.old.list.solids.items →
+        AreHeldNow flow.now.notes frame.width lines.new.kept notes.new.list.solids.items) }
     ensures own { IfOk result (λ v. notes.new.list.own ≡ notes.old.list.own) }
     ensures read { IfOk result (λ v. (carried : List Carried) →
         AreRead faces.now flow.now frame from.at carried [] notes.old →
@@ -67,13 +77,28 @@ pub(crate) fn prefix<'t, L: Ledger>(
     let mut look = Look::start();
     widths_at(tree, from.at, frame.width, &mut widths.flow);
     let mut at = from.at;
-    while let Some(solid) = next_solid(tree, faces, at, frame.width, &mut widths.flow, steps) {
+    loop {
+        let Ok(next) = next_solid_kept(
+            0,
+            tree,
+            faces,
+            at,
+            frame.width,
+            &mut widths.flow,
+            lines,
+            steps,
+        ) else {
+            return Err(NoMem);
+        };
+        let Some(solid) = next else {
+            return Ok(PageSolids { solids, rows });
+        };
         at = solid.end;
         let is_first = solids.is_empty();
         let ends = ends_page(&solid, is_first);
         let row = row_of(tree, &solid);
         look.take(&row, notes.area(), room);
-        notes.take(flow, faces, at, frame, &mut widths.notes, steps)?;
+        notes.take(flow, faces, at, frame, &mut widths.notes, lines, steps)?;
         rows.push(row)?;
         if solids.push(solid).is_err() {
             return Err(NoMem);
@@ -85,5 +110,4 @@ pub(crate) fn prefix<'t, L: Ledger>(
             return Ok(PageSolids { solids, rows });
         }
     }
-    Ok(PageSolids { solids, rows })
 }

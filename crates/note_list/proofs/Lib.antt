@@ -2,6 +2,7 @@ pub mod AreaLemmas
 pub mod BeginLemmas
 pub mod BodyLemmas
 pub mod CallLemmas
+pub mod KeptLemmas
 pub mod LeftLemmas
 pub mod NotedLemmas
 pub mod PartLemmas

@@ -1,6 +1,7 @@
 pub mod Areas
 pub mod Calls
 pub mod Conditions
+pub mod Kept
 pub mod Left
 pub mod Lists
 pub mod Places

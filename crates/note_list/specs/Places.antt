@@ -1,5 +1,5 @@
 -- What a page places of its list of notes.
-use Rattle.std.specs.Prelude.{◌≡◌, ℕ, ℤ, pos, ◌^◌, ◌==◌, ◌<◌, ◌≤◌, ◌≤ℤ◌, List, length, nat_lt, take, drop, if◌then◌else◌}
+use Rattle.std.specs.Prelude.{◌≡◌, ℕ, ℤ, pos, ◌^◌, ◌==◌, ◌<◌, ◌≤◌, ◌≤ℤ◌, List, ◌++◌, length, nat_lt, take, drop, if◌then◌else◌}
 use Rattle.std.specs.List.{All}
 use Rattle.bk_num.specs.Limits.{most_entries, separator}
 use Rattle.bk_num.specs.Numbers.{IsWithin}
@@ -28,6 +28,13 @@ pub record IsPlacing (list : List NotedSolid) (level c carried : ℕ) (room : �
   pub places : IsPlaced (note_rows list) (least_of level (must_of (note_rows list) c) c carried) room number
   pub notes_is : p.notes ≡ placed_notes separator (take number list)
   pub left_is : p.left ≡ left_of (drop number list)
+
+-- what a page places of notes are the first solids of its list
+pub record IsFront (list : List NotedSolid) (placed : List (ℕ × Placed)) : Type 0 where
+  pub front : List NotedSolid
+  pub more : List NotedSolid
+  pub is : list ≡ front ++ more
+  pub placed_is : placed ≡ placed_notes separator front
 
 -- what is asked where a page places its notes: its list was read of notes of the flow; each part that is carried to it
 -- is of a note below the first that is called on it, in order, and goes on at a solid; and its room is at most as high

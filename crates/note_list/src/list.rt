@@ -2,8 +2,10 @@
 
 ghost use Rattle.std.specs.Prelude.{◌≡◌, ℤ, List, ◌+◌, ◌≤◌, ◌++◌, All, length, IfOk, OnOk};
 ghost use Rattle.boxes.specs.Frames.{IsGoodFrame};
+ghost use Rattle.cursor.specs.Asks.{KeepsHeld, TakesSteps};
 ghost use Rattle.cuts.specs.Areas.{IsArea, Tells};
 ghost use Rattle.note_list.specs.Conditions.{CanBePaged, IsHeld};
+ghost use Rattle.note_list.specs.Kept.{AreFlowLines, AreHeldNow};
 ghost use Rattle.note_list.specs.Lists.{AreNoted, called_parts, note_rows};
 ghost use Rattle.note_list.specs.Reads.{EndInNotes, IsCarriedList, IsReadOf, IsReady};
 ghost use Rattle.note_list.specs.Short.{IsShortList, lines_in};
@@ -18,6 +20,7 @@ use bk_num::steps::Steps;
 use boxes::flow::Flow;
 use boxes::frames::Frame;
 use boxes::page::PlacedNote;
+use cursor::KeptLines;
 use cuts::cut::CutLevel;
 use metrics::Faces;
 use notes::reach::Reach;
@@ -59,7 +62,7 @@ pub struct NoteRoom {
 
 impl NoteList {
     /// The list of the notes that are carried to a page of a frame. The widths are those of any boxes, as room to read
-    /// with.
+    /// with. A line takes a step only where it isn't kept, and is kept from then on.
     pub fn carried<L: Ledger>(
         alloc: Global,
         flow: &Flow,
@@ -67,19 +70,25 @@ impl NoteList {
         carried: &CarriedNotes,
         frame: Frame,
         widths: &mut Widths,
+        lines: &mut KeptLines,
         steps: &mut Steps<L>,
     ) -> Result<NoteList, NoMem>
         requires flow { CanBePaged faces.now flow.now }
         requires frame { IsGoodFrame frame }
         requires carried { All (IsHeld flow.now.notes) carried.now }
+        requires kept { AreFlowLines faces.now flow.now lines.old }
+        ensures kept { AreFlowLines faces.now flow.now lines.new }
+        ensures keeps { KeepsHeld lines.old.kept lines.new.kept }
+        ensures takes { IfOk result (λ l. TakesSteps lines.old.kept lines.new.kept steps.old steps.new) }
+        ensures now { IfOk result (λ l. AreHeldNow flow.now.notes frame.width lines.new.kept l.solids.items) }
         ensures ready { IfOk result IsReady }
         ensures ends { IfOk result (EndInNotes flow.now.notes) }
         ensures list { IfOk result (λ l. IsCarriedList faces.now flow.now.notes frame carried.now l) }
         ensures short { IfOk result (IsShortList frame.height) }
-        ensures lines { IfOk result (λ l. steps.new ≡ steps.old + lines_in l.solids.items) }
+        ensures lines { IfOk result (λ l. steps.new ≤ steps.old + lines_in l.solids.items) }
     {
         let mut list = NoteList::new(alloc);
-        list.read_carried(flow, faces, carried, frame, widths, steps)?;
+        list.read_carried(flow, faces, carried, frame, widths, lines, steps)?;
         list.hold(alloc, frame.height)?;
         Ok(list)
     }
@@ -93,6 +102,7 @@ impl NoteList {
         to: u32,
         frame: Frame,
         widths: &mut Widths,
+        lines: &mut KeptLines,
         steps: &mut Steps<L>,
     ) -> Result<(), NoMem>
         requires flow { CanBePaged faces.now flow.now }
@@ -100,6 +110,13 @@ impl NoteList {
         requires within { to ≤ length flow.now.notes }
         requires ready { IsReady self.old }
         requires ends { EndInNotes flow.now.notes self.old }
+        requires kept { AreFlowLines faces.now flow.now lines.old }
+        ensures kept { AreFlowLines faces.now flow.now lines.new }
+        ensures keeps { KeepsHeld lines.old.kept lines.new.kept }
+        ensures takes { OnOk result (TakesSteps lines.old.kept lines.new.kept steps.old steps.new) }
+        ensures now { OnOk result
+            (AreHeldNow flow.now.notes frame.width lines.old.kept self.old.solids.items →
+            AreHeldNow flow.now.notes frame.width lines.new.kept self.new.solids.items) }
         ensures ready { OnOk result (IsReady self.new) }
         ensures ends { OnOk result (EndInNotes flow.now.notes self.new) }
         ensures own { OnOk result (self.new.own ≡ self.old.own) }
@@ -109,10 +126,10 @@ impl NoteList {
             IsReadOf frame.height (list ++ more) self.new) }
         ensures short { OnOk result (IsShortList frame.height self.old → IsShortList frame.height self.new) }
         ensures lines { OnOk result (steps.new + lines_in self.old.solids.items
-            ≡ steps.old + lines_in self.new.solids.items) }
+            ≤ steps.old + lines_in self.new.solids.items) }
     {
         for note in from..to {
-            self.read(flow, faces, whole(note), true, frame, widths, steps)?;
+            self.read(flow, faces, whole(note), true, frame, widths, lines, steps)?;
         }
         Ok(())
     }

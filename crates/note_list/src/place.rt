@@ -7,7 +7,7 @@ ghost use Rattle.cuts.specs.Areas.{cut_number};
 ghost use Rattle.metrics.specs.Face.{FontFace};
 ghost use Rattle.note_list.specs.Conditions.{IsAtSolid, IsHeld, NotesAscend};
 ghost use Rattle.note_list.specs.Lists.{AreNoted, called_parts, carried_parts, placed_notes, note_rows};
-ghost use Rattle.note_list.specs.Places.{CanPlace, IsNear, IsPlacing, least_of};
+ghost use Rattle.note_list.specs.Places.{CanPlace, IsFront, IsNear, IsPlacing, least_of};
 ghost use Rattle.note_list.specs.Reads.{IsReadOf};
 ghost use Rattle.note_list.specs.declared.solid.NotedSolid.{NotedSolid};
 ghost use Rattle.notes.specs.Notes.{IsCarryCount, IsPlaced, IsSmallNote, area_of, must_of};
@@ -159,6 +159,7 @@ impl NoteList {
             (cut_number room.now.level ≤ 2 →
             area_of (note_rows list) (must_of (note_rows list) self.now.own) ≤ℤ room.now.room) →
             IsPlacing list (cut_number room.now.level) self.now.own (length own) room.now.room p) }
+        ensures front { IfOk result (λ p. IsFront self.now.solids.items p.notes) }
         ensures held { IfOk result (λ p. All (IsHeld flow.now.notes) p.left) }
         ensures order { IfOk result (λ p. NotesAscend p.left) }
         ensures below { IfOk result (λ p. All (λ c. c.note < max from room.now.to) p.left) }

@@ -5,9 +5,13 @@ ghost use Rattle.bk_num.specs.Limits.{most_entries};
 ghost use Rattle.boxes.specs.Frames.{IsGoodFrame};
 ghost use Rattle.boxes.specs.Tree.{Holds};
 ghost use Rattle.boxes.specs.declared.flow.Note.{Note};
+ghost use Rattle.cursor.specs.Asks.{KeepsHeld, TakesSteps};
+ghost use Rattle.cursor.specs.KeptLines.{ArePlaced, StayPlaced};
 ghost use Rattle.cuts.specs.Areas.{IsArea};
+ghost use Rattle.line_fill.specs.Kept.{AreKept};
 ghost use Rattle.note_list.specs.Calls.{start_place};
 ghost use Rattle.note_list.specs.Conditions.{CanBeCut, CanBePaged, IsHeld};
+ghost use Rattle.note_list.specs.Kept.{AreFlowLines, AreHeldNow};
 ghost use Rattle.note_list.specs.Lists.{AreNoted, carried_parts, note_rows};
 ghost use Rattle.note_list.specs.Reads.{EndInNotes, HasReadOn, IsReadOf, IsReady};
 ghost use Rattle.note_list.specs.Short.{IsShortList, lines_in};
@@ -24,7 +28,7 @@ use bk_num::steps::Steps;
 use boxes::flow::Flow;
 use boxes::frames::Frame;
 use boxes::tree::BoxTree;
-use cursor::next_solid;
+use cursor::{KeptLines, next_solid_kept};
 use metrics::Faces;
 use notes::area::{area, carry_count, must};
 use notes::reach::Reach;
@@ -121,7 +125,8 @@ impl NoteList {
         Ok(())
     }
 
-    /// Reads a note on, from a place of its body, up to the first solid with which the area of all is above a height.
+    /// Reads a note on, from a place of its body, up to the first solid with which the area of all is above a height. Its
+    /// lines are kept by the number after its own.
     fn read_body<L: Ledger>(
         &mut self,
         body: &BoxTree,
@@ -130,6 +135,7 @@ impl NoteList {
         called: bool,
         frame: Frame,
         widths: &mut Widths,
+        lines: &mut KeptLines,
         steps: &mut Steps<L>,
     ) -> Result<(), NoMem>
         requires body { CanBeCut faces.now body.now }
@@ -137,6 +143,16 @@ impl NoteList {
         requires holds { Holds body.now part.at }
         requires ready { IsReady self.old }
         requires room { self.old.over ≡ false }
+        requires few { part.note < most_entries }
+        requires kept { AreKept faces.now lines.old.kept }
+        requires placed { ArePlaced (part.note + 1) body.now lines.old }
+        ensures kept { AreKept faces.now lines.new.kept }
+        ensures placed { StayPlaced (part.note + 1) body.now lines.old lines.new }
+        ensures keeps { KeepsHeld lines.old.kept lines.new.kept }
+        ensures takes { OnOk result (TakesSteps lines.old.kept lines.new.kept steps.old steps.new) }
+        ensures now { OnOk result ((notes : List Note) (note : Note) → slice_get notes part.note ≡ Some note →
+            note.body ≡ body.now → AreHeldNow notes frame.width lines.old.kept self.old.solids.items →
+            AreHeldNow notes frame.width lines.new.kept self.new.solids.items) }
         ensures ready { OnOk result (IsReady self.new) }
         ensures read { OnOk result (HasReadOn faces.now body.now frame.width frame.height
             (record { note = part.note; at = part.at; called = called }) self.old self.new) }
@@ -147,12 +163,28 @@ impl NoteList {
             EndInNotes notes self.old → EndInNotes notes self.new) }
         ensures short { OnOk result (IsShortList frame.height self.old → IsShortList frame.height self.new) }
         ensures lines { OnOk result (steps.new + lines_in self.old.solids.items
-            ≡ steps.old + lines_in self.new.solids.items) }
+            ≤ steps.old + lines_in self.new.solids.items) }
     {
+        let number = part.note + 1;
         let first = solid_after(body, 0);
         widths_at(body, part.at, frame.width, widths);
         let mut at = part.at;
-        while let Some(solid) = next_solid(body, faces, at, frame.width, widths, steps) {
+        'solids: loop {
+            let Ok(next) = next_solid_kept(
+                number,
+                body,
+                faces,
+                at,
+                frame.width,
+                widths,
+                lines,
+                steps,
+            ) else {
+                return Err(NoMem);
+            };
+            let Some(solid) = next else {
+                return Ok(());
+            };
             at = solid.end;
             let is_first = is_first(first, solid.placed_at);
             self.add(noted(part, called, is_first, &solid), frame.height)?;
@@ -160,7 +192,6 @@ impl NoteList {
                 return Ok(());
             }
         }
-        Ok(())
     }
 
     /// Reads a note on, from a place of its body, as far as the list has room. A called note is read from its start.
@@ -172,6 +203,7 @@ impl NoteList {
         called: bool,
         frame: Frame,
         widths: &mut Widths,
+        lines: &mut KeptLines,
         steps: &mut Steps<L>,
     ) -> Result<(), NoMem>
         requires flow { CanBePaged faces.now flow.now }
@@ -180,6 +212,13 @@ impl NoteList {
         requires start { called ≡ true → part.at ≡ start_place }
         requires ready { IsReady self.old }
         requires ends { EndInNotes flow.now.notes self.old }
+        requires kept { AreFlowLines faces.now flow.now lines.old }
+        ensures kept { AreFlowLines faces.now flow.now lines.new }
+        ensures keeps { KeepsHeld lines.old.kept lines.new.kept }
+        ensures takes { OnOk result (TakesSteps lines.old.kept lines.new.kept steps.old steps.new) }
+        ensures now { OnOk result
+            (AreHeldNow flow.now.notes frame.width lines.old.kept self.old.solids.items →
+            AreHeldNow flow.now.notes frame.width lines.new.kept self.new.solids.items) }
         ensures ready { OnOk result (IsReady self.new) }
         ensures ends { OnOk result (EndInNotes flow.now.notes self.new) }
         ensures own { OnOk result (self.new.own ≡ self.old.own) }
@@ -190,14 +229,14 @@ impl NoteList {
             IsReadOf frame.height (list ++ more) self.new) }
         ensures short { OnOk result (IsShortList frame.height self.old → IsShortList frame.height self.new) }
         ensures lines { OnOk result (steps.new + lines_in self.old.solids.items
-            ≡ steps.old + lines_in self.new.solids.items) }
+            ≤ steps.old + lines_in self.new.solids.items) }
     {
         let body = body_of(flow, part.note);
         if self.over {
             self.begun = begins(body, called) | self.begun;
             return Ok(());
         }
-        self.read_body(body, faces, part, called, frame, widths, steps)?;
+        self.read_body(body, faces, part, called, frame, widths, lines, steps)?;
         Ok(())
     }
 
@@ -209,6 +248,7 @@ impl NoteList {
         carried: &CarriedNotes,
         frame: Frame,
         widths: &mut Widths,
+        lines: &mut KeptLines,
         steps: &mut Steps<L>,
     ) -> Result<(), NoMem>
         requires flow { CanBePaged faces.now flow.now }
@@ -216,6 +256,13 @@ impl NoteList {
         requires carried { All (IsHeld flow.now.notes) carried.now }
         requires ready { IsReady self.old }
         requires ends { EndInNotes flow.now.notes self.old }
+        requires kept { AreFlowLines faces.now flow.now lines.old }
+        ensures kept { AreFlowLines faces.now flow.now lines.new }
+        ensures keeps { KeepsHeld lines.old.kept lines.new.kept }
+        ensures takes { OnOk result (TakesSteps lines.old.kept lines.new.kept steps.old steps.new) }
+        ensures now { OnOk result
+            (AreHeldNow flow.now.notes frame.width lines.old.kept self.old.solids.items →
+            AreHeldNow flow.now.notes frame.width lines.new.kept self.new.solids.items) }
         ensures ready { OnOk result (IsReady self.new) }
         ensures ends { OnOk result (EndInNotes flow.now.notes self.new) }
         ensures list { OnOk result ((list : List NotedSolid) → IsReadOf frame.height list self.old →
@@ -224,13 +271,22 @@ impl NoteList {
             IsReadOf frame.height (list ++ more) self.new) }
         ensures short { OnOk result (IsShortList frame.height self.old → IsShortList frame.height self.new) }
         ensures lines { OnOk result (steps.new + lines_in self.old.solids.items
-            ≡ steps.old + lines_in self.new.solids.items) }
+            ≤ steps.old + lines_in self.new.solids.items) }
     {
         for at in 0..carried.len() {
             if self.over {
                 return Ok(());
             }
-            self.read(flow, faces, carried.part(at), false, frame, widths, steps)?;
+            self.read(
+                flow,
+                faces,
+                carried.part(at),
+                false,
+                frame,
+                widths,
+                lines,
+                steps,
+            )?;
         }
         Ok(())
     }

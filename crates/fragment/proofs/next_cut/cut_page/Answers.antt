@@ -1,7 +1,8 @@
-use Rattle.std.proofs.Common.{◌≡◌, ◌<◌, ◌++◌, ◌∷◌, [], ℕ, ℤ, true, false, None, List, All, length, map, rules, refl, sym, ap, ◌∙◌, subst, arith, to_z, of_z}
+use Rattle.std.proofs.Common.{◌≡◌, ◌<◌, ◌++◌, ◌∷◌, [], ℕ, ℤ, true, false, None, List, All, length, map, rules, refl, sym, ap, ◌∙◌, subst, arith, to_z, of_z, Result, Ok, Err, IfOk}
 use Rattle.std.proofs.lemmas.Bool.Decides.{nat_tests}
 use Rattle.std.proofs.lemmas.Int.{ints, to_z-of_z}
 use Rattle.std.proofs.lemmas.List.{length-map}
+use Rattle.std.proofs.lemmas.List.Elements.{All-nil}
 use mir.Val.{SFits}
 use mir.Syntax.{w64}
 use Rattle.boxes.specs.Tree.{Holds}
@@ -11,6 +12,9 @@ use Rattle.boxes.specs.declared.place.Position.{Position}
 use Rattle.metrics.specs.Face.{FontFace}
 use Rattle.note_list.specs.declared.carried.Carried.{Carried}
 use Rattle.fragment.specs.declared.page_notes.PageNotes.{PageNotes}
+use Rattle.cursor.proofs.AskLemmas.{keeps_twice}
+use Rattle.cursor.proofs.StepLemmas.{takes_twice}
+use Rattle.cursor.specs.Asks.{IsHeldNow, KeepsHeld, TakesSteps}
 use Rattle.cursor.specs.declared.solid.Solid.{Solid}
 use Rattle.cursor.specs.Fields.{solid_view}
 use Rattle.cursor.specs.Remainder.{SolidView, IsSmallSolid}
@@ -24,6 +28,7 @@ use Rattle.fragment.specs.Reads.{AreRead, IsPagePrefix, called_by, called_in}
 use Rattle.page_list.proofs.InsideLemmas.{flow_inside}
 use Rattle.fragment.proofs.CutLemmas.{called_low, end_cut, flow_cut, none_left, room_is}
 use Rattle.fragment.proofs.FlowLemmas.{prefix_between, prefix_few}
+use Rattle.fragment.proofs.KeptLemmas.{cut_held}
 use Rattle.fragment.proofs.PlaceLemmas.{before_most, by_all}
 use Rattle.fragment.proofs.SolidLemmas.{all_views, if_ok}
 use Rattle.fragment.proofs.next_cut.cut_page.Given as given
@@ -35,7 +40,7 @@ ends_of solids = map (λ (s : SolidView). s.end) (map solid_view solids)
 
 -- the notes that are read with the solids
 read : (g : given.Over) (c : After-is_empty g) → AreRead c.args.faces.now c.args.flow.now c.args.frame c.args.from.at c.args.carried (ends_of c.in_ok-read.read.solids.items) c.prefix.new.notes
-read g c = c.in_ok-read.ensures.read c.args.carried c.in_ok-notes.ensures
+read g c = c.in_ok-read.ensures.read c.args.carried c.in_ok-notes.ensures.read
 
 abbrev room : (g : given.Over) (c : After-is_empty g) → ℤ
 room g c = to_z w64 (of_z w64 c.own_area.result)
@@ -46,7 +51,7 @@ tells g c = subst (λ (n : ℕ). IsPagePrefix c.args.faces.now c.args.flow.now.m
 room_was : (g : given.Over) (c : After-is_empty g) → room g c ≡ area_of (note_rows (read g c).own) c.prefix.new.notes.list.own
 room_was g c =
     let fits : SFits w64 c.own_area.result = search rules in
-    room_is c.args.faces.now c.args.flow.now c.args.frame c.args.from.at c.args.carried [] (ends_of c.in_ok-read.read.solids.items) c.in_ok-notes.notes c.prefix.new.notes (room g c) c.in_ok-notes.ensures (read g c) c.in_ok-read.ensures.own
+    room_is c.args.faces.now c.args.flow.now c.args.frame c.args.from.at c.args.carried [] (ends_of c.in_ok-read.read.solids.items) c.in_ok-notes.notes c.prefix.new.notes (room g c) c.in_ok-notes.ensures.read (read g c) c.in_ok-read.ensures.own
     (λ height list is. to_z-of_z w64 c.own_area.result fits ∙ c.own_area.ensures.area height list is)
 
 -- ---- where no solid is left
@@ -103,7 +108,7 @@ cut_end-requires-clause-cut g c =
       carried = c.requires.carried.held;
       stands = c.requires.stands;
       order = c.requires.carried.order;
-      before = subst (λ (n : ℕ). All (λ p. p.note < n) c.args.carried) (sym c.in_ok-notes.ensures.called) c.requires.carried.called;
+      before = subst (λ (n : ℕ). All (λ p. p.note < n) c.args.carried) (sym c.in_ok-notes.ensures.read.called) c.requires.carried.called;
       count = c.requires.flow.count;
       low = omega (arith, ints);
       high = omega (arith, ints);
@@ -111,7 +116,7 @@ cut_end-requires-clause-cut g c =
 
 pub cut_end-requires-clause-called : goal.cut_end-requires-clause-called
 cut_end-requires-clause-called g c =
-    let here = c.in_ok-notes.ensures.called in
+    let here = c.in_ok-notes.ensures.read.called in
     let most = before_most c.args.flow.now.main c.args.flow.now.notes c.args.from.at in
     omega arith
 
@@ -122,9 +127,9 @@ returns-then-is_empty-clause-cut g c =
     let tall : SFits w64 c.args.frame.height = search rules in
     let all = all_read c.args.faces.now c.args.flow.now c.args.frame c.args.from.at c.args.carried c.in_ok-read.read.solids.items c.prefix.new.notes c.take.new.self (empty g d c.if-is_empty.true) c.in_ok-take.ensures.read (read g d) in
     let was : room g d ≡ area_of (note_rows all.own) c.take.new.self.list.own =
-    room_is c.args.faces.now c.args.flow.now c.args.frame c.args.from.at c.args.carried [] (c.args.from.at ∷ []) c.in_ok-notes.notes c.take.new.self (room g d) c.in_ok-notes.ensures all (c.in_ok-take.ensures.own ∙ c.in_ok-read.ensures.own)
+    room_is c.args.faces.now c.args.flow.now c.args.frame c.args.from.at c.args.carried [] (c.args.from.at ∷ []) c.in_ok-notes.notes c.take.new.self (room g d) c.in_ok-notes.ensures.read all (c.in_ok-take.ensures.own ∙ c.in_ok-read.ensures.own)
     (λ height list is. to_z-of_z w64 c.own_area.result fits ∙ c.own_area.ensures.area height list is) in
-    let first : c.in_ok-notes.notes.called ≡ called_before c.args.flow.now.main c.args.flow.now.notes c.args.from.at = c.in_ok-notes.ensures.called in
+    let first : c.in_ok-notes.notes.called ≡ called_before c.args.flow.now.main c.args.flow.now.notes c.args.from.at = c.in_ok-notes.ensures.read.called in
     if_ok _ _ c.cut_end.result
     (λ cut is. end_cut c.args.faces.now c.args.flow.now c.args.frame c.args.from c.args.carried c.requires.flow c.requires.holds c.requires.carried (ended g d c.if-is_empty.true) c.take.new.self (room g d) all was cut
     (subst (λ (n : ℕ). CutsAt c.args.flow.now c.args.from.kept c.args.frame.height c.args.carried n (λ list. AreTold c.args.frame.height list c.take.new.self.list.own 0 (area_after c.take.new.self.areas.items (length c.take.new.self.areas.items)) (room g d)) c.take.new.self.list [] cut) first
@@ -165,7 +170,7 @@ cut_solids-requires-clause-cut g c =
       carried = c.requires.carried.held;
       stands = c.requires.stands;
       order = c.requires.carried.order;
-      before = subst (λ (n : ℕ). All (λ p. p.note < n) c.args.carried) (sym c.in_ok-notes.ensures.called) c.requires.carried.called;
+      before = subst (λ (n : ℕ). All (λ p. p.note < n) c.args.carried) (sym c.in_ok-notes.ensures.read.called) c.requires.carried.called;
       count = c.requires.flow.count;
       low = omega (arith, ints);
       high = omega (arith, ints);
@@ -174,7 +179,7 @@ cut_solids-requires-clause-cut g c =
 pub cut_solids-requires-clause-called : goal.cut_solids-requires-clause-called
 cut_solids-requires-clause-called g c j some =
     let d = (goal.at.cut_solids-requires-clause-called g c).After-is_empty in
-    let first : c.in_ok-notes.notes.called ≡ called_before c.args.flow.now.main c.args.flow.now.notes c.args.from.at = c.in_ok-notes.ensures.called in
+    let first : c.in_ok-notes.notes.called ≡ called_before c.args.flow.now.main c.args.flow.now.notes c.args.from.at = c.in_ok-notes.ensures.read.called in
     let low = called_low c.args.faces.now c.args.flow.now c.args.frame c.args.from c.args.carried c.requires.flow c.requires.holds c.requires.carried (map solid_view c.in_ok-read.read.solids.items) c.prefix.new.notes (room g d) (tells g d) (read g d) (room_was g d) j some in omega arith
 
 pub prefix-requires : goal.prefix-requires
@@ -191,7 +196,8 @@ prefix-requires g c =
       kept = refl;
       height = to_z-of_z w64 c.args.frame.height tall;
       carried = record { low = omega (arith, ints); high = omega (arith, ints) };
-      read = (c.args.carried, c.in_ok-notes.ensures);
+      lines_are = c.start.ensures.kept;
+      read = (c.args.carried, c.in_ok-notes.ensures.read);
     }
 
 pub returns-clause-cut : goal.returns-clause-cut
@@ -199,7 +205,7 @@ returns-clause-cut g c =
     let d = (goal.at.returns-clause-cut g c).After-is_empty in
     let tall : SFits w64 c.args.frame.height = search rules in
     let views : List SolidView = map solid_view c.in_ok-read.read.solids.items in
-    let first : c.in_ok-notes.notes.called ≡ called_before c.args.flow.now.main c.args.flow.now.notes c.args.from.at = c.in_ok-notes.ensures.called in
+    let first : c.in_ok-notes.notes.called ≡ called_before c.args.flow.now.main c.args.flow.now.notes c.args.from.at = c.in_ok-notes.ensures.read.called in
     let size : length (map solid_view c.in_ok-read.read.solids.items) ≡ length c.in_ok-read.read.solids.items = length-map c.in_ok-read.read.solids.items solid_view in
     let own = c.prefix.new.notes.list.own in
     let areas = c.prefix.new.notes.areas.items in
@@ -211,3 +217,51 @@ returns-clause-cut g c =
 
 pub returns-clause-inside : goal.returns-clause-inside
 returns-clause-inside g c = if_ok _ _ c.cut_solids.result (λ cut is. flow_inside c.args.faces.now c.args.flow.now c.args.frame c.args.from c.args.carried cut c.requires.flow.main.is c.requires.frame.width_low is) (returns-clause-cut g c)
+
+-- what is held once the page is read
+read_keeps : (g : given.Over) (c : After-is_empty g) → KeepsHeld c.args.lines.now.kept c.prefix.new.lines.kept
+read_keeps g c = keeps_twice c.args.lines.now.kept c.start.new.lines.kept c.prefix.new.lines.kept c.start.ensures.keeps c.prefix.ensures.keeps
+
+read_takes : (g : given.Over) (c : After-is_empty g) → TakesSteps c.args.lines.now.kept c.prefix.new.lines.kept c.args.steps.now c.prefix.new.steps
+read_takes g c = takes_twice c.args.lines.now.kept c.start.new.lines.kept c.prefix.new.lines.kept c.args.steps.now c.start.new.steps c.prefix.new.steps c.start.ensures.keeps c.prefix.ensures.keeps c.in_ok-notes.ensures.takes c.in_ok-read.ensures.takes
+
+pub returns-clause-keeps : goal.returns-clause-keeps
+returns-clause-keeps g c = read_keeps g (goal.at.returns-clause-keeps g c).After-is_empty
+
+pub returns-clause-takes : goal.returns-clause-takes
+returns-clause-takes g c = if_ok _ _ c.cut_solids.result (λ cut near. read_takes g (goal.at.returns-clause-takes g c).After-is_empty) c.cut_solids.ensures.near
+
+both : {A E : Type 0} (P Q : A → Type 0) (r : Result A E) → IfOk r P → IfOk r Q → IfOk r (λ x. P x × Q x)
+both P Q (Ok x) p q = (p, q)
+both P Q (Err e) p q = tt
+
+pub returns-clause-now : goal.returns-clause-now
+returns-clause-now g c =
+    let views : List SolidView = map solid_view c.in_ok-read.read.solids.items in
+    if_ok _ _ c.cut_solids.result
+    (λ cut is. cut_held c.args.flow.now c.args.frame.width c.prefix.new.lines.kept _ views is.0.count c.prefix.new.notes.list.solids.items cut.solids cut.notes c.in_ok-read.ensures.held is.0.solids_is (c.in_ok-read.ensures.noted c.in_ok-notes.ensures.now) is.1)
+    (both _ _ c.cut_solids.result c.cut_solids.ensures.cut c.cut_solids.ensures.front)
+
+pub returns-then-is_empty-clause-keeps : goal.returns-then-is_empty-clause-keeps
+returns-then-is_empty-clause-keeps g c =
+    keeps_twice c.args.lines.now.kept c.prefix.new.lines.kept c.take.new.lines.kept (read_keeps g (goal.at.returns-then-is_empty-clause-keeps g c).After-is_empty) c.take.ensures.keeps
+
+pub returns-then-is_empty-clause-takes : goal.returns-then-is_empty-clause-takes
+returns-then-is_empty-clause-takes g c =
+    let d = (goal.at.returns-then-is_empty-clause-takes g c).After-is_empty in
+    if_ok _ _ c.cut_end.result
+    (λ cut near. takes_twice c.args.lines.now.kept c.prefix.new.lines.kept c.take.new.lines.kept c.args.steps.now c.prefix.new.steps c.take.new.steps (read_keeps g d) c.take.ensures.keeps (read_takes g d) c.in_ok-take.ensures.takes)
+    c.cut_end.ensures.near
+
+pub returns-then-is_empty-clause-now : goal.returns-then-is_empty-clause-now
+returns-then-is_empty-clause-now g c =
+    if_ok _ _ c.cut_end.result
+    (λ cut is. cut_held c.args.flow.now c.args.frame.width c.take.new.lines.kept _ [] is.0.count c.take.new.self.list.solids.items cut.solids cut.notes (All-nil (λ (v : SolidView). IsHeldNow c.args.flow.now.main c.args.frame.width c.take.new.lines.kept v.placed_at)) is.0.solids_is (c.in_ok-take.ensures.now (c.in_ok-read.ensures.noted c.in_ok-notes.ensures.now)) is.1)
+    (both _ _ c.cut_end.result c.cut_end.ensures.cut c.cut_end.ensures.front)
+
+-- where memory is wanting
+pub returns-in_err-read-clause-keeps : goal.returns-in_err-read-clause-keeps
+returns-in_err-read-clause-keeps g c = keeps_twice c.args.lines.now.kept c.start.new.lines.kept c.prefix.new.lines.kept c.start.ensures.keeps c.prefix.ensures.keeps
+
+pub returns-in_err-take-clause-keeps : goal.returns-in_err-take-clause-keeps
+returns-in_err-take-clause-keeps g c = keeps_twice c.args.lines.now.kept c.prefix.new.lines.kept c.take.new.lines.kept (keeps_twice c.args.lines.now.kept c.start.new.lines.kept c.prefix.new.lines.kept c.start.ensures.keeps c.prefix.ensures.keeps) c.take.ensures.keeps

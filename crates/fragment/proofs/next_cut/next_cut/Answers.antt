@@ -1,17 +1,5 @@
-use Rattle.note_list.specs.Calls.{called_before}
-use Rattle.fragment.proofs.SettledLemmas.{settled_cut}
-use Rattle.fragment.proofs.SolidLemmas.{if_ok}
+use Rattle.fragment.proofs.KeptLemmas.{flow_lines}
 use Rattle.fragment.proofs.next_cut.next_cut.Goals as goal
 
-pub cut_page-requires-clause-carried : goal.cut_page-requires-clause-carried
-cut_page-requires-clause-carried g c = record {
-  held = c.in_ok-settled.ensures.held;
-  called = c.in_ok-settled.ensures.below (called_before c.args.flow.now.main c.args.flow.now.notes c.args.from.at) c.requires.carried.called;
-  order = c.in_ok-settled.ensures.order;
-}
-
-pub returns-clause-cut : goal.returns-clause-cut
-returns-clause-cut g c =
-    if_ok _ _ c.cut_page.result
-    (λ cut is. settled_cut c.args.faces.now c.args.flow.now c.args.frame c.args.from c.in_ok-settled.settled c.args.carried.now cut (λ width more list are. c.in_ok-settled.ensures.lists c.args.faces.now width more list are) is)
-    c.cut_page.ensures.cut
+pub next_cut_kept-requires-clause-kept : goal.next_cut_kept-requires-clause-kept
+next_cut_kept-requires-clause-kept g c = flow_lines c.args.faces.now c.args.flow.now c.new-lines.result (c.new-lines.ensures.kept c.args.faces.now) c.new-lines.ensures.placed

@@ -4,6 +4,7 @@ use mir.Val.{SFits}
 use mir.Syntax.{w64}
 use Rattle.boxes.specs.declared.flow.Note.{Note}
 use Rattle.page_list.proofs.LookedLemmas.{looked_carried}
+use Rattle.fragment.proofs.KeptLemmas.{noted_held}
 use Rattle.fragment.proofs.NotesLemmas.{carried_low, carried_on, notes_cut}
 use Rattle.fragment.proofs.SolidLemmas.{if_ok}
 use Rattle.fragment.proofs.next_notes.next_notes.Goals as goal
@@ -51,3 +52,10 @@ returns-clause-lines g c =
     let most = q.2 in
     let count = c.in_ok-list.ensures.lines in
     if_ok _ _ c.place.result (λ p placed. (q.0, q.1, omega (arith, most, count))) c.place.ensures.placed
+
+pub returns-clause-takes : goal.returns-clause-takes
+returns-clause-takes g c = if_ok _ _ c.place.result (λ p placed. c.in_ok-list.ensures.takes) c.place.ensures.front
+
+pub returns-clause-now : goal.returns-clause-now
+returns-clause-now g c =
+    if_ok _ _ c.place.result (λ p front. noted_held c.args.flow.now c.args.frame.width c.carried-2.new.lines.kept c.in_ok-list.list.solids.items p.notes c.in_ok-list.ensures.now front) c.place.ensures.front

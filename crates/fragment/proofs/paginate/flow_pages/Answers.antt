@@ -15,6 +15,11 @@ use Rattle.note_list.specs.Calls.{start_place}
 use Rattle.fragment.specs.Runs.{Leads}
 use Rattle.std.proofs.lemmas.List.Elements.{All-nil}
 use Rattle.fragment.proofs.RunLemmas.{leaves_some, not_done, state_at, run_step, run_added, adds_size, adds_grow, page_is, forced_some, frame_cut, none_carried, start_holds, next_state, ended_at}
+use Rattle.cursor.proofs.AskLemmas.{keeps_all, keeps_twice}
+use Rattle.cursor.proofs.StepLemmas.{takes_none, takes_twice}
+use Rattle.cursor.specs.Asks.{KeepsHeld, TakesSteps}
+use Rattle.fragment.specs.Kept.{ArePagesHeld, IsPageHeld}
+use Rattle.fragment.proofs.KeptLemmas.{pages_added, pages_more}
 use Rattle.fragment.proofs.NearLemmas.{near_more, near_added}
 use Rattle.fragment.proofs.paginate.flow_pages.Given as given
 use Rattle.fragment.proofs.paginate.flow_pages.Goals.{After-page_of-page}
@@ -30,6 +35,10 @@ loop-turn-init g c = rw c.new-pages.ensures.items (rw c.new-carried.ensures (rec
   stands = All-nil (IsAtSolid c.args.flow.now.notes);
   run = (name_at c.args.flow.now.main start_place, ap (λ (d : Option Demand). record (start_of c.args.flow.now.main) { demand = d }) (sym (c.seam-demand.ensures.forced (pos 0))));
   near = All-nil (λ (q : Page). AreNear q.solids q.notes);
+  kept = c.requires.kept;
+  keeps = keeps_all c.args.lines.now.kept;
+  takes = takes_none c.args.lines.now.kept c.args.lines.now.kept c.args.steps.now;
+  held = All-nil (λ (q : Page). IsPageHeld c.args.flow.now q.frame.width c.args.lines.now.kept q.solids q.notes);
 }))
 
 pub returns-in-Err-clause-many : goal.returns-in-Err-clause-many
@@ -74,6 +83,33 @@ more g c now is =
 
 near : (g : given.Over) (c : After-page_of-page g) (now : List Page) → now ≡ c.add_blanks.new.pages.items ++ c.page_of-page.result.0 ∷ [] → HaveNearTops now
 near g c now is = subst HaveNearTops (sym is) (near_more c.add_blanks.new.pages.items c.page_of-page.result.0 (nears g c) (subst (λ (q : Page). AreNear q.solids q.notes) (sym c.page_of-page.ensures.page) c.in-Ok-cut_page.ensures.near))
+
+-- what is held once a page is made
+keeps_on : (g : given.Over) (c : After-page_of-page g) → KeepsHeld c.args.lines.now.kept c.cut_page.new.lines.kept
+keeps_on g c = keeps_twice c.args.lines.now.kept c.loop-turn.lines.kept c.cut_page.new.lines.kept c.loop-turn.invariant.keeps c.cut_page.ensures.keeps
+
+takes_on : (g : given.Over) (c : After-page_of-page g) → TakesSteps c.args.lines.now.kept c.cut_page.new.lines.kept c.args.steps.now c.cut_page.new.steps
+takes_on g c = takes_twice c.args.lines.now.kept c.loop-turn.lines.kept c.cut_page.new.lines.kept c.args.steps.now c.loop-turn.steps c.cut_page.new.steps c.loop-turn.invariant.keeps c.cut_page.ensures.keeps c.loop-turn.invariant.takes c.in-Ok-cut_page.ensures.takes
+
+held_now : (g : given.Over) (c : After-page_of-page g) (now : List Page) → now ≡ c.add_blanks.new.pages.items ++ c.page_of-page.result.0 ∷ [] → ArePagesHeld c.args.flow.now c.cut_page.new.lines.kept now
+held_now g c now is =
+    let f : Flow = c.args.flow.now in
+    let kept = c.cut_page.new.lines.kept in
+    let page : IsPageHeld f c.page_of-page.result.0.frame.width kept c.page_of-page.result.0.solids c.page_of-page.result.0.notes =
+    subst (λ (q : Page). IsPageHeld f q.frame.width kept q.solids q.notes) (sym c.page_of-page.ensures.page) c.in-Ok-cut_page.ensures.now in
+    pages_more f c.loop-turn.lines.kept kept c.add_blanks.new.pages.items now c.page_of-page.result.0 c.cut_page.ensures.keeps page is
+    (pages_added f c.loop-turn.lines.kept (g.Fr.Frames.view c.args.frames.now) c.name_at_seam-name.result c.loop-turn.demand c.loop-turn.index c.in-Ok.to c.loop-turn.pages.items c.add_blanks.new.pages.items c.in-Ok.ensures.blanks c.loop-turn.invariant.held)
+
+pub returns-then-ended-clause-keeps : goal.returns-then-ended-clause-keeps
+returns-then-ended-clause-keeps g c = keeps_on g (goal.at.returns-then-ended-clause-keeps g c).After-page_of-page
+
+pub returns-then-ended-clause-takes : goal.returns-then-ended-clause-takes
+returns-then-ended-clause-takes g c = takes_on g (goal.at.returns-then-ended-clause-takes g c).After-page_of-page
+
+pub returns-then-ended-clause-held : goal.returns-then-ended-clause-held
+returns-then-ended-clause-held g c =
+    let now : c.push.new.self.items ≡ c.add_blanks.new.pages.items ++ c.page_of-page.result.0 ∷ [] = grind (arith, common_steps) in
+    held_now g (goal.at.returns-then-ended-clause-held g c).After-page_of-page c.push.new.self.items now
 
 pub returns-then-ended-clause-pages : goal.returns-then-ended-clause-pages
 returns-then-ended-clause-pages g c =
@@ -128,6 +164,10 @@ loop-turn-preserved g c =
             (more g p c.push.new.self.items now),
       );
       near = near g p c.push.new.self.items now;
+      kept = c.cut_page.ensures.kept;
+      keeps = keeps_on g p;
+      takes = takes_on g p;
+      held = held_now g p c.push.new.self.items now;
     }
 
 pub returns-clause-many : goal.returns-clause-many
@@ -139,3 +179,9 @@ returns-clause-many g c = λ e.
     let run = c.loop-turn.invariant.run in
     let at : State = state_at c.loop-turn.from.at c.loop-turn.from.kept c.loop-turn.index c.loop-turn.demand c.loop-turn.carried run.0 in
     leaves_some c.args.faces.now c.args.flow.now frames at c.loop-turn.pages.items 100000 (not_done at refl) (omega arith) run.1
+
+pub returns-in_default-clause-keeps : goal.returns-in_default-clause-keeps
+returns-in_default-clause-keeps g c = keeps_twice c.args.lines.now.kept c.loop-turn.lines.kept c.cut_page.new.lines.kept c.loop-turn.invariant.keeps c.cut_page.ensures.keeps
+
+pub returns-then-is_err-clause-keeps : goal.returns-then-is_err-clause-keeps
+returns-then-is_err-clause-keeps g c = keeps_twice c.args.lines.now.kept c.loop-turn.lines.kept c.cut_page.new.lines.kept c.loop-turn.invariant.keeps c.cut_page.ensures.keeps

@@ -1,6 +1,9 @@
 use Rattle.std.proofs.Common.{◌≡◌, ◌+◌, ◌≤◌, All, length}
 use Rattle.boxes.specs.Tree.{Holds}
 use Rattle.bk_num.specs.declared.ids.NameId.{NameId}
+use Rattle.cursor.specs.Asks.{KeepsHeld, TakesSteps}
+use Rattle.note_list.specs.Kept.{AreFlowLines}
+use Rattle.fragment.specs.Kept.{ArePagesHeld}
 use Rattle.note_list.specs.Conditions.{AreCarried, IsAtSolid}
 use Rattle.page_list.specs.Pages.{HaveNearTops}
 use Rattle.fragment.specs.Runs.{Leads}
@@ -17,4 +20,8 @@ invariant-loop-turn g l = record {
   stands : All (IsAtSolid l.flow.notes) l.carried;
   run : (name : NameId) × Leads l.faces l.flow (g.Fr.Frames.view l.frames) (state_at l.from.at l.from.kept l.index l.demand l.carried name) l.pages.items;
   near : HaveNearTops l.pages.items;
+  kept : AreFlowLines l.faces l.flow l.lines;
+  keeps : KeepsHeld l.fn.lines.kept l.lines.kept;
+  takes : TakesSteps l.fn.lines.kept l.lines.kept l.fn.steps l.steps;
+  held : ArePagesHeld l.flow l.lines.kept l.pages.items;
 }

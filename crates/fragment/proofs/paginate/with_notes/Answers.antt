@@ -10,6 +10,14 @@ use Rattle.page_list.specs.Pages.{IsPaged, IsStep, HaveNearTops, notes_page, aft
 use Rattle.page_list.specs.Pages.IsStep.{noted}
 use Rattle.fragment.specs.Runs.{Leads}
 use Rattle.fragment.proofs.RunLemmas.{leaves_some, run_ends, run_step, some_left, has_none, has_one, notes_frame}
+use Rattle.std.proofs.lemmas.List.Elements.{All-nil}
+use Rattle.boxes.specs.declared.page.Page.{Page}
+use Rattle.boxes.specs.declared.page.Placed.{Placed}
+use Rattle.cursor.proofs.AskLemmas.{keeps_all, keeps_twice}
+use Rattle.cursor.proofs.StepLemmas.{takes_none, takes_twice}
+use Rattle.cursor.specs.Asks.{IsHeldNow}
+use Rattle.fragment.specs.Kept.{ArePagesHeld, IsPageHeld}
+use Rattle.fragment.proofs.KeptLemmas.{pages_more}
 use Rattle.fragment.proofs.NearLemmas.{near_more}
 use Rattle.fragment.proofs.paginate.with_notes.Goals as goal
 
@@ -24,6 +32,10 @@ loop-turn-init g c =
       stands = is.stands;
       run = (is.state, is.leads, is.done, is.index, is.name, is.carried_is);
       near = c.requires.tops;
+      kept = c.requires.kept;
+      keeps = keeps_all c.args.lines.now.kept;
+      takes = takes_none c.args.lines.now.kept c.args.lines.now.kept c.args.steps.now;
+      held = c.requires.held;
     }
 
 pub returns-then-is_empty-clause-pages : goal.returns-then-is_empty-clause-pages
@@ -35,6 +47,9 @@ returns-then-is_empty-clause-pages g c =
 
 pub returns-then-is_empty-clause-tops : goal.returns-then-is_empty-clause-tops
 returns-then-is_empty-clause-tops g c = subst HaveNearTops (sym c.of.ensures) c.loop-turn.invariant.near
+
+pub returns-then-is_empty-clause-held : goal.returns-then-is_empty-clause-held
+returns-then-is_empty-clause-held g c = subst (ArePagesHeld c.args.flow.now c.loop-turn.lines.kept) (sym c.of.ensures) c.loop-turn.invariant.held
 
 pub returns-then-len-clause-many : goal.returns-then-len-clause-many
 returns-then-len-clause-many g c = λ e.
@@ -78,4 +93,18 @@ loop-turn-preserved g c =
         refl,
       );
       near = subst HaveNearTops (sym now) (near_more c.loop-turn.pages.items c.notes_page_of.result c.loop-turn.invariant.near (rw c.notes_page_of.ensures c.in-Ok.ensures.near));
+      kept = c.next_notes.ensures.kept;
+      keeps = keeps_twice c.args.lines.now.kept c.loop-turn.lines.kept c.next_notes.new.lines.kept c.loop-turn.invariant.keeps c.next_notes.ensures.keeps;
+      takes = takes_twice c.args.lines.now.kept c.loop-turn.lines.kept c.next_notes.new.lines.kept c.args.steps.now c.loop-turn.steps c.next_notes.new.steps c.loop-turn.invariant.keeps c.next_notes.ensures.keeps c.loop-turn.invariant.takes c.in-Ok.ensures.takes;
+      held =
+          let kept = c.next_notes.new.lines.kept in
+          let noted : IsPageHeld f c.frame-frame.result.width kept [] c.in-Ok.placed.notes = record { solids = All-nil (λ (q : Placed). IsHeldNow f.main c.frame-frame.result.width kept q.at); notes = c.in-Ok.ensures.now } in
+          pages_more f c.loop-turn.lines.kept kept c.loop-turn.pages.items c.push.new.self.items c.notes_page_of.result c.next_notes.ensures.keeps
+          (subst (λ (q : Page). IsPageHeld f q.frame.width kept q.solids q.notes) (sym c.notes_page_of.ensures) noted) now c.loop-turn.invariant.held;
     }
+
+pub returns-in_default-clause-keeps : goal.returns-in_default-clause-keeps
+returns-in_default-clause-keeps g c = keeps_twice c.args.lines.now.kept c.loop-turn.lines.kept c.next_notes.new.lines.kept c.loop-turn.invariant.keeps c.next_notes.ensures.keeps
+
+pub returns-then-is_err-clause-keeps : goal.returns-then-is_err-clause-keeps
+returns-then-is_err-clause-keeps g c = keeps_twice c.args.lines.now.kept c.loop-turn.lines.kept c.next_notes.new.lines.kept c.loop-turn.invariant.keeps c.next_notes.ensures.keeps

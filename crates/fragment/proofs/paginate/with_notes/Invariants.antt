@@ -1,4 +1,7 @@
 use Rattle.std.proofs.Common.{◌≡◌, ◌+◌, ◌≤◌, true, None, All, length}
+use Rattle.cursor.specs.Asks.{KeepsHeld, TakesSteps}
+use Rattle.note_list.specs.Kept.{AreFlowLines}
+use Rattle.fragment.specs.Kept.{ArePagesHeld}
 use Rattle.note_list.specs.Conditions.{AreCarried, IsAtSolid}
 use Rattle.page_list.specs.Cuts.{place_after}
 use Rattle.page_list.specs.Pages.{HaveNearTops, State}
@@ -13,4 +16,8 @@ invariant-loop-turn g l = record {
   stands : All (IsAtSolid l.flow.notes) l.carried;
   run : (s : State) × Leads l.faces l.flow (g.Fr.Frames.view l.frames) s l.pages.items × (s.done ≡ true) × (length l.pages.items + 1 ≡ s.index) × (s.name ≡ l.name) × (s.carried ≡ l.carried);
   near : HaveNearTops l.pages.items;
+  kept : AreFlowLines l.faces l.flow l.lines;
+  keeps : KeepsHeld l.fn.lines.kept l.lines.kept;
+  takes : TakesSteps l.fn.lines.kept l.lines.kept l.fn.steps l.steps;
+  held : ArePagesHeld l.flow l.lines.kept l.pages.items;
 }

@@ -9,6 +9,9 @@ use mir.Val.{SFits}
 use mir.Syntax.{w64}
 use Rattle.boxes.specs.Tree.{Tree, Holds}
 use Rattle.boxes.specs.declared.place.Position.{Position}
+use Rattle.cursor.proofs.AskLemmas.{keeps_all, keeps_twice}
+use Rattle.cursor.proofs.StepLemmas.{takes_none, takes_twice}
+use Rattle.cursor.specs.Asks.{IsHeldNow, KeepsHeld, TakesSteps}
 use Rattle.cursor.specs.declared.solid.Solid.{Solid}
 use Rattle.cursor.specs.Fields.{solid_view}
 use Rattle.cursor.specs.Remainder.{SolidView, IsSolid, IsRemainder, IsSmallSolid}
@@ -21,44 +24,47 @@ use Rattle.cuts.specs.Cuts.{NoteLists}
 use Rattle.cuts.specs.Rows.{IsSmallRow}
 use Rattle.cuts.specs.Prefixes.{AreFree, HasForced, HasRead, IsLook}
 use Rattle.cuts.proofs.ReachLemmas.{reached_low}
+use Rattle.note_list.proofs.KeptLemmas.{held_more, main_lines}
+use Rattle.note_list.specs.Kept.{AreHeldNow}
 use Rattle.note_list.specs.declared.carried.Carried.{Carried}
 use Rattle.page_list.specs.Cuts.{row_of, rows_of}
 use Rattle.fragment.specs.Reads.{AreRead}
 use Rattle.fragment.proofs.FlowLemmas.{LooksOn, look_on, read_few, read_missed, read_forced, read_all, views_free, views_forced}
+use Rattle.fragment.proofs.KeptLemmas.{views_next, views_on}
 use Rattle.fragment.proofs.PlaceLemmas.{called_grows, called_on}
 use Rattle.fragment.proofs.prefix.prefix.Given as given
 use Rattle.fragment.proofs.prefix.prefix.Goals as goal
 use Rattle.fragment.proofs.prefix.prefix.Goals.{After-row_of-row, Else-is_err}
 
 -- what each path knows once a solid is kept
-solid_is : (g : given.Over) (c : Else-is_err g) → IsSolid c.args.faces.now c.args.flow.now.main c.args.frame.width c.loop-solid.at (solid_view c.in-Some.solid)
+solid_is : (g : given.Over) (c : Else-is_err g) → IsSolid c.args.faces.now c.args.flow.now.main c.args.frame.width c.loop-next.at (solid_view c.in-Some.solid)
 solid_is g c =
     let wide : SFits w64 c.args.frame.width = search rules in
-    subst (λ (w : ℤ). IsSolid c.args.faces.now c.args.flow.now.main w c.loop-solid.at (solid_view c.in-Some.solid)) (to_z-of_z w64 c.args.frame.width wide) c.in-Some.ensures.solid
+    subst (λ (w : ℤ). IsSolid c.args.faces.now c.args.flow.now.main w c.loop-next.at (solid_view c.in-Some.solid)) (to_z-of_z w64 c.args.frame.width wide) (rw c.in-Some.is at c.in-Ok.ensures.solid)
 
-pushed : (g : given.Over) (c : Else-is_err g) → c.push-in-Some.new.self.items ≡ c.loop-solid.solids.items ++ c.in-Some.solid ∷ []
-pushed g c = let ok : is_ok c.push-in-Some.result ≡ true = c.is_err.ensures.negation ∙ ap not c.if-is_err.false in c.push-in-Some.ensures.items ∙ rw ok refl
+pushed : (g : given.Over) (c : Else-is_err g) → c.push-in-loop-next.new.self.items ≡ c.loop-next.solids.items ++ c.in-Some.solid ∷ []
+pushed g c = let ok : is_ok c.push-in-loop-next.result ≡ true = c.is_err.ensures.negation ∙ ap not c.if-is_err.false in c.push-in-loop-next.ensures.items ∙ rw ok refl
 
-views_now : (g : given.Over) (c : Else-is_err g) → map solid_view c.push-in-Some.new.self.items ≡ map solid_view c.loop-solid.solids.items ++ solid_view c.in-Some.solid ∷ []
-views_now g c = ap (λ (l : List Solid). map solid_view l) (pushed g c) ∙ map-append solid_view c.loop-solid.solids.items (c.in-Some.solid ∷ [])
+views_now : (g : given.Over) (c : Else-is_err g) → map solid_view c.push-in-loop-next.new.self.items ≡ map solid_view c.loop-next.solids.items ++ solid_view c.in-Some.solid ∷ []
+views_now g c = ap (λ (l : List Solid). map solid_view l) (pushed g c) ∙ map-append solid_view c.loop-next.solids.items (c.in-Some.solid ∷ [])
 
-goes_on : (g : given.Over) (c : Else-is_err g) → (rest : List SolidView) → IsRemainder c.args.faces.now c.args.flow.now.main c.args.frame.width c.in-Some.solid.end rest → IsRemainder c.args.faces.now c.args.flow.now.main c.args.frame.width c.args.from.at (map solid_view c.push-in-Some.new.self.items ++ rest)
+goes_on : (g : given.Over) (c : Else-is_err g) → (rest : List SolidView) → IsRemainder c.args.faces.now c.args.flow.now.main c.args.frame.width c.in-Some.solid.end rest → IsRemainder c.args.faces.now c.args.flow.now.main c.args.frame.width c.args.from.at (map solid_view c.push-in-loop-next.new.self.items ++ rest)
 goes_on g c rest r =
-    let joined : map solid_view c.loop-solid.solids.items ++ solid_view c.in-Some.solid ∷ rest ≡ map solid_view c.push-in-Some.new.self.items ++ rest = sym (ap (λ (l : List SolidView). l ++ rest) (views_now g c) ∙ append_assoc (map solid_view c.loop-solid.solids.items) (solid_view c.in-Some.solid ∷ []) rest) in
-    subst (λ (l : List SolidView). IsRemainder c.args.faces.now c.args.flow.now.main c.args.frame.width c.args.from.at l) joined (c.loop-solid.invariant.goes (solid_view c.in-Some.solid ∷ rest) (c.in-Some.solid.end, (solid_is g c, refl), r))
+    let joined : map solid_view c.loop-next.solids.items ++ solid_view c.in-Some.solid ∷ rest ≡ map solid_view c.push-in-loop-next.new.self.items ++ rest = sym (ap (λ (l : List SolidView). l ++ rest) (views_now g c) ∙ append_assoc (map solid_view c.loop-next.solids.items) (solid_view c.in-Some.solid ∷ []) rest) in
+    subst (λ (l : List SolidView). IsRemainder c.args.faces.now c.args.flow.now.main c.args.frame.width c.args.from.at l) joined (c.loop-next.invariant.goes (solid_view c.in-Some.solid ∷ rest) (c.in-Some.solid.end, (solid_is g c, refl), r))
 
-small_on : (g : given.Over) (c : Else-is_err g) → All IsSmallSolid (map solid_view c.push-in-Some.new.self.items)
-small_on g c = subst (All IsSmallSolid) (sym (views_now g c)) (All-push IsSmallSolid (map solid_view c.loop-solid.solids.items) (solid_view c.in-Some.solid) c.loop-solid.invariant.small c.in-Some.ensures.small)
+small_on : (g : given.Over) (c : Else-is_err g) → All IsSmallSolid (map solid_view c.push-in-loop-next.new.self.items)
+small_on g c = subst (All IsSmallSolid) (sym (views_now g c)) (All-push IsSmallSolid (map solid_view c.loop-next.solids.items) (solid_view c.in-Some.solid) c.loop-next.invariant.small (rw c.in-Some.is at c.in-Ok.ensures.small))
 
-placed_on : (g : given.Over) (c : Else-is_err g) → All (λ (v : SolidView). Holds c.args.flow.now.main v.placed_at) (map solid_view c.push-in-Some.new.self.items)
-placed_on g c = subst (All (λ (v : SolidView). Holds c.args.flow.now.main v.placed_at)) (sym (views_now g c)) (All-push (λ (v : SolidView). Holds c.args.flow.now.main v.placed_at) (map solid_view c.loop-solid.solids.items) (solid_view c.in-Some.solid) c.loop-solid.invariant.placed c.in-Some.ensures.placed)
+placed_on : (g : given.Over) (c : Else-is_err g) → All (λ (v : SolidView). Holds c.args.flow.now.main v.placed_at) (map solid_view c.push-in-loop-next.new.self.items)
+placed_on g c = subst (All (λ (v : SolidView). Holds c.args.flow.now.main v.placed_at)) (sym (views_now g c)) (All-push (λ (v : SolidView). Holds c.args.flow.now.main v.placed_at) (map solid_view c.loop-next.solids.items) (solid_view c.in-Some.solid) c.loop-next.invariant.placed (rw c.in-Some.is at c.in-Ok.ensures.placed))
 
-rows_on : (g : given.Over) (c : Else-is_err g) → c.push.new.self.items ≡ rows_of c.args.flow.now.main (map solid_view c.push-in-Some.new.self.items)
+rows_on : (g : given.Over) (c : Else-is_err g) → c.push.new.self.items ≡ rows_of c.args.flow.now.main (map solid_view c.push-in-loop-next.new.self.items)
 rows_on g c =
     let t : Tree = c.args.flow.now.main in
-    let old : List SolidView = map solid_view c.loop-solid.solids.items in
-    let now : c.push.new.self.items ≡ c.loop-solid.rows.items ++ c.row_of-row.result ∷ [] = grind (arith, common_steps) in
-    now ∙ ap (λ (rs : List SolidRow). rs ++ c.row_of-row.result ∷ []) c.loop-solid.invariant.rows
+    let old : List SolidView = map solid_view c.loop-next.solids.items in
+    let now : c.push.new.self.items ≡ c.loop-next.rows.items ++ c.row_of-row.result ∷ [] = grind (arith, common_steps) in
+    now ∙ ap (λ (rs : List SolidRow). rs ++ c.row_of-row.result ∷ []) c.loop-next.invariant.rows
     ∙ ap (λ (r : SolidRow). rows_of t old ++ r ∷ []) c.row_of-row.ensures
     ∙ sym (map-append (row_of t) old (solid_view c.in-Some.solid ∷ [])) ∙ ap (rows_of t) (sym (views_now g c))
 
@@ -66,60 +72,91 @@ some_read : (n : ℕ) → 0 < n → (n == 0) ≡ false
 some_read n h = grind (arith, nat_tests)
 
 -- the notes that are read
-first_read : (g : given.Over) (c : After-row_of-row g) → AreRead c.args.faces.now c.args.flow.now c.args.frame c.args.from.at c.requires.read.0 (map (λ (s : SolidView). s.end) (map solid_view c.loop-solid.solids.items)) c.loop-solid.notes
-first_read g c = c.loop-solid.invariant.are c.requires.read.0 c.requires.read.1
+first_read : (g : given.Over) (c : After-row_of-row g) → AreRead c.args.faces.now c.args.flow.now c.args.frame c.args.from.at c.requires.read.0 (map (λ (s : SolidView). s.end) (map solid_view c.loop-next.solids.items)) c.loop-next.notes
+first_read g c = c.loop-next.invariant.are c.requires.read.0 c.requires.read.1
 
-ends_now : (g : given.Over) (c : Else-is_err g) → map (λ (s : SolidView). s.end) (map solid_view c.push-in-Some.new.self.items) ≡ map (λ (s : SolidView). s.end) (map solid_view c.loop-solid.solids.items) ++ c.in-Some.solid.end ∷ []
-ends_now g c = ap (λ (vs : List SolidView). map (λ (s : SolidView). s.end) vs) (views_now g c) ∙ map-append (λ (s : SolidView). s.end) (map solid_view c.loop-solid.solids.items) (solid_view c.in-Some.solid ∷ [])
+ends_now : (g : given.Over) (c : Else-is_err g) → map (λ (s : SolidView). s.end) (map solid_view c.push-in-loop-next.new.self.items) ≡ map (λ (s : SolidView). s.end) (map solid_view c.loop-next.solids.items) ++ c.in-Some.solid.end ∷ []
+ends_now g c = ap (λ (vs : List SolidView). map (λ (s : SolidView). s.end) vs) (views_now g c) ∙ map-append (λ (s : SolidView). s.end) (map solid_view c.loop-next.solids.items) (solid_view c.in-Some.solid ∷ [])
 
 reads : (g : given.Over) (c : Else-is_err g) → (carried : List Carried) → AreRead c.args.faces.now c.args.flow.now c.args.frame c.args.from.at carried [] c.args.notes.now →
-    AreRead c.args.faces.now c.args.flow.now c.args.frame c.args.from.at carried (map (λ (s : SolidView). s.end) (map solid_view c.push-in-Some.new.self.items)) c.take-in-Some.new.self
+    AreRead c.args.faces.now c.args.flow.now c.args.frame c.args.from.at carried (map (λ (s : SolidView). s.end) (map solid_view c.push-in-loop-next.new.self.items)) c.take-in-loop-next.new.self
 reads g c carried r =
-    subst (λ (ends : List Position). AreRead c.args.faces.now c.args.flow.now c.args.frame c.args.from.at carried ends c.take-in-Some.new.self) (sym (ends_now g c))
-    (c.in_ok-take.ensures.read c.args.from.at carried (map (λ (s : SolidView). s.end) (map solid_view c.loop-solid.solids.items)) (c.loop-solid.invariant.are carried r))
+    subst (λ (ends : List Position). AreRead c.args.faces.now c.args.flow.now c.args.frame c.args.from.at carried ends c.take-in-loop-next.new.self) (sym (ends_now g c))
+    (c.in_ok-take.ensures.read c.args.from.at carried (map (λ (s : SolidView). s.end) (map solid_view c.loop-next.solids.items)) (c.loop-next.invariant.are carried r))
 
-owns : (g : given.Over) (c : Else-is_err g) → c.take-in-Some.new.self.list.own ≡ c.args.notes.now.list.own
-owns g c = c.in_ok-take.ensures.own ∙ c.loop-solid.invariant.own
+owns : (g : given.Over) (c : Else-is_err g) → c.take-in-loop-next.new.self.list.own ≡ c.args.notes.now.list.own
+owns g c = c.in_ok-take.ensures.own ∙ c.loop-next.invariant.own
 
-looks : (g : given.Over) (c : Else-is_err g) → LooksOn c.args.from.kept c.args.frame.height c.args.notes.now.list.own c.take-in-Some.new.self.areas.items c.args.room.now.carried c.args.flow.now.main (map solid_view c.push-in-Some.new.self.items) c.take.new.self
+looks : (g : given.Over) (c : Else-is_err g) → LooksOn c.args.from.kept c.args.frame.height c.args.notes.now.list.own c.take-in-loop-next.new.self.areas.items c.args.room.now.carried c.args.flow.now.main (map solid_view c.push-in-loop-next.new.self.items) c.take.new.self
 looks g c =
     let t : Tree = c.args.flow.now.main in
     let kept : Bool = c.args.from.kept in
     let own : ℕ = c.args.notes.now.list.own in
     let carried : ℤ = c.args.room.now.carried in
-    let old : List SolidView = map solid_view c.loop-solid.solids.items in
-    let read = c.loop-solid.invariant.are c.requires.read.0 c.requires.read.1 in
-    let size : length c.loop-solid.notes.areas.items ≡ length old = read.count ∙ length-map old (λ (s : SolidView). s.end) in
+    let old : List SolidView = map solid_view c.loop-next.solids.items in
+    let read = c.loop-next.invariant.are c.requires.read.0 c.requires.read.1 in
+    let size : length c.loop-next.notes.areas.items ≡ length old = read.count ∙ length-map old (λ (s : SolidView). s.end) in
     let fits : SFits w64 c.area.result = search rules in
     let area : ℤ = to_z w64 (of_z w64 c.area.result) in
-    let area_is : area ≡ area_after c.loop-solid.notes.areas.items (length c.loop-solid.notes.areas.items) = to_z-of_z w64 c.area.result fits ∙ c.area.ensures.area in
-    let took : (rows : List SolidRow) (list : NoteLists) (n : ℕ) → (0 < length rows → AreTold c.args.frame.height list n (length rows) area carried) → IsLook kept c.args.frame.height list n rows c.loop-solid.look → IsLook kept c.args.frame.height list n (rows ++ c.row_of-row.result ∷ []) c.take.new.self =
-    subst (λ (z : ℤ). (rows : List SolidRow) (list : NoteLists) (n : ℕ) → (0 < length rows → AreTold z list n (length rows) area carried) → IsLook kept z list n rows c.loop-solid.look → IsLook kept z list n (rows ++ c.row_of-row.result ∷ []) c.take.new.self) c.requires.height
-    (subst (λ (k : Bool). (rows : List SolidRow) (list : NoteLists) (n : ℕ) → (0 < length rows → AreTold c.args.room.now.height list n (length rows) area carried) → IsLook k c.args.room.now.height list n rows c.loop-solid.look → IsLook k c.args.room.now.height list n (rows ++ c.row_of-row.result ∷ []) c.take.new.self) c.requires.kept c.take.ensures.look) in
-    let more : LooksOn kept c.args.frame.height own (c.loop-solid.notes.areas.items ++ c.in_ok-take.ensures.areas.0 ∷ []) carried t (old ++ solid_view c.in-Some.solid ∷ []) c.take.new.self =
-    look_on t kept c.args.frame.height own c.loop-solid.notes.areas.items area c.in_ok-take.ensures.areas.0 carried old (solid_view c.in-Some.solid) c.loop-solid.look c.take.new.self c.row_of-row.result c.row_of-row.ensures size area_is took c.loop-solid.invariant.look in
-    subst (λ (vs : List SolidView). LooksOn kept c.args.frame.height own c.take-in-Some.new.self.areas.items carried t vs c.take.new.self) (sym (views_now g c))
+    let area_is : area ≡ area_after c.loop-next.notes.areas.items (length c.loop-next.notes.areas.items) = to_z-of_z w64 c.area.result fits ∙ c.area.ensures.area in
+    let took : (rows : List SolidRow) (list : NoteLists) (n : ℕ) → (0 < length rows → AreTold c.args.frame.height list n (length rows) area carried) → IsLook kept c.args.frame.height list n rows c.loop-next.look → IsLook kept c.args.frame.height list n (rows ++ c.row_of-row.result ∷ []) c.take.new.self =
+    subst (λ (z : ℤ). (rows : List SolidRow) (list : NoteLists) (n : ℕ) → (0 < length rows → AreTold z list n (length rows) area carried) → IsLook kept z list n rows c.loop-next.look → IsLook kept z list n (rows ++ c.row_of-row.result ∷ []) c.take.new.self) c.requires.height
+    (subst (λ (k : Bool). (rows : List SolidRow) (list : NoteLists) (n : ℕ) → (0 < length rows → AreTold c.args.room.now.height list n (length rows) area carried) → IsLook k c.args.room.now.height list n rows c.loop-next.look → IsLook k c.args.room.now.height list n (rows ++ c.row_of-row.result ∷ []) c.take.new.self) c.requires.kept c.take.ensures.look) in
+    let more : LooksOn kept c.args.frame.height own (c.loop-next.notes.areas.items ++ c.in_ok-take.ensures.areas.0 ∷ []) carried t (old ++ solid_view c.in-Some.solid ∷ []) c.take.new.self =
+    look_on t kept c.args.frame.height own c.loop-next.notes.areas.items area c.in_ok-take.ensures.areas.0 carried old (solid_view c.in-Some.solid) c.loop-next.look c.take.new.self c.row_of-row.result c.row_of-row.ensures size area_is took c.loop-next.invariant.look in
+    subst (λ (vs : List SolidView). LooksOn kept c.args.frame.height own c.take-in-loop-next.new.self.areas.items carried t vs c.take.new.self) (sym (views_now g c))
     (subst (λ (zs : List ℤ). LooksOn kept c.args.frame.height own zs carried t (old ++ solid_view c.in-Some.solid ∷ []) c.take.new.self) (sym c.in_ok-take.ensures.areas.1) more)
 
 -- whether solids were read before this one
-is_first : (g : given.Over) (c : Else-is_err g) → c.is_empty-is_first.result ≡ (length c.loop-solid.solids.items == 0)
-is_first g c = let kept : vec_len c.loop-solid.solids ≡ length c.loop-solid.solids.items = omega arith in c.is_empty-is_first.ensures ∙ ap (λ (n : ℕ). n == 0) kept
+is_first : (g : given.Over) (c : Else-is_err g) → c.is_empty-is_first.result ≡ (length c.loop-next.solids.items == 0)
+is_first g c = let kept : vec_len c.loop-next.solids ≡ length c.loop-next.solids.items = omega arith in c.is_empty-is_first.ensures ∙ ap (λ (n : ℕ). n == 0) kept
 
-frees : (g : given.Over) (c : Else-is_err g) → c.ends_page-ends.result ≡ false → AreFree (rows_of c.args.flow.now.main (map solid_view c.push-in-Some.new.self.items))
+frees : (g : given.Over) (c : Else-is_err g) → c.ends_page-ends.result ≡ false → AreFree (rows_of c.args.flow.now.main (map solid_view c.push-in-loop-next.new.self.items))
 frees g c on =
     let t : Tree = c.args.flow.now.main in
-    let old : List SolidView = map solid_view c.loop-solid.solids.items in
-    let size : length old ≡ length c.loop-solid.solids.items = rw length-map refl in
+    let old : List SolidView = map solid_view c.loop-next.solids.items in
+    let size : length old ≡ length c.loop-next.solids.items = rw length-map refl in
     subst (λ (vs : List SolidView). AreFree (rows_of t vs)) (sym (views_now g c))
-    (views_free t old (solid_view c.in-Some.solid) c.loop-solid.invariant.free (λ h. c.ends_page-ends.ensures.free on (is_first g c ∙ some_read (length c.loop-solid.solids.items) (omega arith))))
+    (views_free t old (solid_view c.in-Some.solid) c.loop-next.invariant.free (λ h. c.ends_page-ends.ensures.free on (is_first g c ∙ some_read (length c.loop-next.solids.items) (omega arith))))
 
-few : (g : given.Over) (c : After-row_of-row g) → length c.loop-solid.solids.items ≤ 2 ^ 26
+few : (g : given.Over) (c : After-row_of-row g) → length c.loop-next.solids.items ≤ 2 ^ 26
 few g c =
-    let size : length (map solid_view c.loop-solid.solids.items) ≡ length c.loop-solid.solids.items = rw length-map refl in
-    subst (λ (n : ℕ). n ≤ 2 ^ 26) size (read_few c.args.faces.now c.args.flow.now.main c.args.frame c.args.from.at c.args.from.kept 0 [] (pos 0) c.count-count.ensures.tree c.requires.holds (map solid_view c.loop-solid.solids.items) c.loop-solid.at c.loop-solid.invariant.holds c.loop-solid.invariant.goes c.requires.flow.main.bytes)
+    let size : length (map solid_view c.loop-next.solids.items) ≡ length c.loop-next.solids.items = rw length-map refl in
+    subst (λ (n : ℕ). n ≤ 2 ^ 26) size (read_few c.args.faces.now c.args.flow.now.main c.args.frame c.args.from.at c.args.from.kept 0 [] (pos 0) c.count-count.ensures.tree c.requires.holds (map solid_view c.loop-next.solids.items) c.loop-next.at c.loop-next.invariant.holds c.loop-next.invariant.goes c.requires.flow.main.bytes)
 
-pub loop-solid-init : goal.loop-solid-init
-loop-solid-init g c =
+-- what is held once the solid and its notes are read
+solid_keeps : (g : given.Over) (c : Else-is_err g) → KeepsHeld c.args.lines.now.kept c.next_solid_kept.new.lines.kept
+solid_keeps g c = keeps_twice c.args.lines.now.kept c.loop-next.lines.kept c.next_solid_kept.new.lines.kept c.loop-next.invariant.keeps c.next_solid_kept.ensures.keeps
+
+keeps_on : (g : given.Over) (c : Else-is_err g) → KeepsHeld c.args.lines.now.kept c.take-in-loop-next.new.lines.kept
+keeps_on g c = keeps_twice c.args.lines.now.kept c.next_solid_kept.new.lines.kept c.take-in-loop-next.new.lines.kept (solid_keeps g c) c.take-in-loop-next.ensures.keeps
+
+takes_on : (g : given.Over) (c : Else-is_err g) → TakesSteps c.args.lines.now.kept c.take-in-loop-next.new.lines.kept c.args.steps.now c.take-in-loop-next.new.steps
+takes_on g c =
+    let old = c.args.lines.now.kept in
+    let at = c.loop-next.lines.kept in
+    let mid = c.next_solid_kept.new.lines.kept in
+    takes_twice old mid c.take-in-loop-next.new.lines.kept c.args.steps.now c.next_solid_kept.new.steps c.take-in-loop-next.new.steps (solid_keeps g c) c.take-in-loop-next.ensures.keeps
+    (takes_twice old at mid c.args.steps.now c.loop-next.steps c.next_solid_kept.new.steps c.loop-next.invariant.keeps c.next_solid_kept.ensures.keeps c.loop-next.invariant.takes c.in-Ok.ensures.takes)
+    c.in_ok-take.ensures.takes
+
+held_now : (g : given.Over) (c : Else-is_err g) → All (λ (v : SolidView). IsHeldNow c.args.flow.now.main c.args.frame.width c.take-in-loop-next.new.lines.kept v.placed_at) (map solid_view c.push-in-loop-next.new.self.items)
+held_now g c =
+    let wide : SFits w64 c.args.frame.width = search rules in
+    let t : Tree = c.args.flow.now.main in
+    let mid = c.next_solid_kept.new.lines.kept in
+    let now : IsHeldNow t c.args.frame.width mid c.in-Some.solid.placed_at = subst (λ (w : ℤ). IsHeldNow t w mid c.in-Some.solid.placed_at) (to_z-of_z w64 c.args.frame.width wide) (rw c.in-Some.is at c.in-Ok.ensures.now) in
+    views_on t c.args.frame.width mid c.take-in-loop-next.new.lines.kept (map solid_view c.push-in-loop-next.new.self.items) c.take-in-loop-next.ensures.keeps
+    (views_next t c.args.frame.width c.loop-next.lines.kept mid (map solid_view c.loop-next.solids.items) (map solid_view c.push-in-loop-next.new.self.items) (solid_view c.in-Some.solid) c.next_solid_kept.ensures.keeps now (views_now g c) c.loop-next.invariant.held)
+
+noted_on : (g : given.Over) (c : Else-is_err g) → AreHeldNow c.args.flow.now.notes c.args.frame.width c.args.lines.now.kept c.args.notes.now.list.solids.items → AreHeldNow c.args.flow.now.notes c.args.frame.width c.take-in-loop-next.new.lines.kept c.take-in-loop-next.new.self.list.solids.items
+noted_on g c h = c.in_ok-take.ensures.now (held_more c.args.flow.now.notes c.args.frame.width c.loop-next.lines.kept c.next_solid_kept.new.lines.kept c.loop-next.notes.list.solids.items c.next_solid_kept.ensures.keeps (c.loop-next.invariant.noted h))
+
+pub take-requires-in-loop-next-clause-kept : goal.take-requires-in-loop-next-clause-kept
+take-requires-in-loop-next-clause-kept g c = main_lines c.args.faces.now c.args.flow.now c.loop-next.lines c.next_solid_kept.new.lines c.loop-next.invariant.kept c.next_solid_kept.ensures.kept c.next_solid_kept.ensures.places
+
+pub loop-next-init : goal.loop-next-init
+loop-next-init g c =
     let none = c.new-solids.ensures.items in
     let read = c.requires.read.1 in
     record {
@@ -135,41 +172,46 @@ loop-solid-init g c =
       look = λ list told. subst (λ (xs : List Solid). IsLook c.args.from.kept c.args.frame.height list c.args.notes.now.list.own (rows_of c.args.flow.now.main (map solid_view xs)) c.start-look.result) (sym none) (c.start-look.ensures.look c.args.from.kept c.args.frame.height list c.args.notes.now.list.own);
       free = subst (λ (xs : List Solid). AreFree (rows_of c.args.flow.now.main (map solid_view xs))) (sym none) (λ k r e. absurd (cc));
       read = subst (λ (xs : List Solid). HasRead (length xs) c.start-look.result) (sym none) c.start-look.ensures.read;
+      kept = c.requires.lines_are;
+      keeps = keeps_all c.args.lines.now.kept;
+      takes = takes_none c.args.lines.now.kept c.args.lines.now.kept c.args.steps.now;
+      held = rw none (λ k d h. absurd (omega arith));
+      noted = λ h. h;
     }
 
 pub area-requires : goal.area-requires
 area-requires g c = (first_read g (goal.at.area-requires g c).After-row_of-row).small
 
-pub take-requires-in-Some-clause-ready : goal.take-requires-in-Some-clause-ready
-take-requires-in-Some-clause-ready g c = (first_read g (goal.at.take-requires-in-Some-clause-ready g c).After-row_of-row).ready
+pub take-requires-in-loop-next-clause-ready : goal.take-requires-in-loop-next-clause-ready
+take-requires-in-loop-next-clause-ready g c = (first_read g (goal.at.take-requires-in-loop-next-clause-ready g c).After-row_of-row).ready
 
-pub take-requires-in-Some-clause-ends : goal.take-requires-in-Some-clause-ends
-take-requires-in-Some-clause-ends g c = (first_read g (goal.at.take-requires-in-Some-clause-ends g c).After-row_of-row).held
+pub take-requires-in-loop-next-clause-ends : goal.take-requires-in-loop-next-clause-ends
+take-requires-in-loop-next-clause-ends g c = (first_read g (goal.at.take-requires-in-loop-next-clause-ends g c).After-row_of-row).held
 
-pub take-requires-in-Some-clause-called : goal.take-requires-in-Some-clause-called
-take-requires-in-Some-clause-called g c =
+pub take-requires-in-loop-next-clause-called : goal.take-requires-in-loop-next-clause-called
+take-requires-in-loop-next-clause-called g c =
     let wide : SFits w64 c.args.frame.width = search rules in
-    c.loop-solid.invariant.calls (solid_view c.in-Some.solid) (subst (λ (w : ℤ). IsSolid c.args.faces.now c.args.flow.now.main w c.loop-solid.at (solid_view c.in-Some.solid)) (to_z-of_z w64 c.args.frame.width wide) c.in-Some.ensures.solid)
+    c.loop-next.invariant.calls (solid_view c.in-Some.solid) (subst (λ (w : ℤ). IsSolid c.args.faces.now c.args.flow.now.main w c.loop-next.at (solid_view c.in-Some.solid)) (to_z-of_z w64 c.args.frame.width wide) (rw c.in-Some.is at c.in-Ok.ensures.solid))
 
 pub row_of-row-requires : goal.row_of-row-requires
-row_of-row-requires g c = let low = solid_within c.args.flow.now.main c.loop-solid.at.event c.in-Some.solid.placed_at.event c.in-Some.ensures.solid.found in omega arith
+row_of-row-requires g c = let low = solid_within c.args.flow.now.main c.loop-next.at.event c.in-Some.solid.placed_at.event (rw c.in-Some.is at c.in-Ok.ensures.solid).found in omega arith
 
 pub take-requires-clause-read : goal.take-requires-clause-read
 take-requires-clause-read g c =
     let n = few g (goal.at.take-requires-clause-read g c).After-row_of-row in
-    (reached_low (length c.loop-solid.solids.items) most_entries c.loop-solid.look.reach n c.loop-solid.invariant.read.0, c.loop-solid.invariant.read.1)
+    (reached_low (length c.loop-next.solids.items) most_entries c.loop-next.look.reach n c.loop-next.invariant.read.0, c.loop-next.invariant.read.1)
 
 pub take-requires-clause-small : goal.take-requires-clause-small
 take-requires-clause-small g c =
-    let s = c.in-Some.ensures.small in
+    let s = (rw c.in-Some.is at c.in-Ok.ensures.small) in
     subst IsSmallRow (sym c.row_of-row.ensures) (record { kept = s.kept; whole = s.whole; head = s.head; tail = s.tail; height = s.height; some = s.some })
 
 pub returns-then-is_enough-clause-prefix : goal.returns-then-is_enough-clause-prefix
 returns-then-is_enough-clause-prefix g c =
     let d = (goal.at.returns-then-is_enough-clause-prefix g c).Else-is_err in
-    let views : List SolidView = map solid_view c.push-in-Some.new.self.items in
+    let views : List SolidView = map solid_view c.push-in-loop-next.new.self.items in
     let some : 0 < length views = rw (views_now g d, length-append) (omega arith) in
-    read_missed c.args.faces.now c.args.flow.now.main c.args.frame c.args.from.at c.args.from.kept c.args.notes.now.list.own c.take-in-Some.new.self.areas.items c.args.room.now.carried c.count-count.ensures.tree c.requires.holds c.requires.frame.width_low views c.in-Some.solid.end c.in-Some.ensures.holds (goes_on g d) some (frees g d c.if-ends.false)
+    read_missed c.args.faces.now c.args.flow.now.main c.args.frame c.args.from.at c.args.from.kept c.args.notes.now.list.own c.take-in-loop-next.new.self.areas.items c.args.room.now.carried c.count-count.ensures.tree c.requires.holds c.requires.frame.width_low views c.in-Some.solid.end (rw c.in-Some.is at c.in-Ok.ensures.holds) (goes_on g d) some (frees g d c.if-ends.false)
     (λ list told. c.is_enough.ensures.enough c.if-is_enough.true c.args.from.kept c.args.frame.height list c.args.notes.now.list.own (rows_of c.args.flow.now.main views) (looks g d list told))
 
 pub returns-then-is_enough-clause-read : goal.returns-then-is_enough-clause-read
@@ -194,14 +236,14 @@ pub returns-then-ends-clause-prefix : goal.returns-then-ends-clause-prefix
 returns-then-ends-clause-prefix g c =
     let d = (goal.at.returns-then-ends-clause-prefix g c).Else-is_err in
     let t : Tree = c.args.flow.now.main in
-    let old : List SolidView = map solid_view c.loop-solid.solids.items in
-    let views : List SolidView = map solid_view c.push-in-Some.new.self.items in
-    let size : length old ≡ length c.loop-solid.solids.items = rw length-map refl in
+    let old : List SolidView = map solid_view c.loop-next.solids.items in
+    let views : List SolidView = map solid_view c.push-in-loop-next.new.self.items in
+    let size : length old ≡ length c.loop-next.solids.items = rw length-map refl in
     let ends = c.ends_page-ends.ensures.forced c.if-ends.true in
-    let before : 0 < length c.loop-solid.solids.items = none_again (length c.loop-solid.solids.items) (sym (is_first g d) ∙ ends.0) in
+    let before : 0 < length c.loop-next.solids.items = none_again (length c.loop-next.solids.items) (sym (is_first g d) ∙ ends.0) in
     let some : 0 < length views = rw (views_now g d, length-append) (omega arith) in
     let forced : HasForced (rows_of t views) = subst (λ (vs : List SolidView). HasForced (rows_of t vs)) (sym (views_now g d)) (views_forced t old (solid_view c.in-Some.solid) (omega arith) ends.1) in
-    read_forced c.args.faces.now t c.args.frame c.args.from.at c.args.from.kept c.args.notes.now.list.own c.take-in-Some.new.self.areas.items c.args.room.now.carried c.count-count.ensures.tree c.requires.holds views c.in-Some.solid.end c.in-Some.ensures.holds (goes_on g d) some forced
+    read_forced c.args.faces.now t c.args.frame c.args.from.at c.args.from.kept c.args.notes.now.list.own c.take-in-loop-next.new.self.areas.items c.args.room.now.carried c.count-count.ensures.tree c.requires.holds views c.in-Some.solid.end (rw c.in-Some.is at c.in-Ok.ensures.holds) (goes_on g d) some forced
 
 pub returns-then-ends-clause-read : goal.returns-then-ends-clause-read
 returns-then-ends-clause-read g c = reads g (goal.at.returns-then-ends-clause-read g c).Else-is_err
@@ -212,35 +254,96 @@ returns-then-ends-clause-small g c = small_on g (goal.at.returns-then-ends-claus
 pub returns-then-ends-clause-placed : goal.returns-then-ends-clause-placed
 returns-then-ends-clause-placed g c = placed_on g (goal.at.returns-then-ends-clause-placed g c).Else-is_err
 
-pub loop-solid-smaller : goal.loop-solid-smaller
-loop-solid-smaller g c =
-    let d = (goal.at.loop-solid-smaller g c).Else-is_err in
-    solid_falls c.args.faces.now c.args.flow.now.main c.args.frame.width c.loop-solid.at (solid_view c.in-Some.solid) c.count-count.ensures.tree (stands c.args.flow.now.main c.loop-solid.at c.loop-solid.invariant.holds) (solid_is g d)
+pub loop-next-smaller : goal.loop-next-smaller
+loop-next-smaller g c =
+    let d = (goal.at.loop-next-smaller g c).Else-is_err in
+    solid_falls c.args.faces.now c.args.flow.now.main c.args.frame.width c.loop-next.at (solid_view c.in-Some.solid) c.count-count.ensures.tree (stands c.args.flow.now.main c.loop-next.at c.loop-next.invariant.holds) (solid_is g d)
 
-pub loop-solid-preserved : goal.loop-solid-preserved
-loop-solid-preserved g c =
-    let d = (goal.at.loop-solid-preserved g c).Else-is_err in
-    let size : length c.push-in-Some.new.self.items ≡ length c.loop-solid.solids.items + 1 = ap (λ (l : List Solid). length l) (pushed g d) ∙ length-append c.loop-solid.solids.items (c.in-Some.solid ∷ []) in
+pub loop-next-preserved : goal.loop-next-preserved
+loop-next-preserved g c =
+    let d = (goal.at.loop-next-preserved g c).Else-is_err in
+    let size : length c.push-in-loop-next.new.self.items ≡ length c.loop-next.solids.items + 1 = ap (λ (l : List Solid). length l) (pushed g d) ∙ length-append c.loop-next.solids.items (c.in-Some.solid ∷ []) in
     record {
-      holds = c.in-Some.ensures.holds;
-      widths = c.in-Some.ensures.widths ∙ ap (λ (w : ℤ). widths_at c.args.flow.now.main w c.in-Some.solid.end) (let wide : SFits w64 c.args.frame.width = search rules in to_z-of_z w64 c.args.frame.width wide);
+      holds = (rw c.in-Some.is at c.in-Ok.ensures.holds);
+      widths = (rw c.in-Some.is at c.in-Ok.ensures.widths) ∙ ap (λ (w : ℤ). widths_at c.args.flow.now.main w c.in-Some.solid.end) (let wide : SFits w64 c.args.frame.width = search rules in to_z-of_z w64 c.args.frame.width wide);
       goes = goes_on g d;
       small = small_on g d;
       placed = placed_on g d;
       own = owns g d;
       are = reads g d;
       calls = λ s is.
-          let low = called_on c.args.faces.now c.args.flow.now.main c.args.frame.width c.in-Some.solid.end s c.count-count.ensures.tree (stands c.args.flow.now.main c.in-Some.solid.end c.in-Some.ensures.holds) is c.args.flow.now.notes in
+          let low = called_on c.args.faces.now c.args.flow.now.main c.args.frame.width c.in-Some.solid.end s c.count-count.ensures.tree (stands c.args.flow.now.main c.in-Some.solid.end (rw c.in-Some.is at c.in-Ok.ensures.holds)) is c.args.flow.now.notes in
           let here = c.in_ok-take.ensures.called in
           omega arith;
       free = frees g d (c.if-ends.false);
       rows = rows_on g d;
       look = looks g d;
-      read = rw size (c.take.ensures.read (length c.loop-solid.solids.items) c.loop-solid.invariant.read);
+      read = rw size (c.take.ensures.read (length c.loop-next.solids.items) c.loop-next.invariant.read);
+      kept = c.take-in-loop-next.ensures.kept;
+      keeps = keeps_on g d;
+      takes = takes_on g d;
+      held = held_now g d;
+      noted = noted_on g d;
     }
 
-pub returns-clause-prefix : goal.returns-clause-prefix
-returns-clause-prefix g c = read_all c.args.faces.now c.args.flow.now.main c.args.frame c.args.from.at c.args.from.kept c.args.notes.now.list.own c.loop-solid.notes.areas.items c.args.room.now.carried c.count-count.ensures.tree c.requires.holds (map solid_view c.loop-solid.solids.items) c.loop-solid.at c.loop-solid.invariant.goes c.in_default.ensures.solid
+pub returns-in_default-next-clause-prefix : goal.returns-in_default-next-clause-prefix
+returns-in_default-next-clause-prefix g c = read_all c.args.faces.now c.args.flow.now.main c.args.frame c.args.from.at c.args.from.kept c.args.notes.now.list.own c.loop-next.notes.areas.items c.args.room.now.carried c.count-count.ensures.tree c.requires.holds (map solid_view c.loop-next.solids.items) c.loop-next.at c.loop-next.invariant.goes (rw c.in_default-next.is at c.in-Ok.ensures.solid)
 
-pub next_solid-requires-clause-widths : goal.next_solid-requires-clause-widths
-next_solid-requires-clause-widths g c = c.loop-solid.invariant.widths ∙ ap (λ (w : ℤ). widths_at c.args.flow.now.main w c.loop-solid.at) (let wide : SFits w64 c.args.frame.width = search rules in sym (to_z-of_z w64 c.args.frame.width wide))
+pub next_solid_kept-requires-clause-widths : goal.next_solid_kept-requires-clause-widths
+next_solid_kept-requires-clause-widths g c = c.loop-next.invariant.widths ∙ ap (λ (w : ℤ). widths_at c.args.flow.now.main w c.loop-next.at) (let wide : SFits w64 c.args.frame.width = search rules in sym (to_z-of_z w64 c.args.frame.width wide))
+
+pub returns-then-ends-clause-keeps : goal.returns-then-ends-clause-keeps
+returns-then-ends-clause-keeps g c = keeps_on g (goal.at.returns-then-ends-clause-keeps g c).Else-is_err
+
+pub returns-then-ends-clause-takes : goal.returns-then-ends-clause-takes
+returns-then-ends-clause-takes g c = takes_on g (goal.at.returns-then-ends-clause-takes g c).Else-is_err
+
+pub returns-then-ends-clause-held : goal.returns-then-ends-clause-held
+returns-then-ends-clause-held g c = held_now g (goal.at.returns-then-ends-clause-held g c).Else-is_err
+
+pub returns-then-ends-clause-noted : goal.returns-then-ends-clause-noted
+returns-then-ends-clause-noted g c = noted_on g (goal.at.returns-then-ends-clause-noted g c).Else-is_err
+
+pub returns-then-is_enough-clause-keeps : goal.returns-then-is_enough-clause-keeps
+returns-then-is_enough-clause-keeps g c = keeps_on g (goal.at.returns-then-is_enough-clause-keeps g c).Else-is_err
+
+pub returns-then-is_enough-clause-takes : goal.returns-then-is_enough-clause-takes
+returns-then-is_enough-clause-takes g c = takes_on g (goal.at.returns-then-is_enough-clause-takes g c).Else-is_err
+
+pub returns-then-is_enough-clause-held : goal.returns-then-is_enough-clause-held
+returns-then-is_enough-clause-held g c = held_now g (goal.at.returns-then-is_enough-clause-held g c).Else-is_err
+
+pub returns-then-is_enough-clause-noted : goal.returns-then-is_enough-clause-noted
+returns-then-is_enough-clause-noted g c = noted_on g (goal.at.returns-then-is_enough-clause-noted g c).Else-is_err
+
+-- no solid is left
+pub returns-in_default-next-clause-kept : goal.returns-in_default-next-clause-kept
+returns-in_default-next-clause-kept g c = main_lines c.args.faces.now c.args.flow.now c.loop-next.lines c.next_solid_kept.new.lines c.loop-next.invariant.kept c.next_solid_kept.ensures.kept c.next_solid_kept.ensures.places
+
+pub returns-in_default-next-clause-keeps : goal.returns-in_default-next-clause-keeps
+returns-in_default-next-clause-keeps g c = keeps_twice c.args.lines.now.kept c.loop-next.lines.kept c.next_solid_kept.new.lines.kept c.loop-next.invariant.keeps c.next_solid_kept.ensures.keeps
+
+pub returns-in_default-next-clause-takes : goal.returns-in_default-next-clause-takes
+returns-in_default-next-clause-takes g c = takes_twice c.args.lines.now.kept c.loop-next.lines.kept c.next_solid_kept.new.lines.kept c.args.steps.now c.loop-next.steps c.next_solid_kept.new.steps c.loop-next.invariant.keeps c.next_solid_kept.ensures.keeps c.loop-next.invariant.takes c.in-Ok.ensures.takes
+
+pub returns-in_default-next-clause-held : goal.returns-in_default-next-clause-held
+returns-in_default-next-clause-held g c = views_on c.args.flow.now.main c.args.frame.width c.loop-next.lines.kept c.next_solid_kept.new.lines.kept (map solid_view c.loop-next.solids.items) c.next_solid_kept.ensures.keeps c.loop-next.invariant.held
+
+pub returns-in_default-next-clause-noted : goal.returns-in_default-next-clause-noted
+returns-in_default-next-clause-noted g c h = held_more c.args.flow.now.notes c.args.frame.width c.loop-next.lines.kept c.next_solid_kept.new.lines.kept c.loop-next.notes.list.solids.items c.next_solid_kept.ensures.keeps (c.loop-next.invariant.noted h)
+
+-- where memory is wanting
+pub returns-in_default-clause-kept : goal.returns-in_default-clause-kept
+returns-in_default-clause-kept g c = main_lines c.args.faces.now c.args.flow.now c.loop-next.lines c.next_solid_kept.new.lines c.loop-next.invariant.kept c.next_solid_kept.ensures.kept c.next_solid_kept.ensures.places
+
+pub returns-in_default-clause-keeps : goal.returns-in_default-clause-keeps
+returns-in_default-clause-keeps g c = keeps_twice c.args.lines.now.kept c.loop-next.lines.kept c.next_solid_kept.new.lines.kept c.loop-next.invariant.keeps c.next_solid_kept.ensures.keeps
+
+pub returns-in_err-take-clause-keeps : goal.returns-in_err-take-clause-keeps
+returns-in_err-take-clause-keeps g c = keeps_twice c.args.lines.now.kept c.next_solid_kept.new.lines.kept c.take-in-loop-next.new.lines.kept (keeps_twice c.args.lines.now.kept c.loop-next.lines.kept c.next_solid_kept.new.lines.kept c.loop-next.invariant.keeps c.next_solid_kept.ensures.keeps) c.take-in-loop-next.ensures.keeps
+
+pub returns-in_err-push-clause-keeps : goal.returns-in_err-push-clause-keeps
+returns-in_err-push-clause-keeps g c = keeps_twice c.args.lines.now.kept c.next_solid_kept.new.lines.kept c.take-in-loop-next.new.lines.kept (keeps_twice c.args.lines.now.kept c.loop-next.lines.kept c.next_solid_kept.new.lines.kept c.loop-next.invariant.keeps c.next_solid_kept.ensures.keeps) c.take-in-loop-next.ensures.keeps
+
+pub returns-then-is_err-clause-keeps : goal.returns-then-is_err-clause-keeps
+returns-then-is_err-clause-keeps g c = keeps_twice c.args.lines.now.kept c.next_solid_kept.new.lines.kept c.take-in-loop-next.new.lines.kept (keeps_twice c.args.lines.now.kept c.loop-next.lines.kept c.next_solid_kept.new.lines.kept c.loop-next.invariant.keeps c.next_solid_kept.ensures.keeps) c.take-in-loop-next.ensures.keeps

@@ -1,19 +1,21 @@
 use Rattle.std.proofs.Common.{◌≡◌, ◌≤◌, ◌++◌, [], List, map, length}
 use Rattle.std.specs.List.{All}
 use Rattle.boxes.specs.Tree.{Holds}
+use Rattle.cursor.specs.Asks.{IsHeldNow, KeepsHeld, TakesSteps}
 use Rattle.cursor.specs.Fields.{solid_view}
 use Rattle.cursor.specs.Remainder.{IsRemainder, IsSmallSolid, IsSolid, SolidView}
 use Rattle.cursor.proofs.RemLemmas.{left_from}
 use Rattle.seams.specs.Widths.{widths_at}
 use Rattle.cuts.specs.Prefixes.{AreFree, HasRead}
+use Rattle.note_list.specs.Kept.{AreFlowLines, AreHeldNow}
 use Rattle.note_list.specs.declared.carried.Carried.{Carried}
 use Rattle.page_list.specs.Cuts.{rows_of}
 use Rattle.fragment.specs.Reads.{AreRead, called_by}
 use Rattle.fragment.proofs.FlowLemmas.{LooksOn}
 use Rattle.fragment.proofs.prefix.prefix.Given as goal
 
-abbrev pub invariant-loop-solid : goal.invariant-loop-solid
-invariant-loop-solid g l = record {
+abbrev pub invariant-loop-next : goal.invariant-loop-next
+invariant-loop-next g l = record {
   holds : Holds l.flow.main l.at;
   widths : l.widths.flow ≡ widths_at l.flow.main l.fn.frame.width l.at;
   goes : (rest : List SolidView) → IsRemainder l.faces l.flow.main l.fn.frame.width l.at rest → IsRemainder l.faces l.flow.main l.fn.frame.width l.fn.from.at (map solid_view l.solids.items ++ rest);
@@ -26,7 +28,12 @@ invariant-loop-solid g l = record {
   rows : l.rows.items ≡ rows_of l.flow.main (map solid_view l.solids.items);
   free : AreFree (rows_of l.flow.main (map solid_view l.solids.items));
   read : HasRead (length l.solids.items) l.look;
+  kept : AreFlowLines l.faces l.flow l.lines;
+  keeps : KeepsHeld l.fn.lines.kept l.lines.kept;
+  takes : TakesSteps l.fn.lines.kept l.lines.kept l.fn.steps l.steps;
+  held : All (λ (v : SolidView). IsHeldNow l.flow.main l.fn.frame.width l.lines.kept v.placed_at) (map solid_view l.solids.items);
+  noted : AreHeldNow l.flow.notes l.fn.frame.width l.fn.lines.kept l.initial.notes.list.solids.items → AreHeldNow l.flow.notes l.fn.frame.width l.lines.kept l.notes.list.solids.items;
 }
 
-abbrev pub decreases-loop-solid : goal.decreases-loop-solid
-decreases-loop-solid g l = left_from l.flow.main l.at
+abbrev pub decreases-loop-next : goal.decreases-loop-next
+decreases-loop-next g l = left_from l.flow.main l.at

@@ -1,5 +1,7 @@
 use Rattle.std.proofs.Common.{◌<◌, ◌≤◌, true, [], ◌∷◌, refl, sym, subst, arith, ◌∙◌}
 use Rattle.note_list.specs.Calls.{start_place}
+use Rattle.cursor.proofs.AskLemmas.{keeps_all, keeps_twice}
+use Rattle.cursor.proofs.StepLemmas.{takes_none, takes_twice}
 use Rattle.note_list.specs.Conditions.{IsHeld}
 use Rattle.note_list.specs.declared.carried.Carried.{Carried}
 use Rattle.note_list.proofs.NotedLemmas.{start_held}
@@ -15,7 +17,11 @@ loop-note-init g c = record {
   high = omega arith;
   calls = call_start c.args.faces.now c.args.flow.now.notes c.args.frame.width c.args.frame.height c.args.from c.args.self.now;
   short = λ h. h;
-  lines = refl;
+  lines = omega arith;
+  kept = c.requires.kept;
+  keeps = keeps_all c.args.lines.now.kept;
+  takes = takes_none c.args.lines.now.kept c.args.lines.now.kept c.args.steps.now;
+  now = λ h. h;
 }
 
 pub loop-note-preserved : goal.loop-note-preserved
@@ -33,6 +39,10 @@ loop-note-preserved g c =
       calls = call_next c.args.faces.now c.args.flow.now.notes c.args.frame.width c.args.frame.height c.args.from c.loop-note.note c.args.self.now c.loop-note.self c.read.new.self low c.loop-note.invariant.calls next;
       short = λ h. c.in_ok-read.ensures.short (c.loop-note.invariant.short h);
       lines = let more = c.in_ok-read.ensures.lines in let count = c.loop-note.invariant.lines in omega (arith, more, count);
+      kept = c.read.ensures.kept;
+      keeps = keeps_twice c.args.lines.now.kept c.loop-note.lines.kept c.read.new.lines.kept c.loop-note.invariant.keeps c.read.ensures.keeps;
+      takes = takes_twice c.args.lines.now.kept c.loop-note.lines.kept c.read.new.lines.kept c.args.steps.now c.loop-note.steps c.read.new.steps c.loop-note.invariant.keeps c.read.ensures.keeps c.loop-note.invariant.takes c.in_ok-read.ensures.takes;
+      now = λ h. c.in_ok-read.ensures.now (c.loop-note.invariant.now h);
     }
 
 pub read-requires-clause-held : goal.read-requires-clause-held
@@ -45,3 +55,6 @@ pub returns-clause-list : goal.returns-clause-list
 returns-clause-list g c =
     let end : c.args.to ≤ c.loop-note.note = c.loop-note-test.false in
     call_end c.args.faces.now c.args.flow.now.notes c.args.frame.width c.args.frame.height c.args.from c.args.to c.loop-note.note c.args.self.now c.loop-note.self c.loop-note.invariant.low c.loop-note.invariant.high end c.loop-note.invariant.calls
+
+pub returns-in_err-read-clause-keeps : goal.returns-in_err-read-clause-keeps
+returns-in_err-read-clause-keeps g c = keeps_twice c.args.lines.now.kept c.loop-note.lines.kept c.read.new.lines.kept c.loop-note.invariant.keeps c.read.ensures.keeps

@@ -1,4 +1,6 @@
 use Rattle.std.proofs.Common.{◌≡◌, ◌≤◌, ◌+◌, max}
+use Rattle.cursor.specs.Asks.{KeepsHeld, TakesSteps}
+use Rattle.note_list.specs.Kept.{AreFlowLines, AreHeldNow}
 use Rattle.note_list.specs.Lists.{called_parts}
 use Rattle.note_list.specs.Reads.{EndInNotes, IsReady}
 use Rattle.note_list.specs.Short.{IsShortList, lines_in}
@@ -14,5 +16,9 @@ invariant-loop-note g l = record {
   high : l.note ≤ max l.fn.from l.fn.to;
   calls : Calls l.faces l.flow.notes l.fn.frame.width l.fn.frame.height (called_parts l.fn.from l.note) l.fn.self l.self;
   short : IsShortList l.fn.frame.height l.fn.self → IsShortList l.fn.frame.height l.self;
-  lines : l.steps + lines_in l.fn.self.solids.items ≡ l.fn.steps + lines_in l.self.solids.items;
+  lines : l.steps + lines_in l.fn.self.solids.items ≤ l.fn.steps + lines_in l.self.solids.items;
+  kept : AreFlowLines l.faces l.flow l.lines;
+  keeps : KeepsHeld l.fn.lines.kept l.lines.kept;
+  takes : TakesSteps l.fn.lines.kept l.lines.kept l.fn.steps l.steps;
+  now : AreHeldNow l.flow.notes l.fn.frame.width l.fn.lines.kept l.fn.self.solids.items → AreHeldNow l.flow.notes l.fn.frame.width l.lines.kept l.self.solids.items;
 }

@@ -4,6 +4,7 @@ use Rattle.std.proofs.lemmas.List.Elements.{All-nil}
 use mir.Val.{SFits}
 use mir.Syntax.{w64}
 use Rattle.notes.specs.Notes.{IsCarryCount}
+use Rattle.note_list.specs.Kept.{AreHeldNow, IsHeldIn}
 use Rattle.note_list.specs.Lists.{note_rows}
 use Rattle.note_list.proofs.BodyLemmas.{EndsIn, read_none, read_same}
 use Rattle.note_list.specs.Short.{lines_in}
@@ -40,3 +41,9 @@ returns-clause-lines g c =
     let same : lines_in c.hold.new.self.solids.items ≡ lines_in c.read_carried.new.self.solids.items = ap (λ (xs : List NotedSolid). lines_in xs) c.in_ok-hold.ensures.solids in
     let count = c.in_ok-read_carried.ensures.lines in
     omega (arith, none, same, count)
+
+pub returns-clause-now : goal.returns-clause-now
+returns-clause-now g c =
+    let none : AreHeldNow c.args.flow.now.notes c.args.frame.width c.args.lines.now.kept c.new-list.result.solids.items =
+    subst (AreHeldNow c.args.flow.now.notes c.args.frame.width c.args.lines.now.kept) (sym c.new-list.ensures.none) (All-nil (λ (s : NotedSolid). IsHeldIn c.args.flow.now.notes c.args.frame.width c.args.lines.now.kept s.note s.at)) in
+    subst (AreHeldNow c.args.flow.now.notes c.args.frame.width c.read_carried.new.lines.kept) (sym c.in_ok-hold.ensures.solids) (c.in_ok-read_carried.ensures.now none)

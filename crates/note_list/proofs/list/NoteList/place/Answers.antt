@@ -9,6 +9,7 @@ use Rattle.note_list.specs.Lists.{placed_notes, note_rows}
 use Rattle.note_list.specs.Places.{IsNear, least_of}
 use Rattle.note_list.specs.declared.solid.NotedSolid.{NotedSolid}
 use Rattle.note_list.proofs.BodyLemmas.{EndsIn}
+use Rattle.note_list.proofs.KeptLemmas.{front_of}
 use Rattle.note_list.proofs.PartLemmas.{GoesOn, IsBelow, RiseBy, left_goes, left_held, left_stands, near_notes, next_low, placing, rise_ascends, rise_below, rise_left, small_taken, some_of, taken_low}
 use Rattle.note_list.proofs.list.NoteList.place.Goals as goal
 
@@ -60,6 +61,14 @@ returns-clause-placed c = λ faces width own list later owned listed after of co
     (c.in_ok-place_all.ensures ∙ ap (placed_notes separator) placed_is)
     (c.in_ok-left_after.ensures ∙ ap (left_after_last c.args.flow.now.notes c.args.carried c.args.from c.args.room.now.to) (c.last_of.ensures ∙ ap (λ (xs : List NotedSolid). slice_get xs (length xs - 1)) placed_is))
     owned listed after of counts fits
+
+pub returns-clause-front : goal.returns-clause-front
+returns-clause-front c =
+    let solids : List NotedSolid = c.args.self.now.solids.items in
+    let read : ℕ = c.count_below.result in
+    let read_is : c.split_at.result.0.now ≡ take read solids = c.split_at.ensures.front ∙ ap (take read) c.as_slice-solids.ensures.value in
+    let placed_is : c.split_at-2.result.0.now ≡ take c.in_ok-number.number (take read solids) = c.split_at-2.ensures.front ∙ ap (take c.in_ok-number.number) read_is in
+    front_of solids read c.in_ok-number.number _ (c.in_ok-place_all.ensures ∙ ap (placed_notes separator) placed_is)
 
 pub returns-clause-held : goal.returns-clause-held
 returns-clause-held c =

@@ -1,4 +1,6 @@
-use Rattle.std.proofs.Common.{◌≤◌, List, length, refl, subst, arith}
+use Rattle.std.proofs.Common.{◌≤◌, List, length, subst, arith}
+use Rattle.cursor.proofs.AskLemmas.{keeps_all, keeps_twice}
+use Rattle.cursor.proofs.StepLemmas.{takes_none, takes_twice}
 use Rattle.note_list.specs.Conditions.{IsHeld}
 use Rattle.note_list.specs.Lists.{carried_parts}
 use Rattle.note_list.specs.declared.carried.Carried.{Carried}
@@ -12,7 +14,11 @@ loop-at-init g c = record {
   ends = c.requires.ends;
   calls = calls_none c.args.faces.now c.args.flow.now.notes c.args.frame.width c.args.frame.height c.args.self.now;
   short = λ h. h;
-  lines = refl;
+  lines = omega arith;
+  kept = c.requires.kept;
+  keeps = keeps_all c.args.lines.now.kept;
+  takes = takes_none c.args.lines.now.kept c.args.lines.now.kept c.args.steps.now;
+  now = λ h. h;
 }
 
 pub returns-then-self-clause-list : goal.returns-then-self-clause-list
@@ -28,6 +34,10 @@ loop-at-preserved g c = record {
   calls = carry_next c.args.faces.now c.args.flow.now.notes c.args.frame.width c.args.frame.height c.args.carried.now c.loop-at.at c.part.result c.args.self.now c.loop-at.self c.read.new.self c.part.ensures c.loop-at.invariant.calls c.in_ok-read.ensures.list;
   short = λ h. c.in_ok-read.ensures.short (c.loop-at.invariant.short h);
   lines = let more = c.in_ok-read.ensures.lines in let count = c.loop-at.invariant.lines in omega (arith, more, count);
+  kept = c.read.ensures.kept;
+  keeps = keeps_twice c.args.lines.now.kept c.loop-at.lines.kept c.read.new.lines.kept c.loop-at.invariant.keeps c.read.ensures.keeps;
+  takes = takes_twice c.args.lines.now.kept c.loop-at.lines.kept c.read.new.lines.kept c.args.steps.now c.loop-at.steps c.read.new.steps c.loop-at.invariant.keeps c.read.ensures.keeps c.loop-at.invariant.takes c.in_ok-read.ensures.takes;
+  now = λ h. c.in_ok-read.ensures.now (c.loop-at.invariant.now h);
 }
 
 pub returns-clause-list : goal.returns-clause-list
@@ -36,3 +46,6 @@ returns-clause-list g c =
     let size = c.len-at-end.ensures in
     let all : length c.args.carried.now ≤ c.loop-at.at = omega arith in
     subst (λ (cs : List Carried). Calls c.args.faces.now c.args.flow.now.notes c.args.frame.width c.args.frame.height (carried_parts cs) c.args.self.now c.loop-at.self) (take_end c.args.carried.now c.loop-at.at all) c.loop-at.invariant.calls
+
+pub returns-in_err-read-clause-keeps : goal.returns-in_err-read-clause-keeps
+returns-in_err-read-clause-keeps g c = keeps_twice c.args.lines.now.kept c.loop-at.lines.kept c.read.new.lines.kept c.loop-at.invariant.keeps c.read.ensures.keeps
