@@ -39,7 +39,7 @@ source_of nodes styles values faces texts points = record {
 -- what a flow is made from, and in a note what is in the note
 abbrev pub source_in : FlowInput → Source
 source_in i = record (source_of i.dom.now i.styles.now (counter_values i.counters.now) i.faces.now i.texts.now
-    (points_in (option_map (λ p. p.now) i.patterns))) {
+    (points_in (option_map (λ h. h.now) i.hyphenator))) {
       is_note = λ n. not i.in_note && is_note_in (slice_get i.styles.now n);
       clones = not i.in_note;
     }

@@ -35,6 +35,7 @@ use crate::inline::BuildErr;
 use crate::input::{FlowInput, is_note_element};
 use crate::notes::{Walker, walk_through};
 use crate::put::Site;
+use crate::words::hyphenator_of;
 use bk_num::items::Items;
 use bk_num::name::{Name, NoMem};
 use bk_num::values::Pseudo;
@@ -45,6 +46,7 @@ use dom::Dom;
 use gen_text::generated::Generated;
 use hyphen::Patterns;
 use metrics::Faces;
+use soft_hyphens::hyphenator::Hyphenator;
 use std::alloc::Global;
 use style::style::Style;
 use style::styles::Styles;
@@ -318,6 +320,64 @@ fn flow_by(alloc: Global, input: &FlowInput) -> Result<Flow, BuildErr>
     }
 }
 
+/// The flow of a document, as `build` makes it, by what hyphenates its words: words that it knows are not looked up in
+/// patterns again.
+///
+/// # Errors
+///
+/// Those of `build`.
+pub fn build_by(
+    alloc: Global,
+    dom: &Dom,
+    styles: &Styles,
+    counters: &CounterAt,
+    faces: &Faces,
+    texts: &Generated,
+    hyphenator: Option<&Hyphenator<'_>>,
+) -> Result<Flow, BuildErr>
+    requires { AreInRange styles.now }
+    ensures flow { IfOk result (λ flow. flow ≡
+        flow_of (source_of dom.now styles.now (counter_values counters.now) faces.now texts.now
+        (points_in (option_map (λ h. h.now) hyphenator.entry)))) }
+    ensures whole { IsRootShown styles.now → IfOk result (λ flow. IsWhole flow.main.events) }
+    ensures depth { IfOk result (λ flow. depth_of flow.main.events ≤ most_open) }
+    ensures faced { IfOk result (λ flow. AreFaced faces.now flow.main.leaves) }
+    ensures bodies { IfOk result (λ flow. All (IsGoodBody faces.now) flow.notes) }
+    ensures notes { IfOk result (λ flow.
+        AreNotesOf (source_of dom.now styles.now (counter_values counters.now) faces.now texts.now
+        (points_in (option_map (λ h. h.now) hyphenator.entry))) flow.notes) }
+    ensures calls { IfOk result (λ flow. NeverFall (map (λ n. n.call) flow.notes)) }
+    ensures few { IfOk result (λ flow. bytes_in flow ≤ most_text_bytes) }
+    ensures events { IfOk result (λ flow. events_in flow ≤ most_events) }
+    ensures count { IfOk result (λ flow. length flow.notes ≤ most_entries) }
+    ensures strings { IfOk result (λ flow. NeverFall (map (λ a. a.at) flow.strings)) }
+    ensures resets { IfOk result (λ flow. NeverFall (map (λ r. r.at) flow.resets)) }
+    ensures small { IfOk result (λ flow. All IsSmallReset flow.resets) }
+    ensures cause { IfErr result (λ e. e ≡ BuildErr.Text → most_text_bytes <
+        bytes_in (flow_of (source_of dom.now styles.now (counter_values counters.now) faces.now texts.now
+        (points_in (option_map (λ h. h.now) hyphenator.entry))))) }
+{
+    prove!(dom.len() > 0);
+    prove!(faces.len() > 0);
+    let Ok(initial) = Style::initial(alloc) else {
+        return Err(BuildErr::NoMemory);
+    };
+    let input = FlowInput {
+        dom,
+        styles,
+        counters,
+        faces,
+        texts,
+        hyphenator,
+        initial: &initial,
+        in_note: false,
+    };
+    match flow_by(alloc, &input) {
+        Ok(flow) => Ok(flow),
+        Err(e) => Err(e),
+    }
+}
+
 /// The flow of a document by its styles, its counters and its generated texts, set in some faces. Its main tree is
 /// whole where the root is shown, and so are the bodies of its notes; each has at most 2,048 boxes open at once, and
 /// its faces are there. Where patterns are given, U+00AD stands at the points of the words that are hyphenated.
@@ -360,23 +420,14 @@ pub fn build(
         bytes_in (flow_of (source_of dom.now styles.now (counter_values counters.now) faces.now texts.now
         (points_in (option_map (λ p. p.now) patterns.entry))))) }
 {
-    prove!(dom.len() > 0);
-    prove!(faces.len() > 0);
-    let Ok(initial) = Style::initial(alloc) else {
-        return Err(BuildErr::NoMemory);
-    };
-    let input = FlowInput {
+    let hyphenator = hyphenator_of(alloc, patterns);
+    build_by(
+        alloc,
         dom,
         styles,
         counters,
         faces,
         texts,
-        patterns,
-        initial: &initial,
-        in_note: false,
-    };
-    match flow_by(alloc, &input) {
-        Ok(flow) => Ok(flow),
-        Err(e) => Err(e),
-    }
+        hyphenator.as_ref(),
+    )
 }

@@ -235,7 +235,7 @@ fn enter_block<'a>(
     put_run(
         alloc,
         input.faces,
-        input.patterns,
+        input.hyphenator,
         around,
         true,
         &mut builder.site,
@@ -287,7 +287,7 @@ pub(crate) fn leave_block<'a>(
     put_run(
         alloc,
         input.faces,
-        input.patterns,
+        input.hyphenator,
         style,
         wrap,
         &mut builder.site,

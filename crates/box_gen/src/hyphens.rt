@@ -1,4 +1,4 @@
-//! The words of a run are hyphenated (CSS Text 3, 5.3).
+//! The words of a run are hyphenated (CSS Text 3, 5.4).
 
 ghost use Rattle.std.specs.Prelude.{◌≡◌, ◌++◌, ◌∷◌, [], List, ℕ, Some, length, option_map, IfOk, OnOk};
 ghost use Rattle.std.specs.List.{list_any};
@@ -10,9 +10,9 @@ ghost use Rattle.soft_hyphens.specs.Words.{points_in, points_with};
 
 use crate::inline::ItemMark;
 use bk_num::name::NoMem;
-use hyphen::Patterns;
 use inline_text::joined::JoinedText;
 use soft_hyphens::hyphenate::hyphenate;
+use soft_hyphens::hyphenator::Hyphenator;
 use std::alloc::Global;
 
 /// Adds whether a text is hyphenated.
@@ -48,17 +48,17 @@ fn hyphenated_by(
     alloc: Global,
     marks: &[ItemMark],
     texts: JoinedText,
-    patterns: &Patterns,
+    hyphenator: &Hyphenator<'_>,
 ) -> Result<JoinedText, NoMem>
     requires { length texts.ends ≡ length (styles_in marks.now) }
     ensures { (ts : List (List ℕ)) → texts ≡ laid_texts ts → IfOk result (λ made. made ≡
-        laid_texts (spec.hyphenated (Some (points_with (value_in patterns.now))) (autos_by (styles_in marks.now)) ts)) }
+        laid_texts (spec.hyphenated (Some (points_with (value_in hyphenator.now))) (autos_by (styles_in marks.now)) ts)) }
 {
     let autos = autos_of(alloc, marks)?;
     if !any_auto(&autos) {
         return Ok(texts);
     }
-    hyphenate(alloc, texts, &autos, patterns)
+    hyphenate(alloc, texts, &autos, hyphenator)
 }
 
 /// The texts of a run, hyphenated where patterns are given.
@@ -66,14 +66,14 @@ pub(crate) fn hyphenated(
     alloc: Global,
     marks: &[ItemMark],
     texts: JoinedText,
-    patterns: Option<&Patterns>,
+    hyphenator: Option<&Hyphenator<'_>>,
 ) -> Result<JoinedText, NoMem>
     requires { length texts.ends ≡ length (styles_in marks.now) }
     ensures { (ts : List (List ℕ)) → texts ≡ laid_texts ts → IfOk result (λ made. made ≡ laid_texts
-        (spec.hyphenated (points_in (option_map (λ p. p.now) patterns.entry)) (autos_by (styles_in marks.now)) ts)) }
+        (spec.hyphenated (points_in (option_map (λ h. h.now) hyphenator.entry)) (autos_by (styles_in marks.now)) ts)) }
 {
-    match patterns {
+    match hyphenator {
         None => Ok(texts),
-        Some(patterns) => hyphenated_by(alloc, marks, texts, patterns),
+        Some(hyphenator) => hyphenated_by(alloc, marks, texts, hyphenator),
     }
 }

@@ -13,14 +13,14 @@ use bk_num::values::Pseudo;
 use counters::at::CounterAt;
 use dom::Dom;
 use gen_text::generated::Generated;
-use hyphen::Patterns;
 use metrics::Faces;
+use soft_hyphens::hyphenator::Hyphenator;
 use style::style::Style;
 use style::styles::Styles;
 use style::values::Display;
 
-/// A document with its styles, its counters and its generated texts, the faces that set it, the patterns by which its
-/// words are hyphenated, the initial style, and whether what is meant stands in a note.
+/// A document with its styles, its counters and its generated texts, the faces that set it, what hyphenates its words,
+/// the initial style, and whether what is meant stands in a note.
 #[derive(Clone, Copy)]
 pub(crate) struct FlowInput<'a> {
     pub(crate) dom: &'a Dom,
@@ -28,7 +28,7 @@ pub(crate) struct FlowInput<'a> {
     pub(crate) counters: &'a CounterAt,
     pub(crate) faces: &'a Faces,
     pub(crate) texts: &'a Generated,
-    pub(crate) patterns: Option<&'a Patterns>,
+    pub(crate) hyphenator: Option<&'a Hyphenator<'a>>,
     pub(crate) initial: &'a Style,
     pub(crate) in_note: bool,
 }

@@ -36,12 +36,12 @@ use bk_num::length::Len;
 use bk_num::name::NoMem;
 use bk_num::values::Align;
 use boxes::leaf::{Leads, Leaf, Span, Spans};
-use hyphen::Patterns;
 use inline_text::joined::JoinedText;
 use inline_text::part::BorrowedPart;
 use inline_text::places::opportunities;
 use inline_text::space::collapse_joined;
 use metrics::Faces;
+use soft_hyphens::hyphenator::Hyphenator;
 use std::alloc::Global;
 use style::style::Style;
 
@@ -59,6 +59,7 @@ pub struct LeafStyle {
     pub strut: TextStyle,
     pub indent: Len,
     pub align: Align,
+    pub fit: bool,
 }
 
 /// What a block of a style gives to the leaves in it.
@@ -72,6 +73,7 @@ pub fn leaf_style(faces: &Faces, style: &Style) -> LeafStyle
         strut: text_style(faces, style, style.white_space),
         indent: style.text_indent,
         align: style.text_align,
+        fit: style.book_fill,
     }
 }
 
@@ -115,15 +117,15 @@ fn split<'a>(
 fn printed<'a>(
     alloc: Global,
     items: Vec<InlineItem<'a>>,
-    patterns: Option<&Patterns>,
+    hyphenator: Option<&Hyphenator<'_>>,
 ) -> Result<(JoinedText, Vec<ItemMark>), NoMem>
     ensures texts { IfOk result (λ r. r.0 ≡
-        laid_texts (printed_in (points_in (option_map (λ p. p.now) patterns.entry)) items.entry.items)) }
+        laid_texts (printed_in (points_in (option_map (λ h. h.now) hyphenator.entry)) items.entry.items)) }
     ensures marks { IfOk result (λ r. r.1.items ≡ marks_in items.entry.items) }
 {
     let (parts, marks) = split(alloc, items)?;
     let texts = collapse_joined(alloc, &parts)?;
-    let texts = hyphenated(alloc, &marks, texts, patterns)?;
+    let texts = hyphenated(alloc, &marks, texts, hyphenator)?;
     Ok((texts, marks))
 }
 
@@ -214,22 +216,22 @@ pub fn run_text(
     alloc: Global,
     items: Vec<InlineItem>,
     most: u32,
-    patterns: Option<&Patterns>,
+    hyphenator: Option<&Hyphenator<'_>>,
 ) -> Result<RunText, BuildErr>
     requires { most ≤ most_text_bytes }
     ensures text { IfOk result (λ run. run.text ≡
-        text_of (points_in (option_map (λ p. p.now) patterns.entry)) items.entry.items) }
+        text_of (points_in (option_map (λ h. h.now) hyphenator.entry)) items.entry.items) }
     ensures spans { IfOk result (λ run. run.spans ≡
-        spans_of (points_in (option_map (λ p. p.now) patterns.entry)) items.entry.items) }
+        spans_of (points_in (option_map (λ h. h.now) hyphenator.entry)) items.entry.items) }
     ensures starts { IfOk result (λ run. run.starts ≡
-        starts_of (points_in (option_map (λ p. p.now) patterns.entry)) items.entry.items) }
+        starts_of (points_in (option_map (λ h. h.now) hyphenator.entry)) items.entry.items) }
     ensures good { IfOk result (λ run. IsGoodRun run) }
     ensures sizes { AreGoodTexts items.entry.items → IfOk result (λ run. All IsGoodSpan run.spans) }
     ensures most { IfOk result (λ run. length run.text ≤ most) }
     ensures cause { IfErr result (λ e. e ≡ BuildErr.Text →
-        most < length (text_of (points_in (option_map (λ p. p.now) patterns.entry)) items.entry.items)) }
+        most < length (text_of (points_in (option_map (λ h. h.now) hyphenator.entry)) items.entry.items)) }
 {
-    let Ok((texts, marks)) = printed(alloc, items, patterns) else {
+    let Ok((texts, marks)) = printed(alloc, items, hyphenator) else {
         return Err(BuildErr::NoMemory);
     };
     if texts.text().len() > most as usize {
@@ -263,6 +265,7 @@ pub fn leaf_of(alloc: Global, run: RunText, block: &LeafStyle, leads: Leads) -> 
         leads,
         indent: block.indent,
         align: block.align,
+        fit: block.fit,
         strut: span_by(&block.strut, 0, len),
     })
 }

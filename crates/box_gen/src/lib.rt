@@ -15,3 +15,4 @@ pub mod props;
 mod put;
 pub mod represented;
 pub mod text_style;
+pub mod words;

@@ -26,8 +26,8 @@ use boxes::leaf::{Lead, Leaf};
 use boxes::place::Position;
 use boxes::props::BoxProps;
 use boxes::tree::BoxTree;
-use hyphen::Patterns;
 use metrics::Faces;
+use soft_hyphens::hyphenator::Hyphenator;
 use std::alloc::Global;
 use style::style::Style;
 
@@ -210,7 +210,7 @@ fn put_text(
 pub(crate) fn put_run<'a>(
     alloc: Global,
     faces: &Faces,
-    patterns: Option<&Patterns>,
+    hyphenator: Option<&Hyphenator<'_>>,
     style: &Style,
     wrap: bool,
     site: &mut Site,
@@ -221,17 +221,17 @@ pub(crate) fn put_run<'a>(
     requires takes { TakesRun wrap site.old }
     requires count { IsCounted site.old }
     ensures built { OnOk result (built_in site.new ≡
-        put (points_in (option_map (λ p. p.now) patterns.entry))
+        put (points_in (option_map (λ h. h.now) hyphenator.entry))
         (leaf_style_of style.now (face_of faces.now style.now)) (props.anonymous_props style.now) wrap
         (built_in site.old) items.entry.items) }
     ensures count { OnOk result (IsCounted site.new) }
     ensures room { OnOk result (site.new.room ≡ site.old.room) }
     ensures cause { IfErr result (λ e. e ≡ BuildErr.Text → site.old.room.bytes < leaf_bytes
-        (put (points_in (option_map (λ p. p.now) patterns.entry))
+        (put (points_in (option_map (λ h. h.now) hyphenator.entry))
         (leaf_style_of style.now (face_of faces.now style.now)) (props.anonymous_props style.now) wrap
         (built_in site.old) items.entry.items).tree.leaves) }
 {
-    match run_text(alloc, items, site.room.bytes - site.bytes, patterns) {
+    match run_text(alloc, items, site.room.bytes - site.bytes, hyphenator) {
         Err(e) => Err(e),
         Ok(run) => match put_text(alloc, faces, style, wrap, site, run) {
             Ok(()) => Ok(()),

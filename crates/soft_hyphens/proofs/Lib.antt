@@ -1,6 +1,9 @@
+pub mod KnownLemmas
 pub mod LawLemmas
 pub mod MarkLemmas
 pub mod PlainLemmas
 pub mod PutLemmas
+pub mod SliceLemmas
 pub mod TextLemmas
+pub mod WalkLemmas
 pub mod WordLemmas

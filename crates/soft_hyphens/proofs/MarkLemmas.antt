@@ -11,6 +11,7 @@ use Rattle.std.proofs.lemmas.List.Folds.{list_any_more}
 use Rattle.std.proofs.lemmas.List.FromFn.{get_or-range_with_len, length-range_with_len}
 use Rattle.hyphen.specs.Points.{is_point, places_of}
 use Rattle.soft_hyphens.specs.Pass.{has_point}
+use Rattle.soft_hyphens.specs.Walk.{IsWordFrom}
 use Rattle.soft_hyphens.specs.Words.{Points, codes_of, counts, is_of_word, is_put, letters_between, points_with, word_begin, word_end}
 use Rattle.soft_hyphens.specs.declared.letter.Letter.{Letter}
 use Rattle.soft_hyphens.proofs.WordLemmas.{begin-is, end-is, none-of-word, put-in-word}
@@ -175,12 +176,6 @@ places-within value letters from size h =
         omega (arith, is, n)
 
 -- ---- a pass over words
-
--- the characters from one place on are of a word, up to another, and none stands before them
-pub record IsWordFrom (ls : List Letter) (from at : ℕ) : Type 0 where
-  pub order : from ≤ at
-  pub all : (i : ℕ) → from ≤ i → i < at → is_of_word (get_or (codes_of ls) i 0) ≡ true
-  pub before : (i : ℕ) → i + 1 ≡ from → is_of_word (get_or (codes_of ls) i 0) ≡ false
 
 code-at : (ls : List Letter) (i : ℕ) (d : Letter) → i < length ls → get_or (codes_of ls) i 0 ≡ (get_or ls i d).code
 code-at ls i d h = get_or-map (λ (l : Letter). l.code) ls i d 0 h

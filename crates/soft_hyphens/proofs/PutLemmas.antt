@@ -2,13 +2,11 @@
 use Rattle.std.proofs.Common.{◌≡◌, ◌∙◌, ℕ, suc, ◌+◌, ◌≤◌, Bool, true, false, cond, List, [], ◌∷◌, ◌++◌, length, Some, Result, Ok, Err, refl, sym, ap, ap₂, arith, append_assoc, add-one}
 use Rattle.std.specs.Char.{encode_utf8}
 use Rattle.std.specs.Str.{chars, encode_utf8_all}
-use Rattle.std.specs.Prelude.{IfOk}
-use Rattle.inline_text.specs.Joined.{Laid, laid_texts}
+use Rattle.std.specs.Prelude.{IfOk, OnOk}
 use Rattle.soft_hyphens.specs.Hyphenated.{encoded, hyphenated, put_from, put_in}
-use Rattle.soft_hyphens.specs.Pass.{count_in, is_marked, texts_of, with_soft}
+use Rattle.soft_hyphens.specs.Pass.{count_in, is_marked, soft_bytes, with_soft}
 use Rattle.soft_hyphens.specs.Words.{Points, is_put, letters_in, soft_hyphen}
-use Rattle.soft_hyphens.specs.declared.letter.Letter.{Letter}
-use Rattle.soft_hyphens.proofs.TextLemmas.{letters-length, texts-length, texts-of-laid}
+use Rattle.soft_hyphens.proofs.TextLemmas.{letters-length}
 
 -- UTF-8 as std has it
 pub encoded-std : (cs : List ℕ) → encoded cs ≡ encode_utf8_all cs
@@ -26,14 +24,6 @@ put-one here at c cs = ap (λ (n : ℕ). c ∷ cond (here n) (soft_hyphen ∷ pu
     by : (b : Bool) → c ∷ cond b (soft_hyphen ∷ put_from here (at + 1) cs) (put_from here (at + 1) cs) ≡ with_soft c b ++ put_from here (at + 1) cs
     by true = refl
     by false = refl
-
--- a pass over one more character
-pub put-step : (here : ℕ → Bool) (at c : ℕ) (cs old new : List ℕ) → new ≡ old ++ encoded (with_soft c (here (at + 1))) → new ++ encoded (put_from here (at + 1) cs) ≡ old ++ encoded (put_from here at (c ∷ cs))
-put-step here at c cs old new h =
-    let soft : List ℕ = with_soft c (here (at + 1)) in
-    let rest : List ℕ = put_from here (at + 1) cs in
-    ap (λ (l : List ℕ). l ++ encoded rest) h ∙ append_assoc old (encoded soft) (encoded rest)
-    ∙ ap (λ (l : List ℕ). old ++ l) (sym (encoded-append soft rest) ∙ ap encoded (sym (put-one here at c cs)))
 
 pub put-append : (here : ℕ → Bool) (at : ℕ) (xs ys : List ℕ) → put_from here at (xs ++ ys) ≡ put_from here at xs ++ put_from here (at + length xs) ys
 put-append here at [] ys = let e : at ≡ at + 0 = omega arith in ap (λ (n : ℕ). put_from here n ys) e
@@ -64,16 +54,31 @@ put-none here at [] h = refl
 put-none here at (c ∷ cs) h = ap₂ (λ (b : Bool) (l : List ℕ). c ∷ cond b (soft_hyphen ∷ l) l) (h (suc at)) (put-none here (suc at) cs h)
 
 -- the texts that are put, by the marks of their places
-pub texts-are : (points : Points) (autos marks : List Bool) (l : Laid) (ts : List (List ℕ)) (letters : List Letter) → length l.ends ≡ length autos → letters ≡ letters_in autos (texts_of l) → ((k : ℕ) → k ≤ length letters → is_marked marks k ≡ is_put points letters k) → l ≡ laid_texts ts → put_in (is_marked marks) 0 (texts_of l) ≡ hyphenated (Some points) autos ts
+pub texts-are : (points : Points) (autos marks : List Bool) (ts : List (List ℕ)) → length ts ≡ length autos → ((k : ℕ) → k ≤ length (letters_in autos ts) → is_marked marks k ≡ is_put points (letters_in autos ts) k) → put_in (is_marked marks) 0 ts ≡ hyphenated (Some points) autos ts
 unfolding hyphenated
-texts-are points autos marks l ts letters size is each laid =
-    let same : texts_of l ≡ ts = ap texts_of laid ∙ texts-of-laid ts in
-    let all : letters ≡ letters_in autos ts = is ∙ ap (letters_in autos) same in
-    let n : length (texts_of l) ≡ length l.ends = texts-length l.bytes 0 l.ends in
-    let many : length letters ≡ count_in ts = ap (λ (x : List Letter). length x) all ∙ letters-length autos ts (sym (ap (λ (x : List (List ℕ)). length x) same) ∙ n ∙ size) in
-    ap (put_in (is_marked marks) 0) same
-    ∙ put-in-same (is_marked marks) (is_put points (letters_in autos ts)) 0 ts (λ k h. each k (omega (arith, h, many)) ∙ ap (λ (x : List Letter). is_put points x k) all)
+texts-are points autos marks ts size each =
+    let many : length (letters_in autos ts) ≡ count_in ts = letters-length autos ts size in
+    put-in-same (is_marked marks) (is_put points (letters_in autos ts)) 0 ts (λ k h. each k (omega (arith, h, many)))
+
+-- one more character, where something waits to be put: it is put with a soft hyphen, or more waits
+pub puts : (here : ℕ → Bool) (place c : ℕ) (cs made new wait left old : List ℕ) (soft : Bool) → soft ≡ here (place + 1) → new ++ left ≡ made ++ ((wait ++ encode_utf8 c) ++ cond soft soft_bytes []) → made ++ (wait ++ encoded (put_from here place (c ∷ cs))) ≡ old → new ++ (left ++ encoded (put_from here (place + 1) cs)) ≡ old
+puts here place c cs made new wait left old soft marked is h =
+    let rest : List ℕ = put_from here (place + 1) cs in
+    let after : List ℕ = cond soft soft_bytes [] in
+    let one : encoded (put_from here place (c ∷ cs)) ≡ encode_utf8 c ++ (after ++ encoded rest) = ap encoded (put-one here place c cs ∙ ap (λ (b : Bool). with_soft c b ++ rest) (sym marked)) ∙ by soft in
+    sym (append_assoc new left (encoded rest)) ∙ ap (λ (l : List ℕ). l ++ encoded rest) is
+    ∙ append_assoc made ((wait ++ encode_utf8 c) ++ after) (encoded rest)
+    ∙ ap (λ (l : List ℕ). made ++ l) (append_assoc (wait ++ encode_utf8 c) after (encoded rest) ∙ append_assoc wait (encode_utf8 c) (after ++ encoded rest) ∙ ap (λ (l : List ℕ). wait ++ l) (sym one))
+    ∙ h
+  where
+    by : (b : Bool) → encoded (with_soft c b ++ put_from here (place + 1) cs) ≡ encode_utf8 c ++ (cond b soft_bytes [] ++ encoded (put_from here (place + 1) cs))
+    by true = refl
+    by false = refl
 
 pub ok-more : {T E : Type 0} (r : Result T E) (P Q : T → Type 0) → ((x : T) → P x → Q x) → IfOk r P → IfOk r Q
 ok-more (Ok x) P Q f h = f x h
 ok-more (Err e) P Q f h = tt
+
+pub on-ok-more : {T E : Type 0} (r : Result T E) (P Q : Type 0) → (P → Q) → OnOk r P → OnOk r Q
+on-ok-more (Ok x) P Q f h = f h
+on-ok-more (Err e) P Q f h = tt

@@ -21,7 +21,7 @@ put_in here at [] = []
 put_in here at (t ∷ ts) = encoded (put_from here at (chars t)) ∷ put_in here (at + length (chars t)) ts
 
 -- texts with soft hyphens at the points of their words, of which those are hyphenated that are said to be (css-text-3,
--- 5.3); as they are where no patterns are given
+-- 5.4); as they are where no patterns are given
 unfoldable pub hyphenated : Option Points → List Bool → List (List ℕ) → List (List ℕ)
 hyphenated None autos ts = ts
 hyphenated (Some points) autos ts = put_in (is_put points (letters_in autos ts)) 0 ts

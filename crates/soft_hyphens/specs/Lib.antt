@@ -1,4 +1,6 @@
 pub mod Hyphenated
+pub mod Known
 pub mod Laws
 pub mod Pass
+pub mod Walk
 pub mod Words

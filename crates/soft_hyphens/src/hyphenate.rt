@@ -6,11 +6,10 @@ ghost use Rattle.inline_text.specs.Joined.{laid_texts};
 ghost use Rattle.soft_hyphens.specs.Hyphenated.{hyphenated};
 ghost use Rattle.soft_hyphens.specs.Words.{points_with};
 
-use crate::letter::letters_of;
-use crate::marks::marks_of;
+use crate::hyphenator::Hyphenator;
 use crate::texts::put_texts;
+use crate::walk::marks_of;
 use bk_num::name::NoMem;
-use hyphen::Patterns;
 use inline_text::joined::JoinedText;
 use std::alloc::Global;
 
@@ -20,13 +19,12 @@ pub fn hyphenate(
     alloc: Global,
     texts: JoinedText,
     autos: &[bool],
-    patterns: &Patterns,
+    hyphenator: &Hyphenator<'_>,
 ) -> Result<JoinedText, NoMem>
     requires { length texts.ends ≡ length autos.now }
     ensures { (ts : List (List ℕ)) → texts ≡ laid_texts ts →
-        IfOk result (λ made. made ≡ laid_texts (hyphenated (Some (points_with (value_in patterns.now))) autos.now ts)) }
+        IfOk result (λ made. made ≡ laid_texts (hyphenated (Some (points_with (value_in hyphenator.now))) autos.now ts)) }
 {
-    let letters = letters_of(alloc, &texts, autos)?;
-    let marks = marks_of(alloc, &letters, patterns)?;
-    put_texts(alloc, &texts, &marks)
+    let marks = marks_of(alloc, texts.text(), texts.ends(), autos, hyphenator)?;
+    put_texts(alloc, texts.text(), texts.ends(), &marks)
 }

@@ -2,8 +2,9 @@
 #![tactic(auto)]
 
 pub mod hyphenate;
+pub mod hyphenator;
 pub mod laws;
 mod letter;
-mod marks;
 mod texts;
+mod walk;
 mod word;

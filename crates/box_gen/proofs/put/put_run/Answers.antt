@@ -11,7 +11,7 @@ pub returns-in-Err-clause-cause : goal.returns-in-Err-clause-cause
 returns-in-Err-clause-cause c = λ e.
     let s = c.args.style.now in
     let long = c.in-Err.ensures.cause e in
-    let all = bytes-put (points_in (option_map (λ p. p.now) c.args.patterns)) (leaf_style_of s (face_of c.args.faces.now s)) (anonymous_props s) c.args.wrap (built_in c.args.site.now) c.args.items.items in
+    let all = bytes-put (points_in (option_map (λ h. h.now) c.args.hyphenator)) (leaf_style_of s (face_of c.args.faces.now s)) (anonymous_props s) c.args.wrap (built_in c.args.site.now) c.args.items.items in
     let n = c.requires.count.count in
     let f = c.requires.count.few in
     omega (arith, long, all, n, f)

@@ -1,12 +1,16 @@
-use Rattle.std.proofs.Common.{◌≡◌, ◌+◌, drop, length}
-use Rattle.inline_text.specs.Joined.{laid_texts}
+use Rattle.std.proofs.Common.{◌≡◌, ◌≤◌, ℕ, List, drop, length}
+use Rattle.std.specs.Str.{IsCharBoundary}
+use Rattle.inline_text.specs.Joined.{ends_from, joined, laid_texts}
 use Rattle.soft_hyphens.specs.Hyphenated.{put_in}
-use Rattle.soft_hyphens.specs.Pass.{count_in, is_marked, laid_after, texts_of}
+use Rattle.soft_hyphens.specs.Pass.{is_marked, laid_after}
+use Rattle.soft_hyphens.proofs.SliceLemmas.{BeginAt}
 use Rattle.soft_hyphens.proofs.texts.put_texts.Given as goal
 
 abbrev pub invariant-loop-index : goal.invariant-loop-index
 invariant-loop-index l = record {
+  at : IsCharBoundary l.text l.at;
   ends : length l.made.ends ≡ l.index;
-  place : l.place + count_in (drop l.index (texts_of l.texts)) ≡ count_in (texts_of l.texts);
-  goes : laid_after l.made (put_in (is_marked l.marks) l.place (drop l.index (texts_of l.texts))) ≡ laid_texts (put_in (is_marked l.marks) 0 (texts_of l.texts));
+  place : l.place ≤ l.at;
+  begin : (ts : List (List ℕ)) → l.text ≡ joined ts → l.ends ≡ ends_from 0 ts → BeginAt (record { bytes = l.text; ends = l.ends }) ts l.index l.at;
+  goes : (ts : List (List ℕ)) → l.text ≡ joined ts → l.ends ≡ ends_from 0 ts → laid_after l.made (put_in (is_marked l.marks) l.place (drop l.index ts)) ≡ laid_texts (put_in (is_marked l.marks) 0 ts);
 }
