@@ -1,6 +1,6 @@
 //! Passes.
 
-ghost use Rattle.std.specs.Prelude.{◌≡◌, ◌<◌, ◌≤◌, length, IfOk};
+ghost use Rattle.std.specs.Prelude.{◌≡◌, ◌<◌, ◌≤◌, length, option_map, IfOk};
 ghost use Rattle.bk_num.specs.Limits.{most_pages};
 ghost use Rattle.box_gen.specs.Sources.{AreInRange, IsRootShown};
 ghost use Rattle.gen_text.specs.References.{AreTargets};
@@ -15,10 +15,12 @@ use bk_num::ids::NodeId;
 use bk_num::name::{Name, NoMem};
 use bk_num::steps::Steps;
 use box_gen::inline::BuildErr;
+use box_gen::words::hyphenator_for;
 use boxes::flow::Flow;
 use boxes::frames::Frames;
 use boxes::page::PageList;
 use counters::at::CounterAt;
+use cursor::KeptLines;
 use dom::Dom;
 use fragment::paginate::PageErr;
 use gen_text::references::targets;
@@ -27,6 +29,7 @@ use hyphen::Patterns;
 use metrics::Faces;
 use refs::difference::first_difference;
 use refs::opening::opening;
+use soft_hyphens::hyphenator::Hyphenator;
 use std::alloc::Global;
 use std::fmt::{self, Debug, Display, Formatter, Write};
 use std::sync::ledger::Ledger;
@@ -147,15 +150,18 @@ fn shown_of(pass: Pass) -> Table
     pass.shown
 }
 
-/// Passes over the elements that page references lead to, as `settle` answers them.
+/// Passes over the elements that page references lead to, as `settle` answers them. A line of the pass before is not
+/// filled again.
 fn settle_for<Fr: Frames, L: Ledger>(
     alloc: Global,
     input: &Input<'_>,
+    hyphenator: Option<&Hyphenator<'_>>,
     frames: &Fr,
     limit: u32,
     targets: &[NodeId],
     steps: &mut Steps<L>,
 ) -> Result<Settled, PassErr>
+    requires patterns { option_map (λ h. h.now) hyphenator ≡ option_map (λ p. p.now) input.now.patterns }
     requires limit { 0 < limit }
     requires ranges { AreInRange input.now.styles.now }
     requires shown { IsRootShown input.now.styles.now }
@@ -166,9 +172,12 @@ fn settle_for<Fr: Frames, L: Ledger>(
     ensures few { IfOk result (λ s. length s.pages.pages ≤ most_pages) }
 {
     let mut table = opening(alloc, targets)?;
+    let mut lines = KeptLines::new(alloc);
     let mut passes = 1;
     'passes: loop {
-        let pass = pass_under(alloc, input, frames, targets, &table, steps)?;
+        let pass = pass_under(
+            alloc, input, hyphenator, frames, targets, &table, &mut lines, steps,
+        )?;
         let Some(place) = first_difference(&table, &pass.shown) else {
             let Pass { flow, pages, shown } = pass;
             return Ok(Settled {
@@ -185,6 +194,7 @@ fn settle_for<Fr: Frames, L: Ledger>(
         }
         passes += 1;
         table = shown_of(pass);
+        lines.turn();
     }
 }
 
@@ -213,5 +223,14 @@ pub fn settle<Fr: Frames, L: Ledger>(
     ensures few { IfOk result (λ s. length s.pages.pages ≤ most_pages) }
 {
     let referenced = targets(alloc, input.dom, input.styles)?;
-    settle_for(alloc, input, frames, limit, referenced.as_slice(), steps)
+    let hyphenator = hyphenator_for(alloc, input.dom, input.styles, input.patterns)?;
+    settle_for(
+        alloc,
+        input,
+        hyphenator.as_ref(),
+        frames,
+        limit,
+        referenced.as_slice(),
+        steps,
+    )
 }
