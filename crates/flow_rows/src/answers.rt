@@ -15,7 +15,7 @@ fn of_text(alloc: Global, parts: &[&str]) -> Result<String, NoMem> {
     match part(parts, 0) {
         "collapse" => breaks::collapsed(alloc, parts_from(parts, 1)),
         "breaks" => breaks::marked_text(alloc, parts),
-        "line" | "height" | "runs" => lines::answer(alloc, parts),
+        "line" | "fit" | "height" | "runs" => lines::answer(alloc, parts),
         "plan" => plans::planned(alloc, part(parts, 1), part(parts, 2)),
         "checked" => plans::judged(alloc, parts),
         _ => plain::answer(alloc, parts),

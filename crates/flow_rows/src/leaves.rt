@@ -24,7 +24,7 @@ pub(crate) struct Form {
 }
 
 /// A leaf: its text, its ordinary and its emergency places, where its second span begins, the forms of both spans and
-/// of the strut, and how its lines are set.
+/// of the strut, how its lines are set, and whether they are chosen as a whole.
 #[derive(Clone, Copy)]
 pub(crate) struct Shape<'a> {
     pub(crate) text: &'a str,
@@ -33,6 +33,7 @@ pub(crate) struct Shape<'a> {
     pub(crate) middle: usize,
     pub(crate) forms: [Form; 3],
     pub(crate) align: Align,
+    pub(crate) fit: bool,
     pub(crate) indent: &'a str,
 }
 
@@ -132,6 +133,7 @@ pub(crate) fn leaf_of(alloc: Global, faces: &Faces, shape: Shape<'_>) -> Result<
         leads: Items::new(alloc),
         indent: indent_of(shape.indent),
         align: shape.align,
+        fit: shape.fit,
         strut: span(0, 0, shape.forms[2]),
     })
 }

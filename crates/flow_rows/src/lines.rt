@@ -2,6 +2,7 @@
 
 ghost use Rattle.std.specs.Prelude.{◌≡◌, ◌≤◌, ◌<◌, ◌^◌, length, unsigned_abs, IfSome};
 ghost use Rattle.boxes.specs.Contents.{IsGoodLeaf};
+ghost use Rattle.line_fill.specs.Kept.{AreKept};
 ghost use Rattle.line_fill.specs.Widths.{is_hyphened};
 ghost use Rattle.line_place.specs.Conditions.{HasFaces, IsInLeaf};
 
@@ -14,11 +15,12 @@ use bk_num::values::Align;
 use boxes::laws::make_line;
 use boxes::leaf::Leaf;
 use boxes::line::Line;
+use line_fill::kept::Kept;
 use line_fill::next_line;
 use line_place::extent::line_height;
 use line_place::runs::runs;
 use metrics::{Faces, read_metrics};
-use rows::{number, unescaped};
+use rows::{number, part, unescaped};
 use std::alloc::Global;
 use std::marker::Brand;
 use std::sync::ledger::{Blank, Ledger};
@@ -47,6 +49,30 @@ fn uneven_faces(alloc: Global) -> Result<Faces, NoMem> {
     }
 }
 
+/// The line of a leaf that begins at an offset. It is one that is kept where the leaf's lines are chosen as a whole.
+fn line_from<L: Ledger>(
+    alloc: Global,
+    faces: &Faces,
+    leaf: &Leaf,
+    from: u32,
+    measure: i64,
+    kept: &mut Kept,
+    steps: &mut Steps<L>,
+) -> Result<Line, NoMem>
+    requires good { IsGoodLeaf leaf.now }
+    requires faced { HasFaces faces.now leaf.now }
+    requires from { from < length leaf.now.text }
+    requires measure { unsigned_abs measure ≤ 2 ^ 40 }
+    requires kept { AreKept faces.now kept.old }
+    ensures kept { AreKept faces.now kept.new }
+{
+    if leaf.fit {
+        kept.line(alloc, faces, leaf, from, measure, steps)
+    } else {
+        Ok(next_line(faces, leaf, from, measure, steps))
+    }
+}
+
 /// Where the lines of a leaf end, each with `-` for a shown hyphen.
 fn ends_by<L: Ledger>(
     alloc: Global,
@@ -63,18 +89,18 @@ fn ends_by<L: Ledger>(
     requires measure { unsigned_abs measure ≤ 2 ^ 40 }
 {
     let mut steps = Steps::<L>::zero(token);
+    let mut kept = Kept::new(alloc);
     let mut ends = String::new(alloc);
     let mut from = 0u32;
-    let mut between = "";
-    for _ in 0..leaf.text.as_str().len() {
+    for number in 0..leaf.text.as_str().len() {
         if from as usize >= leaf.text.as_str().len() {
             break;
         }
-        let line = next_line(faces, leaf, from, measure, &mut steps);
+        let line = line_from(alloc, faces, leaf, from, measure, &mut kept, &mut steps)?;
         from = line.to();
+        let between = if number > 0 { " " } else { "" };
         let hyphen = if line.hyphen() { "-" } else { "" };
         write!(ends, "{between}{from}{hyphen}").map_err(|_| NoMem)?;
-        between = " ";
     }
     Ok(ends)
 }
@@ -122,6 +148,7 @@ fn line_with(alloc: Global, text: &str, places: &[u16], parts: &[&str]) -> Resul
         middle: usize::from(nth(spans.as_slice(), 0)),
         forms: [sized(first), sized(second), sized(1024)],
         align: Align::Left,
+        fit: part(parts, 0) == "fit",
         indent,
     };
     ends_in_faces(alloc, shape, measure)
@@ -207,6 +234,7 @@ fn height(alloc: Global, text: &str, parts: &[&str]) -> Result<String, NoMem> {
         middle: middle.parse::<usize>().unwrap_or(0),
         forms: [form_of(first), form_of(second), form_of(strut)],
         align: Align::Left,
+        fit: false,
         indent: "0",
     };
     let faces = even_faces(alloc)?;
@@ -275,6 +303,7 @@ fn line_runs(alloc: Global, text: &str, parts: &[&str]) -> Result<String, NoMem>
         middle: middle.parse::<usize>().unwrap_or(0),
         forms: [sized(1024), second, sized(1024)],
         align: align_of(align),
+        fit: false,
         indent,
     };
     let faces = even_faces(alloc)?;
@@ -283,7 +312,7 @@ fn line_runs(alloc: Global, text: &str, parts: &[&str]) -> Result<String, NoMem>
 
 fn of_text(alloc: Global, text: &str, parts: &[&str]) -> Result<String, NoMem> {
     match parts {
-        ["line", ..] => line_ends(alloc, text, parts),
+        ["line", ..] | ["fit", ..] => line_ends(alloc, text, parts),
         ["height", ..] => height(alloc, text, parts),
         ["runs", ..] => line_runs(alloc, text, parts),
         _ => unknown(alloc),

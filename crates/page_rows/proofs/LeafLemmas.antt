@@ -1,10 +1,12 @@
--- The faces of trees in short are there, and they have as many bytes of text as their leaves.
+-- Of trees in short: their faces are there, their lines go as far as they fit, and they have as many bytes of text as
+-- their leaves.
 use Rattle.std.proofs.Common.{◌≡◌, ◌<◌, ◌≤◌, ◌+◌, ◌∙◌, ◌^◌, ℕ, zero, suc, List, [], ◌∷◌, Some, All, length, slice_get, refl, sym, ap, subst, arith}
 use Rattle.std.proofs.lemmas.List.Sums.{sum_by_push}
 use Rattle.metrics.specs.Face.{FontFace}
 use Rattle.boxes.specs.Tree.{Tree, IsTree}
 use Rattle.boxes.specs.Tree.IsTree.{empty, opened, filled, closed}
 use Rattle.boxes.specs.declared.leaf.Leaf.{Leaf}
+use Rattle.cursor.specs.Conditions.{IsGreedy}
 use Rattle.line_place.specs.Conditions.{HasFaces}
 use Rattle.note_list.specs.Conditions.{text_size}
 use Rattle.note_list.proofs.SizeLemmas.{bytes_opened, bytes_filled, bytes_closed}
@@ -20,6 +22,9 @@ short_faces faces t some all l leaf is =
     let short = of_all IsShortLeaf t.leaves l leaf all is in
     let strut : leaf.strut.face.0 < length faces = subst (λ (n : ℕ). n < length faces) (sym short.face) some in
     record { strut = strut; spans = λ k d less. rw (short.spans k d less).face strut }
+
+pub short_greedy : (t : Tree) → All IsShortLeaf t.leaves → IsGreedy t
+short_greedy t all l leaf is = (of_all IsShortLeaf t.leaves l leaf all is).greedy
 
 -- each leaf of a tree stands in it once
 text_once : (t : Tree) → IsTree t → text_size t.leaves t.events ≡ bytes_of t.leaves

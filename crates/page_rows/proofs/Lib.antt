@@ -1,2 +1,4 @@
 pub mod CallLemmas
 pub mod LeafLemmas
+pub mod OwnerLemmas
+pub mod WalkLemmas

@@ -5,6 +5,7 @@ ghost use Rattle.bk_num.specs.Limits.{most_entries};
 ghost use Rattle.boxes.specs.Clones.{AreSliced};
 ghost use Rattle.boxes.specs.Frames.{IsGoodFrame};
 ghost use Rattle.boxes.specs.declared.flow.Note.{Note};
+ghost use Rattle.cursor.specs.Conditions.{IsGreedy};
 ghost use Rattle.note_list.specs.Conditions.{CanBeCut, CanBePaged};
 ghost use Rattle.page_seq.specs.Places.{NeverFall, is_before};
 
@@ -90,6 +91,7 @@ pub fn flow_with_notes(
 ) -> Result<Flow, NoMem>
     requires some { 0 < length faces.now }
     ensures paged { IfOk result (λ flow. CanBePaged faces.now flow) }
+    ensures greedy { IfOk result (λ flow. IsGreedy flow.main) }
 {
     let tree = tree_of(alloc, steps, true)?;
     // that the tree is one that can be built

@@ -135,6 +135,7 @@ fn leaf_of(
         leads: leads_of(alloc, lead)?,
         indent: Len::Px(px(0)),
         align,
+        fit: false,
         strut: span_to(0),
     })
 }

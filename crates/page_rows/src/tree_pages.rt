@@ -1,7 +1,7 @@
 //! The pages of trees, their solids, and cuts of pages that begin inside them.
 
 ghost use Rattle.std.specs.Prelude.{◌≡◌, ◌<◌, length, IfOk};
-ghost use Rattle.cursor.specs.Conditions.{CanBeLaidOut};
+ghost use Rattle.cursor.specs.Conditions.{CanBeLaidOut, IsGreedy};
 ghost use Rattle.note_list.specs.Conditions.{CanBePaged};
 
 use crate::flows::{METRICS, NoteInShort, flow_with_notes, frame, paged};
@@ -13,14 +13,12 @@ use boxes::frames::PageKind;
 use boxes::page::{Page, Placed, PlacedNote, SolidKind};
 use boxes::place::Position;
 use boxes::tree::BoxTree;
-use cursor::{Cursor, Solid, next_solid, remainder};
+use cursor::{Cursor, Solid, remainder};
 use fragment::next_cut::next_cut;
 use metrics::Faces;
 use note_list::carried::{Carried, CarriedNotes};
 use page_list::cut::{Cut, CutFrom};
 use rows::{escaped, unescaped};
-use seams::seam::widths_at;
-use seams::widths::Widths;
 use std::alloc::{AllocError, Global};
 use std::marker::Brand;
 use std::sync::ledger::{Blank, Ledger};
@@ -143,6 +141,7 @@ fn notes<'a>(alloc: Global, part: &'a str) -> Result<Vec<NoteInShort<'a>>, NoMem
 fn flow_in(alloc: Global, faces: &Faces, tree: &str, body: &str) -> Result<Flow, NoMem>
     requires some { 0 < length faces.now }
     ensures paged { IfOk result (λ flow. CanBePaged faces.now flow) }
+    ensures greedy { IfOk result (λ flow. IsGreedy flow.main) }
 {
     let steps = steps_of(alloc, tree)?;
     let notes = notes(alloc, body)?;
@@ -189,15 +188,15 @@ fn solids_counted<L: Ledger>(
     requires parts { token.parts ≡ L.parts }
     requires some { 0 < L.parts }
     requires tree { CanBeLaidOut faces.now tree.now }
+    requires greedy { IsGreedy tree.now }
 {
     let mut steps = Steps::<L>::zero(token);
     let mut line = String::from_str(alloc, "first")?;
     if !tree.holds(from) {
         return Ok(line);
     }
-    let mut widths = Widths::none();
-    widths_at(tree, from, 5120, &mut widths);
-    if let Some(solid) = next_solid(tree, faces, from, 5120, &mut widths, &mut steps) {
+    let mut cursor = Cursor::resume(tree, faces, from, 5120);
+    if let Some(solid) = cursor.next(&mut steps) {
         push_of_tree(&mut line, &solid)?;
     }
     line.push_str(":")?;
@@ -211,6 +210,7 @@ fn solids_counted<L: Ledger>(
 /// The same, with a counter of its own.
 fn solids(alloc: Global, tree: &BoxTree, faces: &Faces, from: Position) -> Result<String, NoMem>
     requires tree { CanBeLaidOut faces.now tree.now }
+    requires greedy { IsGreedy tree.now }
 {
     solids_counted::<Brand>(alloc, tree, faces, from, Blank::new(1))
 }
@@ -224,7 +224,7 @@ fn walk_of(words: &str) -> Walk {
 }
 
 /// Where a walk begins that is resumed at a place, its first solids, up to a number, with `none` for each that isn't
-/// there, and the mark behind them.
+/// there, and the mark after them.
 fn push_walk<L: Ledger>(
     line: &mut String,
     tree: &BoxTree,
@@ -234,6 +234,7 @@ fn push_walk<L: Ledger>(
     steps: &mut Steps<L>,
 ) -> Result<Position, NoMem>
     requires tree { CanBeLaidOut faces.now tree.now }
+    requires greedy { IsGreedy tree.now }
 {
     if !tree.holds(from) {
         return Ok(from);
@@ -251,7 +252,7 @@ fn push_walk<L: Ledger>(
     Ok(cursor.mark())
 }
 
-/// The first solids of a tree in a frame of a width, and those of a walk that is resumed behind them in a frame of
+/// The first solids of a tree in a frame of a width, and those of a walk that is resumed after them in a frame of
 /// another width.
 fn walks_counted<L: Ledger>(
     alloc: Global,
@@ -264,6 +265,7 @@ fn walks_counted<L: Ledger>(
     requires parts { token.parts ≡ L.parts }
     requires some { 0 < L.parts }
     requires tree { CanBeLaidOut faces.now tree.now }
+    requires greedy { IsGreedy tree.now }
 {
     let (first, second) = walks;
     let mut steps = Steps::<L>::zero(token);
@@ -283,6 +285,7 @@ fn walks(
     on: &str,
 ) -> Result<String, NoMem>
     requires tree { CanBeLaidOut faces.now tree.now }
+    requires greedy { IsGreedy tree.now }
 {
     let walks = (walk_of(from), walk_of(on));
     walks_counted::<Brand>(alloc, tree, faces, walks, Blank::new(1))
@@ -343,6 +346,7 @@ fn cut(alloc: Global, flow: &Flow, faces: &Faces, at: Position) -> Result<String
 /// The answer to a question about a flow.
 fn of_flow(alloc: Global, faces: &Faces, flow: &Flow, parts: &[&str]) -> Result<String, NoMem>
     requires flow { CanBePaged faces.now flow.now }
+    requires greedy { IsGreedy flow.now.main }
 {
     match parts {
         ["tops", _, size] => pages(alloc, flow, faces, size, false),

@@ -212,6 +212,7 @@ fn print_alone(into: &mut String, long: &Long) -> Written {
         | Long::OverflowWrap(given)
         | Long::BreakInside(given)
         | Long::BoxDecorationBreak(given)
+        | Long::BookFill(given)
         | Long::Hyphens(given) => given.print(into),
         Long::Widows(given) | Long::Orphans(given) => given.print(into),
         Long::Page(given) => given.print(into),

@@ -80,6 +80,8 @@ fn word<'s>(style: &'s Style, names: &'s Names, property: &str) -> &'s str {
         "break-after" if style.break_after == BreakAt::Column => "column",
         "box-decoration-break" if style.box_decoration_break => "clone",
         "box-decoration-break" => "slice",
+        "book-fill" if style.book_fill => "fit",
+        "book-fill" => "greedy",
         "hyphens" if style.hyphens => "auto",
         "hyphens" => "manual",
         "white-space" if style.white_space == WhiteSpace::Pre => "pre",

@@ -1,4 +1,4 @@
-use Rattle.page_rows.proofs.LeafLemmas.{few_bytes, short_faces}
+use Rattle.page_rows.proofs.LeafLemmas.{few_bytes, short_faces, short_greedy}
 use Rattle.page_rows.proofs.flows.flow_with_notes.Goals as goal
 
 pub returns : goal.returns
@@ -18,4 +18,5 @@ returns c = record {
     count = rw c.of.ensures c.in_ok-list.ensures.count;
     sliced = rw c.of.ensures c.in_ok-list.ensures.sliced;
   };
+  greedy = short_greedy c.in_ok-tree.tree c.in_ok-tree.ensures.leaves;
 }
