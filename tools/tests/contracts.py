@@ -7,8 +7,9 @@ import re
 
 CRATES = pathlib.Path(__file__).resolve().parents[2] / "crates"
 NAME = re.compile(r"(?:\b(\w+)\.)?\b([A-Za-z_]\w*)")
-LIST = re.compile(r"^\s*(?:ghost |pub )*use Rattle\.([\w.]+)\.\{(.*?)\}", re.MULTILINE | re.DOTALL)
+LIST = re.compile(r"^\s*(?:ghost |pub |unfoldable )*use Rattle\.([\w.]+)\.\{(.*?)\}", re.MULTILINE | re.DOTALL)
 ALIAS = re.compile(r"^\s*(?:ghost |pub )*use Rattle\.([\w.]+) as (\w+)", re.MULTILINE)
+HANDED = re.compile(r"^(?:unfoldable )?pub use Rattle\.([\w.]+)\.\{(.*?)\}", re.MULTILINE | re.DOTALL)
 HEAD = re.compile(r"(?:(?:abbrev|unfoldable|pub|record|data) )*([A-Za-z_]\w*)")
 FUNCTION = re.compile(r"^( *)(?:pub(?:\([^)]*\))? )?(?:const )?fn (\w+)")
 
@@ -28,13 +29,31 @@ class Names:
         """The definitions that a text names, each by its file and its name."""
         for file, name in NAME.findall(text):
             if file in self.files:
-                yield self.files[file], name
+                yield home((self.files[file], name))
             elif name in self.names:
-                yield self.names[name]
+                yield home(self.names[name])
 
     def telling(self, text):
         """Those of them that tell something: all but the common ones of the library's prelude."""
         return {one for one in self.of(text) if one in definitions() or not one[0].endswith(".Prelude")}
+
+
+@functools.cache
+def handed():
+    """The names that files hand on from others, each with the file that it comes from."""
+    found = {}
+    for path in CRATES.glob("*/specs/*.antt"):
+        for file, listed in HANDED.findall(path.read_text(encoding="utf-8")):
+            for name in listed.split(","):
+                found[f"{path.parts[-3]}.specs.{path.stem}", name.strip()] = (file, name.strip())
+    return found
+
+
+def home(one):
+    """A definition by the file in which it stands, where it is named by one that hands it on."""
+    while one in handed():
+        one = handed()[one]
+    return one
 
 
 def blocks(text):
@@ -44,7 +63,7 @@ def blocks(text):
         if not line.strip():
             continue
         if not line[0].isspace():
-            head = None if re.match(r"(?:pub )?use\b", line) else HEAD.match(line)
+            head = None if re.match(r"(?:unfoldable )?(?:pub )?use\b", line) else HEAD.match(line)
             name = head[1] if head else None
         if name:
             found[name] = found.get(name, "") + line + "\n"
