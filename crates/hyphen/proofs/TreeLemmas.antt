@@ -1,6 +1,6 @@
 -- The values of a tree of letters: those of a letter's node, and what changes.
 use Rattle.std.proofs.Common.{◌≡◌, ℕ, Ordering, Less, Equal, Greater, suc, ◌+◌, ◌-◌, ◌<◌, ◌≤◌, Bool, true, false, cond, eqb, leb, List, [], ◌∷◌, ◌++◌, length, get_or, take, drop, drop-cons, max, Some, None, Option, refl, sym, ap, ◌∙◌, ◌&&◌, arith, append_assoc, subst, if◌then◌else◌}
-use Rattle.std.specs.Prelude.{MatchOption, Vec}
+use Rattle.std.specs.Prelude.{Box, MatchOption, Vec}
 use Rattle.std.specs.Global.{Global}
 use Rattle.std.specs.Borrow.{Bor}
 use Rattle.std.specs.Bool.{beq}
@@ -19,12 +19,12 @@ use Rattle.hyphen.specs.Tree.{node_values, own_values, values_in}
 use Rattle.hyphen.proofs.MostLemmas.{most_more, most_next}
 
 -- the node that a letter leads to
-pub child_is : (n : Node) (c : ℕ) (r : Option (Bor Node)) → option_copied r ≡ get_by (nat_cmp c) (out-Node n).next → MatchOption r ((e : Bool) (q : List ℕ) (k : ℕ) → values_in n e (c ∷ q) k ≡ 0) (λ node. (e : Bool) (q : List ℕ) (k : ℕ) → values_in node.now e q k ≡ values_in n e (c ∷ q) k)
+pub child_is : (n : Node) (c : ℕ) (r : Option (Bor (Box Node Global))) → option_copied r ≡ get_by (nat_cmp c) (out-Node n).next → MatchOption r ((e : Bool) (q : List ℕ) (k : ℕ) → values_in n e (c ∷ q) k ≡ 0) (λ node. (e : Bool) (q : List ℕ) (k : ℕ) → values_in node.now.value e q k ≡ values_in n e (c ∷ q) k)
 unfolding values_in
 child_is n c None is = λ e q k. rw (← is) refl
 child_is n c (Some b) is = λ e q k. rw (← is) refl
 
-pub node_given : (n child : Node) (c : ℕ) → Some child ≡ get_by (nat_cmp c) (out-Node n).next → (e : Bool) (q : List ℕ) (k : ℕ) → values_in n e (c ∷ q) k ≡ values_in child e q k
+pub node_given : (n : Node) (child : Box Node Global) (c : ℕ) → Some child ≡ get_by (nat_cmp c) (out-Node n).next → (e : Bool) (q : List ℕ) (k : ℕ) → values_in n e (c ∷ q) k ≡ values_in child.value e q k
 unfolding values_in
 node_given n child c is e q k = rw (← is) refl
 
@@ -35,7 +35,7 @@ node_absent n c is e q k = rw (← is) refl
 -- a letter's node that stayed
 pub node_kept : (m n : Node) (d : ℕ) → get_by (nat_cmp d) (out-Node n).next ≡ get_by (nat_cmp d) (out-Node m).next → (e : Bool) (q : List ℕ) (k : ℕ) → values_in n e (d ∷ q) k ≡ values_in m e (d ∷ q) k
 unfolding values_in
-node_kept m n d is e q k = ap (λ (o : Option Node). option_map_or (λ (child : Node). values_in child e q k) o 0) is
+node_kept m n d is e q k = ap (λ (o : Option (Box Node Global)). option_map_or (λ (child : Box Node Global). values_in child.value e q k) o 0) is
 
 -- the values of a node itself that stayed
 pub own_kept : (m n : Node) → (out-Node n).anywhere ≡ (out-Node m).anywhere → (out-Node n).at_end ≡ (out-Node m).at_end → (e : Bool) (k : ℕ) → values_in n e [] k ≡ values_in m e [] k

@@ -18,7 +18,7 @@ use std::collections::BTreeMap;
 pub(crate) struct Node {
     anywhere: Vec<u8>,
     at_end: Vec<u8>,
-    next: BTreeMap<char, Node>,
+    next: BTreeMap<char, Box<Node>>,
 }
 
 impl Node {
@@ -40,7 +40,10 @@ impl Node {
             (λ node. (e : Bool) (q : List ℕ) (k : ℕ) →
             values_in node.now e q k ≡ values_in self.now e (letter ∷ q) k) }
     {
-        self.next.get(&letter)
+        match self.next.get(&letter) {
+            Some(node) => Some(node),
+            None => None,
+        }
     }
 
     /// Raises the values from a place on by those of the node, also by those of a word's end where the
@@ -70,29 +73,15 @@ impl Node {
         }
     }
 
-    /// Takes out the node that a letter leads to, or makes one.
-    fn take(&mut self, alloc: Global, letter: char) -> Node
-        ensures own { (e : Bool) (k : ℕ) → values_in self.new e [] k ≡ values_in self.old e [] k }
-        ensures others { (d : ℕ) (e : Bool) (q : List ℕ) (k : ℕ) → (letter == d) ≡ false →
-            values_in self.new e (d ∷ q) k ≡ values_in self.old e (d ∷ q) k }
-        ensures node { (e : Bool) (q : List ℕ) (k : ℕ) →
-            values_in result e q k ≡ values_in self.old e (letter ∷ q) k }
-    {
-        match self.next.remove(&letter) {
-            Some(node) => node,
-            None => Node::new(alloc),
-        }
-    }
-
     /// Lets a letter lead to a node.
-    fn give(&mut self, letter: char, node: Node) -> Result<(), NoMem>
+    fn give(&mut self, alloc: Global, letter: char, node: Node) -> Result<(), NoMem>
         ensures own { OnOk result ((e : Bool) (k : ℕ) → values_in self.new e [] k ≡ values_in self.old e [] k) }
         ensures others { OnOk result ((d : ℕ) (e : Bool) (q : List ℕ) (k : ℕ) → (letter == d) ≡ false →
             values_in self.new e (d ∷ q) k ≡ values_in self.old e (d ∷ q) k) }
         ensures node { OnOk result ((e : Bool) (q : List ℕ) (k : ℕ) →
             values_in self.new e (letter ∷ q) k ≡ values_in node e q k) }
     {
-        self.next.insert(letter, node)?;
+        self.next.insert(letter, Box::new(alloc, node)?)?;
         Ok(())
     }
 
@@ -113,11 +102,14 @@ impl Node {
                 self.put_own(ends, values);
                 Ok(())
             }
-            Some((letter, rest)) => {
-                let mut node = self.take(alloc, *letter);
-                node.put(alloc, rest, ends, values)?;
-                self.give(*letter, node)
-            }
+            Some((letter, rest)) => match self.next.get_mut(letter) {
+                Some(node) => node.put(alloc, rest, ends, values),
+                None => {
+                    let mut node = Node::new(alloc);
+                    node.put(alloc, rest, ends, values)?;
+                    self.give(alloc, *letter, node)
+                }
+            },
         }
     }
 
