@@ -1,9 +1,12 @@
 pub mod KnownLemmas
 pub mod LawLemmas
-pub mod MarkLemmas
+pub mod LeftLemmas
+pub mod OffsetLemmas
 pub mod PlainLemmas
+pub mod PointLemmas
 pub mod PutLemmas
 pub mod SliceLemmas
+pub mod SoftLemmas
 pub mod TextLemmas
 pub mod WalkLemmas
 pub mod WordLemmas

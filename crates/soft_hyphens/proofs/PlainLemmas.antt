@@ -1,5 +1,5 @@
 -- Texts of which none is hyphenated stay as they are.
-use Rattle.std.proofs.Common.{◌≡◌, ◌∙◌, ℕ, ◌-◌, ◌%◌, Bool, true, false, ◌&&◌, ◌||◌, not, ◌==◌, leb, Some, List, [], ◌∷◌, map, take, drop, slice_get, refl, sym, ap, ◌⊎◌, inl, inr, true≢false, arith}
+use Rattle.std.proofs.Common.{◌≡◌, ◌∙◌, ℕ, ◌-◌, ◌%◌, Bool, true, false, ◌&&◌, ◌||◌, not, ◌==◌, leb, Some, List, [], ◌∷◌, map, drop, slice_get, refl, sym, ap, ◌⊎◌, inl, inr, true≢false, arith}
 use Rattle.std.specs.List.{All, list_any}
 use Rattle.std.specs.Str.{IsUtf8, chars}
 use Rattle.std.proofs.lemmas.Bool.Decides.{nat_tests}

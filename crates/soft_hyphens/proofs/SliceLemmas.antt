@@ -6,10 +6,10 @@ use Rattle.std.specs.List.{slice_range}
 use Rattle.std.specs.Str.{chars, encode_utf8_all, IsCharBoundary, IsUtf8}
 use Rattle.std.proofs.Math.Seq.{drop-append_seam, take-append_seam}
 use Rattle.std.proofs.lemmas.Bool.{cases_lt}
-use Rattle.std.proofs.lemmas.List.{drop-drop, drop_all, get_or-drop, length-drop, length-take-le, take-append-drop, take_all}
+use Rattle.std.proofs.lemmas.List.{drop-drop, drop_all, get_or-drop, length-drop, length-take-le, take_all}
 use Rattle.std.proofs.lemmas.List.Folds.{drop_split}
 use Rattle.std.proofs.lemmas.Option.{slice_get-get_or}
-use Rattle.std.proofs.lemmas.Str.{chars-append, chars-nil, chars_past_char, encodes-chars, IsCharBoundary-past_char, IsUtf8-between, IsUtf8-drop, drop_past_char, len_utf8_bounds, length-encode, length-le-encodes}
+use Rattle.std.proofs.lemmas.Str.{chars-append, chars-nil, chars_past_char, encodes-chars, IsCharBoundary-past_char, IsUtf8-between, IsUtf8-drop, len_utf8_bounds, length-encode, length-le-encodes}
 use Rattle.inline_text.specs.Joined.{Laid, ends_from, joined}
 
 -- ---- characters
@@ -28,14 +28,17 @@ slice-grows text from at c rest order next =
     let all : drop from text ≡ here ++ rest = drop_split text from at order ∙ ap (λ (l : List ℕ). slice_range text from at ++ l) next ∙ sym (append_assoc (slice_range text from at) (encode_utf8 c) rest) in
     ap₂ (λ (k : ℕ) (l : List ℕ). take k l) (sym both) all ∙ take-append_seam here rest
 
+-- the end of one more character
+pub next-boundary : (text : List ℕ) (at c : ℕ) (rest : List ℕ) → IsUtf8 text → IsCharBoundary text at → drop at text ≡ encode_utf8 c ++ rest → IsCharBoundary text (at + len_utf8 c)
+next-boundary text at c rest u b next = IsCharBoundary-past_char text rest at c b.0 (IsUtf8-drop text at u b) next
+
 -- the characters of what stands up to there
 pub chars-grow : (text : List ℕ) (from at c : ℕ) (rest : List ℕ) → IsUtf8 text → from ≤ at → IsCharBoundary text from → IsCharBoundary text at → drop at text ≡ encode_utf8 c ++ rest → chars (slice_range text from (at + len_utf8 c)) ≡ chars (slice_range text from at) ++ c ∷ []
 chars-grow text from at c rest u order b e next =
-    let next_boundary : IsCharBoundary text (at + len_utf8 c) = IsCharBoundary-past_char text rest at c e.0 (IsUtf8-drop text at u e) next in
     let step : at ≤ at + len_utf8 c = omega arith in
     let size : (at + len_utf8 c) - at ≡ length (encode_utf8 c) = omega (arith, length-encode c) in
     let is : take ((at + len_utf8 c) - at) (drop at text) ≡ encode_utf8 c = ap₂ (λ (k : ℕ) (l : List ℕ). take k l) size next ∙ take-append_seam (encode_utf8 c) rest in
-    let one : IsUtf8 (encode_utf8 c) = subst IsUtf8 is (IsUtf8-between text at (at + len_utf8 c) u step e next_boundary) in
+    let one : IsUtf8 (encode_utf8 c) = subst IsUtf8 is (IsUtf8-between text at (at + len_utf8 c) u step e (next-boundary text at c rest u e next)) in
     let before : IsUtf8 (slice_range text from at) = IsUtf8-between text from at u order b e in
     ap chars (slice-grows text from at c rest order next) ∙ chars-append (slice_range text from at) (encode_utf8 c) before
     ∙ ap (λ (l : List ℕ). chars (slice_range text from at) ++ l) (chars_past_char (encode_utf8 c) [] c one (sym (append-nil (encode_utf8 c))) ∙ ap (λ (l : List ℕ). c ∷ l) chars-nil)
@@ -121,6 +124,7 @@ drop-past xs i s tail e = sym (drop-drop (length s) i xs) ∙ ap (drop (length s
 -- the text with a number stands first among those from its number on, and the others begin after it
 pub record IsNext (l : Laid) (ts : List (List ℕ)) (i at : ℕ) (t : List ℕ) : Type 0 where
   pub first : drop i ts ≡ t ∷ drop (i + 1) ts
+  pub end : get_or l.ends i 0 ≡ at + length t
   pub others : BeginAt l ts (i + 1) (at + length t)
 
 pub next-is : (l : Laid) (ts : List (List ℕ)) (i at : ℕ) → BeginAt l ts i at → i < length l.ends → IsNext l ts i at (slice_range l.bytes at (get_or l.ends i 0))
@@ -141,6 +145,7 @@ next-is l ts i at b inside = by (drop i ts) refl
         let rest : drop (i + 1) ts ≡ more = drop-next ts i t more e in
         let far : drop (at + length t) l.bytes ≡ joined more = drop-past l.bytes at t (joined more) bytes in
         record {
+          end = omega (arith, end, n);
           first = e ∙ ap₂ (λ (x : List ℕ) (y : List (List ℕ)). x ∷ y) (sym is) (sym rest);
           others = record {
             bytes = ap (λ (k : ℕ). drop (at + k) l.bytes) n ∙ far ∙ ap joined (sym rest);

@@ -1,10 +1,11 @@
 -- Texts that are laid one after the other, and how many characters they have.
 use Rattle.std.proofs.Common.{◌≡◌, ◌∙◌, ℕ, suc, ◌+◌, ◌-◌, Bool, List, [], ◌∷◌, ◌++◌, length, map, refl, sym, ap, ap₂, arith, append_assoc, append-nil, length-append}
 use Rattle.std.specs.Str.{chars}
-use Rattle.std.proofs.lemmas.List.{length-map}
+use Rattle.std.proofs.lemmas.List.{length-map, map-append}
+use Rattle.std.proofs.lemmas.Simd.{map-map}
 use Rattle.inline_text.specs.Joined.{Laid, ends_from, joined, laid_on, reached, repeated}
-use Rattle.soft_hyphens.specs.Pass.{count_in, laid_after}
-use Rattle.soft_hyphens.specs.Words.{letters_in}
+use Rattle.soft_hyphens.specs.Pass.{chars_in, count_in, laid_after}
+use Rattle.soft_hyphens.specs.Words.{codes_of, letters_in}
 use Rattle.soft_hyphens.specs.declared.letter.Letter.{Letter}
 
 abbrev made : List ℕ → List ℕ → Laid
@@ -52,6 +53,21 @@ letters-length (a ∷ autos) (t ∷ ts) h =
     let n : length here ≡ length (chars t) = length-map (chars t) (λ (c : ℕ). record { code = c; auto = a }) in
     let m : length (letters_in autos ts) ≡ count_in ts = letters-length autos ts (omega (arith, h)) in
     length-append here (letters_in autos ts) ∙ ap₂ (λ (x y : ℕ). x + y) n m
+
+-- the characters are those of the texts
+pub codes-are : (autos : List Bool) (ts : List (List ℕ)) → length ts ≡ length autos → codes_of (letters_in autos ts) ≡ chars_in ts
+codes-are [] [] h = refl
+codes-are [] (t ∷ ts) h = absurd (omega (arith, h))
+codes-are (a ∷ autos) [] h = absurd (omega (arith, h))
+codes-are (a ∷ autos) (t ∷ ts) h =
+    let letter : ℕ → Letter = λ (c : ℕ). record { code = c; auto = a } in
+    let code : Letter → ℕ = λ (l : Letter). l.code in
+    map-append code (map letter (chars t)) (letters_in autos ts)
+    ∙ ap₂ (λ (x y : List ℕ). x ++ y) (map-map code letter (chars t) ∙ map-id (chars t)) (codes-are autos ts (omega (arith, h)))
+  where
+    map-id : (cs : List ℕ) → map (λ (c : ℕ). c) cs ≡ cs
+    map-id [] = refl
+    map-id (c ∷ cs) = ap (λ (l : List ℕ). c ∷ l) (map-id cs)
 
 -- each text has an end
 pub ends-length : (at : ℕ) (ts : List (List ℕ)) → length (ends_from at ts) ≡ length ts

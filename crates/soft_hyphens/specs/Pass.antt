@@ -1,9 +1,11 @@
 -- What passes over the texts of a run keep.
-use Rattle.std.specs.Prelude.{ℕ, ◌+◌, ◌-◌, Bool, false, List, [], ◌∷◌, ◌++◌, map, length, slice_index_or, nat_le, ◌&&◌, if◌then◌else◌}
+use Rattle.std.specs.Prelude.{ℕ, ◌+◌, Bool, List, [], ◌∷◌, ◌++◌, map, filter, length}
 use Rattle.std.specs.Char.{encode_utf8}
+use Rattle.std.specs.List.{range_with_len, slice_range}
 use Rattle.std.specs.Str.{chars}
+use Rattle.hyphen.specs.Points.{offset_of}
 use Rattle.inline_text.specs.Joined.{Laid, ends_from, joined}
-use Rattle.soft_hyphens.specs.Words.{Points, codes_of, counts, letters_between, soft_hyphen}
+use Rattle.soft_hyphens.specs.Words.{soft_hyphen}
 use Rattle.soft_hyphens.specs.declared.letter.Letter.{Letter}
 
 -- more texts after those that are complete
@@ -19,19 +21,24 @@ abbrev pub count_in : List (List ℕ) → ℕ
 count_in [] = 0
 count_in (t ∷ ts) = length (chars t) + count_in ts
 
--- a character, with a soft hyphen after it or not
-abbrev pub with_soft : ℕ → Bool → List ℕ
-with_soft c soft = c ∷ (if soft then soft_hyphen ∷ [] else [])
+-- the characters of some texts
+abbrev pub chars_in : List (List ℕ) → List ℕ
+chars_in [] = []
+chars_in (t ∷ ts) = chars t ++ chars_in ts
+
+-- the byte offsets of the places before one at which something holds, in order
+abbrev pub offsets_before : (ℕ → Bool) → List ℕ → ℕ → List ℕ
+offsets_before here cs place = map (offset_of cs) (filter here (range_with_len 0 place))
+
+-- those of all places of some characters, also that of their end
+abbrev pub offsets_in : (ℕ → Bool) → List ℕ → List ℕ
+offsets_in here cs = offsets_before here cs (length cs + 1)
 
 -- a soft hyphen as UTF-8
 abbrev pub soft_bytes : List ℕ
 soft_bytes = encode_utf8 soft_hyphen
 
--- whether a place is marked
-abbrev pub is_marked : List Bool → ℕ → Bool
-is_marked marks place = slice_index_or marks place false
-
--- whether a word that stands from one place to another counts and has a point at a place of the run
-abbrev pub has_point : Points → List Letter → ℕ → ℕ → ℕ → Bool
-has_point points ls from to k =
-    nat_le from k && nat_le k to && counts ls from to && points (codes_of (letters_between ls from to)) (k - from)
+-- what stands between two offsets of a text, with a soft hyphen at each of some offsets between them
+abbrev pub softened : List ℕ → ℕ → List ℕ → ℕ → List ℕ
+softened text from [] to = slice_range text from to
+softened text from (o ∷ os) to = slice_range text from o ++ (soft_bytes ++ softened text o os to)

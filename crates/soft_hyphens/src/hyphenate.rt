@@ -8,7 +8,7 @@ ghost use Rattle.soft_hyphens.specs.Words.{points_with};
 
 use crate::hyphenator::Hyphenator;
 use crate::texts::put_texts;
-use crate::walk::marks_of;
+use crate::walk::offsets_of;
 use bk_num::name::NoMem;
 use inline_text::joined::JoinedText;
 use std::alloc::Global;
@@ -25,6 +25,6 @@ pub fn hyphenate(
     ensures { (ts : List (List ℕ)) → texts ≡ laid_texts ts →
         IfOk result (λ made. made ≡ laid_texts (hyphenated (Some (points_with (value_in hyphenator.now))) autos.now ts)) }
 {
-    let marks = marks_of(alloc, texts.text(), texts.ends(), autos, hyphenator)?;
-    put_texts(alloc, texts.text(), texts.ends(), &marks)
+    let offsets = offsets_of(alloc, texts.text(), texts.ends(), autos, hyphenator)?;
+    put_texts(alloc, texts.text(), texts.ends(), &offsets)
 }

@@ -1,10 +1,9 @@
 //! Words that are known with their points.
 
 ghost use Rattle.std.specs.Prelude.{◌≡◌, ◌≤◌, ◌&&◌, nat_le, length, IfOk, IfSome};
-ghost use Rattle.std.specs.Str.{chars};
 ghost use Rattle.bk_num.specs.Limits.{most_text_bytes};
 ghost use Rattle.hyphen.specs.Meaning.{value_in};
-ghost use Rattle.soft_hyphens.specs.Known.{HavePoints, points_of, word_places};
+ghost use Rattle.soft_hyphens.specs.Known.{HavePoints, points_of, word_points};
 
 use crate::word::is_of_word;
 use bk_num::name::NoMem;
@@ -28,8 +27,8 @@ const MOST_BYTES: usize = 256;
 /// How many words are kept at most.
 const MOST_WORDS: usize = 65_536;
 
-/// Patterns, and the points of words that were asked of them once: how many characters stand before each. Contracts see
-/// the patterns alone, since what is kept changes no answer.
+/// Patterns, and the points of words that were asked of them once: how many bytes stand before each. Contracts see the
+/// patterns alone, since what is kept changes no answer.
 #[derive(Drop)]
 pub struct Hyphenator<'p> {
     patterns: &'p Patterns,
@@ -51,21 +50,12 @@ impl<'p> Model for Hyphenator<'p> {
     ghost invariant = { λ h. HavePoints (value_in h.patterns.now) (points_of h.known) };
 }
 
-/// The characters of a word.
-fn letters_of(alloc: Global, word: &str) -> Result<Vec<char>, NoMem>
-    ensures letters { IfOk result (λ v. v.items ≡ chars word.now) }
-    ensures few { IfOk result (λ v. length v.items ≤ length word.now) }
-{
-    Ok(word.chars().collect(alloc)?)
-}
-
 /// The points of a word by patterns.
 fn asked(alloc: Global, patterns: &Patterns, word: &str) -> Result<Vec<u32>, NoMem>
     requires { length word.now ≤ most_text_bytes }
-    ensures { IfOk result (λ v. v.items ≡ word_places (value_in patterns.now) word.now) }
+    ensures { IfOk result (λ v. v.items ≡ word_points (value_in patterns.now) word.now) }
 {
-    let letters = letters_of(alloc, word)?;
-    patterns.places(alloc, &letters, LEFT, RIGHT)
+    patterns.points(alloc, word, LEFT, RIGHT)
 }
 
 /// Whether a word has so many bytes that it is worth to be kept.
@@ -88,9 +78,9 @@ fn keep(
     if !is_kept(word) || MOST_WORDS <= known.len() || known.contains_key(word) {
         return Ok(());
     }
-    let places = asked(alloc, patterns, word)?;
+    let points = asked(alloc, patterns, word)?;
     let key = String::from_str(alloc, word)?;
-    let Ok(_) = known.insert(key, places) else {
+    let Ok(_) = known.insert(key, points) else {
         return Err(NoMem);
     };
     Ok(())
@@ -109,10 +99,10 @@ impl<'p> Hyphenator<'p> {
 
     /// The points of a word, if it is known.
     pub(crate) fn known(&self, word: &str) -> Option<&[u32]>
-        ensures { IfSome result (λ places. places.now ≡ word_places (value_in self.now) word.now) }
+        ensures { IfSome result (λ points. points.now ≡ word_points (value_in self.now) word.now) }
     {
         match self.known.get(word) {
-            Some(places) => Some(places.as_slice()),
+            Some(points) => Some(points.as_slice()),
             None => None,
         }
     }
@@ -120,7 +110,7 @@ impl<'p> Hyphenator<'p> {
     /// The points of a word, asked of the patterns.
     pub(crate) fn ask(&self, alloc: Global, word: &str) -> Result<Vec<u32>, NoMem>
         requires { length word.now ≤ most_text_bytes }
-        ensures { IfOk result (λ v. v.items ≡ word_places (value_in self.now) word.now) }
+        ensures { IfOk result (λ v. v.items ≡ word_points (value_in self.now) word.now) }
     {
         asked(alloc, self.patterns, word)
     }
