@@ -12,12 +12,12 @@ use Rattle.line_fill.specs.declared.kept.KeptLeaf.{KeptLeaf}
 use Rattle.seams.proofs.WidthLemmas.{some-same}
 use Rattle.cursor.specs.KeptLines.{LeafAtMeasure, StayPlaced, leaf_eq, lines_with, place_in}
 
-both : (a b : Bool) → (a && b) ≡ true → (a ≡ true) × (b ≡ true)
+pub both : (a b : Bool) → (a && b) ≡ true → (a ≡ true) × (b ≡ true)
 both true b e = (refl, e)
 both false b e = cc
 
 -- equal numbers and measures
-same_numbers : (n i other l : ℕ) (m measure : ℤ) → leaf_eq (n, i, m) (other, l, measure) ≡ true → (n ≡ other) × (i ≡ l) × (m ≡ measure)
+pub same_numbers : (n i other l : ℕ) (m measure : ℤ) → leaf_eq (n, i, m) (other, l, measure) ≡ true → (n ≡ other) × (i ≡ l) × (m ≡ measure)
 same_numbers n i other l m measure e =
     let w = both (nat_eq n other && nat_eq i l) (int_eq m measure) e in
     let v = both (nat_eq n other) (nat_eq i l) w.0 in

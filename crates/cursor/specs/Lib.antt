@@ -4,5 +4,6 @@ pub mod CursorFields
 pub mod Cursors
 pub mod Fields
 pub mod KeptLines
+pub mod LeafPlaces
 pub mod Parted
 pub mod Remainder

@@ -260,18 +260,28 @@ impl Kept {
         )
     }
 
+    /// Shares an equal leaf in place of the one that is kept, which may be the last of a tree that is gone.
+    fn share(&mut self, at: u32, leaf: Rc<Leaf>, measure: i64)
+        requires at { IsLeafAt self.old at (key_of leaf.value) measure }
+        ensures at { IsLeafAt self.new at (key_of leaf.value) measure }
+        ensures grows { Grows self.old self.new }
+    {
+        self.leaves[at as usize].leaf = leaf;
+    }
+
     /// The place of a leaf at a measure, which is added where it isn't there.
     pub fn place(&mut self, alloc: Global, leaf: &Rc<Leaf>, measure: i64) -> Result<u32, NoMem>
         ensures at { IfOk result (λ at. IsLeafAt self.new at (key_of leaf.now.value) measure) }
         ensures grows { Grows self.old self.new }
     {
         let print = print_of(leaf.as_ref(), measure);
-        if let Some(at) = self.find(leaf.as_ref(), print, measure) {
-            return Ok(at);
-        }
         let Ok(shared) = leaf.clone() else {
             return Err(NoMem);
         };
+        if let Some(at) = self.find(leaf.as_ref(), print, measure) {
+            self.share(at, shared, measure);
+            return Ok(at);
+        }
         self.add(alloc, shared, print, measure)
     }
 
