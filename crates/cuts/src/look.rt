@@ -1,11 +1,12 @@
 //! How far a page's cut reads.
 
-ghost use Rattle.std.specs.Prelude.{◌≡◌, ℕ, ℤ, Bool, List, Some, true, false, ◌+◌, ◌<◌, ◌≤◌, length, ◌∷◌, ◌++◌, [], ◌≤ℤ◌, ◌+ℤ◌};
+ghost use Rattle.std.specs.Prelude.{◌≡◌, ℕ, ℤ, Bool, List, Some, true, false, ◌+◌, ◌<◌, ◌≤◌, length, ◌∷◌, ◌++◌, [], ◌≤ℤ◌, ◌<ℤ◌, ◌+ℤ◌};
 ghost use Rattle.bk_num.specs.Limits.{most_entries};
 ghost use Rattle.cuts.specs.Areas.{AreTold, IsArea};
 ghost use Rattle.cuts.specs.Cuts.{NoteLists};
-ghost use Rattle.cuts.specs.Prefixes.{HasMissed, HasRead, IsLook, is_break};
-ghost use Rattle.cuts.specs.Rows.{IsSmallRow, is_joined};
+ghost use Rattle.cuts.specs.Prefixes.{HasMissed, HasPlaced, HasRead, IsLook, is_break};
+ghost use Rattle.cuts.specs.Rows.{IsSmallRow, is_joined, rows_extent};
+ghost use Rattle.cuts.specs.Seen.{HasSeen};
 ghost use Rattle.cuts.specs.Short.{IsShort};
 ghost use Rattle.cuts.specs.declared.row.SolidRow.{SolidRow};
 
@@ -56,6 +57,8 @@ impl Look {
         ensures look { (kept : Bool) (height : ℤ) (list : NoteLists) (c : ℕ) → IsLook kept height list c [] result }
         ensures read { HasRead 0 result }
         ensures short { (kept : Bool) (height : ℤ) (widest : ℕ) → IsShort kept height widest [] result }
+        ensures placed { (kept : Bool) → HasPlaced kept [] result }
+        ensures more { ¬ (result.left ≡ Some 0) }
     {
         Look {
             some: false,
@@ -73,6 +76,16 @@ impl Look {
         ensures more { result ≡ false → ¬ (self.now.left ≡ Some 0) }
     {
         self.left == Some(0)
+    }
+
+    /// Whether the solids read so far end inside a frame of a height.
+    pub fn is_inside(&self, height: i64) -> bool
+        ensures inside { result ≡ true → (kept : Bool) (rows : List SolidRow) → HasPlaced kept rows self.now →
+            rows_extent kept rows (length rows) ≤ℤ height }
+        ensures below { result ≡ false → (kept : Bool) (rows : List SolidRow) → HasPlaced kept rows self.now →
+            height <ℤ rows_extent kept rows (length rows) }
+    {
+        self.reach.extent <= height
     }
 
     /// Whether the seam before the next solid may be a break point that fits.
@@ -106,21 +119,20 @@ impl Look {
         self.some && row.breaks() && !has_room(&self.reach, needed, room.height)
     }
 
-    /// Takes the next solid of a page. `area` is that of the notes that have to stand on the page where it ends before
-    /// that solid, in units of 1/64 px, or any number above the frame's height where that area is; before the first
-    /// solid it isn't read.
-    pub fn take(&mut self, row: &SolidRow, area: i64, room: &PageRoom)
+    /// Sees the seam before the next solid of a page.
+    fn see(&mut self, row: &SolidRow, area: i64, room: &PageRoom)
         requires read { HasRead most_entries self.old }
         requires small { IsSmallRow row.now }
         requires area { IsArea area }
         requires carried { IsArea room.now.carried }
-        ensures look { (rows : List SolidRow) (list : NoteLists) (c : ℕ) →
-            (0 < length rows → AreTold room.now.height list c (length rows) area room.now.carried) →
+        ensures some { self.new.some ≡ self.old.some }
+        ensures reach { self.new.reach ≡ self.old.reach }
+        ensures seen { (rows : List SolidRow) (list : NoteLists) (c : ℕ) →
+            (0 < length rows → rows_extent room.now.kept rows (length rows) ≤ℤ room.now.height →
+            AreTold room.now.height list c (length rows) area room.now.carried) →
             IsLook room.now.kept room.now.height list c rows self.old →
-            IsLook room.now.kept room.now.height list c (rows ++ row.now ∷ []) self.new }
-        ensures read { (n : ℕ) → HasRead n self.old → HasRead (n + 1) self.new }
-        ensures short { (rows : List SolidRow) (list : NoteLists) (c widest : ℕ) →
-            IsLook room.now.kept room.now.height list c rows self.old →
+            HasSeen room.now.kept room.now.height list c rows row.now self.old self.new }
+        ensures short { (rows : List SolidRow) (widest : ℕ) → HasPlaced room.now.kept rows self.old →
             row.now.widows ≤ widest → ¬ (self.old.left ≡ Some 0) →
             IsShort room.now.kept room.now.height widest rows self.old →
             IsShort room.now.kept room.now.height widest (rows ++ row.now ∷ []) self.new }
@@ -135,6 +147,30 @@ impl Look {
             return;
         }
         self.fitted = self.fits(row, area, room) | self.fitted;
+    }
+
+    /// Takes the next solid of a page. `area` is that of the notes that have to stand on the page where it ends before
+    /// that solid, in units of 1/64 px, or any number above the frame's height where that area is; before the first
+    /// solid, and after one that ends below the frame, it is any number.
+    pub fn take(&mut self, row: &SolidRow, area: i64, room: &PageRoom)
+        requires read { HasRead most_entries self.old }
+        requires small { IsSmallRow row.now }
+        requires area { IsArea area }
+        requires carried { IsArea room.now.carried }
+        ensures look { (rows : List SolidRow) (list : NoteLists) (c : ℕ) →
+            (0 < length rows → rows_extent room.now.kept rows (length rows) ≤ℤ room.now.height →
+            AreTold room.now.height list c (length rows) area room.now.carried) →
+            IsLook room.now.kept room.now.height list c rows self.old →
+            IsLook room.now.kept room.now.height list c (rows ++ row.now ∷ []) self.new }
+        ensures read { (n : ℕ) → HasRead n self.old → HasRead (n + 1) self.new }
+        ensures short { (rows : List SolidRow) (widest : ℕ) → HasPlaced room.now.kept rows self.old →
+            row.now.widows ≤ widest → ¬ (self.old.left ≡ Some 0) →
+            IsShort room.now.kept room.now.height widest rows self.old →
+            IsShort room.now.kept room.now.height widest (rows ++ row.now ∷ []) self.new }
+        ensures placed { (rows : List SolidRow) → HasPlaced room.now.kept rows self.old →
+            HasPlaced room.now.kept (rows ++ row.now ∷ []) self.new }
+    {
+        self.see(row, area, room);
         let gap = gap_above(&row.seam, !self.some, room.kept);
         self.reach.place(gap, row.height);
         self.some = true;

@@ -3,6 +3,7 @@ pub mod BeginLemmas
 pub mod BodyLemmas
 pub mod CallLemmas
 pub mod KeptLemmas
+pub mod KnownLemmas
 pub mod LeftLemmas
 pub mod NotedLemmas
 pub mod PartLemmas

@@ -24,7 +24,7 @@ use Rattle.note_list.specs.Conditions.{NotesAscend, IsAtSolid, IsHeld}
 use Rattle.note_list.specs.Left.{left_after_last, left_at, left_from, left_in, left_of_last, left_part, next_of, whole_notes}
 use Rattle.note_list.specs.Lists.{AreNoted, NotePart, called_parts, carried_parts, left_of, noted, placed_notes, note_rows}
 use Rattle.note_list.specs.Places.{IsNear, IsPlacing, least_of}
-use Rattle.note_list.specs.Reads.{IsReadOf, IsReady}
+use Rattle.note_list.specs.Reads.{IsReadFor, IsReady}
 use Rattle.note_list.specs.declared.carried.Carried.{Carried}
 use Rattle.note_list.specs.declared.list.NoteList.{NoteList}
 use Rattle.note_list.specs.declared.list.PlacedList.{PlacedList}
@@ -169,7 +169,7 @@ least_level level must other own carried f = by (cases_lt level 3)
     by (inr h) = let off : nat_lt level 3 ≡ false = grind (arith, nat_tests) in ap (λ (b : Bool). cond b must (cond (level == 3) own (cond (carried == 0) 0 1))) off ∙ sym (ap (λ (b : Bool). cond b other (cond (level == 3) own (cond (carried == 0) 0 1))) off)
 
 -- how many are placed of the list is told by what is read of it
-module _ (l : NoteList) (list later own : List NotedSolid) (level : ℕ) (height room : ℤ) (ready : IsReady l) (of : IsReadOf height (list ++ later) l) (counts : IsCarryCount (note_rows own) (length own) height l.own) (longer : (more : List NotedSolid) × (list ≡ own ++ more)) (low : room ≤ℤ height)
+module _ (l : NoteList) (list later own : List NotedSolid) (level : ℕ) (height room : ℤ) (ready : IsReady l) (of : IsReadFor room (list ++ later) l) (counts : IsCarryCount (note_rows own) (length own) height l.own) (longer : (more : List NotedSolid) × (list ≡ own ++ more))
     (fits : level ≤ 2 → area_of (note_rows list) (must_of (note_rows list) l.own) ≤ℤ room) where
   abbrev PlacesOf : List NotedSolid → ℕ → ℕ → Type 0
   PlacesOf read c number = IsPlaced (note_rows read) (least_of level (must_of (note_rows read) c) c c) room number
@@ -194,14 +194,14 @@ module _ (l : NoteList) (list later own : List NotedSolid) (level : ℕ) (height
   whole_placed number p = subst (λ (k : ℕ). IsPlaced (note_rows list) k room number) (carried_least (must_of (note_rows list) l.own)) p
 
   -- where a prefix is that takes more room than there is
-  prefix_placed : (rest : List NotedSolid) (number : ℕ) → list ≡ l.solids.items ++ rest → height <ℤ area_of (note_rows l.solids.items) (length l.solids.items) → PlacesOf l.solids.items l.own number → Wanted number
+  prefix_placed : (rest : List NotedSolid) (number : ℕ) → list ≡ l.solids.items ++ rest → room <ℤ area_of (note_rows l.solids.items) (length l.solids.items) → PlacesOf l.solids.items l.own number → Wanted number
   prefix_placed rest number is past p =
       let rows : List NoteSolid = note_rows l.solids.items in
       let more : List NoteSolid = note_rows rest in
       let rows_are : note_rows list ≡ rows ++ more = ap (λ (xs : List NotedSolid). note_rows xs) is ∙ map-append (λ (s : NotedSolid). s.row) l.solids.items rest in
-      let over : height <ℤ area_of rows (length rows) = subst (λ (n : ℕ). height <ℤ area_of rows n) (sym (length-map l.solids.items (λ s. s.row))) past in
-      let placed : IsPlaced (rows ++ more) (least_of level (must_of rows l.own) l.own l.own) room number = placed_prefix rows more height room (least_of level (must_of rows l.own) l.own l.own) number low over p in
-      let must : level ≤ 2 → must_of rows l.own ≡ must_of (rows ++ more) l.own = λ h. sym (must_prefix rows more height l.own over (let f = subst (λ (rs : List NoteSolid). area_of rs (must_of rs l.own) ≤ℤ room) rows_are (fits h) in omega (arith, ints))) in
+      let over : room <ℤ area_of rows (length rows) = subst (λ (n : ℕ). room <ℤ area_of rows n) (sym (length-map l.solids.items (λ s. s.row))) past in
+      let placed : IsPlaced (rows ++ more) (least_of level (must_of rows l.own) l.own l.own) room number = placed_prefix rows more room room (least_of level (must_of rows l.own) l.own l.own) number (omega (arith, ints)) over p in
+      let must : level ≤ 2 → must_of rows l.own ≡ must_of (rows ++ more) l.own = λ h. sym (must_prefix rows more room l.own over (subst (λ (rs : List NoteSolid). area_of rs (must_of rs l.own) ≤ℤ room) rows_are (fits h))) in
       let least : least_of level (must_of rows l.own) l.own l.own ≡ least_of level (must_of (rows ++ more) l.own) l.own (length own) = least_level level (must_of rows l.own) (must_of (rows ++ more) l.own) l.own l.own must ∙ carried_least (must_of (rows ++ more) l.own) in
       subst (λ (rs : List NoteSolid). IsPlaced rs (least_of level (must_of rs l.own) l.own (length own)) room number) (sym rows_are) (subst (λ (k : ℕ). IsPlaced (rows ++ more) k room number) least placed)
 
@@ -214,7 +214,7 @@ module _ (l : NoteList) (list later own : List NotedSolid) (level : ℕ) (height
       let within : l.own ≤ length (take read l.solids.items) = subst (λ (xs : List NotedSolid). l.own ≤ length xs) e own_within in
       let q : PlacesOf (take read l.solids.items) l.own number = subst (λ (c : ℕ). PlacesOf (take read l.solids.items) c number) (min_low (length (take read l.solids.items)) within) p in
       whole_placed number (subst (λ (xs : List NotedSolid). PlacesOf xs l.own number) (sym e) q)
-  number_told read number (inr c) p = by l.over refl
+  number_told read number (inr c) p = by of.enough
     where
       within : l.own ≤ length (take read l.solids.items)
       within = subst (λ (xs : List NotedSolid). l.own ≤ length xs) (sym c.all) ready.within
@@ -226,10 +226,10 @@ module _ (l : NoteList) (list later own : List NotedSolid) (level : ℕ) (height
       none_of [] ys e = refl
       none_of (x ∷ xs) ys e = absurd (cc)
 
-      by : (b : Bool) → l.over ≡ b → Wanted number
-      by true e = prefix_placed c.rest number c.is (of.past e) q
-      by false e =
-          let none : c.rest ≡ [] = none_of c.rest c.later (sym c.more_is ∙ of.all e) in
+      by : (of.more ≡ []) ⊎ (room <ℤ area_of (note_rows l.solids.items) (length l.solids.items)) → Wanted number
+      by (inr past) = prefix_placed c.rest number c.is past q
+      by (inl all) =
+          let none : c.rest ≡ [] = none_of c.rest c.later (sym c.more_is ∙ all) in
           let same : list ≡ l.solids.items = c.is ∙ ap (λ (xs : List NotedSolid). l.solids.items ++ xs) none ∙ append-nil l.solids.items in
           whole_placed number (subst (λ (xs : List NotedSolid). PlacesOf xs l.own number) (sym same) q)
 
@@ -451,13 +451,13 @@ next_low (Some s) to h = h
 
 -- a page's list, placed
 pub placing : (faces : List FontFace) (notes : List Note) (width height : ℤ) (l : NoteList) (carried : List Carried) (from to level : ℕ) (room : ℤ) (own list later : List NotedSolid) (read number : ℕ) (p : PlacedList) →
-    IsReady l → All (λ s. IsHeld notes (record { note = s.note; at = s.end })) (take read l.solids.items) → All (IsHeld notes) carried → NotesAscend carried → All (λ c. c.note < from) carried → from ≤ to → to ≤ length notes → room ≤ℤ height →
+    IsReady l → All (λ s. IsHeld notes (record { note = s.note; at = s.end })) (take read l.solids.items) → All (IsHeld notes) carried → NotesAscend carried → All (λ c. c.note < from) carried → from ≤ to → to ≤ length notes →
     read ≤ length l.solids.items → All (IsBelow to) (take read l.solids.items) → ((s : NotedSolid) → slice_get l.solids.items read ≡ Some s → to ≤ s.note) →
     IsPlaced (note_rows (take read l.solids.items)) (least_of level (must_of (note_rows (take read l.solids.items)) (min l.own (length (take read l.solids.items)))) (min l.own (length (take read l.solids.items))) (min l.own (length (take read l.solids.items)))) room number →
     p.notes ≡ placed_notes separator (take number (take read l.solids.items)) → p.left ≡ left_after_last notes carried from to (slice_get (take number (take read l.solids.items)) (length (take number (take read l.solids.items)) - 1)) →
-    AreNoted faces notes width (carried_parts carried) own → AreNoted faces notes width (carried_parts carried ++ called_parts from to) list → All (IsFrom to) later → IsReadOf height (list ++ later) l → IsCarryCount (note_rows own) (length own) height l.own →
+    AreNoted faces notes width (carried_parts carried) own → AreNoted faces notes width (carried_parts carried ++ called_parts from to) list → All (IsFrom to) later → IsReadFor room (list ++ later) l → IsCarryCount (note_rows own) (length own) height l.own →
     (level ≤ 2 → area_of (note_rows list) (must_of (note_rows list) l.own) ≤ℤ room) → IsPlacing list level l.own (length own) room p
-placing faces notes width height l carried from to level room own list later read number p ready ends held up below order within low few under stops placed notes_is left_is owned listed after of counts fits =
+placing faces notes width height l carried from to level room own list later read number p ready ends held up below order within few under stops placed notes_is left_is owned listed after of counts fits =
     let cut = parted to list later l.solids.items of.more read of.is (list_below faces notes width carried from to list up below order listed) after few under stops in
     let most = placed.within in
     let size : length (note_rows (take read l.solids.items)) ≡ length (take read l.solids.items) = length-map (take read l.solids.items) (λ s. s.row) in
@@ -465,7 +465,7 @@ placing faces notes width height l carried from to level room own list later rea
     let same = read_taken list l.solids.items of.more read number cut number_low in
     record {
       number = number;
-      places = number_told l list later own level height room ready of counts (own_first faces notes width carried from to own list owned listed) low fits read number cut placed;
+      places = number_told l list later own level height room ready of counts (own_first faces notes width carried from to own list owned listed) fits read number cut placed;
       notes_is = notes_is ∙ ap (placed_notes separator) (sym same);
       left_is = left_is ∙ left_told faces notes width carried from to list (take read l.solids.items) number held up below order within listed ends number_low same;
     }

@@ -9,7 +9,7 @@ use Rattle.notes.specs.declared.solid.NoteSolid.{NoteSolid}
 use Rattle.notes.specs.Notes.{IsCarryCount, IsSmallNote, area_of, last_begin, must_of, note_bottom, note_extent}
 use Rattle.notes.proofs.NoteLemmas.{IsReach, area_prefix, area_some, must_within}
 use Rattle.note_list.specs.Lists.{note_rows}
-use Rattle.note_list.specs.Reads.{HasReached, IsReadOf, IsReady, has_begin}
+use Rattle.note_list.specs.Reads.{HasReached, IsReadFor, IsReadOf, IsReady, has_begin}
 use Rattle.note_list.specs.declared.list.NoteList.{NoteList}
 use Rattle.notes.specs.declared.reach.Reach.{Reach}
 use Rattle.note_list.specs.declared.solid.NotedSolid.{NotedSolid}
@@ -202,6 +202,14 @@ module _ (l : NoteList) (r : IsReady l) (height : ℤ) (list : List NotedSolid) 
       by (inr h) = absurd (let f : true ≡ false = sym e ∙ of.begun ∙ h.0 in cc)
 
 -- the count of the carried solids that have to stand, by those that are read
+-- so enough is read for each room within the height
+pub read_for : (height room : ℤ) (list : List NotedSolid) (l : NoteList) → room ≤ℤ height → IsReadOf height list l → IsReadFor room list l
+read_for height room list l low of = record { more = of.more; is = of.is; enough = by l.over refl }
+  where
+    by : (b : Bool) → l.over ≡ b → (of.more ≡ []) ⊎ (room <ℤ area_of (note_rows l.solids.items) (length l.solids.items))
+    by true e = inr (let p = of.past e in omega (arith, ints, low, p))
+    by false e = inl (of.all e)
+
 pub counts_told : (l : NoteList) (height : ℤ) (list : List NotedSolid) → pos 0 ≤ℤ height → IsReadOf height list l → IsCarryCount (note_rows l.solids.items) (length l.solids.items) height l.own → IsCarryCount (note_rows list) (length list) height l.own
 counts_told l height list low of own = by l.over refl
   where

@@ -2,12 +2,10 @@
 use Rattle.std.proofs.Common.{◌≡◌, ℕ, ◌+◌, ◌<◌, ◌≤◌, ◌⊎◌, inl, inr, ℤ, pos, ◌≤ℤ◌, List, [], ◌∷◌, ◌++◌, false, length, length-append, refl, sym, ap, ◌∙◌, subst, arith}
 use Rattle.std.proofs.lemmas.Bool.{cases_lt}
 use Rattle.std.proofs.lemmas.List.{length-map, map-append}
-use Rattle.std.proofs.lemmas.List.Sums.{sum_by-append, sum_by-cons}
-use Rattle.cursor.specs.Remainder.{steps_by}
 use Rattle.notes.specs.Notes.{area_of}
 use Rattle.notes.proofs.NoteLemmas.{area_prefix}
 use Rattle.note_list.specs.Lists.{note_rows}
-use Rattle.note_list.specs.Short.{IsShortList, lines_in}
+use Rattle.note_list.specs.Short.{IsShortList}
 use Rattle.note_list.specs.declared.list.NoteList.{NoteList}
 use Rattle.note_list.specs.declared.solid.NotedSolid.{NotedSolid}
 
@@ -47,9 +45,3 @@ short_next height old new s items room fits short = record { before = λ k h. by
         let n = size in
         let at : k ≡ length old.solids.items = omega (arith, n, h, high) in
         subst (λ (z : ℤ). z ≤ℤ height) (sym (same k (omega (arith, at))) ∙ refl) (subst (λ (j : ℕ). area_of (note_rows old.solids.items) j ≤ℤ height) (sym at) (short.all room))
-
--- its line counts
-pub lines_next : (old new : List NotedSolid) (s : NotedSolid) → new ≡ old ++ s ∷ [] → lines_in new ≡ lines_in old + steps_by s.kind
-lines_next old new s items =
-    ap (λ (xs : List NotedSolid). lines_in xs) items ∙ sum_by-append (λ (x : NotedSolid). steps_by x.kind) old (s ∷ [])
-    ∙ ap (λ (n : ℕ). lines_in old + n) (omega (arith, sum_by-cons (λ (x : NotedSolid). steps_by x.kind) s []))

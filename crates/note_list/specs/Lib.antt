@@ -2,6 +2,7 @@ pub mod Areas
 pub mod Calls
 pub mod Conditions
 pub mod Kept
+pub mod Known
 pub mod Left
 pub mod Lists
 pub mod Places

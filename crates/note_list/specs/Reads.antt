@@ -1,5 +1,5 @@
 -- A list of notes that is read as far as a page of some height can use it.
-use Rattle.std.specs.Prelude.{◌≡◌, ℤ, ◌≤◌, ◌<ℤ◌, List, [], ◌++◌, Bool, true, false, length, map}
+use Rattle.std.specs.Prelude.{◌≡◌, ℤ, ◌≤◌, ◌<ℤ◌, ◌⊎◌, List, [], ◌++◌, Bool, true, false, length, map}
 use Rattle.std.specs.List.{All, list_any}
 use Rattle.bk_num.specs.Limits.{most_entries}
 use Rattle.boxes.specs.Tree.{Tree}
@@ -45,6 +45,12 @@ pub record IsReadOf (height : ℤ) (list : List NotedSolid) (l : NoteList) : Typ
   pub all : l.over ≡ false → more ≡ []
   pub past : l.over ≡ true → height <ℤ area_of (note_rows l.solids.items) (length l.solids.items)
   pub begun : l.begun ≡ has_begin more
+
+-- enough is read of a list for some room: all of it, or a prefix that takes more
+pub record IsReadFor (room : ℤ) (list : List NotedSolid) (l : NoteList) : Type 0 where
+  pub more : List NotedSolid
+  pub is : list ≡ l.solids.items ++ more
+  pub enough : (more ≡ []) ⊎ (room <ℤ area_of (note_rows l.solids.items) (length l.solids.items))
 
 -- a note is read on, from a place of its body, where the list had room: all of it, or a prefix that takes more than
 -- there is, and no called note begins after it

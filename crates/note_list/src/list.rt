@@ -1,6 +1,6 @@
 //! The list of a page's notes, read as far as the page can use it.
 
-ghost use Rattle.std.specs.Prelude.{◌≡◌, ℤ, List, ◌+◌, ◌≤◌, ◌++◌, All, length, IfOk, OnOk};
+ghost use Rattle.std.specs.Prelude.{◌≡◌, ℤ, List, ◌≤◌, ◌++◌, [], All, length, IfOk, OnOk};
 ghost use Rattle.boxes.specs.Frames.{IsGoodFrame};
 ghost use Rattle.cursor.specs.Asks.{KeepsHeld, TakesSteps};
 ghost use Rattle.cuts.specs.Areas.{IsArea, Tells};
@@ -8,7 +8,8 @@ ghost use Rattle.note_list.specs.Conditions.{CanBePaged, IsHeld};
 ghost use Rattle.note_list.specs.Kept.{AreFlowLines, AreHeldNow};
 ghost use Rattle.note_list.specs.Lists.{AreNoted, called_parts, note_rows};
 ghost use Rattle.note_list.specs.Reads.{EndInNotes, IsCarriedList, IsReadOf, IsReady};
-ghost use Rattle.note_list.specs.Short.{IsShortList, lines_in};
+ghost use Rattle.note_list.specs.Known.{StepsForNotes};
+ghost use Rattle.note_list.specs.Short.{IsShortList};
 ghost use Rattle.note_list.specs.declared.solid.NotedSolid.{NotedSolid};
 ghost use Rattle.notes.specs.Notes.{area_of, must_of};
 
@@ -85,7 +86,8 @@ impl NoteList {
         ensures ends { IfOk result (EndInNotes flow.now.notes) }
         ensures list { IfOk result (λ l. IsCarriedList faces.now flow.now.notes frame carried.now l) }
         ensures short { IfOk result (IsShortList frame.height) }
-        ensures lines { IfOk result (λ l. steps.new ≤ steps.old + lines_in l.solids.items) }
+        ensures lines { IfOk result (λ l. StepsForNotes flow.now.notes frame.width lines.old.kept [] l.solids.items
+            steps.old steps.new) }
     {
         let mut list = NoteList::new(alloc);
         list.read_carried(flow, faces, carried, frame, widths, lines, steps)?;
@@ -125,8 +127,8 @@ impl NoteList {
             AreNoted faces.now flow.now.notes frame.width (called_parts from to) more ×
             IsReadOf frame.height (list ++ more) self.new) }
         ensures short { OnOk result (IsShortList frame.height self.old → IsShortList frame.height self.new) }
-        ensures lines { OnOk result (steps.new + lines_in self.old.solids.items
-            ≤ steps.old + lines_in self.new.solids.items) }
+        ensures lines { OnOk result (StepsForNotes flow.now.notes frame.width lines.old.kept
+            self.old.solids.items self.new.solids.items steps.old steps.new) }
     {
         for note in from..to {
             self.read(flow, faces, whole(note), true, frame, widths, lines, steps)?;

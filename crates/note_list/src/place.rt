@@ -8,7 +8,7 @@ ghost use Rattle.metrics.specs.Face.{FontFace};
 ghost use Rattle.note_list.specs.Conditions.{IsAtSolid, IsHeld, NotesAscend};
 ghost use Rattle.note_list.specs.Lists.{AreNoted, called_parts, carried_parts, placed_notes, note_rows};
 ghost use Rattle.note_list.specs.Places.{CanPlace, IsFront, IsNear, IsPlacing, least_of};
-ghost use Rattle.note_list.specs.Reads.{IsReadOf};
+ghost use Rattle.note_list.specs.Reads.{IsReadFor};
 ghost use Rattle.note_list.specs.declared.solid.NotedSolid.{NotedSolid};
 ghost use Rattle.notes.specs.Notes.{IsCarryCount, IsPlaced, IsSmallNote, area_of, must_of};
 
@@ -154,7 +154,7 @@ impl NoteList {
         ensures placed { IfOk result (λ p. (faces : List FontFace) (width : ℤ) (own list later : List NotedSolid) →
             AreNoted faces flow.now.notes width (carried_parts carried) own →
             AreNoted faces flow.now.notes width (carried_parts carried ++ called_parts from room.now.to) list →
-            All (λ s. room.now.to ≤ s.note) later → IsReadOf room.now.height (list ++ later) self.now →
+            All (λ s. room.now.to ≤ s.note) later → IsReadFor room.now.room (list ++ later) self.now →
             IsCarryCount (note_rows own) (length own) room.now.height self.now.own →
             (cut_number room.now.level ≤ 2 →
             area_of (note_rows list) (must_of (note_rows list) self.now.own) ≤ℤ room.now.room) →

@@ -14,7 +14,8 @@ ghost use Rattle.note_list.specs.Conditions.{CanBeCut, CanBePaged, IsHeld};
 ghost use Rattle.note_list.specs.Kept.{AreFlowLines, AreHeldNow};
 ghost use Rattle.note_list.specs.Lists.{AreNoted, carried_parts, note_rows};
 ghost use Rattle.note_list.specs.Reads.{EndInNotes, HasReadOn, IsReadOf, IsReady};
-ghost use Rattle.note_list.specs.Short.{IsShortList, lines_in};
+ghost use Rattle.note_list.specs.Known.{StepsForNotes};
+ghost use Rattle.note_list.specs.Short.{IsShortList};
 ghost use Rattle.note_list.specs.declared.solid.NotedSolid.{NotedSolid};
 ghost use Rattle.notes.specs.Notes.{IsCarryCount, IsSmallNote, area_of};
 ghost use Rattle.seams.specs.Runs.{solid_after};
@@ -162,8 +163,9 @@ impl NoteList {
             note.body ≡ body.now →
             EndInNotes notes self.old → EndInNotes notes self.new) }
         ensures short { OnOk result (IsShortList frame.height self.old → IsShortList frame.height self.new) }
-        ensures lines { OnOk result (steps.new + lines_in self.old.solids.items
-            ≤ steps.old + lines_in self.new.solids.items) }
+        ensures lines { OnOk result ((notes : List Note) (note : Note) → slice_get notes part.note ≡ Some note →
+            note.body ≡ body.now → StepsForNotes notes frame.width lines.old.kept self.old.solids.items
+            self.new.solids.items steps.old steps.new) }
     {
         let number = part.note + 1;
         let first = solid_after(body, 0);
@@ -228,8 +230,8 @@ impl NoteList {
             (record { note = part.note; at = part.at; called = called } ∷ []) more ×
             IsReadOf frame.height (list ++ more) self.new) }
         ensures short { OnOk result (IsShortList frame.height self.old → IsShortList frame.height self.new) }
-        ensures lines { OnOk result (steps.new + lines_in self.old.solids.items
-            ≤ steps.old + lines_in self.new.solids.items) }
+        ensures lines { OnOk result (StepsForNotes flow.now.notes frame.width lines.old.kept
+            self.old.solids.items self.new.solids.items steps.old steps.new) }
     {
         let body = body_of(flow, part.note);
         if self.over {
@@ -270,8 +272,8 @@ impl NoteList {
             AreNoted faces.now flow.now.notes frame.width (carried_parts carried.now) more ×
             IsReadOf frame.height (list ++ more) self.new) }
         ensures short { OnOk result (IsShortList frame.height self.old → IsShortList frame.height self.new) }
-        ensures lines { OnOk result (steps.new + lines_in self.old.solids.items
-            ≤ steps.old + lines_in self.new.solids.items) }
+        ensures lines { OnOk result (StepsForNotes flow.now.notes frame.width lines.old.kept
+            self.old.solids.items self.new.solids.items steps.old steps.new) }
     {
         for at in 0..carried.len() {
             if self.over {

@@ -6,6 +6,7 @@ pub mod CallLemmas
 pub mod CarriedLemmas
 pub mod ExistLemmas
 pub mod FallLemmas
+pub mod FewLemmas
 pub mod FirstSolidLemmas
 pub mod InsideLemmas
 pub mod LookedLemmas

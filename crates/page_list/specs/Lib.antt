@@ -3,6 +3,7 @@ pub mod Cuts
 pub mod Inside
 pub mod Laws
 pub mod Looked
+pub mod LookedPages
 pub mod Noted
 pub mod Pages
 pub mod Parted

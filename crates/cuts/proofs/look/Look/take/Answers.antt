@@ -1,97 +1,68 @@
-use Rattle.std.proofs.Common.{◌≡◌, ◌∙◌, ◌<◌, ◌≤◌, ℕ, zero, suc, List, length, Some, None, ap, arith, ◌+ℤ◌, ◌≤ℤ◌, ◌∷◌, ◌++◌, [], ℤ, Bool, true, false, rules, refl, sym, subst, ◌||◌, ◌⊎◌, ◌^◌, inl, inr, not}
+use Rattle.std.proofs.Common.{◌≡◌, ◌∙◌, ℕ, List, length, Option, Some, None, ap, ◌+ℤ◌, ◌∷◌, ◌++◌, [], ℤ, Bool, true, false, rules, refl, sym, subst, ◌⊎◌, ◌^◌, inl, inr, not}
+use Rattle.std.specs.Int.{int_max}
 use Rattle.std.proofs.lemmas.Int.{to_z-of_z}
 use mir.Val.{SFits}
 use mir.Syntax.{w64}
+use Rattle.notes.specs.declared.reach.Reach.{Reach}
 use Rattle.cuts.specs.declared.look.Look.{Look}
-use Rattle.cuts.specs.declared.row.SolidRow.{SolidRow}
 use Rattle.bk_num.specs.Numbers.{IsWithin}
-use Rattle.cuts.specs.Prefixes.{HasMissed, IsGoing, look_by}
-use Rattle.cuts.specs.Rows.{IsAtTop}
-use Rattle.cuts.proofs.LookLemmas.{took_missed, took_miss, took_going, seam_misses, seam_fits}
+use Rattle.cuts.specs.Areas.{AreTold}
+use Rattle.cuts.specs.Cuts.{NoteLists}
+use Rattle.cuts.specs.declared.row.SolidRow.{SolidRow}
+use Rattle.cuts.specs.Prefixes.{look_by}
+use Rattle.cuts.specs.Rows.{IsAtTop, top_gap}
+use Rattle.cuts.specs.Seen.{seen_by}
+use Rattle.cuts.proofs.LookLemmas.{took_going, took_placed}
 use Rattle.cuts.proofs.ReachLemmas.{reached_more}
-use Rattle.cuts.specs.Short.{short_by}
-use Rattle.cuts.proofs.ShortLemmas.{short_missed, short_miss, short_going}
 use Rattle.cuts.proofs.look.Look.take.Goals as goal
+use Rattle.cuts.proofs.look.Look.take.Goals.{After-place}
 
-above : (n : ℕ) → (n ≡ 0 → ⊥) → 0 < n
-above zero f = absurd (f refl)
-above (suc n) f = omega arith
+-- the gap above the solid, and where it stands
+top_is : (c : After-place) → c.args.self.now.some ≡ false → c.gap_above-gap.result ≡ top_gap c.args.room.now.kept (Some c.args.row.now)
+top_is c e = c.gap_above-gap.ensures.top (ap not (c.see.ensures.some ∙ e))
 
-is_some : (rows : List SolidRow) (b : Bool) → (b ≡ false → rows ≡ []) → 0 < length rows → b ≡ true
-is_some rows true f l = refl
-is_some rows false f l = let e : length rows ≡ 0 = ap (λ (rs : List SolidRow). length rs) (f refl) in absurd (omega (arith, e))
+below_is : (c : After-place) → c.args.self.now.some ≡ true → c.gap_above-gap.result ≡ c.args.row.now.seam.whole_gap
+below_is c e = c.gap_above-gap.ensures.below (ap not (c.see.ensures.some ∙ e))
 
-pub returns-in-Some-clause-look : goal.returns-in-Some-clause-look
-returns-in-Some-clause-look c = λ rows list n told look.
-    let m : HasMissed c.args.room.now.kept c.args.room.now.height list n rows c.in-Some.left = subst (look_by c.args.room.now.kept c.args.room.now.height list n rows c.args.self.now) c.in-Some.is look in
-    took_missed c.args.room.now.kept c.args.room.now.height list n rows c.args.row.now c.in-Some.left c.left_after.result c.left_after.ensures.least m
+bottom_is : (c : After-place) → c.place.new.self.bottom ≡ (c.args.self.now.reach.bottom +ℤ c.gap_above-gap.result) +ℤ c.args.row.now.height
+bottom_is c =
+    let gap : SFits w64 c.gap_above-gap.result = search rules in
+    let tall : SFits w64 c.args.row.now.height = search rules in
+    let is : c.place.new.self.bottom ≡ (c.see.new.self.reach.bottom +ℤ c.gap_above-gap.result) +ℤ c.args.row.now.height = simp to_z-of_z at c.place.ensures.bottom in
+    is ∙ ap (λ (q : Reach). (q.bottom +ℤ c.gap_above-gap.result) +ℤ c.args.row.now.height) c.see.ensures.reach
 
-pub returns-then-misses-clause-look : goal.returns-then-misses-clause-look
-returns-then-misses-clause-look c = λ rows list n told look.
-    let kept : Bool = c.args.room.now.kept in
-    let height : ℤ = c.args.room.now.height in
-    let going : IsGoing kept height list n rows c.args.self.now = subst (look_by kept height list n rows c.args.self.now) c.in_default.is look in
-    let area : SFits w64 c.args.area = c.ranges.area in
-    let point = c.misses.ensures.point c.if-misses.true in
-    let fitted : c.args.self.now.fitted ≡ true → ¬ ((c.args.self.now.reach.extent +ℤ c.args.area) ≤ℤ height) = simp to_z-of_z at (c.misses.ensures.fitted c.if-misses.true) in
-    let none : c.args.self.now.fitted ≡ false → ¬ ((c.args.self.now.reach.extent +ℤ c.args.room.now.carried) ≤ℤ height) = c.misses.ensures.none c.if-misses.true in
-    subst (HasMissed kept height list n (rows ++ c.args.row.now ∷ [])) (sym c.saturating_sub.ensures)
-    (took_miss kept height list n rows c.args.row.now c.args.self.now c.least_with-self.result going c.least_with-self.ensures.own c.least_with-self.ensures.kept point.1 point.0
-    (seam_misses kept height list n rows c.args.row.now c.args.self.now c.args.area c.args.room.now.carried going told c.requires.read.0.least point.0 fitted none))
+extent_is : (c : After-place) → c.place.new.self.extent ≡ int_max c.args.self.now.reach.extent c.place.new.self.bottom
+extent_is c = c.place.ensures.extent ∙ ap (λ (q : Reach). int_max q.extent c.place.new.self.bottom) c.see.ensures.reach
+
+abbrev new_of : After-place → Look
+new_of c = record { some = true; reach = c.place.new.self; fitted = c.see.new.self.fitted; least = c.see.new.self.least; left = c.see.new.self.left }
 
 pub returns-clause-look : goal.returns-clause-look
 returns-clause-look c = λ rows list n told look.
+    let d = (goal.at.returns-clause-look c).After-place in
     let kept : Bool = c.args.room.now.kept in
     let height : ℤ = c.args.room.now.height in
-    let old : Look = c.args.self.now in
-    let new : Look = record { some = true; reach = c.place.new.self; fitted = c.fits.result || old.fitted; least = c.least_with-self.result; left = old.left } in
-    let going : IsGoing kept height list n rows old = subst (look_by kept height list n rows old) c.in_default.is look in
     let area : SFits w64 c.args.area = c.ranges.area in
-    let gap : SFits w64 c.gap_above-gap.result = search rules in
-    let tall : SFits w64 c.args.row.now.height = search rules in
-    let tail : SFits w64 c.args.row.now.seam.tail = search rules in
-    let fit : c.fits.result ≡ true → ((old.reach.extent +ℤ c.args.row.now.seam.tail) +ℤ c.args.area) ≤ℤ height = simp to_z-of_z at c.fits.ensures.fits in
-    let bottom : c.place.new.self.bottom ≡ (old.reach.bottom +ℤ c.gap_above-gap.result) +ℤ c.args.row.now.height = simp to_z-of_z at c.place.ensures.bottom in
-    let fitted = seam_fits kept height list n rows c.args.row.now old c.args.area c.args.room.now.carried going told c.requires.read.0.least c.fits.result c.requires.small.tail.0 c.fits.ensures.point fit in
-    subst (look_by kept height list n (rows ++ c.args.row.now ∷ []) new) (sym c.in_default.is)
-    (took_going kept height list n rows c.args.row.now old new c.gap_above-gap.result going c.least_with-self.ensures.own c.least_with-self.ensures.kept (λ e. c.gap_above-gap.ensures.top (ap not e)) (λ e. c.gap_above-gap.ensures.below (ap not e)) refl bottom c.place.ensures.extent fitted)
+    by d rows list n c.see.new.self.left (c.see.ensures.seen rows list n (λ some inside. subst (λ (z : ℤ). AreTold height list n (length rows) z c.args.room.now.carried) (sym (to_z-of_z w64 c.args.area area)) (told some inside)) look)
+  where
+    by : (d : After-place) (rows : List SolidRow) (list : NoteLists) (n : ℕ) (o : Option ℕ) → seen_by d.args.room.now.kept d.args.room.now.height list n rows d.args.row.now d.args.self.now d.see.new.self o → look_by d.args.room.now.kept d.args.room.now.height list n (rows ++ d.args.row.now ∷ []) (new_of d) o
+    by d rows list n None on = took_going d.args.room.now.kept d.args.room.now.height list n rows d.args.row.now d.args.self.now d.see.new.self (new_of d) d.gap_above-gap.result on refl refl (top_is d) (below_is d) refl (bottom_is d) (extent_is d)
+    by d rows list n (Some left) m = m
+
+pub returns-clause-placed : goal.returns-clause-placed
+returns-clause-placed c = λ rows placed.
+    let d = (goal.at.returns-clause-placed c).After-place in
+    took_placed c.args.room.now.kept rows c.args.row.now c.args.self.now (new_of d) c.gap_above-gap.result placed (top_is d) (below_is d) refl (bottom_is d) (extent_is d)
+
+pub returns-clause-short : goal.returns-clause-short
+returns-clause-short c = λ rows widest placed few more short. let s = c.see.ensures.short rows widest placed few more short in record { least = s.least; short = s.short }
 
 pub returns-clause-read : goal.returns-clause-read
 returns-clause-read c = λ n read.
-    let gap : SFits w64 c.gap_above-gap.result = search rules in
-    let tall : SFits w64 c.args.row.now.height = search rules in
-    let bottom : c.place.new.self.bottom ≡ (c.args.self.now.reach.bottom +ℤ c.gap_above-gap.result) +ℤ c.args.row.now.height = simp to_z-of_z at c.place.ensures.bottom in
-    let first : IsAtTop c.args.self.now.reach ⊎ IsWithin (2 ^ 32) c.gap_above-gap.result = by c.args.self.now.some c.requires.read.1 c.gap_above-gap.ensures.small in
-    (reached_more n c.args.self.now.reach c.place.new.self c.gap_above-gap.result c.args.row.now.height read.0 c.gap_above-gap.ensures.near first c.requires.small.height c.requires.small.some bottom c.place.ensures.extent, λ e. absurd (cc))
+    let d = (goal.at.returns-clause-read c).After-place in
+    let first : IsAtTop c.args.self.now.reach ⊎ IsWithin (2 ^ 32) c.gap_above-gap.result = by c.args.self.now.some c.requires.read.1 (λ e. c.gap_above-gap.ensures.small (ap not c.see.ensures.some ∙ e)) in
+    (reached_more n c.args.self.now.reach c.place.new.self c.gap_above-gap.result c.args.row.now.height read.0 c.gap_above-gap.ensures.near first c.requires.small.height c.requires.small.some (bottom_is d) (extent_is d), λ e. absurd (cc))
   where
     by : (b : Bool) → (b ≡ false → IsAtTop c.args.self.now.reach) → (not b ≡ false → IsWithin (2 ^ 32) c.gap_above-gap.result) → IsAtTop c.args.self.now.reach ⊎ IsWithin (2 ^ 32) c.gap_above-gap.result
     by true top small = inr (small refl)
     by false top small = inl (top refl)
-
-pub returns-in-Some-clause-short : goal.returns-in-Some-clause-short
-returns-in-Some-clause-short c = λ rows list n widest look few more short.
-    let kept : Bool = c.args.room.now.kept in
-    let height : ℤ = c.args.room.now.height in
-    let s : short_by kept height widest rows (Some c.in-Some.left) = subst (short_by kept height widest rows) c.in-Some.is short.short in
-    let some : 0 < c.in-Some.left = above c.in-Some.left (λ e. more (c.in-Some.is ∙ ap (λ (m : ℕ). Some m) e)) in
-    record { least = short.least; short = short_missed kept height widest rows c.args.row.now c.in-Some.left c.left_after.result (c.left_after.ensures.less some) s }
-
-pub returns-then-misses-clause-short : goal.returns-then-misses-clause-short
-returns-then-misses-clause-short c = λ rows list n widest look few more short.
-    let kept : Bool = c.args.room.now.kept in
-    let height : ℤ = c.args.room.now.height in
-    let s : short_by kept height widest rows None = subst (short_by kept height widest rows) c.in_default.is short.short in
-    let least : c.least_with-self.result ≤ widest = c.least_with-self.ensures.most widest short.least few in
-    record { least = least; short = subst (λ (m : ℕ). short_by kept height widest (rows ++ c.args.row.now ∷ []) (Some m)) (sym c.saturating_sub.ensures) (short_miss kept height widest rows c.args.row.now c.least_with-self.result least s) }
-
-pub returns-clause-short : goal.returns-clause-short
-returns-clause-short c = λ rows list n widest look few more short.
-    let kept : Bool = c.args.room.now.kept in
-    let height : ℤ = c.args.room.now.height in
-    let going : IsGoing kept height list n rows c.args.self.now = subst (look_by kept height list n rows c.args.self.now) c.in_default.is look in
-    let s : short_by kept height widest rows None = subst (short_by kept height widest rows) c.in_default.is short.short in
-    let least : c.least_with-self.result ≤ widest = c.least_with-self.ensures.most widest short.least few in
-    record {
-      least = least;
-      short = subst (short_by kept height widest (rows ++ c.args.row.now ∷ [])) (sym c.in_default.is) (short_going kept height widest rows c.args.row.now (λ b l. subst (λ (e : ℤ). e ≤ℤ height) going.extent (c.misses.ensures.fits c.if-misses.false (is_some rows c.args.self.now.some going.none l) b)) s);
-    }

@@ -5,6 +5,7 @@ use Rattle.cursor.proofs.StepLemmas.{takes_none, takes_twice}
 use Rattle.note_list.specs.Conditions.{IsHeld}
 use Rattle.note_list.specs.declared.carried.Carried.{Carried}
 use Rattle.note_list.proofs.NotedLemmas.{start_held}
+use Rattle.note_list.proofs.KnownLemmas.{known_more}
 use Rattle.note_list.proofs.BodyLemmas.{Calls, call_end, call_next, call_start}
 use Rattle.note_list.proofs.list.NoteList.call.Goals as goal
 
@@ -17,7 +18,7 @@ loop-note-init g c = record {
   high = omega arith;
   calls = call_start c.args.faces.now c.args.flow.now.notes c.args.frame.width c.args.frame.height c.args.from c.args.self.now;
   short = λ h. h;
-  lines = omega arith;
+  lines = λ known are. omega arith;
   kept = c.requires.kept;
   keeps = keeps_all c.args.lines.now.kept;
   takes = takes_none c.args.lines.now.kept c.args.lines.now.kept c.args.steps.now;
@@ -38,7 +39,7 @@ loop-note-preserved g c =
       high = omega arith;
       calls = call_next c.args.faces.now c.args.flow.now.notes c.args.frame.width c.args.frame.height c.args.from c.loop-note.note c.args.self.now c.loop-note.self c.read.new.self low c.loop-note.invariant.calls next;
       short = λ h. c.in_ok-read.ensures.short (c.loop-note.invariant.short h);
-      lines = let more = c.in_ok-read.ensures.lines in let count = c.loop-note.invariant.lines in omega (arith, more, count);
+      lines = λ known are. let more = c.in_ok-read.ensures.lines known (known_more known c.args.lines.now.kept c.loop-note.lines.kept are c.loop-note.invariant.keeps) in let count = c.loop-note.invariant.lines known are in omega (arith, more, count);
       kept = c.read.ensures.kept;
       keeps = keeps_twice c.args.lines.now.kept c.loop-note.lines.kept c.read.new.lines.kept c.loop-note.invariant.keeps c.read.ensures.keeps;
       takes = takes_twice c.args.lines.now.kept c.loop-note.lines.kept c.read.new.lines.kept c.args.steps.now c.loop-note.steps c.read.new.steps c.loop-note.invariant.keeps c.read.ensures.keeps c.loop-note.invariant.takes c.in_ok-read.ensures.takes;

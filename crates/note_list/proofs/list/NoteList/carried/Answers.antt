@@ -5,10 +5,10 @@ use mir.Val.{SFits}
 use mir.Syntax.{w64}
 use Rattle.notes.specs.Notes.{IsCarryCount}
 use Rattle.note_list.specs.Kept.{AreHeldNow, IsHeldIn}
+use Rattle.note_list.specs.Known.{new_noted}
 use Rattle.note_list.specs.Lists.{note_rows}
-use Rattle.note_list.proofs.BodyLemmas.{EndsIn, read_none, read_same}
-use Rattle.note_list.specs.Short.{lines_in}
 use Rattle.note_list.specs.declared.solid.NotedSolid.{NotedSolid}
+use Rattle.note_list.proofs.BodyLemmas.{EndsIn, read_none, read_same}
 use Rattle.note_list.proofs.ReadLemmas.{counts_told}
 use Rattle.note_list.proofs.ShortLemmas.{short_same, short_start}
 use Rattle.note_list.proofs.list.NoteList.carried.Goals as goal
@@ -36,10 +36,10 @@ returns-clause-short g c =
     (c.in_ok-read_carried.ensures.short (short_start c.args.frame.height c.new-list.result c.new-list.ensures.none c.requires.frame.height_low))
 
 pub returns-clause-lines : goal.returns-clause-lines
-returns-clause-lines g c =
-    let none : lines_in c.new-list.result.solids.items ≡ 0 = ap (λ (xs : List NotedSolid). lines_in xs) c.new-list.ensures.none in
-    let same : lines_in c.hold.new.self.solids.items ≡ lines_in c.read_carried.new.self.solids.items = ap (λ (xs : List NotedSolid). lines_in xs) c.in_ok-hold.ensures.solids in
-    let count = c.in_ok-read_carried.ensures.lines in
+returns-clause-lines g c = λ known are.
+    let none : new_noted known c.args.flow.now.notes c.args.frame.width c.new-list.result.solids.items ≡ 0 = ap (new_noted known c.args.flow.now.notes c.args.frame.width) c.new-list.ensures.none in
+    let same : new_noted known c.args.flow.now.notes c.args.frame.width c.hold.new.self.solids.items ≡ new_noted known c.args.flow.now.notes c.args.frame.width c.read_carried.new.self.solids.items = ap (new_noted known c.args.flow.now.notes c.args.frame.width) c.in_ok-hold.ensures.solids in
+    let count = c.in_ok-read_carried.ensures.lines known are in
     omega (arith, none, same, count)
 
 pub returns-clause-now : goal.returns-clause-now

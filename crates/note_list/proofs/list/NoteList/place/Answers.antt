@@ -57,7 +57,7 @@ returns-clause-placed c = λ faces width own list later owned listed after of co
     subst (λ (xs : List NotedSolid). IsPlaced (note_rows xs) (least_of (cut_number c.args.room.now.level) (must_of (note_rows xs) c.own_of-own.result) c.own_of-own.result c.own_of-own.result) c.args.room.now.room c.in_ok-number.number) read_is c.in_ok-number.ensures in
     let number_is = subst (λ (n : ℕ). IsPlaced (note_rows (take read solids)) (least_of (cut_number c.args.room.now.level) (must_of (note_rows (take read solids)) n) n n) c.args.room.now.room c.in_ok-number.number) own_is number in
     placing faces c.args.flow.now.notes width c.args.room.now.height c.args.self.now c.args.carried c.args.from c.args.room.now.to (cut_number c.args.room.now.level) c.args.room.now.room own list later read c.in_ok-number.number _
-    c.requires.ready ends c.requires.carried c.requires.order c.requires.before c.requires.called c.requires.within c.requires.room within under stops number_is
+    c.requires.ready ends c.requires.carried c.requires.order c.requires.before c.requires.called c.requires.within within under stops number_is
     (c.in_ok-place_all.ensures ∙ ap (placed_notes separator) placed_is)
     (c.in_ok-left_after.ensures ∙ ap (left_after_last c.args.flow.now.notes c.args.carried c.args.from c.args.room.now.to) (c.last_of.ensures ∙ ap (λ (xs : List NotedSolid). slice_get xs (length xs - 1)) placed_is))
     owned listed after of counts fits

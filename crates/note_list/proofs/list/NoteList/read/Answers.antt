@@ -61,6 +61,12 @@ returns-clause-kept g c =
 pub returns-clause-now : goal.returns-clause-now
 returns-clause-now g c = λ held. c.in_ok-read_body.ensures.now c.args.flow.now.notes c.requires.held.note c.requires.held.has (sym (c.body_of-body.ensures c.requires.held.note c.requires.held.has)) held
 
+pub returns-then-self-clause-lines : goal.returns-then-self-clause-lines
+returns-then-self-clause-lines g c = λ known are. omega arith
+
+pub returns-clause-lines : goal.returns-clause-lines
+returns-clause-lines g c = c.in_ok-read_body.ensures.lines c.args.flow.now.notes c.requires.held.note c.requires.held.has (sym (c.body_of-body.ensures c.requires.held.note c.requires.held.has))
+
 pub returns-then-self-clause-keeps : goal.returns-then-self-clause-keeps
 returns-then-self-clause-keeps g c = keeps_all c.args.lines.now.kept
 

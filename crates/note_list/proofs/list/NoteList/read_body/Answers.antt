@@ -1,4 +1,4 @@
-use Rattle.std.proofs.Common.{◌≡◌, ℕ, ◌+◌, ℤ, List, Some, slice_get, [], ◌∷◌, ◌++◌, refl, sym, ap, ◌∙◌, subst, arith, to_z, of_z}
+use Rattle.std.proofs.Common.{◌≡◌, ℕ, ◌+◌, ℤ, List, Some, slice_get, [], ◌∷◌, ◌++◌, refl, sym, ap, ◌∙◌, subst, arith}
 use Rattle.std.proofs.lemmas.Int.{ints, to_z-of_z}
 use mir.Val.{SFits}
 use mir.Syntax.{w64}
@@ -7,7 +7,7 @@ use Rattle.boxes.specs.declared.flow.Note.{Note}
 use Rattle.cursor.proofs.AskLemmas.{keeps_all, keeps_twice}
 use Rattle.cursor.proofs.PlaceLemmas.{placed_twice}
 use Rattle.cursor.proofs.StepLemmas.{takes_none, takes_twice}
-use Rattle.cursor.specs.Asks.{IsHeldNow, KeepsHeld, TakesSteps}
+use Rattle.cursor.specs.Asks.{AsksBy, IsHeldNow, KeepsHeld, TakesSteps}
 use Rattle.cursor.specs.Fields.{solid_view}
 use Rattle.cursor.specs.KeptLines.{StayPlaced}
 use Rattle.cursor.specs.Remainder.{IsSolid, SolidView}
@@ -15,12 +15,13 @@ use Rattle.cursor.proofs.RemLemmas.{solid_falls, stands}
 use Rattle.seams.specs.Widths.{widths_at}
 use Rattle.seams.proofs.RunLemmas.{after_solid}
 use Rattle.note_list.specs.Kept.{AreHeldNow}
+use Rattle.note_list.specs.Known.{StepsForNotes}
 use Rattle.note_list.specs.Lists.{NotePart, noted}
 use Rattle.note_list.specs.Short.{IsShortList}
 use Rattle.note_list.specs.declared.solid.NotedSolid.{NotedSolid}
 use Rattle.note_list.proofs.BodyLemmas.{Reads, ends_next, reads_all, reads_next, reads_over, reads_start}
 use Rattle.note_list.proofs.KeptLemmas.{held_more, held_next}
-use Rattle.note_list.proofs.ShortLemmas.{lines_next}
+use Rattle.note_list.proofs.KnownLemmas.{noted_steps}
 use Rattle.note_list.proofs.list.NoteList.read_body.Given as given
 use Rattle.note_list.proofs.list.NoteList.read_body.Goals as goal
 use Rattle.note_list.proofs.list.NoteList.read_body.Goals.{In_ok-add}
@@ -38,7 +39,7 @@ solids-init g c =
       ends = λ notes note has same h. h;
       reads = reads_start c.args.faces.now c.args.body.now c.args.frame.width _ c.args.self.now.solids.items;
       short = λ s. s;
-      lines = omega arith;
+      lines = λ notes note has same known are. omega arith;
       kept = c.requires.kept;
       placed = λ other tree same was. was;
       keeps = keeps_all c.args.lines.now.kept;
@@ -78,6 +79,20 @@ held_now g c notes note has same h =
     let now : IsHeldNow body c.args.frame.width kept c.in-Some.solid.placed_at = subst (λ (w : ℤ). IsHeldNow body w kept c.in-Some.solid.placed_at) (to_z-of_z w64 c.args.frame.width wide) (rw c.in-Some.is at c.in-Ok.ensures.now) in
     held_next notes note body c.args.frame.width c.solids.lines.kept kept c.solids.self.solids.items c.add.new.self.solids.items (noted body p s) has same c.next_solid_kept.ensures.keeps now items (c.solids.invariant.now notes note has same h)
 
+lines_on : (g : given.Over) (c : In_ok-add g) (notes : List Note) (note : Note) → slice_get notes c.args.part.note ≡ Some note → note.body ≡ c.args.body.now → StepsForNotes notes c.args.frame.width c.args.lines.now.kept c.args.self.now.solids.items c.add.new.self.solids.items c.args.steps.now c.next_solid_kept.new.steps
+lines_on g c notes note has same = λ known are.
+    let wide : SFits w64 c.args.frame.width = (let low = c.requires.frame.width_low in let high = c.requires.frame.width_high in omega (arith, ints)) in
+    let body : Tree = c.args.body.now in
+    let s : SolidView = solid_view c.in-Some.solid in
+    let is : IsSolid c.args.faces.now body c.args.frame.width c.solids.at s = subst (λ (w : ℤ). IsSolid c.args.faces.now body w c.solids.at s) (to_z-of_z w64 c.args.frame.width wide) (rw c.in-Some.is at c.in-Ok.ensures.solid) in
+    let p : NotePart = record { note = c.args.part.note; at = c.args.part.at; called = c.args.called } in
+    let first = c.is_first-is_first.ensures body c.solid_after-first.ensures.value (after_solid body c.solids.at.event s.placed_at.event is.found).1 in
+    let items : c.add.new.self.solids.items ≡ c.solids.self.solids.items ++ noted body p s ∷ [] = c.in_ok-add.ensures.solids ∙ ap (λ (x : NotedSolid). c.solids.self.solids.items ++ x ∷ []) (c.noted.ensures.solid body first) in
+    let asks : AsksBy s.kind body c.args.frame.width s c.solids.lines.kept c.next_solid_kept.new.lines.kept c.solids.steps c.next_solid_kept.new.steps =
+    subst (λ (w : ℤ). AsksBy s.kind body w s c.solids.lines.kept c.next_solid_kept.new.lines.kept c.solids.steps c.next_solid_kept.new.steps) (to_z-of_z w64 c.args.frame.width wide) (rw c.in-Some.is at c.in-Ok.ensures.asks) in
+    noted_steps known notes c.args.frame.width note body p s c.args.lines.now.kept c.solids.lines.kept c.next_solid_kept.new.lines.kept c.args.self.now.solids.items c.solids.self.solids.items c.add.new.self.solids.items c.args.steps.now c.solids.steps c.next_solid_kept.new.steps has same are c.solids.invariant.keeps asks
+    (rw c.in-Some.is at c.in-Ok.ensures.step) items (c.solids.invariant.lines notes note has same known are)
+
 pub next_solid_kept-requires-clause-places : goal.next_solid_kept-requires-clause-places
 next_solid_kept-requires-clause-places g c = c.solids.invariant.placed (c.args.part.note + 1) c.args.body.now (λ e. refl) c.requires.placed
 
@@ -105,11 +120,7 @@ solids-preserved g c =
       short = λ h.
           subst (λ (z : ℤ). IsShortList z c.add.new.self) (to_z-of_z w64 c.args.frame.height height)
           (c.in_ok-add.ensures.short c.solids.invariant.room (subst (λ (z : ℤ). IsShortList z c.solids.self) (sym (to_z-of_z w64 c.args.frame.height height)) (c.solids.invariant.short h)));
-      lines =
-          let step = (rw c.in-Some.is at c.in-Ok.ensures.step) in
-          let count = c.solids.invariant.lines in
-          let more = lines_next c.solids.self.solids.items c.add.new.self.solids.items (noted body p s) items in
-          omega (arith, step, count, more);
+      lines = λ notes note has same. lines_on g d notes note has same;
       kept = c.next_solid_kept.ensures.kept;
       placed = stays_on g d;
       keeps = keeps_on g d;
@@ -140,22 +151,12 @@ returns-then-self-clause-short g c = λ h.
     (c.in_ok-add.ensures.short c.solids.invariant.room (subst (λ (z : ℤ). IsShortList z c.solids.self) (sym (to_z-of_z w64 c.args.frame.height height)) (c.solids.invariant.short h)))
 
 pub returns-then-self-clause-lines : goal.returns-then-self-clause-lines
-returns-then-self-clause-lines g c =
-    let body : Tree = c.args.body.now in
-    let s : SolidView = solid_view c.in-Some.solid in
-    let is : IsSolid c.args.faces.now body (to_z w64 (of_z w64 c.args.frame.width)) c.solids.at s = (rw c.in-Some.is at c.in-Ok.ensures.solid) in
-    let p : NotePart = record { note = c.args.part.note; at = c.args.part.at; called = c.args.called } in
-    let first = c.is_first-is_first.ensures body c.solid_after-first.ensures.value (after_solid body c.solids.at.event s.placed_at.event is.found).1 in
-    let items : c.add.new.self.solids.items ≡ c.solids.self.solids.items ++ noted body p s ∷ [] = c.in_ok-add.ensures.solids ∙ ap (λ (x : NotedSolid). c.solids.self.solids.items ++ x ∷ []) (c.noted.ensures.solid body first) in
-    let step = (rw c.in-Some.is at c.in-Ok.ensures.step) in
-    let count = c.solids.invariant.lines in
-    let more = lines_next c.solids.self.solids.items c.add.new.self.solids.items (noted body p s) items in
-    omega (arith, step, count, more)
+returns-then-self-clause-lines g c = λ notes note has same. lines_on g (goal.at.returns-then-self-clause-lines g c).In_ok-add notes note has same
 
 pub returns-in_default-next-clause-lines : goal.returns-in_default-next-clause-lines
-returns-in_default-next-clause-lines g c =
+returns-in_default-next-clause-lines g c = λ notes note has same known are.
     let step = (rw c.in_default-next.is at c.in-Ok.ensures.step) in
-    let count = c.solids.invariant.lines in
+    let count = c.solids.invariant.lines notes note has same known are in
     omega (arith, step, count)
 
 pub returns-in_default-next-clause-read : goal.returns-in_default-next-clause-read

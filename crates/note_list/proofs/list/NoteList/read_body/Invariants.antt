@@ -1,4 +1,4 @@
-use Rattle.std.proofs.Common.{◌≡◌, ◌+◌, ◌≤◌, Some, false, slice_get, List}
+use Rattle.std.proofs.Common.{◌≡◌, ◌+◌, Some, false, slice_get, List}
 use Rattle.boxes.specs.Tree.{Holds}
 use Rattle.boxes.specs.declared.flow.Note.{Note}
 use Rattle.cursor.proofs.RemLemmas.{left_from}
@@ -8,7 +8,8 @@ use Rattle.line_fill.specs.Kept.{AreKept}
 use Rattle.seams.specs.Widths.{widths_at}
 use Rattle.note_list.specs.Kept.{AreHeldNow}
 use Rattle.note_list.specs.Reads.{EndInNotes, IsReady}
-use Rattle.note_list.specs.Short.{IsShortList, lines_in}
+use Rattle.note_list.specs.Known.{StepsForNotes}
+use Rattle.note_list.specs.Short.{IsShortList}
 use Rattle.note_list.proofs.BodyLemmas.{Reads}
 use Rattle.note_list.proofs.list.NoteList.read_body.Given as goal
 
@@ -23,7 +24,7 @@ invariant-solids g l = record {
   ends : (notes : List Note) (note : Note) → slice_get notes l.part.note ≡ Some note → note.body ≡ l.body → EndInNotes notes l.fn.self → EndInNotes notes l.self;
   reads : Reads l.faces l.body l.fn.frame.width (record { note = l.part.note; at = l.part.at; called = l.called }) l.at l.fn.self.solids.items l.self.solids.items;
   short : IsShortList l.fn.frame.height l.fn.self → IsShortList l.fn.frame.height l.self;
-  lines : l.steps + lines_in l.fn.self.solids.items ≤ l.fn.steps + lines_in l.self.solids.items;
+  lines : (notes : List Note) (note : Note) → slice_get notes l.part.note ≡ Some note → note.body ≡ l.body → StepsForNotes notes l.fn.frame.width l.fn.lines.kept l.fn.self.solids.items l.self.solids.items l.fn.steps l.steps;
   kept : AreKept l.faces l.lines.kept;
   placed : StayPlaced (l.part.note + 1) l.body l.fn.lines l.lines;
   keeps : KeepsHeld l.fn.lines.kept l.lines.kept;

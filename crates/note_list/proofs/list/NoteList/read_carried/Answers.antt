@@ -4,6 +4,7 @@ use Rattle.cursor.proofs.StepLemmas.{takes_none, takes_twice}
 use Rattle.note_list.specs.Conditions.{IsHeld}
 use Rattle.note_list.specs.Lists.{carried_parts}
 use Rattle.note_list.specs.declared.carried.Carried.{Carried}
+use Rattle.note_list.proofs.KnownLemmas.{known_more}
 use Rattle.note_list.proofs.BodyLemmas.{Calls, calls_none, carry_next, carry_rest, take_end}
 use Rattle.note_list.proofs.NotedLemmas.{all_get}
 use Rattle.note_list.proofs.list.NoteList.read_carried.Goals as goal
@@ -14,7 +15,7 @@ loop-at-init g c = record {
   ends = c.requires.ends;
   calls = calls_none c.args.faces.now c.args.flow.now.notes c.args.frame.width c.args.frame.height c.args.self.now;
   short = λ h. h;
-  lines = omega arith;
+  lines = λ known are. omega arith;
   kept = c.requires.kept;
   keeps = keeps_all c.args.lines.now.kept;
   takes = takes_none c.args.lines.now.kept c.args.lines.now.kept c.args.steps.now;
@@ -33,7 +34,7 @@ loop-at-preserved g c = record {
   ends = c.in_ok-read.ensures.ends;
   calls = carry_next c.args.faces.now c.args.flow.now.notes c.args.frame.width c.args.frame.height c.args.carried.now c.loop-at.at c.part.result c.args.self.now c.loop-at.self c.read.new.self c.part.ensures c.loop-at.invariant.calls c.in_ok-read.ensures.list;
   short = λ h. c.in_ok-read.ensures.short (c.loop-at.invariant.short h);
-  lines = let more = c.in_ok-read.ensures.lines in let count = c.loop-at.invariant.lines in omega (arith, more, count);
+  lines = λ known are. let more = c.in_ok-read.ensures.lines known (known_more known c.args.lines.now.kept c.loop-at.lines.kept are c.loop-at.invariant.keeps) in let count = c.loop-at.invariant.lines known are in omega (arith, more, count);
   kept = c.read.ensures.kept;
   keeps = keeps_twice c.args.lines.now.kept c.loop-at.lines.kept c.read.new.lines.kept c.loop-at.invariant.keeps c.read.ensures.keeps;
   takes = takes_twice c.args.lines.now.kept c.loop-at.lines.kept c.read.new.lines.kept c.args.steps.now c.loop-at.steps c.read.new.steps c.loop-at.invariant.keeps c.read.ensures.keeps c.loop-at.invariant.takes c.in_ok-read.ensures.takes;
