@@ -2,10 +2,13 @@ pub mod CallLemmas
 pub mod CutLemmas
 pub mod FlowLemmas
 pub mod FootLemmas
+pub mod InsideLemmas
 pub mod KeptLemmas
+pub mod LooksLemmas
 pub mod MissLemmas
 pub mod NearLemmas
 pub mod NotesLemmas
+pub mod PagesLookLemmas
 pub mod PlaceLemmas
 pub mod ReadLemmas
 pub mod RunLemmas

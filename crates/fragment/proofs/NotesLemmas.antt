@@ -1,6 +1,7 @@
 -- What a page of notes after the flow places.
 use Rattle.std.proofs.Common.{◌≡◌, ◌<◌, ◌≤◌, ◌+◌, ℕ, zero, suc, ℤ, All, List, [], ◌∷◌, ◌++◌, None, Some, length, length-append, map, max, append-nil, sym, ap, ◌∙◌, subst, arith, false, ◌≤ℤ◌}
 use Rattle.std.proofs.lemmas.Bool.Decides.{nat_tests}
+use Rattle.std.proofs.lemmas.Int.{ints}
 use Rattle.std.proofs.lemmas.List.{length-map}
 use Rattle.metrics.specs.Face.{FontFace}
 use Rattle.boxes.specs.declared.flow.Flow.{Flow}
@@ -14,12 +15,13 @@ use Rattle.notes.specs.Notes.{IsCarryCount, IsPlaced, area_of, must_of}
 use Rattle.note_list.specs.Conditions.{AreCarried, NotesAscend, IsAtSolid, IsHeld}
 use Rattle.note_list.specs.Lists.{AreNoted, NotePart, called_parts, carried_parts, noted, note_rows}
 use Rattle.note_list.specs.Places.{IsPlacing, least_of}
-use Rattle.note_list.specs.Reads.{IsCarriedList, IsReadOf}
+use Rattle.note_list.specs.Reads.{IsCarriedList, IsReadFor, IsReadOf}
 use Rattle.note_list.specs.declared.carried.Carried.{Carried}
 use Rattle.note_list.specs.declared.list.NoteList.{NoteList}
 use Rattle.note_list.specs.declared.list.PlacedList.{PlacedList}
 use Rattle.note_list.specs.declared.solid.NotedSolid.{NotedSolid}
 use Rattle.note_list.proofs.NotedLemmas.{called_none}
+use Rattle.note_list.proofs.ReadLemmas.{read_for}
 use Rattle.page_list.specs.Cuts.{IsNotesCut, place_after}
 use Rattle.fragment.proofs.PlaceLemmas.{before_end}
 use Rattle.seams.proofs.WidthLemmas.{some-same}
@@ -45,13 +47,13 @@ least_one (suc n) must c some = grind (arith, nat_tests)
 
 module _ (faces : List FontFace) (flow : Flow) (frame : Frame) (carried : List Carried) (l : NoteList) (all : ℕ) where
   pub notes_cut : IsCarriedList faces flow.notes frame carried l → 0 < length carried → All (IsAtSolid flow.notes) carried → (height : ℤ) → height ≡ frame.height → (p : PlacedList) →
-      ((faces : List FontFace) (width : ℤ) (own list later : List NotedSolid) → AreNoted faces flow.notes width (carried_parts carried) own → AreNoted faces flow.notes width (carried_parts carried ++ called_parts all all) list → All (λ (s : NotedSolid). all ≤ s.note) later → IsReadOf height (list ++ later) l →
+      ((faces : List FontFace) (width : ℤ) (own list later : List NotedSolid) → AreNoted faces flow.notes width (carried_parts carried) own → AreNoted faces flow.notes width (carried_parts carried ++ called_parts all all) list → All (λ (s : NotedSolid). all ≤ s.note) later → IsReadFor height (list ++ later) l →
       IsCarryCount (note_rows own) (length own) height l.own → (4 ≤ 2 → area_of (note_rows list) (must_of (note_rows list) l.own) ≤ℤ height) → IsPlacing list 4 l.own (length own) height p) →
       IsNotesCut faces flow frame carried p.notes p.left
   notes_cut c some at height same p placed =
       let parts : carried_parts carried ≡ carried_parts carried ++ called_parts all all = sym (ap (λ (ps : List NotePart). carried_parts carried ++ ps) (called_none all all (omega arith)) ∙ append-nil (carried_parts carried)) in
       let pl : IsPlacing c.list 4 l.own (length c.list) height p = placed faces frame.width c.list c.list [] c.listed (subst (λ (ps : List NotePart). AreNoted faces flow.notes frame.width ps c.list) parts c.listed) (λ k d h. absurd (omega arith))
-      (subst (λ (z : ℤ). IsReadOf z (c.list ++ []) l) (sym same) (subst (λ (xs : List NotedSolid). IsReadOf frame.height xs l) (sym (append-nil c.list)) c.read)) (subst (λ (z : ℤ). IsCarryCount (note_rows c.list) (length c.list) z l.own) (sym same) c.counts) (λ h. absurd (omega arith)) in
+      (subst (λ (z : ℤ). IsReadFor z (c.list ++ []) l) (sym same) (read_for frame.height frame.height (c.list ++ []) l (omega (arith, ints)) (subst (λ (xs : List NotedSolid). IsReadOf frame.height xs l) (sym (append-nil c.list)) c.read))) (subst (λ (z : ℤ). IsCarryCount (note_rows c.list) (length c.list) z l.own) (sym same) c.counts) (λ h. absurd (omega arith)) in
       let one : least_of 4 (must_of (note_rows c.list) l.own) l.own (length c.list) ≡ 1 = least_one (length c.list) (must_of (note_rows c.list) l.own) l.own (noted_some faces flow.notes frame.width carried c.list some at c.listed) in
       record {
         list = c.list;

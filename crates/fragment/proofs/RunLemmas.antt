@@ -14,10 +14,10 @@ use Rattle.boxes.specs.declared.place.Position.{Position}
 use Rattle.note_list.specs.declared.carried.Carried.{Carried}
 use Rattle.page_list.specs.declared.cut.Cut.{Cut}
 use Rattle.page_list.specs.declared.cut.CutFrom.{CutFrom}
-use Rattle.page_list.specs.Cuts.{IsFlowCut, place_after}
+use Rattle.page_list.specs.Cuts.{IsFlowCut, IsNotesCut, place_after}
 use Rattle.boxes.specs.Frames.{PageFrames}
-use Rattle.page_list.specs.Pages.{State, IsStep, IsEnded, IsPaged, LeavesSome, AreBlanks, AddsBlanks, meets_at, name_at, is_forced, has_some, blank_at, flow_page, flow_page_of, notes_page, notes_page_of, after_flow, start_of}
-use Rattle.page_list.specs.Pages.IsStep.{blank}
+use Rattle.page_list.specs.Pages.{State, IsStep, IsEnded, IsPaged, LeavesSome, AreBlanks, AddsBlanks, meets_at, name_at, is_forced, has_some, blank_at, flow_page, flow_page_of, notes_page, notes_page_of, after_flow, after_notes, start_of}
+use Rattle.page_list.specs.Pages.IsStep.{blank, noted}
 use Rattle.note_list.specs.Calls.{called_before, start_place}
 use Rattle.note_list.specs.Conditions.{AreCarried, IsHeld}
 use Rattle.std.proofs.lemmas.List.Elements.{All-nil}
@@ -157,3 +157,10 @@ pub notes_frame : (frames : PageFrames) (s : State) (name : NameId) (index : ℕ
 notes_frame frames s name index frame notes n at e =
     let same : frame ≡ frames.frame_of s.index s.name kind.Notes = e ∙ ap (λ (i : ℕ). frames.frame_of i name kind.Notes) (sym at) ∙ ap (λ (x : NameId). frames.frame_of s.index x kind.Notes) (sym n) in
     (same, (λ i. notes_page_of ((sym at) i) ((sym n) i) (same i) notes))
+
+-- and is a step from each such state
+pub noted_step : (faces : List FontFace) (f : Flow) (frames : PageFrames) (s : State) (name : NameId) (index : ℕ) (frame : Frame) (carried left : List Carried) (notes : List (ℕ × Placed)) → s.done ≡ true → s.name ≡ name → s.index ≡ index → s.carried ≡ carried → frame ≡ frames.frame_of index name kind.Notes → has_some carried ≡ true → IsNotesCut faces f frame carried notes left → IsStep faces f frames s (notes_page_of index name frame notes) (after_notes s left)
+noted_step faces f frames s name index frame carried left notes done n at same e some cut =
+    let is = notes_frame frames s name index frame notes n at e in
+    noted done (ap has_some same ∙ some) notes left
+    (subst (λ (fr : Frame). IsNotesCut faces f fr s.carried notes left) is.0 (subst (λ (cs : List Carried). IsNotesCut faces f frame cs notes left) (sym same) cut)) is.1 refl

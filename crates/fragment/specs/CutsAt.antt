@@ -10,7 +10,7 @@ use Rattle.notes.specs.Notes.{IsCarryCount, area_of, must_of}
 use Rattle.note_list.specs.Calls.{called_before}
 use Rattle.note_list.specs.Lists.{AreNoted, called_parts, carried_parts, note_rows}
 use Rattle.note_list.specs.Places.{IsPlacing}
-use Rattle.note_list.specs.Reads.{IsReadOf}
+use Rattle.note_list.specs.Reads.{IsReadFor}
 use Rattle.note_list.specs.declared.carried.Carried.{Carried}
 use Rattle.note_list.specs.declared.list.NoteList.{NoteList}
 use Rattle.note_list.specs.declared.solid.NotedSolid.{NotedSolid}
@@ -24,7 +24,7 @@ PlacesNotes flow carried from to height room l cut =
     (faces : List FontFace) (width : ℤ) (own list later : List NotedSolid) →
     AreNoted faces flow.notes width (carried_parts carried) own →
     AreNoted faces flow.notes width (carried_parts carried ++ called_parts from to) list →
-    All (λ s. to ≤ s.note) later → IsReadOf height (list ++ later) l →
+    All (λ s. to ≤ s.note) later → IsReadFor room (list ++ later) l →
     IsCarryCount (note_rows own) (length own) height l.own →
     (cut.level ≤ 2 → area_of (note_rows list) (must_of (note_rows list) l.own) ≤ℤ room) →
     IsPlacing list cut.level l.own (length own) room (record { notes = cut.notes; left = cut.carried })

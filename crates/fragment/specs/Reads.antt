@@ -1,5 +1,5 @@
 -- What is read of a page before it is cut: its solids, and the notes that are called in them.
-use Rattle.std.specs.Prelude.{◌≡◌, ℕ, zero, suc, ℤ, ◌<◌, ◌≤◌, ◌⊎◌, List, [], ◌++◌, Option, None, Some, Bool, is_some, length, slice_get, if◌then◌else◌}
+use Rattle.std.specs.Prelude.{◌≡◌, ◌+◌, ℕ, zero, suc, ℤ, ◌<◌, ◌≤◌, ◌≤ℤ◌, ◌<ℤ◌, ◌⊎◌, List, [], ◌++◌, Option, None, Some, Bool, is_some, length, map, slice_get, take, if◌then◌else◌}
 use Rattle.std.specs.List.{All, prefix_len}
 use Rattle.metrics.specs.Face.{FontFace}
 use Rattle.boxes.specs.Tree.{Tree}
@@ -12,14 +12,19 @@ use Rattle.cursor.specs.Remainder.{SolidView, IsRemainder}
 use Rattle.cuts.specs.Areas.{AreAreas, IsArea, Tells, area_after}
 use Rattle.cuts.specs.Cuts.{NoteLists, AreLonger}
 use Rattle.cuts.specs.Prefixes.{Decides}
+use Rattle.cuts.specs.Rows.{limit_of, rows_extent}
 use Rattle.notes.specs.Notes.{IsCarryCount, area_of, must_of}
 use Rattle.page_seq.specs.Places.{anchor_of, is_before}
+use Rattle.line_fill.specs.Kept.{Asked}
+use Rattle.line_fill.specs.declared.kept.KeptLeaf.{KeptLeaf}
 use Rattle.note_list.specs.Calls.{called_before}
+use Rattle.note_list.specs.Known.{AreKnown, new_in, new_noted}
 use Rattle.note_list.specs.Lists.{AreNoted, NotePart, called_parts, carried_parts, note_rows}
 use Rattle.note_list.specs.Reads.{EndInNotes, IsReadOf, IsReady}
 use Rattle.note_list.specs.declared.carried.Carried.{Carried}
 use Rattle.note_list.specs.declared.solid.NotedSolid.{NotedSolid}
 use Rattle.page_list.specs.Cuts.{rows_of}
+use Rattle.page_list.specs.declared.cut.CutFrom.{CutFrom}
 use Rattle.fragment.specs.declared.page_notes.PageNotes.{PageNotes}
 
 -- how many notes are called where a page ends with a solid, by the place where that solid ends: all where no solid
@@ -68,6 +73,16 @@ pub record AreRead (faces : List FontFace) (flow : Flow) (frame : Frame) (at : P
       Tells frame.height (area_after p.areas.items (suc j))
       (area_of (note_rows notes) (must_of (note_rows notes) p.list.own))
 
+-- the notes of a page are read with the first of its solids, those that end inside the frame up to the first forced seam
+pub record AreReadInside (faces : List FontFace) (flow : Flow) (frame : Frame) (from : CutFrom) (carried : List Carried)
+    (solids : List SolidView) (p : PageNotes) : Type 0 where
+  pub count : ℕ
+  pub within : count ≤ limit_of (rows_of flow.main solids)
+  pub read : AreRead faces flow frame from.at carried (map (λ s. s.end) (take count solids)) p
+  pub inside : rows_extent from.kept (rows_of flow.main solids) count ≤ℤ frame.height
+  pub below : count < limit_of (rows_of flow.main solids) →
+      frame.height <ℤ rows_extent from.kept (rows_of flow.main solids) (suc count)
+
 -- a prefix of the solids that are left, which tells the cut of a page of a frame, with whatever notes those areas tell
 pub record IsPagePrefix (faces : List FontFace) (t : Tree) (frame : Frame) (from : Position) (kept : Bool) (c : ℕ)
     (areas : List ℤ)
@@ -76,5 +91,11 @@ pub record IsPagePrefix (faces : List FontFace) (t : Tree) (frame : Frame) (from
   pub are : IsRemainder faces t frame.width from (prefix ++ rest)
   pub some : (rest ≡ []) ⊎ (0 < length prefix)
   pub decides : (list : NoteLists) → AreLonger list → c ≤ length (list 0) →
-      AreAreas frame.height list c (length prefix) areas carried →
+      AreAreas kept (rows_of t prefix) frame.height list c areas carried →
       Decides kept frame.height list c (rows_of t prefix) (rows_of t rest)
+
+-- steps are taken alone for lines of solids of a page, and of notes with which a list is read on, that aren't known
+abbrev pub StepsForPage : Flow → ℤ → List KeptLeaf → List SolidView → List NotedSolid → List NotedSolid → ℕ → ℕ → Type 0
+StepsForPage flow width kept solids old new steps steps' = (known : Asked → Bool) → AreKnown known kept →
+    steps' + new_noted known flow.notes width old
+    ≤ (steps + new_in known flow.main width solids) + new_noted known flow.notes width new

@@ -43,7 +43,8 @@ fn cut_rows(tree: &BoxTree, read: &PageSolids<'_>, areas: &[i64], room: &PageRoo
     requires areas { All IsArea areas.now }
     requires carried { IsArea room.now.carried }
     ensures best { (list : NoteLists) (c : ℕ) →
-        AreAreas room.now.height list c (length read.now.solids.items) areas.now room.now.carried →
+        AreAreas room.now.kept (rows_of tree.now (map solid_view read.now.solids.items)) room.now.height list c areas.now
+        room.now.carried →
         IsPageCut room.now.kept (rows_of tree.now (map solid_view read.now.solids.items)) room.now.height list c
         (cut_number result.level) result.count }
     ensures some { 0 < result.count }
@@ -103,8 +104,8 @@ pub(crate) fn cut_solids(
         (place_after flow.now.main (slice_get (map solid_view read.now.solids.items) j)) }
     requires calls { NeverFall (map (λ n. n.call) flow.now.notes) }
     ensures cut { IfOk result (CutsAt flow.now room.now.kept room.now.height carried called
-        (λ list. AreAreas room.now.height list notes.now.list.own (length read.now.solids.items) notes.now.areas.items
-        room.now.carried)
+        (λ list. AreAreas room.now.kept (rows_of flow.now.main (map solid_view read.now.solids.items)) room.now.height
+        list notes.now.list.own notes.now.areas.items room.now.carried)
         notes.now.list (map solid_view read.now.solids.items)) }
     ensures holds { IfOk result (λ cut. Holds flow.now.main cut.to) }
     ensures carried { IfOk result (λ cut. AreCarried flow.now cut.to cut.carried) }

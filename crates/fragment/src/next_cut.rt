@@ -1,6 +1,6 @@
 //! The cut of the next page.
 
-ghost use Rattle.std.specs.Prelude.{IfOk, All, ◌≤◌};
+ghost use Rattle.std.specs.Prelude.{IfOk, All, ◌≤◌, []};
 ghost use Rattle.boxes.specs.Frames.{IsGoodFrame};
 ghost use Rattle.boxes.specs.Tree.{Holds};
 ghost use Rattle.cursor.specs.Asks.{KeepsHeld, TakesSteps};
@@ -10,6 +10,7 @@ ghost use Rattle.note_list.specs.Conditions.{AreCarried, CanBePaged, IsAtSolid};
 ghost use Rattle.note_list.specs.Kept.{AreFlowLines};
 ghost use Rattle.page_list.specs.Cuts.{IsFlowCut};
 ghost use Rattle.page_list.specs.Inside.{AreInside};
+ghost use Rattle.page_list.specs.Looked.{LooksAtFlow};
 ghost use Rattle.page_list.specs.Pages.{AreNear};
 
 use crate::cut_solids::{cut_end, cut_solids};
@@ -29,7 +30,8 @@ use page_list::cut::{Cut, CutFrom};
 use std::alloc::Global;
 use std::sync::ledger::Ledger;
 
-/// The cut of a page, what is carried to which goes on at solids. Any boxes may be open at first.
+/// The cut of a page, what is carried to which goes on at solids. Any boxes may be open at first. It takes no more steps
+/// than such a page may look at lines that aren't held.
 pub(crate) fn cut_page<L: Ledger>(
     alloc: Global,
     flow: &Flow,
@@ -57,6 +59,8 @@ pub(crate) fn cut_page<L: Ledger>(
     ensures stands { IfOk result (λ cut. All (IsAtSolid flow.now.notes) cut.carried) }
     ensures near { IfOk result (λ cut. AreNear cut.solids cut.notes) }
     ensures inside { IfOk result (λ cut. cut.level ≤ 2 → AreInside frame.height cut.notes cut.solids) }
+    ensures lines { IfOk result (λ cut. LooksAtFlow faces.now flow.now frame from carried lines.old.kept steps.old
+        steps.new) }
 {
     let mut notes = PageNotes::start(
         alloc,
@@ -86,8 +90,9 @@ pub(crate) fn cut_page<L: Ledger>(
 }
 
 /// The cut of the next page of a flow, by kept lines: it is that of `next_cut`. A line takes a step only where it isn't
-/// held, and is held from then on. The flow's main tree has the number 0 among the kept lines, and each note's body the
-/// number after its own. Where memory is wanting further lines may be held.
+/// held, and is held from then on; there are no more steps than such a page may look at lines that aren't held. The
+/// flow's main tree has the number 0 among the kept lines, and each note's body the number after its own. Where memory
+/// is wanting further lines may be held.
 pub fn next_cut_kept<L: Ledger>(
     alloc: Global,
     flow: &Flow,
@@ -114,6 +119,8 @@ pub fn next_cut_kept<L: Ledger>(
     ensures near { IfOk result (λ cut. AreNear cut.solids cut.notes) }
     ensures inside { IfOk result (λ cut. cut.level ≤ 2 → AreInside frame.height cut.notes cut.solids) }
     ensures misses { NoLaterFits faces.now flow.now frame from carried.now }
+    ensures lines { IfOk result (λ cut. LooksAtFlow faces.now flow.now frame from carried.now lines.old.kept steps.old
+        steps.new) }
 {
     no_later_point_fits();
     let settled = CarriedNotes::settled(alloc, flow, carried)?;
@@ -134,7 +141,7 @@ pub fn next_cut_kept<L: Ledger>(
 /// The cut of the next page of a flow, whose page has a frame and has to place what is carried to it: where it ends, at
 /// which level, what it places, with tops within 2^60 units and heights from 0 to 2^32, and what it carries on. At
 /// levels 0 to 2 each solid ends inside the frame, above the notes. No later point of the page fits once the solids
-/// before one have no room.
+/// before one have no room, and no more steps are taken than such a page may look at lines.
 pub fn next_cut<L: Ledger>(
     alloc: Global,
     flow: &Flow,
@@ -155,6 +162,7 @@ pub fn next_cut<L: Ledger>(
     ensures near { IfOk result (λ cut. AreNear cut.solids cut.notes) }
     ensures inside { IfOk result (λ cut. cut.level ≤ 2 → AreInside frame.height cut.notes cut.solids) }
     ensures misses { NoLaterFits faces.now flow.now frame from carried.now }
+    ensures lines { IfOk result (λ cut. LooksAtFlow faces.now flow.now frame from carried.now [] steps.old steps.new) }
 {
     let mut lines = KeptLines::new(alloc);
     next_cut_kept(alloc, flow, faces, from, carried, frame, &mut lines, steps)

@@ -23,8 +23,8 @@ use std::alloc::Global;
 use std::sync::ledger::Ledger;
 
 /// What a page of notes after the flow places of what is carried to it, and what is left: the greatest number of solids
-/// that fits, at least one. It takes no more steps than such a page may look at lines, and none for a line that is
-/// kept. The widths are those of any boxes, as room to read with.
+/// that fits, at least one. It takes no more steps than such a page may look at lines that aren't held. The widths are
+/// those of any boxes, as room to read with.
 pub fn next_notes<L: Ledger>(
     alloc: Global,
     flow: &Flow,
@@ -49,7 +49,8 @@ pub fn next_notes<L: Ledger>(
     ensures carried { IfOk result (λ p. AreCarried flow.now (place_after flow.now.main None) p.left) }
     ensures stands { IfOk result (λ p. All (IsAtSolid flow.now.notes) p.left) }
     ensures near { IfOk result (λ p. AreNear [] p.notes) }
-    ensures lines { IfOk result (λ p. LooksAtNotes faces.now flow.now frame carried steps.old steps.new) }
+    ensures lines { IfOk result (λ p. LooksAtNotes faces.now flow.now frame carried lines.old.kept steps.old
+        steps.new) }
 {
     let list = NoteList::carried(alloc, flow, faces, &carried, frame, widths, lines, steps)?;
     let all = flow.notes.as_slice().len() as u32;

@@ -1,6 +1,6 @@
 //! The notes of a page, while its solids are read.
 
-ghost use Rattle.std.specs.Prelude.{◌≡◌, ◌≤◌, ℤ, List, [], ◌∷◌, ◌++◌, IfOk, OnOk, length, All};
+ghost use Rattle.std.specs.Prelude.{◌≡◌, ◌+◌, ◌≤◌, true, false, ℤ, List, [], ◌∷◌, ◌++◌, IfOk, OnOk, length, All};
 ghost use Rattle.bk_num.specs.Limits.{most_entries};
 ghost use Rattle.boxes.specs.Frames.{IsGoodFrame};
 ghost use Rattle.boxes.specs.Tree.{Holds};
@@ -11,6 +11,8 @@ ghost use Rattle.note_list.specs.Conditions.{AreCarried, CanBePaged};
 ghost use Rattle.note_list.specs.declared.carried.Carried.{Carried};
 ghost use Rattle.note_list.specs.Kept.{AreFlowLines, AreHeldNow};
 ghost use Rattle.note_list.specs.Reads.{EndInNotes, IsReady};
+ghost use Rattle.note_list.specs.Known.{StepsForNotes};
+ghost use Rattle.note_list.specs.Short.{IsShortList};
 ghost use Rattle.fragment.specs.Reads.{AreRead, called_by};
 
 use bk_num::name::NoMem;
@@ -73,6 +75,9 @@ impl PageNotes {
         ensures takes { IfOk result (λ p. TakesSteps lines.old.kept lines.new.kept steps.old steps.new) }
         ensures now { IfOk result (λ p. AreHeldNow flow.now.notes frame.width lines.new.kept p.list.solids.items) }
         ensures read { IfOk result (AreRead faces.now flow.now frame at carried.now []) }
+        ensures short { IfOk result (λ p. IsShortList frame.height p.list) }
+        ensures lines { IfOk result (λ p. StepsForNotes flow.now.notes frame.width lines.old.kept []
+            p.list.solids.items steps.old steps.new) }
     {
         Ok(PageNotes {
             list: NoteList::carried(alloc, flow, faces, carried, frame, widths, lines, steps)?,
@@ -111,6 +116,9 @@ impl PageNotes {
         ensures read { OnOk result ((at : Position) (carried : List Carried) (ends : List Position) →
             AreRead faces.now flow.now frame at carried ends self.old →
             AreRead faces.now flow.now frame at carried (ends ++ end ∷ []) self.new) }
+        ensures short { OnOk result (IsShortList frame.height self.old.list → IsShortList frame.height self.new.list) }
+        ensures lines { OnOk result (StepsForNotes flow.now.notes frame.width lines.old.kept
+            self.old.list.solids.items self.new.list.solids.items steps.old steps.new) }
     {
         let to = called_with(flow, self.called, end);
         self.list
@@ -122,8 +130,52 @@ impl PageNotes {
         Ok(())
     }
 
-    /// The area of the notes that have to stand on the page where it ends with the last solid that is read; 0 before
-    /// any.
+    /// The same where the page's solids end inside its frame with that one. Else no later point has room, whatever is
+    /// called before it, and nothing is read.
+    pub(crate) fn take_inside<L: Ledger>(
+        &mut self,
+        inside: bool,
+        flow: &Flow,
+        faces: &Faces,
+        end: Position,
+        frame: Frame,
+        widths: &mut Widths,
+        lines: &mut KeptLines,
+        steps: &mut Steps<L>,
+    ) -> Result<(), NoMem>
+        requires flow { CanBePaged faces.now flow.now }
+        requires holds { Holds flow.now.main end }
+        requires frame { IsGoodFrame frame }
+        requires ready { IsReady self.old.list }
+        requires ends { EndInNotes flow.now.notes self.old.list }
+        requires called { self.old.called ≤ called_by flow.now.main flow.now.notes end }
+        requires kept { AreFlowLines faces.now flow.now lines.old }
+        ensures kept { AreFlowLines faces.now flow.now lines.new }
+        ensures keeps { KeepsHeld lines.old.kept lines.new.kept }
+        ensures takes { OnOk result (TakesSteps lines.old.kept lines.new.kept steps.old steps.new) }
+        ensures now { OnOk result
+            (AreHeldNow flow.now.notes frame.width lines.old.kept self.old.list.solids.items →
+            AreHeldNow flow.now.notes frame.width lines.new.kept self.new.list.solids.items) }
+        ensures called { OnOk result (self.new.called ≤ called_by flow.now.main flow.now.notes end) }
+        ensures own { OnOk result (self.new.list.own ≡ self.old.list.own) }
+        ensures areas { OnOk result (inside ≡ true →
+            (area : ℤ) × (self.new.areas.items ≡ self.old.areas.items ++ area ∷ [])) }
+        ensures read { OnOk result (inside ≡ true → (at : Position) (carried : List Carried) (ends : List Position) →
+            AreRead faces.now flow.now frame at carried ends self.old →
+            AreRead faces.now flow.now frame at carried (ends ++ end ∷ []) self.new) }
+        ensures same { OnOk result (inside ≡ false → self.new ≡ self.old) }
+        ensures short { OnOk result (IsShortList frame.height self.old.list → IsShortList frame.height self.new.list) }
+        ensures lines { OnOk result (StepsForNotes flow.now.notes frame.width lines.old.kept
+            self.old.list.solids.items self.new.list.solids.items steps.old steps.new) }
+    {
+        if !inside {
+            return Ok(());
+        }
+        self.take(flow, faces, end, frame, widths, lines, steps)
+    }
+
+    /// The area of the notes that have to stand on the page where it ends with the last solid with which they are read;
+    /// 0 before any.
     pub(crate) fn area(&self) -> i64
         requires { All IsArea self.now.areas.items }
         ensures area { result ≡ area_after self.now.areas.items (length self.now.areas.items) }

@@ -1,17 +1,18 @@
 //! The pages of a flow.
 
-ghost use Rattle.std.specs.Prelude.{◌≡◌, ℕ, ◌+◌, ◌<◌, ◌≤◌, All, length, true, false, IfOk, IfErr};
+ghost use Rattle.std.specs.Prelude.{◌≡◌, ℕ, ◌+◌, ◌<◌, ◌≤◌, [], All, length, true, false, IfOk, IfErr};
 ghost use Rattle.bk_num.specs.Limits.{most_pages};
 ghost use Rattle.cursor.specs.Asks.{KeepsHeld, TakesSteps};
 ghost use Rattle.fragment.specs.Kept.{ArePagesHeld};
 ghost use Rattle.fragment.specs.Misses.{NoPageFitsLater};
-ghost use Rattle.fragment.specs.Runs.{EndsFlow};
+ghost use Rattle.fragment.specs.Runs.{EndsFlow, HasLooked, LooksOn};
 ghost use Rattle.line_fill.specs.Kept.{AreKept};
 ghost use Rattle.note_list.specs.Conditions.{CanBePaged};
 ghost use Rattle.note_list.specs.Kept.{AreFlowLines};
 ghost use Rattle.page_list.specs.Bounds.{HasText, HasTexts, HaveTexts, most_pages_of};
 ghost use Rattle.page_list.specs.Inside.{EndInside};
 ghost use Rattle.page_list.specs.Laws.{HoldsMain};
+ghost use Rattle.page_list.specs.LookedPages.{LooksAtPages};
 ghost use Rattle.page_list.specs.Noted.{BeginInTime, HoldsNotes};
 ghost use Rattle.page_list.specs.Pages.{AddsBlanks, HaveNearTops, IsPaged, LeavesSome, blank_of, flow_page_of, meets_at, notes_page_of};
 ghost use Rattle.page_list.specs.Parted.{HoldsBreaks};
@@ -232,6 +233,7 @@ fn flow_pages<Fr: Frames, L: Ledger>(
     ensures held { IfOk result (λ p. ArePagesHeld flow.now lines.new.kept p.pages.items) }
     ensures pages { IfOk result (λ p. EndsFlow faces.now flow.now (Fr.view frames.now) p) }
     ensures tops { IfOk result (λ p. HaveNearTops p.pages.items) }
+    ensures looks { IfOk result (HasLooked faces.now flow.now (Fr.view frames.now) lines.old.kept steps.old steps.new) }
     ensures many { IfErr result (λ err. err ≡ PageErr.Pages →
         LeavesSome faces.now flow.now (Fr.view frames.now) most_pages) }
 {
@@ -318,6 +320,8 @@ fn with_notes<Fr: Frames, L: Ledger>(
     ensures pages { IfOk result (λ list. IsPaged faces.now flow.now (Fr.view frames.now) list.pages) }
     ensures tops { IfOk result (λ list. HaveNearTops list.pages) }
     ensures few { IfOk result (λ list. length list.pages ≤ most_pages) }
+    ensures looks { IfOk result (λ list. LooksOn faces.now flow.now (Fr.view frames.now) lines.old.kept made list.pages
+        steps.old steps.new) }
     ensures many { IfErr result (λ err. err ≡ PageErr.Pages →
         LeavesSome faces.now flow.now (Fr.view frames.now) most_pages) }
 {
@@ -382,6 +386,8 @@ fn pages_of<Fr: Frames, L: Ledger>(
     ensures pages { IfOk result (λ list. IsPaged faces.now flow.now (Fr.view frames.now) list.pages) }
     ensures tops { IfOk result (λ list. HaveNearTops list.pages) }
     ensures few { IfOk result (λ list. length list.pages ≤ most_pages) }
+    ensures lines { IfOk result (λ list. LooksAtPages faces.now flow.now (Fr.view frames.now) lines.old.kept list.pages
+        steps.old steps.new) }
     ensures many { IfErr result (λ err. err ≡ PageErr.Pages →
         LeavesSome faces.now flow.now (Fr.view frames.now) most_pages) }
 {
@@ -390,8 +396,9 @@ fn pages_of<Fr: Frames, L: Ledger>(
 }
 
 /// The pages of a flow, by kept lines: they are those of `paginate`. A line takes a step only where it isn't held, and
-/// is held from then on. What was noted of the places of leaves is forgotten: other trees may have been kept. Where
-/// memory is wanting, or the pages are too many, further lines may be held.
+/// is held from then on, and no more steps are taken than the pages may look at lines that aren't held. What was noted
+/// of the places of leaves is forgotten: other trees may have been kept. Where memory is wanting, or the pages are too
+/// many, further lines may be held.
 pub fn paginate_kept<Fr: Frames, L: Ledger>(
     alloc: Global,
     flow: &Flow,
@@ -417,6 +424,8 @@ pub fn paginate_kept<Fr: Frames, L: Ledger>(
         length list.pages ≤ most_pages_of (Fr.is_free frames.now) (Fr.bound frames.now) flow.now) }
     ensures tops { IfOk result (λ list. HaveNearTops list.pages) }
     ensures few { IfOk result (λ list. length list.pages ≤ most_pages) }
+    ensures lines { IfOk result (λ list. LooksAtPages faces.now flow.now (Fr.view frames.now) lines.old.kept list.pages
+        steps.old steps.new) }
     ensures many { IfErr result (λ err. err ≡ PageErr.Pages →
         LeavesSome faces.now flow.now (Fr.view frames.now) most_pages) }
 {
@@ -456,6 +465,8 @@ pub fn paginate<Fr: Frames, L: Ledger>(
         length list.pages ≤ most_pages_of (Fr.is_free frames.now) (Fr.bound frames.now) flow.now) }
     ensures tops { IfOk result (λ list. HaveNearTops list.pages) }
     ensures few { IfOk result (λ list. length list.pages ≤ most_pages) }
+    ensures lines { IfOk result (λ list. LooksAtPages faces.now flow.now (Fr.view frames.now) [] list.pages
+        steps.old steps.new) }
     ensures many { IfErr result (λ err. err ≡ PageErr.Pages →
         LeavesSome faces.now flow.now (Fr.view frames.now) most_pages) }
 {

@@ -1,4 +1,4 @@
-use Rattle.std.proofs.Common.{◌≡◌, ℕ, List, All, length, map, sym, ap, ◌∙◌, subst, arith}
+use Rattle.std.proofs.Common.{◌≡◌, List, All, length, map, sym, ap, ◌∙◌, subst, arith}
 use Rattle.std.proofs.lemmas.List.{length-map}
 use Rattle.cursor.specs.Fields.{solid_view}
 use Rattle.cuts.specs.declared.row.SolidRow.{SolidRow}
@@ -32,7 +32,7 @@ pub returns-clause-best : goal.returns-clause-best
 returns-clause-best c = λ list n told.
     let d = (goal.at.returns-clause-best c).After-as_slice in
     subst (λ (rs : List SolidRow). IsPageCut c.args.room.now.kept rs c.args.room.now.height list n (cut_number c.cut_noted.result.level) c.cut_noted.result.count) (rows_are d)
-    (c.cut_noted.ensures.cut list n (subst (λ (k : ℕ). AreAreas c.args.room.now.height list n k c.args.areas.now c.args.room.now.carried) (sym (size_is d)) told))
+    (c.cut_noted.ensures.cut list n (subst (λ (rs : List SolidRow). AreAreas c.args.room.now.kept rs c.args.room.now.height list n c.args.areas.now c.args.room.now.carried) (sym (rows_are d)) told))
 
 pub returns-clause-within : goal.returns-clause-within
 returns-clause-within c = let size = size_is (goal.at.returns-clause-within c).After-as_slice in let low = c.cut_noted.ensures.within in omega arith

@@ -116,7 +116,7 @@ returns-clause-cut c =
       count = count;
       within = low;
       best = λ list told. best_of kept (rows_of t vs) height list c.args.notes.now.list.own c.number.result count some
-          (subst (λ (n : ℕ). IsPageCut kept (rows_of t vs) height list c.args.notes.now.list.own n count) (sym level) (c.cut_rows-cut.ensures.best list c.args.notes.now.list.own (subst (λ (zs : List ℤ). AreAreas height list c.args.notes.now.list.own (length c.args.read.now.solids.items) zs c.args.room.now.carried) (sym c.as_slice.ensures.value) told)));
+          (subst (λ (n : ℕ). IsPageCut kept (rows_of t vs) height list c.args.notes.now.list.own n count) (sym level) (c.cut_rows-cut.ensures.best list c.args.notes.now.list.own (subst (λ (zs : List ℤ). AreAreas kept (rows_of t vs) height list c.args.notes.now.list.own zs c.args.room.now.carried) (sym c.as_slice.ensures.value) told)));
       to_is = leaves d;
       ended_is = ap (λ (xs : List Solid). nat_eq count (length xs)) c.as_slice-solids.ensures.value ∙ ap (λ (n : ℕ). nat_eq count n) (sym size);
       forced_is = c.forced_after.ensures ∙ ap (λ (xs : List Solid). forced_after (slice_get (map solid_view xs) count)) c.as_slice-solids.ensures.value;

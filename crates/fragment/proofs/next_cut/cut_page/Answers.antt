@@ -1,4 +1,4 @@
-use Rattle.std.proofs.Common.{◌≡◌, ◌<◌, ◌++◌, ◌∷◌, [], ℕ, ℤ, true, false, None, List, All, length, map, rules, refl, sym, ap, ◌∙◌, subst, arith, to_z, of_z, Result, Ok, Err, IfOk}
+use Rattle.std.proofs.Common.{◌≡◌, ◌+◌, ◌<◌, zero, suc, take, ◌++◌, ◌∷◌, [], ℕ, ℤ, true, false, None, List, All, length, map, rules, refl, sym, ap, ◌∙◌, subst, arith, to_z, of_z, Result, Ok, Err, IfOk}
 use Rattle.std.proofs.lemmas.Bool.Decides.{nat_tests}
 use Rattle.std.proofs.lemmas.Int.{ints, to_z-of_z}
 use Rattle.std.proofs.lemmas.List.{length-map}
@@ -11,6 +11,7 @@ use Rattle.boxes.specs.declared.frames.Frame.{Frame}
 use Rattle.boxes.specs.declared.place.Position.{Position}
 use Rattle.metrics.specs.Face.{FontFace}
 use Rattle.note_list.specs.declared.carried.Carried.{Carried}
+use Rattle.note_list.specs.declared.solid.NotedSolid.{NotedSolid}
 use Rattle.fragment.specs.declared.page_notes.PageNotes.{PageNotes}
 use Rattle.cursor.proofs.AskLemmas.{keeps_twice}
 use Rattle.cursor.proofs.StepLemmas.{takes_twice}
@@ -21,25 +22,27 @@ use Rattle.cursor.specs.Remainder.{SolidView, IsSmallSolid}
 use Rattle.cuts.specs.Areas.{AreAreas, AreTold, area_after}
 use Rattle.seams.specs.Runs.{solid_after}
 use Rattle.notes.specs.Notes.{area_of}
+use Rattle.note_list.proofs.KnownLemmas.{known_more}
 use Rattle.note_list.specs.Calls.{called_before}
+use Rattle.note_list.specs.Known.{StepsForNotes, new_in}
 use Rattle.note_list.specs.Lists.{note_rows}
 use Rattle.fragment.specs.CutsAt.{CutsAt}
-use Rattle.fragment.specs.Reads.{AreRead, IsPagePrefix, called_by, called_in}
+use Rattle.fragment.specs.Reads.{AreRead, AreReadInside, IsPagePrefix, StepsForPage, called_by, called_in}
+use Rattle.page_list.specs.Cuts.{rows_of}
+use Rattle.page_list.specs.declared.cut.CutFrom.{CutFrom}
 use Rattle.page_list.proofs.InsideLemmas.{flow_inside}
 use Rattle.fragment.proofs.CutLemmas.{called_low, end_cut, flow_cut, none_left, room_is}
 use Rattle.fragment.proofs.FlowLemmas.{prefix_between, prefix_few}
 use Rattle.fragment.proofs.KeptLemmas.{cut_held}
+use Rattle.fragment.proofs.LooksLemmas.{looks_at, looks_end}
 use Rattle.fragment.proofs.PlaceLemmas.{before_most, by_all}
 use Rattle.fragment.proofs.SolidLemmas.{all_views, if_ok}
 use Rattle.fragment.proofs.next_cut.cut_page.Given as given
 use Rattle.fragment.proofs.next_cut.cut_page.Goals as goal
 use Rattle.fragment.proofs.next_cut.cut_page.Goals.{After-is_empty}
 
-abbrev ends_of : List Solid → List Position
-ends_of solids = map (λ (s : SolidView). s.end) (map solid_view solids)
-
 -- the notes that are read with the solids
-read : (g : given.Over) (c : After-is_empty g) → AreRead c.args.faces.now c.args.flow.now c.args.frame c.args.from.at c.args.carried (ends_of c.in_ok-read.read.solids.items) c.prefix.new.notes
+read : (g : given.Over) (c : After-is_empty g) → AreReadInside c.args.faces.now c.args.flow.now c.args.frame c.args.from c.args.carried (map solid_view c.in_ok-read.read.solids.items) c.prefix.new.notes
 read g c = c.in_ok-read.ensures.read c.args.carried c.in_ok-notes.ensures.read
 
 abbrev room : (g : given.Over) (c : After-is_empty g) → ℤ
@@ -48,10 +51,10 @@ room g c = to_z w64 (of_z w64 c.own_area.result)
 tells : (g : given.Over) (c : After-is_empty g) → IsPagePrefix c.args.faces.now c.args.flow.now.main c.args.frame c.args.from.at c.args.from.kept c.prefix.new.notes.list.own c.prefix.new.notes.areas.items (room g c) (map solid_view c.in_ok-read.read.solids.items)
 tells g c = subst (λ (n : ℕ). IsPagePrefix c.args.faces.now c.args.flow.now.main c.args.frame c.args.from.at c.args.from.kept n c.prefix.new.notes.areas.items (room g c) (map solid_view c.in_ok-read.read.solids.items)) (sym c.in_ok-read.ensures.own) c.in_ok-read.ensures.prefix
 
-room_was : (g : given.Over) (c : After-is_empty g) → room g c ≡ area_of (note_rows (read g c).own) c.prefix.new.notes.list.own
+room_was : (g : given.Over) (c : After-is_empty g) → room g c ≡ area_of (note_rows (read g c).read.own) c.prefix.new.notes.list.own
 room_was g c =
     let fits : SFits w64 c.own_area.result = search rules in
-    room_is c.args.faces.now c.args.flow.now c.args.frame c.args.from.at c.args.carried [] (ends_of c.in_ok-read.read.solids.items) c.in_ok-notes.notes c.prefix.new.notes (room g c) c.in_ok-notes.ensures.read (read g c) c.in_ok-read.ensures.own
+    room_is c.args.faces.now c.args.flow.now c.args.frame c.args.from.at c.args.carried [] (map (λ (s : SolidView). s.end) (take (read g c).count (map solid_view c.in_ok-read.read.solids.items))) c.in_ok-notes.notes c.prefix.new.notes (room g c) c.in_ok-notes.ensures.read (read g c).read c.in_ok-read.ensures.own
     (λ height list is. to_z-of_z w64 c.own_area.result fits ∙ c.own_area.ensures.area height list is)
 
 -- ---- where no solid is left
@@ -60,10 +63,10 @@ none_of [] e = refl
 none_of (x ∷ xs) e = absurd (omega arith)
 
 pub take-requires-clause-ready : goal.take-requires-clause-ready
-take-requires-clause-ready g c = (read g (goal.at.take-requires-clause-ready g c).After-is_empty).ready
+take-requires-clause-ready g c = (read g (goal.at.take-requires-clause-ready g c).After-is_empty).read.ready
 
 pub take-requires-clause-ends : goal.take-requires-clause-ends
-take-requires-clause-ends g c = (read g (goal.at.take-requires-clause-ends g c).After-is_empty).held
+take-requires-clause-ends g c = (read g (goal.at.take-requires-clause-ends g c).After-is_empty).read.held
 
 -- nothing is read where nothing is left
 empty : (g : given.Over) (c : After-is_empty g) → c.is_empty.result ≡ true → map solid_view c.in_ok-read.read.solids.items ≡ []
@@ -77,18 +80,23 @@ ended g c e =
 all_called : (g : given.Over) (c : After-is_empty g) → c.is_empty.result ≡ true → called_by c.args.flow.now.main c.args.flow.now.notes c.args.from.at ≡ length c.args.flow.now.notes
 all_called g c e = by_all c.args.flow.now.main c.args.flow.now.notes c.args.from.at (ended g c e)
 
+none_taken : (vs : List SolidView) (n : ℕ) → vs ≡ [] → take n vs ≡ []
+none_taken [] zero e = refl
+none_taken [] (suc n) e = refl
+none_taken (v ∷ vs) n e = absurd (cc)
+
 -- the notes that are read once all are called
-all_read : (faces : List FontFace) (flow : Flow) (frame : Frame) (at : Position) (carried : List Carried) (solids : List Solid) (p q : PageNotes) → map solid_view solids ≡ [] →
-    ((from : Position) (carried : List Carried) (ends : List Position) → AreRead faces flow frame from carried ends p → AreRead faces flow frame from carried (ends ++ at ∷ []) q) → AreRead faces flow frame at carried (ends_of solids) p → AreRead faces flow frame at carried (at ∷ []) q
-all_read faces flow frame at carried solids p q e more r = subst (λ (vs : List SolidView). AreRead faces flow frame at carried (map (λ (s : SolidView). s.end) vs ++ at ∷ []) q) e (more at carried (ends_of solids) r)
+all_read : (faces : List FontFace) (flow : Flow) (frame : Frame) (from : CutFrom) (carried : List Carried) (solids : List SolidView) (p q : PageNotes) → solids ≡ [] →
+    ((at : Position) (carried : List Carried) (ends : List Position) → AreRead faces flow frame at carried ends p → AreRead faces flow frame at carried (ends ++ from.at ∷ []) q) → AreReadInside faces flow frame from carried solids p → AreRead faces flow frame from.at carried (from.at ∷ []) q
+all_read faces flow frame from carried solids p q e more r =
+    subst (λ (vs : List SolidView). AreRead faces flow frame from.at carried (map (λ (s : SolidView). s.end) vs ++ from.at ∷ []) q) (none_taken solids r.count e) (more from.at carried (map (λ (s : SolidView). s.end) (take r.count solids)) r.read)
 
 pub take-requires-clause-called : goal.take-requires-clause-called
 take-requires-clause-called g c =
     let d = (goal.at.take-requires-clause-called g c).After-is_empty in
     let all = all_called g d c.if-is_empty.true in
-    let least = (read g d).low in
     let here : c.prefix.new.notes.called ≡ called_before c.args.flow.now.main c.args.flow.now.notes c.args.from.at =
-    (read g d).called ∙ ap (λ (vs : List SolidView). called_in c.args.flow.now c.args.from.at (map (λ (s : SolidView). s.end) vs) (length (map (λ (s : SolidView). s.end) vs))) (empty g d c.if-is_empty.true) in
+    (read g d).read.called ∙ ap (λ (vs : List SolidView). called_in c.args.flow.now c.args.from.at (map (λ (s : SolidView). s.end) vs) (length (map (λ (s : SolidView). s.end) vs))) (none_taken (map solid_view c.in_ok-read.read.solids.items) (read g d).count (empty g d c.if-is_empty.true)) in
     let most = before_most c.args.flow.now.main c.args.flow.now.notes c.args.from.at in
     omega arith
 
@@ -98,7 +106,7 @@ cut_end-requires-clause-all g c = c.in_ok-take.ensures.called ∙ all_called g (
 pub cut_end-requires-clause-cut : goal.cut_end-requires-clause-cut
 cut_end-requires-clause-cut g c =
     let d = (goal.at.cut_end-requires-clause-cut g c).After-is_empty in
-    let all = all_read c.args.faces.now c.args.flow.now c.args.frame c.args.from.at c.args.carried c.in_ok-read.read.solids.items c.prefix.new.notes c.take.new.self (empty g d c.if-is_empty.true) c.in_ok-take.ensures.read (read g d) in
+    let all = all_read c.args.faces.now c.args.flow.now c.args.frame c.args.from c.args.carried (map solid_view c.in_ok-read.read.solids.items) c.prefix.new.notes c.take.new.self (empty g d c.if-is_empty.true) c.in_ok-take.ensures.read (read g d) in
     let low = c.requires.frame.height_low in
     let high = c.requires.frame.height_high in
     record {
@@ -125,7 +133,7 @@ returns-then-is_empty-clause-cut g c =
     let d = (goal.at.returns-then-is_empty-clause-cut g c).After-is_empty in
     let fits : SFits w64 c.own_area.result = search rules in
     let tall : SFits w64 c.args.frame.height = search rules in
-    let all = all_read c.args.faces.now c.args.flow.now c.args.frame c.args.from.at c.args.carried c.in_ok-read.read.solids.items c.prefix.new.notes c.take.new.self (empty g d c.if-is_empty.true) c.in_ok-take.ensures.read (read g d) in
+    let all = all_read c.args.faces.now c.args.flow.now c.args.frame c.args.from c.args.carried (map solid_view c.in_ok-read.read.solids.items) c.prefix.new.notes c.take.new.self (empty g d c.if-is_empty.true) c.in_ok-take.ensures.read (read g d) in
     let was : room g d ≡ area_of (note_rows all.own) c.take.new.self.list.own =
     room_is c.args.faces.now c.args.flow.now c.args.frame c.args.from.at c.args.carried [] (c.args.from.at ∷ []) c.in_ok-notes.notes c.take.new.self (room g d) c.in_ok-notes.ensures.read all (c.in_ok-take.ensures.own ∙ c.in_ok-read.ensures.own)
     (λ height list is. to_z-of_z w64 c.own_area.result fits ∙ c.own_area.ensures.area height list is) in
@@ -160,7 +168,7 @@ cut_solids-requires-clause-solids g c =
 
 pub cut_solids-requires-clause-cut : goal.cut_solids-requires-clause-cut
 cut_solids-requires-clause-cut g c =
-    let all = read g (goal.at.cut_solids-requires-clause-cut g c).After-is_empty in
+    let all = (read g (goal.at.cut_solids-requires-clause-cut g c).After-is_empty).read in
     let low = c.requires.frame.height_low in
     let high = c.requires.frame.height_high in
     record {
@@ -206,14 +214,13 @@ returns-clause-cut g c =
     let tall : SFits w64 c.args.frame.height = search rules in
     let views : List SolidView = map solid_view c.in_ok-read.read.solids.items in
     let first : c.in_ok-notes.notes.called ≡ called_before c.args.flow.now.main c.args.flow.now.notes c.args.from.at = c.in_ok-notes.ensures.read.called in
-    let size : length (map solid_view c.in_ok-read.read.solids.items) ≡ length c.in_ok-read.read.solids.items = length-map c.in_ok-read.read.solids.items solid_view in
     let own = c.prefix.new.notes.list.own in
     let areas = c.prefix.new.notes.areas.items in
+    let rows = rows_of c.args.flow.now.main views in
     if_ok _ _ c.cut_solids.result
-    (λ cut is. flow_cut c.args.faces.now c.args.flow.now c.args.frame c.args.from c.args.carried c.requires.flow c.requires.holds c.requires.carried views c.prefix.new.notes (room g d) (tells g d) (read g d) (room_was g d) cut (some_read g d c.if-is_empty.false)
-    (subst (λ (n : ℕ). CutsAt c.args.flow.now c.args.from.kept c.args.frame.height c.args.carried n (λ list. AreAreas c.args.frame.height list own (length views) areas (room g d)) c.prefix.new.notes.list views cut) first
-    (subst (λ (n : ℕ). CutsAt c.args.flow.now c.args.from.kept c.args.frame.height c.args.carried c.in_ok-notes.notes.called (λ list. AreAreas c.args.frame.height list own n areas (room g d)) c.prefix.new.notes.list views cut) (sym size)
-    (subst (λ (z : ℤ). CutsAt c.args.flow.now c.args.from.kept z c.args.carried c.in_ok-notes.notes.called (λ list. AreAreas z list own (length c.in_ok-read.read.solids.items) areas (room g d)) c.prefix.new.notes.list views cut) (to_z-of_z w64 c.args.frame.height tall) is)))) c.cut_solids.ensures.cut
+    (λ cut is. flow_cut c.args.faces.now c.args.flow.now c.args.frame c.args.from c.args.carried c.requires.flow c.requires.holds c.requires.carried views c.prefix.new.notes (room g d) (tells g d) (read g d) (room_was g d) c.requires.frame.width_low cut (some_read g d c.if-is_empty.false)
+    (subst (λ (n : ℕ). CutsAt c.args.flow.now c.args.from.kept c.args.frame.height c.args.carried n (λ list. AreAreas c.args.from.kept rows c.args.frame.height list own areas (room g d)) c.prefix.new.notes.list views cut) first
+    (subst (λ (z : ℤ). CutsAt c.args.flow.now c.args.from.kept z c.args.carried c.in_ok-notes.notes.called (λ list. AreAreas c.args.from.kept rows z list own areas (room g d)) c.prefix.new.notes.list views cut) (to_z-of_z w64 c.args.frame.height tall) is))) c.cut_solids.ensures.cut
 
 pub returns-clause-inside : goal.returns-clause-inside
 returns-clause-inside g c = if_ok _ _ c.cut_solids.result (λ cut is. flow_inside c.args.faces.now c.args.flow.now c.args.frame c.args.from c.args.carried cut c.requires.flow.main.is c.requires.frame.width_low is) (returns-clause-cut g c)
@@ -265,3 +272,35 @@ returns-in_err-read-clause-keeps g c = keeps_twice c.args.lines.now.kept c.start
 
 pub returns-in_err-take-clause-keeps : goal.returns-in_err-take-clause-keeps
 returns-in_err-take-clause-keeps g c = keeps_twice c.args.lines.now.kept c.prefix.new.lines.kept c.take.new.lines.kept (keeps_twice c.args.lines.now.kept c.start.new.lines.kept c.prefix.new.lines.kept c.start.ensures.keeps c.prefix.ensures.keeps) c.take.ensures.keeps
+
+-- ---- how many lines are looked at
+read_steps : (g : given.Over) (c : After-is_empty g) → StepsForPage c.args.flow.now c.args.frame.width c.args.lines.now.kept (map solid_view c.in_ok-read.read.solids.items) [] c.prefix.new.notes.list.solids.items c.args.steps.now c.prefix.new.steps
+read_steps g c known held =
+    let start = c.in_ok-notes.ensures.lines known held in
+    let more = c.in_ok-read.ensures.lines known (known_more known c.args.lines.now.kept c.start.new.lines.kept held c.start.ensures.keeps) in
+    omega (arith, start, more)
+
+pub returns-clause-lines : goal.returns-clause-lines
+returns-clause-lines g c =
+    let d = (goal.at.returns-clause-lines g c).After-is_empty in
+    if_ok _ _ c.cut_solids.result
+    (λ cut near. looks_at c.args.faces.now c.args.flow.now c.args.frame c.args.from c.args.carried c.requires.flow c.requires.holds c.requires.carried c.requires.frame.height_low (map solid_view c.in_ok-read.read.solids.items) c.prefix.new.notes (room g d) (tells g d) (read g d) (room_was g d)
+    c.args.lines.now.kept c.args.steps.now c.prefix.new.steps c.in_ok-read.ensures.few (c.in_ok-read.ensures.short c.in_ok-notes.ensures.short) (read_steps g d))
+    c.cut_solids.ensures.near
+
+end_steps : (g : given.Over) (c : After-is_empty g) (list : List NotedSolid) (steps : ℕ) → c.is_empty.result ≡ true → StepsForNotes c.args.flow.now.notes c.args.frame.width c.prefix.new.lines.kept c.prefix.new.notes.list.solids.items list c.prefix.new.steps steps →
+    StepsForPage c.args.flow.now c.args.frame.width c.args.lines.now.kept [] [] list c.args.steps.now steps
+end_steps g c list steps none last known held =
+    let read = read_steps g c known held in
+    let more = last known (known_more known c.args.lines.now.kept c.prefix.new.lines.kept held (read_keeps g c)) in
+    let no : new_in known c.args.flow.now.main c.args.frame.width (map solid_view c.in_ok-read.read.solids.items) ≡ 0 = ap (new_in known c.args.flow.now.main c.args.frame.width) (empty g c none) in
+    omega (arith, read, more, no)
+
+pub returns-then-is_empty-clause-lines : goal.returns-then-is_empty-clause-lines
+returns-then-is_empty-clause-lines g c =
+    let d = (goal.at.returns-then-is_empty-clause-lines g c).After-is_empty in
+    let all = all_read c.args.faces.now c.args.flow.now c.args.frame c.args.from c.args.carried (map solid_view c.in_ok-read.read.solids.items) c.prefix.new.notes c.take.new.self (empty g d c.if-is_empty.true) c.in_ok-take.ensures.read (read g d) in
+    if_ok _ _ c.cut_end.result
+    (λ cut near. looks_end c.args.faces.now c.args.flow.now c.args.frame c.args.from c.args.carried c.requires.flow c.requires.holds c.requires.carried c.requires.frame.height_low (ended g d c.if-is_empty.true) c.take.new.self all
+    c.args.lines.now.kept c.args.steps.now c.take.new.steps (c.in_ok-take.ensures.short (c.in_ok-read.ensures.short c.in_ok-notes.ensures.short)) (end_steps g d c.take.new.self.list.solids.items c.take.new.steps c.if-is_empty.true c.in_ok-take.ensures.lines))
+    c.cut_end.ensures.near

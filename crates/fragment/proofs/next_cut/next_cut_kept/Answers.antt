@@ -1,5 +1,5 @@
 use Rattle.note_list.specs.Calls.{called_before}
-use Rattle.fragment.proofs.SettledLemmas.{settled_cut}
+use Rattle.fragment.proofs.SettledLemmas.{settled_cut, settled_looks}
 use Rattle.fragment.proofs.SolidLemmas.{if_ok}
 use Rattle.fragment.proofs.next_cut.next_cut_kept.Goals as goal
 
@@ -15,3 +15,9 @@ returns-clause-cut g c =
     if_ok _ _ c.cut_page.result
     (λ cut is. settled_cut c.args.faces.now c.args.flow.now c.args.frame c.args.from c.in_ok-settled.settled c.args.carried.now cut (λ width more list are. c.in_ok-settled.ensures.lists c.args.faces.now width more list are) is)
     c.cut_page.ensures.cut
+
+pub returns-clause-lines : goal.returns-clause-lines
+returns-clause-lines g c =
+    if_ok _ _ c.cut_page.result
+    (λ cut looks. settled_looks c.args.faces.now c.args.flow.now c.args.frame c.args.from c.in_ok-settled.settled c.args.carried.now c.args.lines.now.kept c.args.steps.now c.cut_page.new.steps (λ width more list are. c.in_ok-settled.ensures.lists c.args.faces.now width more list are) looks)
+    c.cut_page.ensures.lines

@@ -48,10 +48,9 @@ returns-clause-carried g c =
 
 pub returns-clause-lines : goal.returns-clause-lines
 returns-clause-lines g c =
-    let q = looked_carried c.args.faces.now c.args.flow.now c.args.frame c.args.carried c.in_ok-list.list c.in_ok-list.ensures.list c.in_ok-list.ensures.short c.requires.frame.height_low in
-    let most = q.2 in
-    let count = c.in_ok-list.ensures.lines in
-    if_ok _ _ c.place.result (λ p placed. (q.0, q.1, omega (arith, most, count))) c.place.ensures.placed
+    if_ok _ _ c.place.result
+    (λ p placed. looked_carried c.args.faces.now c.args.flow.now c.args.frame c.args.carried c.in_ok-list.list c.args.lines.now.kept c.args.steps.now c.carried-2.new.steps c.in_ok-list.ensures.list c.in_ok-list.ensures.short c.requires.frame.height_low c.in_ok-list.ensures.lines)
+    c.place.ensures.placed
 
 pub returns-clause-takes : goal.returns-clause-takes
 returns-clause-takes g c = if_ok _ _ c.place.result (λ p placed. c.in_ok-list.ensures.takes) c.place.ensures.front

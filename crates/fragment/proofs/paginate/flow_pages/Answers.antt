@@ -1,6 +1,7 @@
 use Rattle.std.proofs.Common.{◌≡◌, ◌+◌, List, Option, None, pos, [], ◌∷◌, ◌++◌, length, length-append, refl, sym, ap, ◌∙◌, subst, arith}
 use Rattle.std.proofs.lemmas.Grind.{common_steps}
 use Rattle.boxes.specs.declared.flow.Flow.{Flow}
+use Rattle.boxes.specs.declared.frames.Frame.{Frame}
 use Rattle.boxes.specs.declared.frames.PageKind.TheVariants as kind
 use Rattle.boxes.specs.declared.page.Page.{Page}
 use Rattle.boxes.specs.declared.frames.Demand.{Demand}
@@ -11,6 +12,8 @@ use Rattle.page_list.specs.Cuts.{IsFlowCut, place_after}
 use Rattle.boxes.specs.Frames.{PageFrames}
 use Rattle.page_list.specs.Pages.{State, AreNear, HaveNearTops, IsStep, name_at, flow_page, after_flow, is_forced, start_of}
 use Rattle.page_list.specs.Pages.IsStep.{flows}
+use Rattle.page_list.specs.Looked.{IsLookedFlow}
+use Rattle.page_list.specs.LookedPages.IsLookedNext.{flows as looked_flow}
 use Rattle.note_list.specs.Calls.{start_place}
 use Rattle.fragment.specs.Runs.{Leads}
 use Rattle.std.proofs.lemmas.List.Elements.{All-nil}
@@ -21,6 +24,7 @@ use Rattle.cursor.specs.Asks.{KeepsHeld, TakesSteps}
 use Rattle.fragment.specs.Kept.{ArePagesHeld, IsPageHeld}
 use Rattle.fragment.proofs.KeptLemmas.{pages_added, pages_more}
 use Rattle.fragment.proofs.NearLemmas.{near_more, near_added}
+use Rattle.fragment.proofs.PagesLookLemmas.{HasLookedTo, looked_added, looked_more}
 use Rattle.fragment.proofs.paginate.flow_pages.Given as given
 use Rattle.fragment.proofs.paginate.flow_pages.Goals.{After-page_of-page}
 use Rattle.fragment.proofs.paginate.flow_pages.Goals as goal
@@ -33,7 +37,9 @@ loop-turn-init g c = rw c.new-pages.ensures.items (rw c.new-carried.ensures (rec
   few = omega arith;
   carries = none_carried c.args.flow.now start_place;
   stands = All-nil (IsAtSolid c.args.flow.now.notes);
-  run = (name_at c.args.flow.now.main start_place, ap (λ (d : Option Demand). record (start_of c.args.flow.now.main) { demand = d }) (sym (c.seam-demand.ensures.forced (pos 0))));
+  run =
+      let is : start_of c.args.flow.now.main ≡ record (start_of c.args.flow.now.main) { demand = c.seam-demand.result.forced } = ap (λ (d : Option Demand). record (start_of c.args.flow.now.main) { demand = d }) (sym (c.seam-demand.ensures.forced (pos 0))) in
+      (name_at c.args.flow.now.main start_place, is, λ known are. (0, (is, refl), omega arith));
   near = All-nil (λ (q : Page). AreNear q.solids q.notes);
   kept = c.requires.kept;
   keeps = keeps_all c.args.lines.now.kept;
@@ -83,6 +89,19 @@ more g c now is =
 
 near : (g : given.Over) (c : After-page_of-page g) (now : List Page) → now ≡ c.add_blanks.new.pages.items ++ c.page_of-page.result.0 ∷ [] → HaveNearTops now
 near g c now is = subst HaveNearTops (sym is) (near_more c.add_blanks.new.pages.items c.page_of-page.result.0 (nears g c) (subst (λ (q : Page). AreNear q.solids q.notes) (sym c.page_of-page.ensures.page) c.in-Ok-cut_page.ensures.near))
+
+-- and the lines that they may look at
+looks : (g : given.Over) (c : After-page_of-page g) (now : List Page) → now ≡ c.add_blanks.new.pages.items ++ c.page_of-page.result.0 ∷ [] → HasLookedTo c.args.faces.now c.args.flow.now (g.Fr.Frames.view c.args.frames.now) c.args.lines.now.kept c.args.steps.now c.cut_page.new.steps (after_flow c.args.flow.now.main (here g c) c.in-Ok-cut_page.cut) now
+looks g c now is =
+    let f : Flow = c.args.flow.now in
+    let frames : PageFrames = g.Fr.Frames.view c.args.frames.now in
+    let page : Page = flow_page frames f.main (here g c) c.in-Ok-cut_page.cut in
+    looked_more c.args.faces.now f frames c.args.lines.now.kept c.loop-turn.lines.kept c.args.steps.now c.loop-turn.steps c.cut_page.new.steps (here g c) (after_flow f.main (here g c) c.in-Ok-cut_page.cut) page c.add_blanks.new.pages.items now c.loop-turn.invariant.keeps (step g c)
+    (λ known are.
+    let has = c.in-Ok-cut_page.ensures.lines known are in
+    (has.0, looked_flow refl c.in-Ok.ensures.meets (subst (λ (x : Frame). IsLookedFlow c.args.faces.now f x c.loop-turn.from c.loop-turn.carried known has.0) (same_page g c).0 has.1), has.2))
+    (is ∙ ap (λ (q : Page). c.add_blanks.new.pages.items ++ q ∷ []) (same_page g c).1)
+    (looked_added c.args.faces.now f frames c.loop-turn.from.at c.loop-turn.from.kept c.loop-turn.demand c.loop-turn.carried c.loop-turn.invariant.run.0 c.args.lines.now.kept c.args.steps.now c.loop-turn.steps c.loop-turn.index c.in-Ok.to c.name_at_seam-name.result c.loop-turn.pages.items c.add_blanks.new.pages.items (c.name_at_seam-name.ensures (pos 0)) c.in-Ok.ensures.blanks c.loop-turn.invariant.run.2)
 
 -- what is held once a page is made
 keeps_on : (g : given.Over) (c : After-page_of-page g) → KeepsHeld c.args.lines.now.kept c.cut_page.new.lines.kept
@@ -138,6 +157,18 @@ returns-then-ended-clause-tops g c =
     let now : c.push.new.self.items ≡ c.add_blanks.new.pages.items ++ c.page_of-page.result.0 ∷ [] = grind (arith, common_steps) in
     near g (goal.at.returns-then-ended-clause-tops g c).After-page_of-page c.push.new.self.items now
 
+pub returns-then-ended-clause-looks : goal.returns-then-ended-clause-looks
+returns-then-ended-clause-looks g c =
+    let p = (goal.at.returns-then-ended-clause-looks g c).After-page_of-page in
+    let now : c.push.new.self.items ≡ c.add_blanks.new.pages.items ++ c.page_of-page.result.0 ∷ [] = grind (arith, common_steps) in
+    let size : length c.push.new.self.items ≡ length c.add_blanks.new.pages.items + 1 = ap length now ∙ length-append c.add_blanks.new.pages.items (c.page_of-page.result.0 ∷ []) in
+    let count = c.in-Ok.ensures.count in
+    record {
+      state = after_flow c.args.flow.now.main (here g p) c.in-Ok-cut_page.cut;
+      ends = record { done = c.if-ended.true; index = omega arith; name = sym (c.name_at_seam-name.ensures (pos 0)); carried = sym c.page_of-page.ensures.carried };
+      looks = looks g p c.push.new.self.items now;
+    }
+
 pub loop-turn-preserved : goal.loop-turn-preserved
 loop-turn-preserved g c =
     let p = (goal.at.loop-turn-preserved g c).After-page_of-page in
@@ -157,12 +188,12 @@ loop-turn-preserved g c =
       few = omega arith;
       carries = rw left c.in-Ok-cut_page.ensures.carried;
       stands = rw left c.in-Ok-cut_page.ensures.stands;
-      run = (
-        name_at c.args.flow.now.main c.loop-turn.from.at,
-        subst (λ (s : State). Leads c.args.faces.now c.args.flow.now (g.Fr.Frames.view c.args.frames.now) s c.push.new.self.items)
-            (next_state c.args.flow.now.main (here g p) cut c.is_some.result c.page_of-page.result.1 (c.in-Ok.to + 1) c.if-ended.false kept left (omega arith))
-            (more g p c.push.new.self.items now),
-      );
+      run =
+          let next = next_state c.args.flow.now.main (here g p) cut c.is_some.result c.page_of-page.result.1 (c.in-Ok.to + 1) c.if-ended.false kept left (omega arith) in (
+            name_at c.args.flow.now.main c.loop-turn.from.at,
+            subst (λ (s : State). Leads c.args.faces.now c.args.flow.now (g.Fr.Frames.view c.args.frames.now) s c.push.new.self.items) next (more g p c.push.new.self.items now),
+            subst (λ (s : State). HasLookedTo c.args.faces.now c.args.flow.now (g.Fr.Frames.view c.args.frames.now) c.args.lines.now.kept c.args.steps.now c.cut_page.new.steps s c.push.new.self.items) next (looks g p c.push.new.self.items now),
+          );
       near = near g p c.push.new.self.items now;
       kept = c.cut_page.ensures.kept;
       keeps = keeps_on g p;

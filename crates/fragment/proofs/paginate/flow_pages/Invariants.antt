@@ -7,6 +7,7 @@ use Rattle.fragment.specs.Kept.{ArePagesHeld}
 use Rattle.note_list.specs.Conditions.{AreCarried, IsAtSolid}
 use Rattle.page_list.specs.Pages.{HaveNearTops}
 use Rattle.fragment.specs.Runs.{Leads}
+use Rattle.fragment.proofs.PagesLookLemmas.{HasLookedTo}
 use Rattle.fragment.proofs.RunLemmas.{state_at}
 use Rattle.fragment.proofs.paginate.flow_pages.Given as goal
 
@@ -18,7 +19,7 @@ invariant-loop-turn g l = record {
   few : length l.pages.items ≤ 100000;
   carries : AreCarried l.flow l.from.at l.carried;
   stands : All (IsAtSolid l.flow.notes) l.carried;
-  run : (name : NameId) × Leads l.faces l.flow (g.Fr.Frames.view l.frames) (state_at l.from.at l.from.kept l.index l.demand l.carried name) l.pages.items;
+  run : (name : NameId) × Leads l.faces l.flow (g.Fr.Frames.view l.frames) (state_at l.from.at l.from.kept l.index l.demand l.carried name) l.pages.items × HasLookedTo l.faces l.flow (g.Fr.Frames.view l.frames) l.fn.lines.kept l.fn.steps l.steps (state_at l.from.at l.from.kept l.index l.demand l.carried name) l.pages.items;
   near : HaveNearTops l.pages.items;
   kept : AreFlowLines l.faces l.flow l.lines;
   keeps : KeepsHeld l.fn.lines.kept l.lines.kept;

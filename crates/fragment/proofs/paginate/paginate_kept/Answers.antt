@@ -5,6 +5,7 @@ use Rattle.line_fill.specs.Kept.{AreKept}
 use Rattle.line_fill.specs.declared.kept.KeptLeaf.{KeptLeaf}
 use Rattle.fragment.proofs.KeptLemmas.{flow_lines}
 use Rattle.page_list.specs.Laws.{MeetWithin}
+use Rattle.page_list.specs.LookedPages.{LooksAtPages}
 use Rattle.fragment.proofs.paginate.paginate_kept.Goals as goal
 
 pub returns-clause-begins : goal.returns-clause-begins
@@ -30,3 +31,6 @@ returns-clause-keeps g c = subst (λ (old : List KeptLeaf). KeepsHeld old c.page
 
 pub returns-clause-takes : goal.returns-clause-takes
 returns-clause-takes g c = IfOk-weaker c.pages_of.result _ _ (λ list takes. subst (λ (old : List KeptLeaf). TakesSteps old c.pages_of.new.lines.kept c.args.steps.now c.pages_of.new.steps) c.forget.ensures.same takes) c.pages_of.ensures.takes
+
+pub returns-clause-lines : goal.returns-clause-lines
+returns-clause-lines g c = IfOk-weaker c.pages_of.result _ _ (λ list looks. subst (λ (old : List KeptLeaf). LooksAtPages c.args.faces.now c.args.flow.now (g.Fr.Frames.view c.args.frames.now) old list.pages c.args.steps.now c.pages_of.new.steps) c.forget.ensures.same looks) c.pages_of.ensures.lines

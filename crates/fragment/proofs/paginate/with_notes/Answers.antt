@@ -2,14 +2,11 @@ use Rattle.std.proofs.Common.{◌≡◌, ◌+◌, true, false, List, [], ◌∷�
 use Rattle.std.proofs.lemmas.Bool.{eqb-true}
 use Rattle.std.proofs.lemmas.Grind.{common_steps}
 use Rattle.boxes.specs.declared.flow.Flow.{Flow}
-use Rattle.boxes.specs.declared.frames.Frame.{Frame}
-use Rattle.boxes.specs.declared.frames.PageKind.TheVariants as kind
-use Rattle.note_list.specs.declared.carried.Carried.{Carried}
-use Rattle.page_list.specs.Cuts.{IsNotesCut}
-use Rattle.page_list.specs.Pages.{IsPaged, IsStep, HaveNearTops, notes_page, after_notes, has_some}
-use Rattle.page_list.specs.Pages.IsStep.{noted}
-use Rattle.fragment.specs.Runs.{Leads}
-use Rattle.fragment.proofs.RunLemmas.{leaves_some, run_ends, run_step, some_left, has_none, has_one, notes_frame}
+use Rattle.boxes.specs.Frames.{PageFrames}
+use Rattle.page_list.specs.Pages.{IsPaged, HaveNearTops, after_notes, has_some, notes_page_of}
+use Rattle.fragment.specs.Runs.{Leads, LooksOn}
+use Rattle.fragment.specs.declared.paginate.FlowPages.{FlowPages}
+use Rattle.fragment.proofs.RunLemmas.{leaves_some, run_ends, run_step, some_left, has_none, has_one, noted_step}
 use Rattle.std.proofs.lemmas.List.Elements.{All-nil}
 use Rattle.boxes.specs.declared.page.Page.{Page}
 use Rattle.boxes.specs.declared.page.Placed.{Placed}
@@ -19,6 +16,7 @@ use Rattle.cursor.specs.Asks.{IsHeldNow}
 use Rattle.fragment.specs.Kept.{ArePagesHeld, IsPageHeld}
 use Rattle.fragment.proofs.KeptLemmas.{pages_more}
 use Rattle.fragment.proofs.NearLemmas.{near_more}
+use Rattle.fragment.proofs.PagesLookLemmas.{past_ends, past_more, past_none}
 use Rattle.fragment.proofs.paginate.with_notes.Goals as goal
 
 pub loop-turn-init : goal.loop-turn-init
@@ -31,6 +29,7 @@ loop-turn-init g c =
       carries = is.carried;
       stands = is.stands;
       run = (is.state, is.leads, is.done, is.index, is.name, is.carried_is);
+      looks = past_none c.args.faces.now c.args.flow.now (g.Fr.Frames.view c.args.frames.now) c.args.lines.now.kept c.args.made c.args.steps.now;
       near = c.requires.tops;
       kept = c.requires.kept;
       keeps = keeps_all c.args.lines.now.kept;
@@ -50,6 +49,13 @@ returns-then-is_empty-clause-tops g c = subst HaveNearTops (sym c.of.ensures) c.
 
 pub returns-then-is_empty-clause-held : goal.returns-then-is_empty-clause-held
 returns-then-is_empty-clause-held g c = subst (ArePagesHeld c.args.flow.now c.loop-turn.lines.kept) (sym c.of.ensures) c.loop-turn.invariant.held
+
+pub returns-then-is_empty-clause-looks : goal.returns-then-is_empty-clause-looks
+returns-then-is_empty-clause-looks g c =
+    let frames : PageFrames = g.Fr.Frames.view c.args.frames.now in
+    let none : has_some c.loop-turn.carried ≡ false = has_none c.loop-turn.carried (eqb-true (length c.loop-turn.carried) 0 (sym c.is_empty.ensures ∙ c.if-is_empty.true)) in
+    subst (λ (ps : List Page). LooksOn c.args.faces.now c.args.flow.now frames c.args.lines.now.kept c.args.made ps c.args.steps.now c.loop-turn.steps) (sym c.of.ensures)
+    (past_ends c.args.faces.now c.args.flow.now frames c.args.lines.now.kept c.args.made c.args.steps.now c.loop-turn.steps (record { pages = c.loop-turn.pages; name = c.args.made.name; carried = c.loop-turn.carried }) none c.loop-turn.invariant.looks)
 
 pub returns-then-len-clause-many : goal.returns-then-len-clause-many
 returns-then-len-clause-many g c = λ e.
@@ -72,13 +78,9 @@ loop-turn-preserved g c =
     let count = c.len-in-loop-turn.ensures in
     let before = run.3 in
     let index : run.0.index ≡ c.len-in-loop-turn.result + 1 = omega arith in
-    let same = notes_frame (g.Fr.Frames.view c.args.frames.now) run.0 c.args.made.name (c.len-in-loop-turn.result + 1) c.frame-frame.result c.in-Ok.placed.notes run.4 index c.frame-frame.ensures.frame in
     let some : has_some c.loop-turn.carried ≡ true = has_one c.loop-turn.carried (sym c.is_empty.ensures ∙ c.if-is_empty.false) in
-    let cut : IsNotesCut c.args.faces.now f ((g.Fr.Frames.view c.args.frames.now).frame_of run.0.index run.0.name kind.Notes) run.0.carried c.in-Ok.placed.notes c.in-Ok.placed.left =
-    subst (λ (fr : Frame). IsNotesCut c.args.faces.now f fr run.0.carried c.in-Ok.placed.notes c.in-Ok.placed.left) same.0
-    (subst (λ (cs : List Carried). IsNotesCut c.args.faces.now f c.frame-frame.result cs c.in-Ok.placed.notes c.in-Ok.placed.left) (sym run.5) c.in-Ok.ensures.cut) in
-    let page : c.notes_page_of.result ≡ notes_page (g.Fr.Frames.view c.args.frames.now) run.0 c.in-Ok.placed.notes = c.notes_page_of.ensures ∙ same.1 in
-    let step : IsStep c.args.faces.now f (g.Fr.Frames.view c.args.frames.now) run.0 c.notes_page_of.result (after_notes run.0 c.in-Ok.placed.left) = noted run.2 (ap has_some run.5 ∙ some) c.in-Ok.placed.notes c.in-Ok.placed.left cut page refl in
+    let is : c.push.new.self.items ≡ c.loop-turn.pages.items ++ notes_page_of (c.len-in-loop-turn.result + 1) c.args.made.name c.frame-frame.result c.in-Ok.placed.notes ∷ [] = now ∙ ap (λ (q : Page). c.loop-turn.pages.items ++ q ∷ []) c.notes_page_of.ensures in
+    let step = noted_step c.args.faces.now f (g.Fr.Frames.view c.args.frames.now) run.0 c.args.made.name (c.len-in-loop-turn.result + 1) c.frame-frame.result c.loop-turn.carried c.in-Ok.placed.left c.in-Ok.placed.notes run.2 run.4 index run.5 c.frame-frame.ensures.frame some c.in-Ok.ensures.cut in
     record {
       turns = omega arith;
       few = omega arith;
@@ -86,12 +88,16 @@ loop-turn-preserved g c =
       stands = c.in-Ok.ensures.stands;
       run = (
         after_notes run.0 c.in-Ok.placed.left,
-        subst (Leads c.args.faces.now f (g.Fr.Frames.view c.args.frames.now) (after_notes run.0 c.in-Ok.placed.left)) (sym now) (run_step c.args.faces.now f (g.Fr.Frames.view c.args.frames.now) run.0 (after_notes run.0 c.in-Ok.placed.left) c.notes_page_of.result c.loop-turn.pages.items step run.1),
+        subst (Leads c.args.faces.now f (g.Fr.Frames.view c.args.frames.now) (after_notes run.0 c.in-Ok.placed.left)) (sym is) (run_step c.args.faces.now f (g.Fr.Frames.view c.args.frames.now) run.0 (after_notes run.0 c.in-Ok.placed.left) (notes_page_of (c.len-in-loop-turn.result + 1) c.args.made.name c.frame-frame.result c.in-Ok.placed.notes) c.loop-turn.pages.items step run.1),
         run.2,
         omega arith,
         run.4,
         refl,
       );
+      looks =
+          let before : FlowPages = record { pages = c.loop-turn.pages; name = c.args.made.name; carried = c.loop-turn.carried } in
+          let after : FlowPages = record { pages = c.push.new.self; name = c.args.made.name; carried = c.in-Ok.placed.left } in
+          past_more c.args.faces.now f (g.Fr.Frames.view c.args.frames.now) c.args.lines.now.kept c.args.made c.loop-turn.lines.kept c.args.steps.now c.loop-turn.steps c.next_notes.new.steps before after (c.len-in-loop-turn.result + 1) c.frame-frame.result c.in-Ok.placed.notes c.loop-turn.invariant.keeps (omega arith) c.frame-frame.ensures.frame some c.in-Ok.ensures.cut c.in-Ok.ensures.lines refl is c.loop-turn.invariant.looks;
       near = subst HaveNearTops (sym now) (near_more c.loop-turn.pages.items c.notes_page_of.result c.loop-turn.invariant.near (rw c.notes_page_of.ensures c.in-Ok.ensures.near));
       kept = c.next_notes.ensures.kept;
       keeps = keeps_twice c.args.lines.now.kept c.loop-turn.lines.kept c.next_notes.new.lines.kept c.loop-turn.invariant.keeps c.next_notes.ensures.keeps;

@@ -6,6 +6,7 @@ use Rattle.note_list.specs.Conditions.{AreCarried, IsAtSolid}
 use Rattle.page_list.specs.Cuts.{place_after}
 use Rattle.page_list.specs.Pages.{HaveNearTops, State}
 use Rattle.fragment.specs.Runs.{Leads}
+use Rattle.fragment.proofs.PagesLookLemmas.{LooksPast}
 use Rattle.fragment.proofs.paginate.with_notes.Given as goal
 
 abbrev pub invariant-loop-turn : goal.invariant-loop-turn
@@ -15,6 +16,7 @@ invariant-loop-turn g l = record {
   carries : AreCarried l.flow (place_after l.flow.main None) l.carried;
   stands : All (IsAtSolid l.flow.notes) l.carried;
   run : (s : State) × Leads l.faces l.flow (g.Fr.Frames.view l.frames) s l.pages.items × (s.done ≡ true) × (length l.pages.items + 1 ≡ s.index) × (s.name ≡ l.name) × (s.carried ≡ l.carried);
+  looks : LooksPast l.faces l.flow (g.Fr.Frames.view l.frames) l.fn.lines.kept l.fn.made l.fn.steps l.steps (record { pages = l.pages; name = l.name; carried = l.carried });
   near : HaveNearTops l.pages.items;
   kept : AreFlowLines l.faces l.flow l.lines;
   keeps : KeepsHeld l.fn.lines.kept l.lines.kept;

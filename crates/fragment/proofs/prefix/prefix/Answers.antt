@@ -1,17 +1,17 @@
-use Rattle.std.proofs.Common.{Bool, pos, ◌≡◌, ◌<◌, ◌≤◌, ◌+◌, ◌==◌, ◌^◌, ℕ, ℤ, true, false, not, List, [], ◌∷◌, ◌++◌, All, map, length, length-append, append_assoc, vec_len, rules, refl, sym, ap, ◌∙◌, subst, arith, to_z, of_z}
+use Rattle.std.proofs.Common.{Bool, pos, ◌≡◌, ◌<◌, ◌≤◌, ◌+◌, ◌==◌, ◌^◌, ℕ, ℤ, true, false, not, List, [], ◌∷◌, ◌++◌, All, map, length, length-append, append-nil, append_assoc, ◌≤ℤ◌, ◌<ℤ◌, ◌⊎◌, ⊎_elim, inl, inr, suc, vec_len, rules, refl, sym, ap, ◌∙◌, subst, arith, to_z, of_z}
 use Rattle.std.specs.Result.{is_ok}
 use Rattle.std.proofs.lemmas.Bool.Decides.{nat_tests}
 use Rattle.std.proofs.lemmas.Grind.{common_steps}
 use Rattle.std.proofs.lemmas.Int.{to_z-of_z}
 use Rattle.std.proofs.lemmas.List.{length-map, map-append}
 use Rattle.std.proofs.lemmas.List.Elements.{All-push}
+use Rattle.std.proofs.lemmas.List.Sums.{sum_by_push}
 use mir.Val.{SFits}
 use mir.Syntax.{w64}
 use Rattle.boxes.specs.Tree.{Tree, Holds}
-use Rattle.boxes.specs.declared.place.Position.{Position}
 use Rattle.cursor.proofs.AskLemmas.{keeps_all, keeps_twice}
 use Rattle.cursor.proofs.StepLemmas.{takes_none, takes_twice}
-use Rattle.cursor.specs.Asks.{IsHeldNow, KeepsHeld, TakesSteps}
+use Rattle.cursor.specs.Asks.{AsksBy, IsHeldNow, KeepsHeld, TakesSteps}
 use Rattle.cursor.specs.declared.solid.Solid.{Solid}
 use Rattle.cursor.specs.Fields.{solid_view}
 use Rattle.cursor.specs.Remainder.{SolidView, IsSolid, IsRemainder, IsSmallSolid}
@@ -21,15 +21,21 @@ use Rattle.bk_num.specs.Limits.{most_entries}
 use Rattle.cuts.specs.declared.row.SolidRow.{SolidRow}
 use Rattle.cuts.specs.Areas.{AreTold, area_after}
 use Rattle.cuts.specs.Cuts.{NoteLists}
-use Rattle.cuts.specs.Rows.{IsSmallRow}
-use Rattle.cuts.specs.Prefixes.{AreFree, HasForced, HasRead, IsLook}
+use Rattle.cuts.specs.Rows.{IsSmallRow, rows_extent}
+use Rattle.cuts.specs.Prefixes.{AreFree, HasForced, HasPlaced, HasRead, IsLook}
+use Rattle.cuts.specs.Short.{IsShort}
 use Rattle.cuts.proofs.ReachLemmas.{reached_low}
+use Rattle.note_list.proofs.KnownLemmas.{asks_new, known_more}
 use Rattle.note_list.proofs.KeptLemmas.{held_more, main_lines}
 use Rattle.note_list.specs.Kept.{AreHeldNow}
+use Rattle.note_list.specs.Known.{new_in, new_of}
 use Rattle.note_list.specs.declared.carried.Carried.{Carried}
 use Rattle.page_list.specs.Cuts.{row_of, rows_of}
-use Rattle.fragment.specs.Reads.{AreRead}
+use Rattle.page_list.specs.Looked.{AreFewLines, most_widows}
+use Rattle.page_list.proofs.FewLemmas.{few_lines, row_widows}
+use Rattle.fragment.specs.Reads.{AreRead, AreReadInside, StepsForPage}
 use Rattle.fragment.proofs.FlowLemmas.{LooksOn, look_on, read_few, read_missed, read_forced, read_all, views_free, views_forced}
+use Rattle.fragment.proofs.InsideLemmas.{areas_on, inside_last, inside_on, inside_start}
 use Rattle.fragment.proofs.KeptLemmas.{views_next, views_on}
 use Rattle.fragment.proofs.PlaceLemmas.{called_grows, called_on}
 use Rattle.fragment.proofs.prefix.prefix.Given as given
@@ -72,22 +78,89 @@ some_read : (n : ℕ) → 0 < n → (n == 0) ≡ false
 some_read n h = grind (arith, nat_tests)
 
 -- the notes that are read
-first_read : (g : given.Over) (c : After-row_of-row g) → AreRead c.args.faces.now c.args.flow.now c.args.frame c.args.from.at c.requires.read.0 (map (λ (s : SolidView). s.end) (map solid_view c.loop-next.solids.items)) c.loop-next.notes
+first_read : (g : given.Over) (c : After-row_of-row g) → AreReadInside c.args.faces.now c.args.flow.now c.args.frame c.args.from c.requires.read.0 (map solid_view c.loop-next.solids.items) c.loop-next.notes
 first_read g c = c.loop-next.invariant.are c.requires.read.0 c.requires.read.1
 
-ends_now : (g : given.Over) (c : Else-is_err g) → map (λ (s : SolidView). s.end) (map solid_view c.push-in-loop-next.new.self.items) ≡ map (λ (s : SolidView). s.end) (map solid_view c.loop-next.solids.items) ++ c.in-Some.solid.end ∷ []
-ends_now g c = ap (λ (vs : List SolidView). map (λ (s : SolidView). s.end) vs) (views_now g c) ∙ map-append (λ (s : SolidView). s.end) (map solid_view c.loop-next.solids.items) (solid_view c.in-Some.solid ∷ [])
+-- how far the solids reach, this one included
+views_next_rows : (g : given.Over) (c : Else-is_err g) → rows_of c.args.flow.now.main (map solid_view c.loop-next.solids.items) ++ c.row_of-row.result ∷ [] ≡ rows_of c.args.flow.now.main (map solid_view c.loop-next.solids.items ++ solid_view c.in-Some.solid ∷ [])
+views_next_rows g c =
+    let t : Tree = c.args.flow.now.main in
+    let old : List SolidView = map solid_view c.loop-next.solids.items in
+    ap (λ (r : SolidRow). rows_of t old ++ r ∷ []) c.row_of-row.ensures ∙ sym (map-append (row_of t) old (solid_view c.in-Some.solid ∷ []))
+
+stacked_on : (g : given.Over) (c : Else-is_err g) → HasPlaced c.args.from.kept (rows_of c.args.flow.now.main (map solid_view c.loop-next.solids.items ++ solid_view c.in-Some.solid ∷ [])) c.take.new.self
+stacked_on g c =
+    let rows : List SolidRow = rows_of c.args.flow.now.main (map solid_view c.loop-next.solids.items) in
+    let was : HasPlaced c.args.room.now.kept rows c.loop-next.look = subst (λ (k : Bool). HasPlaced k rows c.loop-next.look) (sym c.requires.kept) c.loop-next.invariant.stacked in
+    subst (λ (rs : List SolidRow). HasPlaced c.args.from.kept rs c.take.new.self) (views_next_rows g c)
+    (subst (λ (k : Bool). HasPlaced k (rows ++ c.row_of-row.result ∷ []) c.take.new.self) c.requires.kept (c.take.ensures.placed rows was))
+
+rows_count : (t : Tree) (old : List SolidView) (s : SolidView) → length (rows_of t (old ++ s ∷ [])) ≡ suc (length old)
+rows_count t old s = let n = length-append old (s ∷ []) in length-map (old ++ s ∷ []) (row_of t) ∙ (let m : length (old ++ s ∷ []) ≡ suc (length old) = omega (arith, n) in m)
+
+height_is : (g : given.Over) (c : Else-is_err g) → to_z w64 (of_z w64 c.args.room.now.height) ≡ c.args.frame.height
+height_is g c = let tall : SFits w64 c.args.room.now.height = search rules in to_z-of_z w64 c.args.room.now.height tall ∙ c.requires.height
+
+-- whether solids were read before this one
+is_first : (g : given.Over) (c : Else-is_err g) → c.is_empty-is_first.result ≡ (length c.loop-next.solids.items == 0)
+is_first g c = let kept : vec_len c.loop-next.solids ≡ length c.loop-next.solids.items = omega arith in c.is_empty-is_first.ensures ∙ ap (λ (n : ℕ). n == 0) kept
+
+frees_next : (g : given.Over) (c : Else-is_err g) → c.ends_page-ends.result ≡ false → AreFree (rows_of c.args.flow.now.main (map solid_view c.loop-next.solids.items ++ solid_view c.in-Some.solid ∷ []))
+frees_next g c on =
+    let old : List SolidView = map solid_view c.loop-next.solids.items in
+    let size : length old ≡ length c.loop-next.solids.items = rw length-map refl in
+    views_free c.args.flow.now.main old (solid_view c.in-Some.solid) c.loop-next.invariant.free (λ h. c.ends_page-ends.ensures.free on (is_first g c ∙ some_read (length c.loop-next.solids.items) (omega arith)))
+
+frees : (g : given.Over) (c : Else-is_err g) → c.ends_page-ends.result ≡ false → AreFree (rows_of c.args.flow.now.main (map solid_view c.push-in-loop-next.new.self.items))
+frees g c on = subst (λ (vs : List SolidView). AreFree (rows_of c.args.flow.now.main vs)) (sym (views_now g c)) (frees_next g c on)
+
+none_again : (n : ℕ) → (n == 0) ≡ false → 0 < n
+none_again n h = grind (arith, nat_tests)
+
+forced_next : (g : given.Over) (c : Else-is_err g) → c.ends_page-ends.result ≡ true → HasForced (rows_of c.args.flow.now.main (map solid_view c.loop-next.solids.items ++ solid_view c.in-Some.solid ∷ []))
+forced_next g c e =
+    let old : List SolidView = map solid_view c.loop-next.solids.items in
+    let size : length old ≡ length c.loop-next.solids.items = rw length-map refl in
+    let ends = c.ends_page-ends.ensures.forced e in
+    let before : 0 < length c.loop-next.solids.items = none_again (length c.loop-next.solids.items) (sym (is_first g c) ∙ ends.0) in
+    views_forced c.args.flow.now.main old (solid_view c.in-Some.solid) (omega (arith, size, before)) ends.1
+
+abbrev extent_next : (g : given.Over) → Else-is_err g → ℤ
+extent_next g c = rows_extent c.args.from.kept (rows_of c.args.flow.now.main (map solid_view c.loop-next.solids.items ++ solid_view c.in-Some.solid ∷ [])) (suc (length (map solid_view c.loop-next.solids.items)))
+
+inside_yes : (g : given.Over) (c : Else-is_err g) → c.reads_notes-inside.result ≡ true → AreFree (rows_of c.args.flow.now.main (map solid_view c.loop-next.solids.items ++ solid_view c.in-Some.solid ∷ [])) × (extent_next g c ≤ℤ c.args.frame.height)
+inside_yes g c e =
+    let kept : Bool = c.args.from.kept in
+    let old : List SolidView = map solid_view c.loop-next.solids.items in
+    let rows : List SolidRow = rows_of c.args.flow.now.main (old ++ solid_view c.in-Some.solid ∷ []) in
+    let h = c.reads_notes-inside.ensures.inside e in (
+      frees_next g c h.0,
+      subst (λ (n : ℕ). rows_extent kept rows n ≤ℤ c.args.frame.height) (rows_count c.args.flow.now.main old (solid_view c.in-Some.solid))
+          (subst (λ (z : ℤ). rows_extent kept rows (length rows) ≤ℤ z) (height_is g c) (h.1 kept rows (stacked_on g c))),
+    )
+
+inside_no : (g : given.Over) (c : Else-is_err g) → c.reads_notes-inside.result ≡ false → HasForced (rows_of c.args.flow.now.main (map solid_view c.loop-next.solids.items ++ solid_view c.in-Some.solid ∷ [])) ⊎ (c.args.frame.height <ℤ extent_next g c)
+inside_no g c e =
+    let kept : Bool = c.args.from.kept in
+    let old : List SolidView = map solid_view c.loop-next.solids.items in
+    let rows : List SolidRow = rows_of c.args.flow.now.main (old ++ solid_view c.in-Some.solid ∷ []) in
+    ⊎_elim
+    (λ (ends : c.ends_page-ends.result ≡ true). inl (forced_next g c ends))
+    (λ (over : (k : Bool) (rs : List SolidRow) → HasPlaced k rs c.take.new.self → to_z w64 (of_z w64 c.args.room.now.height) <ℤ rows_extent k rs (length rs)). inr
+    (subst (λ (n : ℕ). c.args.frame.height <ℤ rows_extent kept rows n) (rows_count c.args.flow.now.main old (solid_view c.in-Some.solid))
+    (subst (λ (z : ℤ). z <ℤ rows_extent kept rows (length rows)) (height_is g c) (over kept rows (stacked_on g c)))))
+    (c.reads_notes-inside.ensures.past e)
 
 reads : (g : given.Over) (c : Else-is_err g) → (carried : List Carried) → AreRead c.args.faces.now c.args.flow.now c.args.frame c.args.from.at carried [] c.args.notes.now →
-    AreRead c.args.faces.now c.args.flow.now c.args.frame c.args.from.at carried (map (λ (s : SolidView). s.end) (map solid_view c.push-in-loop-next.new.self.items)) c.take-in-loop-next.new.self
+    AreReadInside c.args.faces.now c.args.flow.now c.args.frame c.args.from carried (map solid_view c.push-in-loop-next.new.self.items) c.take_inside.new.self
 reads g c carried r =
-    subst (λ (ends : List Position). AreRead c.args.faces.now c.args.flow.now c.args.frame c.args.from.at carried ends c.take-in-loop-next.new.self) (sym (ends_now g c))
-    (c.in_ok-take.ensures.read c.args.from.at carried (map (λ (s : SolidView). s.end) (map solid_view c.loop-next.solids.items)) (c.loop-next.invariant.are carried r))
+    subst (λ (vs : List SolidView). AreReadInside c.args.faces.now c.args.flow.now c.args.frame c.args.from carried vs c.take_inside.new.self) (sym (views_now g c))
+    (inside_on c.args.faces.now c.args.flow.now c.args.frame c.args.from carried (map solid_view c.loop-next.solids.items) c.loop-next.notes (c.loop-next.invariant.are carried r) c.loop-next.invariant.free (solid_view c.in-Some.solid) c.take_inside.new.self c.reads_notes-inside.result (inside_yes g c) (inside_no g c) c.in_ok-take_inside.ensures.read c.in_ok-take_inside.ensures.same)
 
-owns : (g : given.Over) (c : Else-is_err g) → c.take-in-loop-next.new.self.list.own ≡ c.args.notes.now.list.own
-owns g c = c.in_ok-take.ensures.own ∙ c.loop-next.invariant.own
+owns : (g : given.Over) (c : Else-is_err g) → c.take_inside.new.self.list.own ≡ c.args.notes.now.list.own
+owns g c = c.in_ok-take_inside.ensures.own ∙ c.loop-next.invariant.own
 
-looks : (g : given.Over) (c : Else-is_err g) → LooksOn c.args.from.kept c.args.frame.height c.args.notes.now.list.own c.take-in-loop-next.new.self.areas.items c.args.room.now.carried c.args.flow.now.main (map solid_view c.push-in-loop-next.new.self.items) c.take.new.self
+looks : (g : given.Over) (c : Else-is_err g) → LooksOn c.args.from.kept c.args.frame.height c.args.notes.now.list.own c.take_inside.new.self.areas.items c.args.room.now.carried c.args.flow.now.main (map solid_view c.push-in-loop-next.new.self.items) c.take.new.self
 looks g c =
     let t : Tree = c.args.flow.now.main in
     let kept : Bool = c.args.from.kept in
@@ -95,29 +168,35 @@ looks g c =
     let carried : ℤ = c.args.room.now.carried in
     let old : List SolidView = map solid_view c.loop-next.solids.items in
     let read = c.loop-next.invariant.are c.requires.read.0 c.requires.read.1 in
-    let size : length c.loop-next.notes.areas.items ≡ length old = read.count ∙ length-map old (λ (s : SolidView). s.end) in
     let fits : SFits w64 c.area.result = search rules in
     let area : ℤ = to_z w64 (of_z w64 c.area.result) in
     let area_is : area ≡ area_after c.loop-next.notes.areas.items (length c.loop-next.notes.areas.items) = to_z-of_z w64 c.area.result fits ∙ c.area.ensures.area in
-    let took : (rows : List SolidRow) (list : NoteLists) (n : ℕ) → (0 < length rows → AreTold c.args.frame.height list n (length rows) area carried) → IsLook kept c.args.frame.height list n rows c.loop-next.look → IsLook kept c.args.frame.height list n (rows ++ c.row_of-row.result ∷ []) c.take.new.self =
-    subst (λ (z : ℤ). (rows : List SolidRow) (list : NoteLists) (n : ℕ) → (0 < length rows → AreTold z list n (length rows) area carried) → IsLook kept z list n rows c.loop-next.look → IsLook kept z list n (rows ++ c.row_of-row.result ∷ []) c.take.new.self) c.requires.height
-    (subst (λ (k : Bool). (rows : List SolidRow) (list : NoteLists) (n : ℕ) → (0 < length rows → AreTold c.args.room.now.height list n (length rows) area carried) → IsLook k c.args.room.now.height list n rows c.loop-next.look → IsLook k c.args.room.now.height list n (rows ++ c.row_of-row.result ∷ []) c.take.new.self) c.requires.kept c.take.ensures.look) in
-    let more : LooksOn kept c.args.frame.height own (c.loop-next.notes.areas.items ++ c.in_ok-take.ensures.areas.0 ∷ []) carried t (old ++ solid_view c.in-Some.solid ∷ []) c.take.new.self =
-    look_on t kept c.args.frame.height own c.loop-next.notes.areas.items area c.in_ok-take.ensures.areas.0 carried old (solid_view c.in-Some.solid) c.loop-next.look c.take.new.self c.row_of-row.result c.row_of-row.ensures size area_is took c.loop-next.invariant.look in
-    subst (λ (vs : List SolidView). LooksOn kept c.args.frame.height own c.take-in-loop-next.new.self.areas.items carried t vs c.take.new.self) (sym (views_now g c))
-    (subst (λ (zs : List ℤ). LooksOn kept c.args.frame.height own zs carried t (old ++ solid_view c.in-Some.solid ∷ []) c.take.new.self) (sym c.in_ok-take.ensures.areas.1) more)
+    let took : (rows : List SolidRow) (list : NoteLists) (n : ℕ) → (0 < length rows → rows_extent kept rows (length rows) ≤ℤ c.args.frame.height → AreTold c.args.frame.height list n (length rows) area carried) → IsLook kept c.args.frame.height list n rows c.loop-next.look → IsLook kept c.args.frame.height list n (rows ++ c.row_of-row.result ∷ []) c.take.new.self =
+    subst (λ (z : ℤ). (rows : List SolidRow) (list : NoteLists) (n : ℕ) → (0 < length rows → rows_extent kept rows (length rows) ≤ℤ z → AreTold z list n (length rows) area carried) → IsLook kept z list n rows c.loop-next.look → IsLook kept z list n (rows ++ c.row_of-row.result ∷ []) c.take.new.self) c.requires.height
+    (subst (λ (k : Bool). (rows : List SolidRow) (list : NoteLists) (n : ℕ) → (0 < length rows → rows_extent k rows (length rows) ≤ℤ c.args.room.now.height → AreTold c.args.room.now.height list n (length rows) area carried) → IsLook k c.args.room.now.height list n rows c.loop-next.look → IsLook k c.args.room.now.height list n (rows ++ c.row_of-row.result ∷ []) c.take.new.self) c.requires.kept c.take.ensures.look) in
+    let same = areas_on c.args.faces.now c.args.flow.now c.args.frame c.args.from c.requires.read.0 old c.loop-next.notes read c.loop-next.invariant.free (solid_view c.in-Some.solid) c.take_inside.new.self c.reads_notes-inside.result (inside_yes g c) c.in_ok-take_inside.ensures.areas c.in_ok-take_inside.ensures.same in
+    let more : LooksOn kept c.args.frame.height own c.take_inside.new.self.areas.items carried t (old ++ solid_view c.in-Some.solid ∷ []) c.take.new.self =
+    look_on t kept c.args.frame.height own c.loop-next.notes.areas.items c.take_inside.new.self.areas.items area carried old (solid_view c.in-Some.solid) c.loop-next.look c.take.new.self c.row_of-row.result c.row_of-row.ensures c.loop-next.invariant.free same (λ inside. area_is ∙ inside_last c.args.faces.now c.args.flow.now c.args.frame c.args.from c.requires.read.0 old c.loop-next.notes read c.loop-next.invariant.free inside) took c.loop-next.invariant.look in
+    subst (λ (vs : List SolidView). LooksOn kept c.args.frame.height own c.take_inside.new.self.areas.items carried t vs c.take.new.self) (sym (views_now g c)) more
 
--- whether solids were read before this one
-is_first : (g : given.Over) (c : Else-is_err g) → c.is_empty-is_first.result ≡ (length c.loop-next.solids.items == 0)
-is_first g c = let kept : vec_len c.loop-next.solids ≡ length c.loop-next.solids.items = omega arith in c.is_empty-is_first.ensures ∙ ap (λ (n : ℕ). n == 0) kept
-
-frees : (g : given.Over) (c : Else-is_err g) → c.ends_page-ends.result ≡ false → AreFree (rows_of c.args.flow.now.main (map solid_view c.push-in-loop-next.new.self.items))
-frees g c on =
+-- no more is read than may be
+shorts : (g : given.Over) (c : Else-is_err g) → IsShort c.args.from.kept c.args.frame.height (most_widows c.args.flow.now.main) (rows_of c.args.flow.now.main (map solid_view c.push-in-loop-next.new.self.items)) c.take.new.self
+shorts g c =
     let t : Tree = c.args.flow.now.main in
+    let widest : ℕ = most_widows t in
     let old : List SolidView = map solid_view c.loop-next.solids.items in
-    let size : length old ≡ length c.loop-next.solids.items = rw length-map refl in
-    subst (λ (vs : List SolidView). AreFree (rows_of t vs)) (sym (views_now g c))
-    (views_free t old (solid_view c.in-Some.solid) c.loop-next.invariant.free (λ h. c.ends_page-ends.ensures.free on (is_first g c ∙ some_read (length c.loop-next.solids.items) (omega arith))))
+    let rows : List SolidRow = rows_of t old in
+    let few : c.row_of-row.result.widows ≤ widest = subst (λ (q : SolidRow). q.widows ≤ widest) (sym c.row_of-row.ensures) (row_widows t (solid_view c.in-Some.solid)) in
+    let took : (z : ℤ) (k : Bool) → c.args.room.now.height ≡ z → c.args.room.now.kept ≡ k → HasPlaced k rows c.loop-next.look → IsShort k z widest rows c.loop-next.look → IsShort k z widest (rows ++ c.row_of-row.result ∷ []) c.take.new.self =
+    λ z k same is. subst (λ (x : ℤ). HasPlaced k rows c.loop-next.look → IsShort k x widest rows c.loop-next.look → IsShort k x widest (rows ++ c.row_of-row.result ∷ []) c.take.new.self) same
+    (subst (λ (b : Bool). HasPlaced b rows c.loop-next.look → IsShort b c.args.room.now.height widest rows c.loop-next.look → IsShort b c.args.room.now.height widest (rows ++ c.row_of-row.result ∷ []) c.take.new.self) is (λ p q. c.take.ensures.short rows widest p few c.loop-next.invariant.more q)) in
+    subst (λ (vs : List SolidView). IsShort c.args.from.kept c.args.frame.height widest (rows_of t vs) c.take.new.self) (sym (views_now g c))
+    (subst (λ (rs : List SolidRow). IsShort c.args.from.kept c.args.frame.height widest rs c.take.new.self) (views_next_rows g c)
+    (took c.args.frame.height c.args.from.kept c.requires.height c.requires.kept c.loop-next.invariant.stacked c.loop-next.invariant.short))
+
+few_on : (g : given.Over) (c : Else-is_err g) → AreFewLines c.args.faces.now c.args.flow.now.main c.args.frame c.args.from (map solid_view c.push-in-loop-next.new.self.items)
+few_on g c =
+    few_lines c.args.faces.now c.args.flow.now.main c.args.frame c.args.from c.count-count.ensures.tree c.requires.holds (map solid_view c.push-in-loop-next.new.self.items) (map solid_view c.loop-next.solids.items) (solid_view c.in-Some.solid ∷ []) c.take.new.self (views_now g c) (omega arith) c.loop-next.invariant.free (shorts g c)
 
 few : (g : given.Over) (c : After-row_of-row g) → length c.loop-next.solids.items ≤ 2 ^ 26
 few g c =
@@ -128,32 +207,47 @@ few g c =
 solid_keeps : (g : given.Over) (c : Else-is_err g) → KeepsHeld c.args.lines.now.kept c.next_solid_kept.new.lines.kept
 solid_keeps g c = keeps_twice c.args.lines.now.kept c.loop-next.lines.kept c.next_solid_kept.new.lines.kept c.loop-next.invariant.keeps c.next_solid_kept.ensures.keeps
 
-keeps_on : (g : given.Over) (c : Else-is_err g) → KeepsHeld c.args.lines.now.kept c.take-in-loop-next.new.lines.kept
-keeps_on g c = keeps_twice c.args.lines.now.kept c.next_solid_kept.new.lines.kept c.take-in-loop-next.new.lines.kept (solid_keeps g c) c.take-in-loop-next.ensures.keeps
+lines_on : (g : given.Over) (c : Else-is_err g) → StepsForPage c.args.flow.now c.args.frame.width c.args.lines.now.kept (map solid_view c.push-in-loop-next.new.self.items) c.args.notes.now.list.solids.items c.take_inside.new.self.list.solids.items c.args.steps.now c.take_inside.new.steps
+lines_on g c known held =
+    let t : Tree = c.args.flow.now.main in
+    let width : ℤ = c.args.frame.width in
+    let old : List SolidView = map solid_view c.loop-next.solids.items in
+    let s : SolidView = solid_view c.in-Some.solid in
+    let wide : SFits w64 width = search rules in
+    let asks : AsksBy s.kind t width s c.loop-next.lines.kept c.next_solid_kept.new.lines.kept c.loop-next.steps c.next_solid_kept.new.steps =
+    subst (λ (w : ℤ). AsksBy s.kind t w s c.loop-next.lines.kept c.next_solid_kept.new.lines.kept c.loop-next.steps c.next_solid_kept.new.steps) (to_z-of_z w64 width wide) (rw c.in-Some.is at c.in-Ok.ensures.asks) in
+    let was = c.loop-next.invariant.lines known held in
+    let step = asks_new known t width s c.args.lines.now.kept c.loop-next.lines.kept c.next_solid_kept.new.lines.kept c.loop-next.steps c.next_solid_kept.new.steps held c.loop-next.invariant.keeps asks (rw c.in-Some.is at c.in-Ok.ensures.step) in
+    let noted = c.in_ok-take_inside.ensures.lines known (known_more known c.args.lines.now.kept c.next_solid_kept.new.lines.kept held (solid_keeps g c)) in
+    let next : new_in known t width (map solid_view c.push-in-loop-next.new.self.items) ≡ new_in known t width old + new_of known t width s = ap (new_in known t width) (views_now g c) ∙ sum_by_push (new_of known t width) old s in
+    omega (arith, was, step, noted, next)
 
-takes_on : (g : given.Over) (c : Else-is_err g) → TakesSteps c.args.lines.now.kept c.take-in-loop-next.new.lines.kept c.args.steps.now c.take-in-loop-next.new.steps
+keeps_on : (g : given.Over) (c : Else-is_err g) → KeepsHeld c.args.lines.now.kept c.take_inside.new.lines.kept
+keeps_on g c = keeps_twice c.args.lines.now.kept c.next_solid_kept.new.lines.kept c.take_inside.new.lines.kept (solid_keeps g c) c.take_inside.ensures.keeps
+
+takes_on : (g : given.Over) (c : Else-is_err g) → TakesSteps c.args.lines.now.kept c.take_inside.new.lines.kept c.args.steps.now c.take_inside.new.steps
 takes_on g c =
     let old = c.args.lines.now.kept in
     let at = c.loop-next.lines.kept in
     let mid = c.next_solid_kept.new.lines.kept in
-    takes_twice old mid c.take-in-loop-next.new.lines.kept c.args.steps.now c.next_solid_kept.new.steps c.take-in-loop-next.new.steps (solid_keeps g c) c.take-in-loop-next.ensures.keeps
+    takes_twice old mid c.take_inside.new.lines.kept c.args.steps.now c.next_solid_kept.new.steps c.take_inside.new.steps (solid_keeps g c) c.take_inside.ensures.keeps
     (takes_twice old at mid c.args.steps.now c.loop-next.steps c.next_solid_kept.new.steps c.loop-next.invariant.keeps c.next_solid_kept.ensures.keeps c.loop-next.invariant.takes c.in-Ok.ensures.takes)
-    c.in_ok-take.ensures.takes
+    c.in_ok-take_inside.ensures.takes
 
-held_now : (g : given.Over) (c : Else-is_err g) → All (λ (v : SolidView). IsHeldNow c.args.flow.now.main c.args.frame.width c.take-in-loop-next.new.lines.kept v.placed_at) (map solid_view c.push-in-loop-next.new.self.items)
+held_now : (g : given.Over) (c : Else-is_err g) → All (λ (v : SolidView). IsHeldNow c.args.flow.now.main c.args.frame.width c.take_inside.new.lines.kept v.placed_at) (map solid_view c.push-in-loop-next.new.self.items)
 held_now g c =
     let wide : SFits w64 c.args.frame.width = search rules in
     let t : Tree = c.args.flow.now.main in
     let mid = c.next_solid_kept.new.lines.kept in
     let now : IsHeldNow t c.args.frame.width mid c.in-Some.solid.placed_at = subst (λ (w : ℤ). IsHeldNow t w mid c.in-Some.solid.placed_at) (to_z-of_z w64 c.args.frame.width wide) (rw c.in-Some.is at c.in-Ok.ensures.now) in
-    views_on t c.args.frame.width mid c.take-in-loop-next.new.lines.kept (map solid_view c.push-in-loop-next.new.self.items) c.take-in-loop-next.ensures.keeps
+    views_on t c.args.frame.width mid c.take_inside.new.lines.kept (map solid_view c.push-in-loop-next.new.self.items) c.take_inside.ensures.keeps
     (views_next t c.args.frame.width c.loop-next.lines.kept mid (map solid_view c.loop-next.solids.items) (map solid_view c.push-in-loop-next.new.self.items) (solid_view c.in-Some.solid) c.next_solid_kept.ensures.keeps now (views_now g c) c.loop-next.invariant.held)
 
-noted_on : (g : given.Over) (c : Else-is_err g) → AreHeldNow c.args.flow.now.notes c.args.frame.width c.args.lines.now.kept c.args.notes.now.list.solids.items → AreHeldNow c.args.flow.now.notes c.args.frame.width c.take-in-loop-next.new.lines.kept c.take-in-loop-next.new.self.list.solids.items
-noted_on g c h = c.in_ok-take.ensures.now (held_more c.args.flow.now.notes c.args.frame.width c.loop-next.lines.kept c.next_solid_kept.new.lines.kept c.loop-next.notes.list.solids.items c.next_solid_kept.ensures.keeps (c.loop-next.invariant.noted h))
+noted_on : (g : given.Over) (c : Else-is_err g) → AreHeldNow c.args.flow.now.notes c.args.frame.width c.args.lines.now.kept c.args.notes.now.list.solids.items → AreHeldNow c.args.flow.now.notes c.args.frame.width c.take_inside.new.lines.kept c.take_inside.new.self.list.solids.items
+noted_on g c h = c.in_ok-take_inside.ensures.now (held_more c.args.flow.now.notes c.args.frame.width c.loop-next.lines.kept c.next_solid_kept.new.lines.kept c.loop-next.notes.list.solids.items c.next_solid_kept.ensures.keeps (c.loop-next.invariant.noted h))
 
-pub take-requires-in-loop-next-clause-kept : goal.take-requires-in-loop-next-clause-kept
-take-requires-in-loop-next-clause-kept g c = main_lines c.args.faces.now c.args.flow.now c.loop-next.lines c.next_solid_kept.new.lines c.loop-next.invariant.kept c.next_solid_kept.ensures.kept c.next_solid_kept.ensures.places
+pub take_inside-requires-clause-kept : goal.take_inside-requires-clause-kept
+take_inside-requires-clause-kept g c = main_lines c.args.faces.now c.args.flow.now c.loop-next.lines c.next_solid_kept.new.lines c.loop-next.invariant.kept c.next_solid_kept.ensures.kept c.next_solid_kept.ensures.places
 
 pub loop-next-init : goal.loop-next-init
 loop-next-init g c =
@@ -166,7 +260,12 @@ loop-next-init g c =
       small = rw none (λ k d h. absurd (omega arith));
       placed = rw none (λ k d h. absurd (omega arith));
       own = refl;
-      are = λ carried r. subst (λ (xs : List Solid). AreRead c.args.faces.now c.args.flow.now c.args.frame c.args.from.at carried (map (λ (s : SolidView). s.end) (map solid_view xs)) c.args.notes.now) (sym none) r;
+      are = λ carried r. subst (λ (xs : List Solid). AreReadInside c.args.faces.now c.args.flow.now c.args.frame c.args.from carried (map solid_view xs) c.args.notes.now) (sym none) (inside_start c.args.faces.now c.args.flow.now c.args.frame c.args.from carried c.args.notes.now c.requires.frame.height_low r);
+      stacked = subst (λ (xs : List Solid). HasPlaced c.args.from.kept (rows_of c.args.flow.now.main (map solid_view xs)) c.start-look.result) (sym none) (c.start-look.ensures.placed c.args.from.kept);
+      short = subst (λ (xs : List Solid). IsShort c.args.from.kept c.args.frame.height (most_widows c.args.flow.now.main) (rows_of c.args.flow.now.main (map solid_view xs)) c.start-look.result) (sym none) (c.start-look.ensures.short c.args.from.kept c.args.frame.height (most_widows c.args.flow.now.main));
+      more = c.start-look.ensures.more;
+      listed = λ h. h;
+      lines = λ known held. omega arith;
       calls = λ s is. let low = called_grows c.args.faces.now c.args.flow.now.main c.args.frame.width c.args.from.at s c.count-count.ensures.tree (stands c.args.flow.now.main c.args.from.at c.requires.holds) is c.args.flow.now.notes in let here = read.called in omega arith;
       rows = c.new-rows.ensures.items ∙ ap (λ (xs : List Solid). rows_of c.args.flow.now.main (map solid_view xs)) (sym none);
       look = λ list told. subst (λ (xs : List Solid). IsLook c.args.from.kept c.args.frame.height list c.args.notes.now.list.own (rows_of c.args.flow.now.main (map solid_view xs)) c.start-look.result) (sym none) (c.start-look.ensures.look c.args.from.kept c.args.frame.height list c.args.notes.now.list.own);
@@ -180,16 +279,16 @@ loop-next-init g c =
     }
 
 pub area-requires : goal.area-requires
-area-requires g c = (first_read g (goal.at.area-requires g c).After-row_of-row).small
+area-requires g c = (first_read g (goal.at.area-requires g c).After-row_of-row).read.small
 
-pub take-requires-in-loop-next-clause-ready : goal.take-requires-in-loop-next-clause-ready
-take-requires-in-loop-next-clause-ready g c = (first_read g (goal.at.take-requires-in-loop-next-clause-ready g c).After-row_of-row).ready
+pub take_inside-requires-clause-ready : goal.take_inside-requires-clause-ready
+take_inside-requires-clause-ready g c = (first_read g (goal.at.take_inside-requires-clause-ready g c).After-row_of-row).read.ready
 
-pub take-requires-in-loop-next-clause-ends : goal.take-requires-in-loop-next-clause-ends
-take-requires-in-loop-next-clause-ends g c = (first_read g (goal.at.take-requires-in-loop-next-clause-ends g c).After-row_of-row).held
+pub take_inside-requires-clause-ends : goal.take_inside-requires-clause-ends
+take_inside-requires-clause-ends g c = (first_read g (goal.at.take_inside-requires-clause-ends g c).After-row_of-row).read.held
 
-pub take-requires-in-loop-next-clause-called : goal.take-requires-in-loop-next-clause-called
-take-requires-in-loop-next-clause-called g c =
+pub take_inside-requires-clause-called : goal.take_inside-requires-clause-called
+take_inside-requires-clause-called g c =
     let wide : SFits w64 c.args.frame.width = search rules in
     c.loop-next.invariant.calls (solid_view c.in-Some.solid) (subst (λ (w : ℤ). IsSolid c.args.faces.now c.args.flow.now.main w c.loop-next.at (solid_view c.in-Some.solid)) (to_z-of_z w64 c.args.frame.width wide) (rw c.in-Some.is at c.in-Ok.ensures.solid))
 
@@ -211,7 +310,7 @@ returns-then-is_enough-clause-prefix g c =
     let d = (goal.at.returns-then-is_enough-clause-prefix g c).Else-is_err in
     let views : List SolidView = map solid_view c.push-in-loop-next.new.self.items in
     let some : 0 < length views = rw (views_now g d, length-append) (omega arith) in
-    read_missed c.args.faces.now c.args.flow.now.main c.args.frame c.args.from.at c.args.from.kept c.args.notes.now.list.own c.take-in-loop-next.new.self.areas.items c.args.room.now.carried c.count-count.ensures.tree c.requires.holds c.requires.frame.width_low views c.in-Some.solid.end (rw c.in-Some.is at c.in-Ok.ensures.holds) (goes_on g d) some (frees g d c.if-ends.false)
+    read_missed c.args.faces.now c.args.flow.now.main c.args.frame c.args.from.at c.args.from.kept c.args.notes.now.list.own c.take_inside.new.self.areas.items c.args.room.now.carried c.count-count.ensures.tree c.requires.holds c.requires.frame.width_low views c.in-Some.solid.end (rw c.in-Some.is at c.in-Ok.ensures.holds) (goes_on g d) some (frees g d c.if-ends.false)
     (λ list told. c.is_enough.ensures.enough c.if-is_enough.true c.args.from.kept c.args.frame.height list c.args.notes.now.list.own (rows_of c.args.flow.now.main views) (looks g d list told))
 
 pub returns-then-is_enough-clause-read : goal.returns-then-is_enough-clause-read
@@ -229,9 +328,6 @@ returns-then-is_enough-clause-rows g c = rows_on g (goal.at.returns-then-is_enou
 pub returns-then-ends-clause-rows : goal.returns-then-ends-clause-rows
 returns-then-ends-clause-rows g c = rows_on g (goal.at.returns-then-ends-clause-rows g c).Else-is_err
 
-none_again : (n : ℕ) → (n == 0) ≡ false → 0 < n
-none_again n h = grind (arith, nat_tests)
-
 pub returns-then-ends-clause-prefix : goal.returns-then-ends-clause-prefix
 returns-then-ends-clause-prefix g c =
     let d = (goal.at.returns-then-ends-clause-prefix g c).Else-is_err in
@@ -243,7 +339,7 @@ returns-then-ends-clause-prefix g c =
     let before : 0 < length c.loop-next.solids.items = none_again (length c.loop-next.solids.items) (sym (is_first g d) ∙ ends.0) in
     let some : 0 < length views = rw (views_now g d, length-append) (omega arith) in
     let forced : HasForced (rows_of t views) = subst (λ (vs : List SolidView). HasForced (rows_of t vs)) (sym (views_now g d)) (views_forced t old (solid_view c.in-Some.solid) (omega arith) ends.1) in
-    read_forced c.args.faces.now t c.args.frame c.args.from.at c.args.from.kept c.args.notes.now.list.own c.take-in-loop-next.new.self.areas.items c.args.room.now.carried c.count-count.ensures.tree c.requires.holds views c.in-Some.solid.end (rw c.in-Some.is at c.in-Ok.ensures.holds) (goes_on g d) some forced
+    read_forced c.args.faces.now t c.args.frame c.args.from.at c.args.from.kept c.args.notes.now.list.own c.take_inside.new.self.areas.items c.args.room.now.carried c.count-count.ensures.tree c.requires.holds views c.in-Some.solid.end (rw c.in-Some.is at c.in-Ok.ensures.holds) (goes_on g d) some forced
 
 pub returns-then-ends-clause-read : goal.returns-then-ends-clause-read
 returns-then-ends-clause-read g c = reads g (goal.at.returns-then-ends-clause-read g c).Else-is_err
@@ -273,13 +369,18 @@ loop-next-preserved g c =
       are = reads g d;
       calls = λ s is.
           let low = called_on c.args.faces.now c.args.flow.now.main c.args.frame.width c.in-Some.solid.end s c.count-count.ensures.tree (stands c.args.flow.now.main c.in-Some.solid.end (rw c.in-Some.is at c.in-Ok.ensures.holds)) is c.args.flow.now.notes in
-          let here = c.in_ok-take.ensures.called in
+          let here = c.in_ok-take_inside.ensures.called in
           omega arith;
       free = frees g d (c.if-ends.false);
       rows = rows_on g d;
       look = looks g d;
+      stacked = subst (λ (vs : List SolidView). HasPlaced c.args.from.kept (rows_of c.args.flow.now.main vs) c.take.new.self) (sym (views_now g d)) (stacked_on g d);
+      short = shorts g d;
+      more = c.is_enough.ensures.more c.if-is_enough.false;
+      listed = λ h. c.in_ok-take_inside.ensures.short (c.loop-next.invariant.listed h);
+      lines = lines_on g d;
       read = rw size (c.take.ensures.read (length c.loop-next.solids.items) c.loop-next.invariant.read);
-      kept = c.take-in-loop-next.ensures.kept;
+      kept = c.take_inside.ensures.kept;
       keeps = keeps_on g d;
       takes = takes_on g d;
       held = held_now g d;
@@ -339,11 +440,44 @@ returns-in_default-clause-kept g c = main_lines c.args.faces.now c.args.flow.now
 pub returns-in_default-clause-keeps : goal.returns-in_default-clause-keeps
 returns-in_default-clause-keeps g c = keeps_twice c.args.lines.now.kept c.loop-next.lines.kept c.next_solid_kept.new.lines.kept c.loop-next.invariant.keeps c.next_solid_kept.ensures.keeps
 
-pub returns-in_err-take-clause-keeps : goal.returns-in_err-take-clause-keeps
-returns-in_err-take-clause-keeps g c = keeps_twice c.args.lines.now.kept c.next_solid_kept.new.lines.kept c.take-in-loop-next.new.lines.kept (keeps_twice c.args.lines.now.kept c.loop-next.lines.kept c.next_solid_kept.new.lines.kept c.loop-next.invariant.keeps c.next_solid_kept.ensures.keeps) c.take-in-loop-next.ensures.keeps
+pub returns-in_err-take_inside-clause-keeps : goal.returns-in_err-take_inside-clause-keeps
+returns-in_err-take_inside-clause-keeps g c = keeps_twice c.args.lines.now.kept c.next_solid_kept.new.lines.kept c.take_inside.new.lines.kept (keeps_twice c.args.lines.now.kept c.loop-next.lines.kept c.next_solid_kept.new.lines.kept c.loop-next.invariant.keeps c.next_solid_kept.ensures.keeps) c.take_inside.ensures.keeps
 
 pub returns-in_err-push-clause-keeps : goal.returns-in_err-push-clause-keeps
-returns-in_err-push-clause-keeps g c = keeps_twice c.args.lines.now.kept c.next_solid_kept.new.lines.kept c.take-in-loop-next.new.lines.kept (keeps_twice c.args.lines.now.kept c.loop-next.lines.kept c.next_solid_kept.new.lines.kept c.loop-next.invariant.keeps c.next_solid_kept.ensures.keeps) c.take-in-loop-next.ensures.keeps
+returns-in_err-push-clause-keeps g c = keeps_twice c.args.lines.now.kept c.next_solid_kept.new.lines.kept c.take_inside.new.lines.kept (keeps_twice c.args.lines.now.kept c.loop-next.lines.kept c.next_solid_kept.new.lines.kept c.loop-next.invariant.keeps c.next_solid_kept.ensures.keeps) c.take_inside.ensures.keeps
 
 pub returns-then-is_err-clause-keeps : goal.returns-then-is_err-clause-keeps
-returns-then-is_err-clause-keeps g c = keeps_twice c.args.lines.now.kept c.next_solid_kept.new.lines.kept c.take-in-loop-next.new.lines.kept (keeps_twice c.args.lines.now.kept c.loop-next.lines.kept c.next_solid_kept.new.lines.kept c.loop-next.invariant.keeps c.next_solid_kept.ensures.keeps) c.take-in-loop-next.ensures.keeps
+returns-then-is_err-clause-keeps g c = keeps_twice c.args.lines.now.kept c.next_solid_kept.new.lines.kept c.take_inside.new.lines.kept (keeps_twice c.args.lines.now.kept c.loop-next.lines.kept c.next_solid_kept.new.lines.kept c.loop-next.invariant.keeps c.next_solid_kept.ensures.keeps) c.take_inside.ensures.keeps
+
+-- ---- how many lines are read
+pub returns-then-ends-clause-few : goal.returns-then-ends-clause-few
+returns-then-ends-clause-few g c = few_on g (goal.at.returns-then-ends-clause-few g c).Else-is_err
+
+pub returns-then-is_enough-clause-few : goal.returns-then-is_enough-clause-few
+returns-then-is_enough-clause-few g c = few_on g (goal.at.returns-then-is_enough-clause-few g c).Else-is_err
+
+pub returns-in_default-next-clause-few : goal.returns-in_default-next-clause-few
+returns-in_default-next-clause-few g c =
+    let views : List SolidView = map solid_view c.loop-next.solids.items in
+    few_lines c.args.faces.now c.args.flow.now.main c.args.frame c.args.from c.count-count.ensures.tree c.requires.holds views views [] c.loop-next.look (sym (append-nil views)) (omega arith) c.loop-next.invariant.free c.loop-next.invariant.short
+
+pub returns-then-ends-clause-lines : goal.returns-then-ends-clause-lines
+returns-then-ends-clause-lines g c = lines_on g (goal.at.returns-then-ends-clause-lines g c).Else-is_err
+
+pub returns-then-is_enough-clause-lines : goal.returns-then-is_enough-clause-lines
+returns-then-is_enough-clause-lines g c = lines_on g (goal.at.returns-then-is_enough-clause-lines g c).Else-is_err
+
+pub returns-in_default-next-clause-lines : goal.returns-in_default-next-clause-lines
+returns-in_default-next-clause-lines g c = λ known held.
+    let was = c.loop-next.invariant.lines known held in
+    let step = rw c.in_default-next.is at c.in-Ok.ensures.step in
+    omega (arith, was, step)
+
+pub returns-then-ends-clause-short : goal.returns-then-ends-clause-short
+returns-then-ends-clause-short g c = λ h. c.in_ok-take_inside.ensures.short (c.loop-next.invariant.listed h)
+
+pub returns-then-is_enough-clause-short : goal.returns-then-is_enough-clause-short
+returns-then-is_enough-clause-short g c = λ h. c.in_ok-take_inside.ensures.short (c.loop-next.invariant.listed h)
+
+pub returns-in_default-next-clause-short : goal.returns-in_default-next-clause-short
+returns-in_default-next-clause-short g c = λ h. c.loop-next.invariant.listed h
