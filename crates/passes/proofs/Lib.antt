@@ -1,4 +1,5 @@
 pub mod Conditions
 pub mod EndLemmas
+pub mod LookedLemmas
 pub mod PassLemmas
 pub mod TargetLemmas

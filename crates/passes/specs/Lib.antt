@@ -1,4 +1,5 @@
 pub mod Conditions
+pub mod Looked
 pub mod Passes
 pub mod Settles
 pub mod Stops

@@ -6,7 +6,9 @@ ghost use Rattle.bk_num.specs.declared.ids.NodeId.{NodeId};
 ghost use Rattle.box_gen.specs.Notes.{bytes_in};
 ghost use Rattle.box_gen.specs.Sources.{AreInRange, IsRootShown};
 ghost use Rattle.boxes.specs.Frames.{PageFrames};
+ghost use Rattle.fragment.specs.Kept.{ArePagesHeld};
 ghost use Rattle.line_fill.specs.Kept.{AreKept};
+ghost use Rattle.page_list.specs.LookedPages.{LooksAtPages};
 ghost use Rattle.page_list.specs.Pages.{HaveNearTops};
 ghost use Rattle.passes.specs.Conditions.{IsGoodFlow};
 ghost use Rattle.passes.specs.Passes.{IsPass};
@@ -74,7 +76,8 @@ fn flow_under(
 }
 
 /// The pass under a table, over targets that ascend: its table is that of the pages on which its frames stand. What it
-/// makes is let go where it can't be laid out. A line takes a step only where it isn't held, and is held from then on.
+/// makes is let go where it can't be laid out. A line takes a step only where it isn't held, and is held from then on;
+/// and no more steps are taken than the pages may look at lines that aren't held.
 pub(crate) fn pass_under<Fr: Frames, L: Ledger>(
     alloc: Global,
     input: &Input<'_>,
@@ -91,6 +94,9 @@ pub(crate) fn pass_under<Fr: Frames, L: Ledger>(
     requires targets { NodesAscend targets.now }
     requires kept { AreKept input.now.faces.now lines.old.kept }
     ensures kept { AreKept input.now.faces.now lines.new.kept }
+    ensures held { IfOk result (λ p. ArePagesHeld p.flow lines.new.kept p.pages.pages) }
+    ensures lines { IfOk result (λ p. LooksAtPages input.now.faces.now p.flow (Fr.view frames.now) lines.old.kept
+        p.pages.pages steps.old steps.new) }
     ensures pass { IfOk result (λ p. IsPass (work_of input.now
         (Fr.view frames.now) (Fr.per frames.now) targets.now) table.now p.flow p.pages.pages p.shown) }
     ensures good { IfOk result (λ p. IsGoodFlow input.now.faces.now p.flow) }

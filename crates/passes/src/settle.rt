@@ -6,6 +6,7 @@ ghost use Rattle.box_gen.specs.Sources.{AreInRange, IsRootShown};
 ghost use Rattle.gen_text.specs.References.{AreTargets};
 ghost use Rattle.page_list.specs.Pages.{HaveNearTops};
 ghost use Rattle.passes.specs.Conditions.{IsGoodFlow};
+ghost use Rattle.passes.specs.Looked.{LookWithin};
 ghost use Rattle.passes.specs.Passes.{id_of};
 ghost use Rattle.passes.specs.Settles.{Settles};
 ghost use Rattle.passes.specs.Stops.{IsNotSettled};
@@ -167,6 +168,7 @@ fn settle_for<Fr: Frames, L: Ledger>(
     requires shown { IsRootShown input.now.styles.now }
     requires targets { AreTargets input.now.dom.now input.now.styles.now targets.now }
     ensures settles { Settles input.now (Fr.view frames.now) (Fr.per frames.now) limit result }
+    ensures lines { LookWithin input.now (Fr.view frames.now) (Fr.per frames.now) limit result steps.old steps.new }
     ensures good { IfOk result (λ s. IsGoodFlow input.now.faces.now s.flow) }
     ensures tops { IfOk result (λ s. HaveNearTops s.pages.pages) }
     ensures few { IfOk result (λ s. length s.pages.pages ≤ most_pages) }
@@ -200,7 +202,8 @@ fn settle_for<Fr: Frames, L: Ledger>(
 
 /// Lays a document out in passes, each under the table that the pass before shows, the first under zeros, until a pass
 /// shows the table under which it is laid out: at most `limit` passes, which is at least 1. The flow and the pages of a
-/// pass that doesn't settle are let go before the next.
+/// pass that doesn't settle are let go before the next. Where passes settle, or don't within the limit, no more steps are
+/// taken than lines stand on pages, or as far below as their cuts may look, that the pass before didn't place.
 ///
 /// # Errors
 ///
@@ -218,6 +221,7 @@ pub fn settle<Fr: Frames, L: Ledger>(
     requires ranges { AreInRange input.now.styles.now }
     requires shown { IsRootShown input.now.styles.now }
     ensures settles { Settles input.now (Fr.view frames.now) (Fr.per frames.now) limit result }
+    ensures lines { LookWithin input.now (Fr.view frames.now) (Fr.per frames.now) limit result steps.old steps.new }
     ensures good { IfOk result (λ s. IsGoodFlow input.now.faces.now s.flow) }
     ensures tops { IfOk result (λ s. HaveNearTops s.pages.pages) }
     ensures few { IfOk result (λ s. length s.pages.pages ≤ most_pages) }
