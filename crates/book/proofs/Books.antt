@@ -18,6 +18,7 @@ use Rattle.book.specs.Keeps.{IsWholeBook}
 use Rattle.book.specs.Laid.{EndSo, IsBookBy, IsStyledOf, StopsBy, WritesBy, of_print, work_in}
 use Rattle.book.specs.Run.{IsOfBook, PutsOnlyABook, Writes}
 use Rattle.book.specs.declared.outcome.LimitOf.TheVariants as limit
+use Rattle.book.specs.Lines.{EndsInFew, FillsFew, TakesFew, TakesFewBy}
 use Rattle.book.specs.declared.outcome.Outcome.{Outcome}
 use Rattle.book.specs.declared.outcome.Outcome.TheVariants as out
 use Rattle.book.specs.declared.styled.Styled.{Styled}
@@ -102,6 +103,22 @@ module _ (d : Document) (s : Styled) (is : IsStyledOf d s) where
   laid_out laws good old new (out.NotUtf8 f at) h = absurd h.0
   laid_out laws good old new (out.BadMetrics line why) h = absurd h.0
   laid_out laws good old new (out.BadPatterns line) h = absurd h.0
+
+  few_is : (passes old new : ℕ) → TakesFewBy s passes old new → TakesFew d passes old new
+  few_is passes old new h = record { rules = s.rules; names = s.names; work = work_in s h.targets; of = work_of h.targets h.are; few = h.few }
+
+  pub fills_few : (o : Outcome) (old new : ℕ) → EndsInFew s o old new → FillsFew d o old new
+  fills_few (out.Done pages passes) old new h = few_is passes old new h
+  fills_few (out.NotSettled target one other) old new h = subst (λ (n : ℕ). TakesFew d n old new) is.passes (few_is s.passes old new h)
+  fills_few (out.NotRead k) old new h = tt
+  fills_few (out.ReadFault f) old new h = tt
+  fills_few (out.TooLarge f) old new h = tt
+  fills_few (out.NotUtf8 f at) old new h = tt
+  fills_few (out.BadMetrics line why) old new h = tt
+  fills_few (out.BadPatterns line) old new h = tt
+  fills_few (out.Limit what) old new h = tt
+  fills_few out.WriteFault old new h = tt
+  fills_few out.NoMemory old new h = tt
 
 -- the columns are those of the document
 pub good_grid : (d : Document) (s : Styled) → IsStyledOf d s → IsGoodGrid d.grid → IsGoodGrid s.grid

@@ -7,6 +7,7 @@ pub mod Conditions
 pub mod Documents
 pub mod FileLemmas
 pub mod KeepLemmas
+pub mod LineLemmas
 pub mod NearLemmas
 pub mod NoteLemmas
 pub mod OneAnswer

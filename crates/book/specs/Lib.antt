@@ -8,6 +8,7 @@ pub mod Flow
 pub mod Keeps
 pub mod Laid
 pub mod Laws
+pub mod Lines
 pub mod Message
 pub mod Refusals
 pub mod Request

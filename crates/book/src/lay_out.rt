@@ -15,6 +15,7 @@ ghost use Rattle.book.specs.DocumentView.{document_in, HasSheets};
 ghost use Rattle.book.specs.Flow.{gap_units};
 ghost use Rattle.book.specs.Laid.{AreBoxesOf, AreColumnsOf, AreGoodStyles, CanPut, EndSo, StopsBy, WritesBy, listing_by, outcome_of, output_by};
 ghost use Rattle.book.specs.Laws.{PageLaws};
+ghost use Rattle.book.specs.Lines.{EndsInFew, FillsFew, SettlesInFew};
 ghost use Rattle.book.specs.Run.{IsOfBook, PutsOnlyABook, Writes};
 
 use crate::counts::put_counts;
@@ -151,6 +152,7 @@ fn settle_passes<L: Ledger>(
     ensures frames { IfOk result (λ s. All (IsPageOf s.flow) s.pages.pages) }
     ensures few { IfOk result (λ s. length s.pages.pages ≤ most_pages) }
     ensures stops { IfErr result (λ o. StopsBy styled.now o) }
+    ensures lines { SettlesInFew styled.now result steps.old steps.new }
 {
     let frames = columns_of(alloc, styled, boxes)?;
     let input = Input {
@@ -247,6 +249,7 @@ fn put_styled<O: Sink, L: Ledger>(
     requires boxes { AreBoxesOf styled.now boxes.now }
     ensures writes { WritesBy styled.now (O.taken out.old) (O.taken out.new) (outcome_of result) }
     ensures fault { outcome_of result ≡ Outcome.WriteFault → Rose (O.faults out.old) (O.faults out.new) }
+    ensures lines { EndsInFew styled.now (outcome_of result) steps.old steps.new }
 {
     let laid = settle_passes(alloc, styled, boxes, steps)?;
     let pages = pages_of(alloc, &laid.pages, styled.grid.columns)?;
@@ -281,6 +284,7 @@ fn put_on_pages<O: Sink, L: Ledger>(
     requires good { AreGoodStyles styled.now }
     ensures writes { WritesBy styled.now (O.taken out.old) (O.taken out.new) (outcome_of result) }
     ensures fault { outcome_of result ≡ Outcome.WriteFault → Rose (O.faults out.old) (O.faults out.new) }
+    ensures lines { EndsInFew styled.now (outcome_of result) steps.old steps.new }
 {
     let initial = Families::serif(alloc)?;
     let boxes = boxes_of(alloc, styled, &initial)?;
@@ -301,6 +305,7 @@ pub(crate) fn lay_out<O: Sink, L: Ledger>(
     ensures put { PutsOnlyABook (O.taken out.old) (O.taken out.new) (outcome_of result) }
     ensures of_book { IsOfBook (outcome_of result) }
     ensures fault { outcome_of result ≡ Outcome.WriteFault → Rose (O.faults out.old) (O.faults out.new) }
+    ensures lines { FillsFew (document_in document.entry.value) (outcome_of result) steps.old steps.new }
 {
     page_laws();
     let styled = in_styles(alloc, document)?;

@@ -22,3 +22,13 @@ pub returns-in_err-boxes-clause-fault : goal.returns-in_err-boxes-clause-fault
 returns-in_err-boxes-clause-fault g c =
     let p = err_from_is_err_and c.from_residual-in_err-boxes.result c.from_residual-in_err-boxes.ensures.1 in
     rw (p.1, p.2) no_fault
+
+pub returns-in_err-initial-clause-lines : goal.returns-in_err-initial-clause-lines
+returns-in_err-initial-clause-lines g c =
+    let p = err_from_is_err_and c.from_residual.result c.from_residual.ensures.1 in
+    rw (p.1, p.2) tt
+
+pub returns-in_err-boxes-clause-lines : goal.returns-in_err-boxes-clause-lines
+returns-in_err-boxes-clause-lines g c =
+    let p = err_from_is_err_and c.from_residual-in_err-boxes.result c.from_residual-in_err-boxes.ensures.1 in
+    rw (p.1, p.2) tt

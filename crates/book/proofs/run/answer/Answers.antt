@@ -17,3 +17,6 @@ returns-clause-write_fault g c = rw c.answer_of.ensures c.put_asked.ensures.writ
 
 pub returns-clause-count : goal.returns-clause-count
 returns-clause-count g c = rw c.answer_of.ensures c.put_asked.ensures.count
+
+pub returns-clause-lines : goal.returns-clause-lines
+returns-clause-lines g c = λ reading h. rw c.answer_of.ensures (c.put_asked.ensures.lines reading h)

@@ -5,6 +5,7 @@ use Rattle.book.specs.Request.{asked, task_in}
 use Rattle.book.specs.Run.{IsOfWords}
 use Rattle.book.specs.declared.outcome.Outcome.TheVariants as out
 use Rattle.book.proofs.Stopping.{halts_meet, kept_count, puts_nothing, task_cause, task_meets, words_cause, words_halt}
+use Rattle.book.proofs.LineLemmas.{task_few, words_few}
 use Rattle.book.proofs.run.put_asked.Goals as goal
 
 pub returns-in_err-request-clause-answers : goal.returns-in_err-request-clause-answers
@@ -48,3 +49,12 @@ pub returns-in_err-request-clause-count : goal.returns-in_err-request-clause-cou
 returns-in_err-request-clause-count g c =
     let p = err_from_is_err_and c.from_residual.result c.from_residual.ensures.1 in
     rw (p.1, p.2) (kept_count _ _ c.in_err-request.field-0.0 refl)
+
+pub returns-in_err-request-clause-lines : goal.returns-in_err-request-clause-lines
+returns-in_err-request-clause-lines g c =
+    let p = err_from_is_err_and c.from_residual.result c.from_residual.ensures.1 in
+    let o = c.in_err-request.field-0.0 in
+    λ reading h. rw (p.1, p.2) (words_few reading (asked (map (λ w. string_bytes w) c.args.words.now)) (g.F.Shelf.told c.args.shelf.now) o _ _ c.in_err-request.ensures.task)
+
+pub returns-clause-lines : goal.returns-clause-lines
+returns-clause-lines g c = λ reading h. task_few reading (asked (map (λ w. string_bytes w) c.args.words.now)) (task_in c.in_ok-request.request) (g.F.Shelf.told c.args.shelf.now) (outcome_of c.put_request.result) _ _ c.in_ok-request.ensures.task (c.put_request.ensures.lines reading h)

@@ -10,6 +10,7 @@ use Rattle.book.specs.Laid.{outcome_of}
 use Rattle.book.specs.Run.{IsOfFiles, texts_named}
 use Rattle.book.specs.declared.outcome.Outcome.TheVariants as out
 use Rattle.book.proofs.Stopping.{book_cause, halts_meet, kept_count, puts_nothing, reading_cause, texts_meet, texts_stop}
+use Rattle.book.proofs.LineLemmas.{stops_few, texts_few}
 use Rattle.book.proofs.run.put_files.Goals as goal
 
 pub returns-in_err-files-clause-answers : goal.returns-in_err-files-clause-answers
@@ -61,3 +62,19 @@ returns-in_err-files-clause-count g c =
 
 pub returns-clause-count : goal.returns-clause-count
 returns-clause-count g c = kept_count _ _ (outcome_of c.put_book.result) c.in_ok-files.ensures.count
+
+pub returns-in_err-files-clause-lines : goal.returns-in_err-files-clause-lines
+returns-in_err-files-clause-lines g c =
+    let p = err_from_is_err_and c.from_residual.result c.from_residual.ensures.1 in
+    let o = c.in_err-files.field-0.0 in
+    let texts = texts_named (format_view c.args.names.now) (g.F.Shelf.told c.args.shelf.now) in
+    λ reading h. rw (p.1, p.2) (stops_few reading texts o _ _ c.in_err-files.ensures.texts)
+
+pub returns-clause-lines : goal.returns-clause-lines
+returns-clause-lines g c = λ reading h.
+    let names = texts_named (format_view c.args.names.now) (g.F.Shelf.told c.args.shelf.now) in
+    let files = c.in_ok-files.files in
+    let grid = grid_of (format_view c.args.names.now) in
+    let read : IsGiven names (listed_texts c.from.result grid files) = subst (λ (n : ℕ). IsGiven names (listed_texts n grid files)) (sym c.from.ensures) c.in_ok-files.ensures.texts in
+    let same : IsGiven names (listed_texts c.from.result c.grid_of.result files) = subst (λ (g : ColumnGrid). IsGiven names (listed_texts c.from.result g files)) (sym c.grid_of.ensures.grid) read in
+    texts_few reading names (texts_in c.listed_texts-texts.result) (outcome_of c.put_book.result) _ _ (subst (λ (t : Texts). IsGiven names t) (sym c.listed_texts-texts.ensures.texts) same) (c.put_book.ensures.lines reading h)

@@ -3,6 +3,7 @@ use Rattle.sheets.specs.Files.{file_texts}
 use Rattle.sample.specs.Texts.{css_text}
 use Rattle.book.specs.Document.{Texts, document_of}
 use Rattle.book.specs.Laid.{outcome_of}
+use Rattle.book.specs.Lines.{MeetsInFew}
 use Rattle.book.specs.Run.{Meets}
 use Rattle.book.proofs.Samples.{metrics_short, sheets_are, texts_are}
 use Rattle.book.proofs.run.put_sample.Goals as goal
@@ -19,3 +20,10 @@ returns-clause-answers g c = λ reading h.
 
 pub put_book-requires-clause-grid : goal.put_book-requires-clause-grid
 put_book-requires-clause-grid g c = record { per = record { low = omega arith; high = omega arith }; gap = omega arith }
+
+pub returns-clause-lines : goal.returns-clause-lines
+returns-clause-lines g c = λ reading h.
+    let sheets : file_texts c.deref.result.now ≡ css_text ∷ [] = ap file_texts c.deref.ensures.value ∙ c.in_ok-sheets.ensures ∙ sheets_are c.as_str.result.now (c.as_str.ensures ∙ c.in_ok-book.ensures.1) in
+    subst (λ (t : Texts). MeetsInFew (document_of reading t) (outcome_of c.put_book.result) c.args.steps.now c.put_book.new.steps)
+    (texts_are c.args.chapters c.as_str-2.result.now c.as_str-3.result.now (file_texts c.deref.result.now) (c.as_str-2.ensures ∙ c.in_ok-book.ensures.2) (c.as_str-3.ensures ∙ c.in_ok-book.ensures.0) sheets)
+    (c.put_book.ensures.lines reading h)
