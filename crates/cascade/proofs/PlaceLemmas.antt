@@ -1,22 +1,23 @@
 -- The places of the selectors that match a node, and the winners of one node after another.
-use Rattle.std.proofs.Common.{◌≡◌, ◌↔◌, ℕ, ◌+◌, ◌<◌, ◌≤◌, Bool, true, false, List, [], ◌∷◌, ◌++◌, Option, None, Some, length, map, option_map, get_or, slice_get, refl, sym, ◌∙◌, ap, subst, arith, ◌⊎◌, inl, inr}
+use Rattle.std.proofs.Common.{◌≡◌, ◌↔◌, ℕ, zero, suc, ◌+◌, ◌<◌, ◌≤◌, Bool, true, false, List, [], ◌∷◌, ◌++◌, Option, None, Some, length, map, option_map, get_or, slice_get, refl, sym, ◌∙◌, ap, subst, arith, ◌⊎◌, inl, inr}
 use Rattle.bk_num.proofs.ListLemmas.{contains-none}
 use Rattle.std.specs.Prelude.{IsTrue, IfSome, MatchOption}
 use Rattle.std.specs.List.{Contains}
 use Rattle.std.proofs.lemmas.Bool.{cases_lt}
 use Rattle.std.proofs.lemmas.List.{length-map}
-use Rattle.std.proofs.lemmas.List.Elements.{Contains-push, Contains-push_cases, Contains-append_left}
+use Rattle.std.proofs.lemmas.List.Elements.{Contains-push, Contains-push_cases, Contains-append_cases, Contains-append_left, Contains-append_right}
 use Rattle.std.proofs.lemmas.Option.{slice_get_within, slice_get_past, slice_get-map, slice_get_read, slice_get-get_or, same_Some}
 use Rattle.bk_num.specs.declared.values.Pseudo.TheVariants as pseudo
 use Rattle.selectors.specs.Selectors.{SelectorView}
 use Rattle.selectors.specs.Match.{Tree, Matches}
-use Rattle.match_table.specs.All.{MatchesAt, IsMatchList}
+use Rattle.match_table.specs.All.{MatchesAt, IsMatchList, IsPlaceIn}
 use Rattle.cascade.specs.declared.decl.ReadDecl.{ReadDecl}
 use Rattle.cascade.specs.declared.sheet.ReadSheet.{ReadSheet}
 use Rattle.cascade.specs.declared.table.NodeWinners.{NodeWinners}
 use Rattle.cascade.specs.Document.{rules_of, style_decls, AreNodeWinners}
 use Rattle.cascade.specs.declared.selected.Selected.{Selected}
 use Rattle.cascade.specs.Selected.{SelectedOf, selected_in, selected_from, selectors_of, pushed_if, ArePlaces, AreChosen}
+use Rattle.cascade.specs.Sharing.{places_in}
 use Rattle.cascade.proofs.AppliesLemmas.{at_node}
 
 -- ---- places
@@ -62,8 +63,29 @@ all_passed dom ss n i places low passed k = (λ h. ((passed k).0 h).1, λ m. (pa
     within : MatchesAt dom (selectors_of ss) k n → k < i
     within m = let less = slice_get_within (selectors_of ss) k m.0 m.1 in let len = length-map ss (λ (s : SelectedOf). s.selector) in omega (arith, less, len, low)
 
-pub listed_places : (dom : Tree) (ss : List SelectedOf) (n : ℕ) (places : List ℕ) → IsMatchList dom (selectors_of ss) n places → ArePlaces dom ss n places
-listed_places dom ss n places h k = h.each k
+pub in_head : {A : Type 0} (x y : A) (xs : List A) → Contains (x ∷ xs) y → (x ≡ y) ⊎ Contains xs y
+in_head x y xs (zero, less, same) = inl same
+in_head x y xs (suc i, less, same) = inr (i, omega (arith, less), same)
+
+-- a place is among those of some groups where it is in one of them
+from_groups : (groups : List (List ℕ)) (row : List ℕ) (k : ℕ) → Contains (places_in groups row) k → IsPlaceIn groups row k
+from_groups groups [] k has = absurd (contains-none k has)
+from_groups groups (g ∷ gs) k has = by (Contains-append_cases (get_or groups g []) (places_in groups gs) k has) (from_groups groups gs k)
+  where
+    by : Contains (get_or groups g []) k ⊎ Contains (places_in groups gs) k → (Contains (places_in groups gs) k → IsPlaceIn groups gs k) → IsPlaceIn groups (g ∷ gs) k
+    by (inl here) later = (g, Contains-append_left (g ∷ []) gs g (Contains-push [] g), here)
+    by (inr more) later = (let at = later more in (at.0, Contains-append_right (g ∷ []) gs at.0 at.1, at.2))
+
+to_groups : (groups : List (List ℕ)) (row : List ℕ) (h k : ℕ) → Contains row h → Contains (get_or groups h []) k → Contains (places_in groups row) k
+to_groups groups [] h k among has = absurd (contains-none h among)
+to_groups groups (g ∷ gs) h k among has = by (in_head g h gs among) (λ more. to_groups groups gs h k more has)
+  where
+    by : (g ≡ h) ⊎ Contains gs h → (Contains gs h → Contains (places_in groups gs) k) → Contains (places_in groups (g ∷ gs)) k
+    by (inl same) later = Contains-append_left (get_or groups g []) (places_in groups gs) k (subst (λ i. Contains (get_or groups i []) k) (sym same) has)
+    by (inr more) later = Contains-append_right (get_or groups g []) (places_in groups gs) k (later more)
+
+pub listed_places : (dom : Tree) (ss : List SelectedOf) (groups : List (List ℕ)) (n : ℕ) (row : List ℕ) → IsMatchList dom (selectors_of ss) groups n row → ArePlaces dom ss n (places_in groups row)
+listed_places dom ss groups n row h k = (λ has. (h.each k).0 (from_groups groups row k has), λ m. (let at = (h.each k).1 m in to_groups groups row at.0 k at.1 at.2))
 
 pub selector_at : (ss : List Selected) (i : ℕ) (x : Selected) → i < length ss → x ≡ get_or ss i x → slice_get (selectors_of (map selected_in ss)) i ≡ Some x.selector.now
 selector_at ss i x low is =

@@ -8,6 +8,7 @@ use Rattle.std.proofs.lemmas.Grind.{common_steps}
 use Rattle.cascade.specs.declared.sheet.ReadSheet.{ReadSheet}
 use Rattle.cascade.specs.Document.{RuleIn, from_origin, rules_of}
 use Rattle.cascade.specs.Selected.{SelectedOf, offered, selected_by, selected_from}
+use Rattle.cascade.specs.Sharing.{places_in}
 
 pub item_drop : {A : Type 0} (xs : List A) (i : ℕ) (x : A) → i < length xs → x ≡ get_or xs i x → drop i xs ≡ x ∷ drop (i + 1) xs
 item_drop xs i x low is =
@@ -64,6 +65,13 @@ selected_turn v out xs i x low is =
 
 pub selected_done : {A : Type 0} (v : A → RuleIn) (out whole : List SelectedOf) (xs : List A) (i : ℕ) → length xs ≤ i → out ++ selected_from i (map v (drop i xs)) ≡ whole → out ≡ whole
 selected_done v out whole xs i low e = sym (append-nil out) ∙ sym (ap (λ ys. out ++ selected_from i (map v ys)) (none_left xs i low)) ∙ e
+
+pub places_turn : (out : List ℕ) (groups : List (List ℕ)) (row : List ℕ) (i x : ℕ) → i < length row → x ≡ get_or row i x → (out ++ get_or groups x []) ++ places_in groups (drop (i + 1) row) ≡ out ++ places_in groups (drop i row)
+places_turn out groups row i x low is =
+    append_assoc out (get_or groups x []) (places_in groups (drop (i + 1) row)) ∙ ap (λ z. out ++ z) (sym (ap (places_in groups) (item_drop row i x low is)))
+
+pub places_done : (out whole : List ℕ) (groups : List (List ℕ)) (row : List ℕ) (i : ℕ) → length row ≤ i → out ++ places_in groups (drop i row) ≡ whole → out ≡ whole
+places_done out whole groups row i low e = sym (append-nil out) ∙ sym (ap (λ ys. out ++ places_in groups ys) (none_left row i low)) ∙ e
 
 -- a list as seen, with an item more
 pub pushed : {A B : Type 0} (v : A → B) (old new : List A) (x : A) → new ≡ old ++ x ∷ [] → map v new ≡ map v old ++ v x ∷ []

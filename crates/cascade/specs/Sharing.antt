@@ -1,5 +1,5 @@
 -- Nodes to which the same rules apply.
-use Rattle.std.specs.Prelude.{◌≡◌, ◌<◌, ◌&&◌, nat_eq, nat_lt, ℕ, Bool, false, List, [], ◌∷◌, ◌++◌, Option, None, Some, option_and_then, option_map, if◌then◌else◌, codes, map, slice_get}
+use Rattle.std.specs.Prelude.{◌≡◌, ◌<◌, ◌&&◌, nat_eq, nat_lt, ℕ, Bool, false, List, [], ◌∷◌, ◌++◌, Option, None, Some, option_and_then, option_map, if◌then◌else◌, codes, get_or, map, slice_get}
 use Rattle.std.specs.Borrow.{Bor}
 use Rattle.std.specs.Cmp.Lexicographic.{pointwise}
 use Rattle.std.specs.Map.{lookup}
@@ -8,6 +8,7 @@ use Rattle.bk_num.specs.declared.ids.NodeId.{NodeId}
 use Rattle.dom.specs.Nodes.{attribute_at}
 use Rattle.indexmap.specs.IndexMap.{insert_entry}
 use Rattle.selectors.specs.Match.{Tree}
+use Rattle.match_table.specs.All.{Matched}
 use Rattle.cascade.specs.declared.table.NodeWinners.{NodeWinners}
 use Rattle.cascade.specs.Document.{style_decls}
 use Rattle.cascade.specs.Selected.{SelectedOf, AreChosen}
@@ -16,12 +17,12 @@ use Rattle.cascade.specs.Table.{WinnersOf, AddsLike}
 -- the same selectors match an earlier node, and its style attribute is the same
 pub record IsLike (dom : Tree) (matched : List (List ℕ)) (e n : ℕ) : Type 0 where
   pub before : e < n
-  pub places : slice_get matched e ≡ slice_get matched n
+  pub groups : slice_get matched e ≡ slice_get matched n
   pub style : attribute_at dom e (codes "style") ≡ attribute_at dom n (codes "style")
 
--- what a node is noted by: the places of the selectors that match it, and its style attribute
+-- what a node is noted by: the groups of selectors that match it, and its style attribute
 abbrev pub mark_of : Tree → List (List ℕ) → ℕ → Option (List ℕ × Option (List ℕ))
-mark_of dom matched n = option_map (λ places. (places, attribute_at dom n (codes "style"))) (slice_get matched n)
+mark_of dom matched n = option_map (λ row. (row, attribute_at dom n (codes "style"))) (slice_get matched n)
 
 -- whether two are the same
 abbrev pub is_same : List ℕ × Option (List ℕ) → List ℕ × Option (List ℕ) → Bool
@@ -61,17 +62,23 @@ pub record SharesFound (dom : Tree) (matched : List (List ℕ)) (n : ℕ)
       found_for dom matched noted n ≡ None →
       (more.firsts ≡ all.firsts ++ n ∷ []) × (later ≡ noted_as (mark_of dom matched n) n noted)
 
+-- the places of the selectors of these groups
+abbrev pub places_in : List (List ℕ) → List ℕ → List ℕ
+places_in groups [] = []
+places_in groups (g ∷ gs) = get_or groups g [] ++ places_in groups gs
+
 -- what wins at a node by the selectors that match it and by its style attribute
-abbrev pub IsChosenAt : Tree → List SelectedOf → List (List ℕ) → ℕ → NodeWinners → Type 0
+abbrev pub IsChosenAt : Tree → List SelectedOf → Matched → ℕ → NodeWinners → Type 0
 IsChosenAt dom ss matched n w =
-    (places : List ℕ) → slice_get matched n ≡ Some places → AreChosen ss places (style_decls dom n) w
+    (row : List ℕ) → slice_get matched.rows n ≡ Some row →
+    AreChosen ss (places_in matched.groups row) (style_decls dom n) w
 
 -- so at the first nodes
-abbrev pub AreChosenAt : Tree → List SelectedOf → List (List ℕ) → List NodeWinners → Type 0
+abbrev pub AreChosenAt : Tree → List SelectedOf → Matched → List NodeWinners → Type 0
 AreChosenAt dom ss matched all = (k : ℕ) (w : NodeWinners) → slice_get all k ≡ Some w → IsChosenAt dom ss matched k w
 
 -- a node is added with what wins at it, where that holds for those before it
-pub record AddsChosen (dom : Tree) (ss : List SelectedOf) (matched : List (List ℕ)) (n : ℕ)
+pub record AddsChosen (dom : Tree) (ss : List SelectedOf) (matched : Matched) (n : ℕ)
     (all more : List NodeWinners) : Type 0 where
   pub winners : NodeWinners
   pub added : more ≡ all ++ winners ∷ []

@@ -15,7 +15,7 @@ use match_table::all::MatchTable;
 use std::alloc::Global;
 use std::marker::Model;
 
-/// What a node is noted by: the places of the selectors that match it, and its style attribute.
+/// What a node is noted by: the groups of selectors that match it, and its style attribute.
 type Mark<'a> = (&'a [u32], Option<&'a str>);
 
 /// Nodes, by the selectors that match them and by their style attribute. It is asked for a node that may be like
@@ -77,9 +77,9 @@ impl<'a> SameMatches<'a> {
         node: NodeId,
     ) -> Option<NodeId>
         requires node { node.0 < length dom.now }
-        requires count { length matched.now ≡ length dom.now }
-        ensures found { option_map (λ e. e.0) result ≡ found_for dom.now matched.now self.now node.0 }
-        ensures like { IfSome result (λ e. IsLike dom.now matched.now e.0 node.0) }
+        requires count { length matched.now.rows ≡ length dom.now }
+        ensures found { option_map (λ e. e.0) result ≡ found_for dom.now matched.now.rows self.now node.0 }
+        ensures like { IfSome result (λ e. IsLike dom.now matched.now.rows e.0 node.0) }
     {
         let earlier = find(&self.nodes, (matched.of(node), dom.attr(node, "style")))?;
         if earlier.0 < node.0 && is_like(dom, matched, earlier, node) {
@@ -97,8 +97,8 @@ impl<'a> SameMatches<'a> {
         node: NodeId,
     ) -> Result<(), NoMem>
         requires node { node.0 < length dom.now }
-        requires count { length matched.now ≡ length dom.now }
-        ensures { OnOk result (self.new ≡ noted_as (mark_of dom.now matched.now node.0) node.0 self.old) }
+        requires count { length matched.now.rows ≡ length dom.now }
+        ensures { OnOk result (self.new ≡ noted_as (mark_of dom.now matched.now.rows node.0) node.0 self.old) }
     {
         put(
             &mut self.nodes,
@@ -112,10 +112,10 @@ impl<'a> SameMatches<'a> {
 fn is_like(dom: &Dom, matched: &MatchTable, earlier: NodeId, node: NodeId) -> bool
     requires before { earlier.0 < node.0 }
     requires node { node.0 < length dom.now }
-    requires count { length matched.now ≡ length dom.now }
-    ensures value { (m : List ℕ × Option (List ℕ)) → mark_of dom.now matched.now node.0 ≡ Some m →
-        result ≡ is_mark m (mark_of dom.now matched.now earlier.0) }
-    ensures like { IsTrue result → IsLike dom.now matched.now earlier.0 node.0 }
+    requires count { length matched.now.rows ≡ length dom.now }
+    ensures value { (m : List ℕ × Option (List ℕ)) → mark_of dom.now matched.now.rows node.0 ≡ Some m →
+        result ≡ is_mark m (mark_of dom.now matched.now.rows earlier.0) }
+    ensures like { IsTrue result → IsLike dom.now matched.now.rows earlier.0 node.0 }
 {
     is_same_row(matched.of(earlier), matched.of(node))
         && is_same_text(dom.attr(earlier, "style"), dom.attr(node, "style"))

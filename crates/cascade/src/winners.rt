@@ -1,10 +1,10 @@
 //! The winning declarations of nodes and of their pseudo-elements.
 
-ghost use Rattle.std.specs.Prelude.{◌≡◌, ◌<◌, length, map, IfOk, OnOk};
+ghost use Rattle.std.specs.Prelude.{◌≡◌, ◌<◌, ◌++◌, length, map, IfOk, OnOk};
 ghost use Rattle.match_table.specs.All.{AreMatchLists};
 ghost use Rattle.cascade.specs.Document.{style_decls, IsDeclaredAt, AreAllWinners};
 ghost use Rattle.cascade.specs.Winners.{AreWinners};
-ghost use Rattle.cascade.specs.Sharing.{AddsChosen, AreChosenAt, SharesFound};
+ghost use Rattle.cascade.specs.Sharing.{AddsChosen, AreChosenAt, IsChosenAt, SharesFound, places_in};
 ghost use Rattle.cascade.specs.Selected as spec;
 
 use crate::alike::SameMatches;
@@ -120,20 +120,40 @@ fn node_winners<'s: 't, 't>(
     })
 }
 
-/// What wins for a node that some selectors match, and for each of its pseudo-elements.
+/// Appends some places.
+fn push_places(places: &mut Vec<u32>, more: &[u32]) -> Result<(), NoMem>
+    ensures { OnOk result (places.new.items ≡ places.old.items ++ more.now) }
+{
+    places.extend_from_slice(more)?;
+    Ok(())
+}
+
+/// The places of the selectors of some groups.
+fn places_in(alloc: Global, matched: &MatchTable, groups: &[u32]) -> Result<Vec<u32>, NoMem>
+    ensures { IfOk result (λ v. v.items ≡ places_in matched.now.groups groups.now) }
+{
+    let mut places = Vec::new(alloc);
+    for group in groups {
+        push_places(&mut places, matched.places(*group))?;
+    }
+    Ok(places)
+}
+
+/// What wins for a node, and for each of its pseudo-elements, by the selectors that match the node.
 fn winners_at(
     alloc: Global,
     dom: &Dom,
     selected: &[Selected<'_>],
-    places: &[u32],
+    matched: &MatchTable,
     node: NodeId,
 ) -> Result<NodeWinners, NoMem>
-    requires { node.0 < length dom.now }
-    ensures { IfOk result (λ w. spec.AreChosen (map spec.selected_in selected.now) places.now
-        (style_decls dom.now node.0) w) }
+    requires node { node.0 < length dom.now }
+    requires count { length matched.now.rows ≡ length dom.now }
+    ensures { IfOk result (λ w. IsChosenAt dom.now (map spec.selected_in selected.now) matched.now node.0 w) }
 {
+    let places = places_in(alloc, matched, matched.of(node))?;
     let styled = style_decls(alloc, dom, node)?;
-    node_winners(alloc, selected, places, styled.as_slice())
+    node_winners(alloc, selected, &places, styled.as_slice())
 }
 
 /// Adds what wins for a node, which is kept once for nodes that are alike.
@@ -147,17 +167,16 @@ fn add_winners<'a>(
     node: NodeId,
 ) -> Result<(), NoMem>
     requires node { node.0 < length dom.now }
-    requires count { length matched.now ≡ length dom.now }
+    requires count { length matched.now.rows ≡ length dom.now }
     requires rows { length all.old.winners ≡ node.0 }
     ensures chosen { OnOk result (AddsChosen dom.now (map spec.selected_in selected.now) matched.now node.0
         all.old.winners all.new.winners) }
-    ensures shares { OnOk result (SharesFound dom.now matched.now node.0 alike.old alike.new all.old all.new) }
+    ensures shares { OnOk result (SharesFound dom.now matched.now.rows node.0 alike.old alike.new all.old all.new) }
 {
     if let Some(earlier) = alike.earlier(dom, matched, node) {
         return all.push_like(earlier);
     }
-    let places = matched.of(node);
-    all.push(winners_at(alloc, dom, selected, places, node)?)?;
+    all.push(winners_at(alloc, dom, selected, matched, node)?)?;
     alike.note(dom, matched, node)
 }
 
@@ -171,9 +190,9 @@ fn selectors_of<'s>(alloc: Global, selected: &[Selected<'s>]) -> Result<Vec<&'s 
     Ok(selectors)
 }
 
-/// For each node the places of the selectors that match it.
+/// For each node the groups of equal selectors that match it.
 fn matches_of(alloc: Global, dom: &Dom, selected: &[Selected<'_>]) -> Result<MatchTable, NoMem>
-    ensures count { IfOk result (λ t. length t ≡ length dom.now) }
+    ensures count { IfOk result (λ t. length t.rows ≡ length dom.now) }
     ensures lists { IfOk result (λ t. AreMatchLists dom.now (spec.selectors_of (map spec.selected_in selected.now)) t) }
 {
     let selectors = selectors_of(alloc, selected)?;
@@ -187,7 +206,7 @@ fn winners_by_matches(
     selected: &[Selected<'_>],
     matched: &MatchTable,
 ) -> Result<WinnerTable, NoMem>
-    requires { length matched.now ≡ length dom.now }
+    requires { length matched.now.rows ≡ length dom.now }
     ensures count { IfOk result (λ t. length t.winners ≡ length dom.now) }
     ensures chosen { IfOk result (λ t. AreChosenAt dom.now (map spec.selected_in selected.now) matched.now t.winners) }
 {
@@ -201,8 +220,8 @@ fn winners_by_matches(
 }
 
 /// What wins for each node of a document and for each of its pseudo-elements: at each the same as `winners` gives. All
-/// selectors are matched in one call. What wins is chosen once, and a style attribute read once, for all nodes with the
-/// same style attribute that the same selectors match. No value is read again.
+/// selectors are matched in one call, equal ones once. What wins is chosen once, and a style attribute read once, for
+/// all nodes with the same style attribute that the same selectors match. No value is read again.
 pub fn all_winners(alloc: Global, dom: &Dom, sheets: &[ReadSheet]) -> Result<WinnerTable, NoMem>
     ensures { IfOk result (λ t. AreAllWinners dom.now sheets.now t.winners) }
 {

@@ -14,8 +14,8 @@ use Rattle.selectors.specs.Sets.{has}
 use Rattle.selectors.specs.Match.{Tree, Matches, Reaches}
 use Rattle.match_table.specs.Columns.{IsCell}
 use Rattle.match_table.specs.declared.columns.Cell.{Cell}
-use Rattle.match_table.specs.All.{AreAscending, MatchesAt, AreMatchLists}
-use Rattle.match_table.specs.Rows.{is_same, with_last, with_place, placed_if, AreBelow, IsMarked, AreMarked}
+use Rattle.match_table.specs.All.{AreAscending, MatchesAt}
+use Rattle.match_table.specs.Rows.{is_same, with_last, with_place, placed_if, AreBelow, IsMarked, AreMarked, AreMatchRows}
 use Rattle.match_table.proofs.RowInvariants.{IsGoing, AreGoing, IsRow, AreRows}
 
 -- ---- a place at the end of a list
@@ -102,7 +102,7 @@ going-done dom s Seen k old new going all n lt = elim (going n lt) [
 
 -- ---- one selector after another
 
-ascending-push : (ks : List ℕ) (k : ℕ) → AreAscending ks → All (λ m. m < k) ks → AreAscending (ks ++ k ∷ [])
+pub ascending-push : (ks : List ℕ) (k : ℕ) → AreAscending ks → All (λ m. m < k) ks → AreAscending (ks ++ k ∷ [])
 ascending-push [] k asc below = (All-nil (λ m. k < m), tt)
 ascending-push (x ∷ xs) k asc below =
     (All-push (λ m. x < m) xs k asc.0 (All-head (λ m. m < k) x xs below), ascending-push xs k asc.1 (All-tail (λ m. m < k) x xs below))
@@ -153,7 +153,7 @@ rows-more dom ss s k old new is same are marked n within =
     let next : k + 1 ≡ suc k = omega arith in
     subst (λ z. IsRow dom ss z n (get_or new n [])) (sym next) (row-more dom ss s k n (get_or old n []) (get_or new n []) is (are n lt) (marked n lt))
 
-pub rows-done : (dom : Tree) (ss : List SelectorView) (k : ℕ) (rows : List (List ℕ)) → length ss ≤ k → AreRows dom ss k rows → AreMatchLists dom ss rows
+pub rows-done : (dom : Tree) (ss : List SelectorView) (k : ℕ) (rows : List (List ℕ)) → length ss ≤ k → AreRows dom ss k rows → AreMatchRows dom ss rows
 rows-done dom ss k rows all are n ks is =
     let row : IsRow dom ss k n ks = subst (λ z. IsRow dom ss k n z) (get_or_from_slice_get rows n ks [] is) (are n (slice_get_within rows n ks is)) in
     record {

@@ -1,8 +1,9 @@
 -- How the lists of matches grow by one selector after another.
-use Rattle.std.specs.Prelude.{◌≡◌, ◌⊎◌, ◌<◌, ◌-◌, ℕ, Bool, false, List, [], ◌∷◌, ◌++◌, Option, Some, None, get_or, length, slice_get, slice_set, if◌then◌else◌, ◌==◌}
+use Rattle.std.specs.Prelude.{◌≡◌, ◌⊎◌, ◌↔◌, ◌<◌, ◌-◌, ℕ, Bool, false, List, [], ◌∷◌, ◌++◌, Option, Some, None, get_or, length, slice_get, slice_set, if◌then◌else◌, ◌==◌}
 use Rattle.std.specs.List.{All, Contains}
 use Rattle.selectors.specs.Selectors.{SelectorView}
 use Rattle.selectors.specs.Match.{Tree, Matches}
+use Rattle.match_table.specs.All.{AreAscending, MatchesAt}
 
 -- the last number of a list is this one
 abbrev pub is_same : ℕ → Option ℕ → Bool
@@ -36,3 +37,12 @@ AreMarked dom s k old new = (n : ℕ) → n < length old → IsMarked dom s n k 
 -- the nodes that a selector matches are among these
 abbrev pub HasCandidates : Tree → SelectorView → List ℕ → Type 0
 HasCandidates dom s nodes = (n : ℕ) → n < length dom → Matches dom s n → Contains nodes n
+
+-- the numbers of the selectors that match a node, each once, in ascending order
+pub record IsMatchRow (dom : Tree) (ss : List SelectorView) (n : ℕ) (ks : List ℕ) : Type 0 where
+  pub ascending : AreAscending ks
+  pub each : (k : ℕ) → Contains ks k ↔ MatchesAt dom ss k n
+
+-- so for each node
+abbrev pub AreMatchRows : Tree → List SelectorView → List (List ℕ) → Type 0
+AreMatchRows dom ss rows = (n : ℕ) (ks : List ℕ) → slice_get rows n ≡ Some ks → IsMatchRow dom ss n ks

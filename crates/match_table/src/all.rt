@@ -1,6 +1,6 @@
 //! Matches many selectors against all nodes of a document in one pass.
 
-ghost use Rattle.std.specs.Prelude.{◌≡◌, ◌<◌, ◌-◌, ◌↔◌, ℕ, length, map, slice_get, Some, IfOk, OnOk, IsTrue};
+ghost use Rattle.std.specs.Prelude.{◌≡◌, ◌<◌, ◌-◌, ◌↔◌, [], get_or, length, map, slice_get, Some, IfOk, OnOk, IsTrue};
 ghost use Rattle.match_table.specs.All.{AreMatchLists};
 ghost use Rattle.match_table.specs.Index.{AreNoted};
 ghost use Rattle.std.specs.List.{list_any};
@@ -9,6 +9,7 @@ ghost use Rattle.selectors.specs.declared.types.Join.TheVariants as join;
 ghost use Rattle.match_table.specs.Rows as spec;
 
 use crate::columns::{all_cells, cell_of};
+use crate::groups::groups_of;
 use crate::index::{Words, empty_lists, nodes_by_word, number_of_key, words_of_keys};
 use crate::types::wanted_places;
 use bk_num::ids::NodeId;
@@ -22,34 +23,54 @@ use selectors::types::{Join, Selector};
 use std::alloc::Global;
 use std::marker::Model;
 
-/// For each node the selectors that match it. Contracts see a list of places of selectors for each node.
+/// For each node the selectors that match it. Equal selectors are in groups, so that what is kept doesn't grow with
+/// nodes times equal selectors. Contracts see for each node the numbers of groups, and for each group the places of its
+/// selectors.
 #[derive(Drop)]
 pub struct MatchTable {
     rows: Vec<Items<u32>>,
+    groups: Vec<Items<u32>>,
 }
 
 impl Model for MatchTable {
-    ghost use Rattle.std.specs.Prelude.{List, ℕ};
+    ghost use Rattle.match_table.specs.All.{Matched};
 
-    ghost Value = { List (List ℕ) };
+    ghost Value = { Matched };
 
-    ghost view = { λ t. t.rows.items };
+    ghost view = { λ t. record { rows = t.rows.items; groups = t.groups.items } };
 }
 
 impl MatchTable {
     /// How many nodes the document has.
     pub fn len(&self) -> usize
-        ensures { result ≡ length self.now }
+        ensures { result ≡ length self.now.rows }
     {
         self.rows.len()
     }
 
-    /// The places of the selectors that match a node, in ascending order.
+    /// The numbers of the groups of selectors that match a node, in ascending order.
     pub fn of(&self, node: NodeId) -> &[u32]
-        requires { node.0 < length self.now }
-        ensures { slice_get self.now node.0 ≡ Some result.now }
+        requires { node.0 < length self.now.rows }
+        ensures { slice_get self.now.rows node.0 ≡ Some result.now }
     {
         self.rows[node.0 as usize].as_slice()
+    }
+
+    /// The places of the selectors of a group, which are equal, in ascending order; none where there is no such group.
+    pub fn places(&self, group: u32) -> &[u32]
+        ensures { result.now ≡ get_or self.now.groups group [] }
+    {
+        places_at(&self.groups, group as usize)
+    }
+}
+
+fn places_at(groups: &[Items<u32>], group: usize) -> &[u32]
+    ensures { result.now ≡ get_or groups.now group [] }
+{
+    if group < groups.len() {
+        groups[group].as_slice()
+    } else {
+        &[]
     }
 }
 
@@ -179,7 +200,7 @@ fn mark(
     mark_column(alloc, rows, document, selector, place)
 }
 
-/// For each node the places of the selectors that match it, by the nodes that have the words of the selectors.
+/// For each node the numbers of the selectors that match it, by the nodes that have the words of the selectors.
 fn rows_by_words(
     alloc: Global,
     document: &TypedDocument<'_>,
@@ -190,7 +211,7 @@ fn rows_by_words(
     requires lists { length lists.now ≡ length words.now }
     requires noted { AreNoted document.now words.now lists.now (length document.now) }
     ensures count { IfOk result (λ v. length v.items ≡ length document.now) }
-    ensures lists { IfOk result (λ v. AreMatchLists document.now (map (λ s. s.now) selectors.now) v.items) }
+    ensures lists { IfOk result (λ v. spec.AreMatchRows document.now (map (λ s. s.now) selectors.now) v.items) }
 {
     let Ok(count) = u32::try_from(selectors.len()) else {
         return Err(NoMem);
@@ -203,28 +224,41 @@ fn rows_by_words(
     Ok(rows)
 }
 
-/// For each node the places of the selectors that match it.
+/// For each node the numbers of the selectors that match it.
 fn rows_of(
     alloc: Global,
     document: &TypedDocument<'_>,
     selectors: &[&Selector],
 ) -> Result<Vec<Items<u32>>, NoMem>
     ensures count { IfOk result (λ v. length v.items ≡ length document.now) }
-    ensures lists { IfOk result (λ v. AreMatchLists document.now (map (λ s. s.now) selectors.now) v.items) }
+    ensures lists { IfOk result (λ v. spec.AreMatchRows document.now (map (λ s. s.now) selectors.now) v.items) }
 {
     let words = words_of_keys(alloc, selectors)?;
     let lists = nodes_by_word(alloc, document.dom(), &words)?;
     rows_by_words(alloc, document, selectors, &words, &lists)
 }
 
-/// For each node the places of the selectors that match it (Selectors 3, 8), each once and in ascending order.
-/// Selectors find the nodes that they may match by id, class or type, so that the work is in proportion to the nodes
-/// and to those candidates.
-pub fn match_all(alloc: Global, dom: &Dom, selectors: &[&Selector]) -> Result<MatchTable, NoMem>
-    ensures count { IfOk result (λ t. length t ≡ length dom.now) }
-    ensures lists { IfOk result (λ t. AreMatchLists dom.now (map (λ s. s.now) selectors.now) t) }
+/// For each node the numbers of the selectors that match it, each once and in ascending order.
+fn match_each(alloc: Global, dom: &Dom, selectors: &[&Selector]) -> Result<Vec<Items<u32>>, NoMem>
+    ensures count { IfOk result (λ v. length v.items ≡ length dom.now) }
+    ensures lists { IfOk result (λ v. spec.AreMatchRows dom.now (map (λ s. s.now) selectors.now) v.items) }
 {
     let places = wanted_places(alloc, dom, selectors)?;
     let rows = rows_of(alloc, &TypedDocument::with_places(dom, &places), selectors)?;
-    Ok(MatchTable { rows })
+    Ok(rows)
+}
+
+/// For each node the groups of equal selectors that match it (Selectors 3, 8), each once and in ascending order. Equal
+/// selectors are matched once, and selectors find the nodes that they may match by id, class or type, so that the work
+/// is in proportion to the nodes, to the selectors and to those candidates.
+pub fn match_all(alloc: Global, dom: &Dom, selectors: &[&Selector]) -> Result<MatchTable, NoMem>
+    ensures count { IfOk result (λ t. length t.rows ≡ length dom.now) }
+    ensures lists { IfOk result (λ t. AreMatchLists dom.now (map (λ s. s.now) selectors.now) t) }
+{
+    let groups = groups_of(alloc, selectors)?;
+    let rows = match_each(alloc, dom, &groups.firsts)?;
+    Ok(MatchTable {
+        rows,
+        groups: groups.into_places(),
+    })
 }

@@ -61,6 +61,22 @@ fn matched(into: &mut String, dom: &Dom, selectors: &[Selector]) -> Written {
     Ok(())
 }
 
+/// The places of the selectors of a group.
+fn members(into: &mut String, places: &[u32]) -> Written {
+    for place in places {
+        write!(into, "{place} ")?;
+    }
+    Ok(())
+}
+
+/// The places of the selectors of some groups, group by group.
+fn places_in(into: &mut String, table: &MatchTable, groups: &[u32]) -> Written {
+    for group in groups {
+        members(into, table.places(*group))?;
+    }
+    Ok(())
+}
+
 /// The places of the selectors that match, after each node's number.
 fn places(into: &mut String, dom: &Dom, table: &MatchTable) -> Answered {
     for number in 0..dom.len() {
@@ -68,11 +84,18 @@ fn places(into: &mut String, dom: &Dom, table: &MatchTable) -> Answered {
             return Err(Unanswered::Unknown);
         }
         write!(into, "{number}: ")?;
-        for place in table.of(NodeId(number)) {
-            write!(into, "{place} ")?;
-        }
+        places_in(into, table, table.of(NodeId(number)))?;
     }
     Ok(())
+}
+
+/// How many selectors are in some groups.
+fn count_in(table: &MatchTable, groups: &[u32]) -> u64 {
+    let mut count = 0u64;
+    for group in groups {
+        count = count.saturating_add(table.places(*group).len() as u64);
+    }
+    count
 }
 
 /// How many pairs of a selector and a node match.
@@ -80,7 +103,7 @@ fn pairs(into: &mut String, dom: &Dom, table: &MatchTable) -> Written {
     let mut count = 0u64;
     for number in 0..dom.len() {
         if (number as usize) < table.len() {
-            count = count.saturating_add(table.of(NodeId(number)).len() as u64);
+            count = count.saturating_add(count_in(table, table.of(NodeId(number))));
         }
     }
     write!(into, "{count}")
