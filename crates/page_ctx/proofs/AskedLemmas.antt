@@ -1,6 +1,6 @@
 -- names that no selector asks for have the rules of no name
 use Rattle.std.proofs.Common.{◌≡◌, ℕ, Bool, true, false, ◌&&◌, ◌||◌, cond, List, [], ◌∷◌, ◌++◌, Option, None, Some, option_map, map, refl, sym, ◌∙◌, ap}
-use Rattle.std.specs.Prelude.{filter, fold}
+use Rattle.std.specs.Prelude.{fold}
 use Rattle.std.specs.Str.{bytes_eq}
 use Rattle.std.specs.List.{cons_option, list_any}
 use Rattle.std.proofs.lemmas.List.Folds.{list_any-append}
@@ -13,7 +13,7 @@ use Rattle.bk_num.specs.Names.{with_name}
 use Rattle.named_lists.proofs.ListLemmas.{turned}
 use Rattle.page_ctx.specs.declared.classes.PageClasses.{PageClasses}
 use Rattle.page_ctx.specs.declared.weight.PageWeight.{PageWeight}
-use Rattle.page_ctx.specs.Selectors.{takes_name, takes_classes, may_take, name_in, asked_by, asked_in, all_asked}
+use Rattle.page_ctx.specs.Selectors.{takes_name, takes_classes, name_in, asked_by, asked_in, all_asked}
 use Rattle.page_ctx.specs.Weights.{greater, specificity, with_selector}
 use Rattle.page_ctx.specs.Winners.{applied, applied_by, applied_to, page_declared}
 use Rattle.page_ctx.specs.Cells.{cell_by}
@@ -32,29 +32,6 @@ pub neither : (a b : Bool) → (a || b) ≡ false → (a ≡ false) × (b ≡ fa
 neither false false e = (refl, refl)
 neither false true e = cc
 neither true b e = cc
-
--- ---- rules without a selector that takes the name
-
-none-takes : (name : List ℕ) (c : PageClasses) (best : Option PageWeight) (selectors : List PageSelector) → list_any (λ s. takes_name s.name name) selectors ≡ false → fold (with_selector name c) best selectors ≡ best
-none-takes name c best [] e = refl
-none-takes name c best (s ∷ more) e =
-    let both = split (λ (t : PageSelector). takes_name t.name name) (s ∷ []) more e in
-    let first : takes_name s.name name ≡ false = sole (takes_name s.name name) both.0 in
-    ap (λ b. fold (with_selector name c) (cond (b && takes_classes s c) (greater best (specificity s)) best) more) first ∙ none-takes name c best more both.1
-  where
-    sole : (b : Bool) → (b || false) ≡ false → b ≡ false
-    sole false h = refl
-    sole true h = cc
-
-needed-rules : (name : List ℕ) (c : PageClasses) (rules : List PageRule) → applied_to name c (filter (may_take name) rules) ≡ applied_to name c rules
-needed-rules name c [] = refl
-needed-rules name c (r ∷ rules) = by (may_take name r) refl (needed-rules name c rules)
-  where
-    by : (b : Bool) → may_take name r ≡ b → applied_to name c (filter (may_take name) rules) ≡ applied_to name c rules → applied_to name c (cond b (r ∷ filter (may_take name) rules) (filter (may_take name) rules)) ≡ cons_option (applied name c r) (applied_to name c rules)
-    by true e rest = ap (cons_option (applied name c r)) rest
-    by false e rest =
-        let gone : applied name c r ≡ None = ap (option_map (applied_by r)) (none-takes name c None r.selectors e) in
-        rest ∙ ap (λ o. cons_option o (applied_to name c rules)) (sym gone)
 
 -- ---- names that no selector asks for
 
@@ -117,12 +94,6 @@ row-same xs ys name other h = ap with_cells (map-same (λ c. cell_by (page_decla
 
 boxes-same : (xs ys : List PageRule) (name other : List ℕ) → ((c : PageClasses) → applied_to name c xs ≡ applied_to other c ys) → boxes_of_name xs name ≡ boxes_of_name ys other
 boxes-same xs ys name other h = map-same (λ c. boxes_by (style_applied (applied_to name c xs))) (λ c. boxes_by (style_applied (applied_to other c ys))) six_pages (λ c. ap (λ a. boxes_by (style_applied a)) (h c))
-
-pub own-row : (rules own : List PageRule) (name : List ℕ) → own ≡ filter (may_take name) rules → row_by own name ≡ row_by rules name
-own-row rules own name e = row-same own rules name name (λ c. ap (applied_to name c) e ∙ needed-rules name c rules)
-
-pub own-boxes : (rules own : List PageRule) (name : List ℕ) → own ≡ filter (may_take name) rules → boxes_of_name own name ≡ boxes_of_name rules name
-own-boxes rules own name e = boxes-same own rules name name (λ c. ap (applied_to name c) e ∙ needed-rules name c rules)
 
 -- a name that no selector asks for has the row of no name
 pub unasked-row : (rules : List PageRule) (keys : List (List ℕ)) (name : List ℕ) → keys ≡ fold with_name [] (all_asked rules) → list_any (bytes_eq name) keys ≡ false → list_any (bytes_eq []) keys ≡ false → row_by rules [] ≡ row_by rules name

@@ -5,3 +5,5 @@ pub mod WeightLemmas
 pub mod WinnerLemmas
 pub mod AskedLemmas
 pub mod FilledLemmas
+pub mod IndexLemmas
+pub mod AppliedLemmas

@@ -88,6 +88,10 @@ rows_first f new names row is pushed = ap (λ z. z ++ map f (drop 1 names)) (pus
 pub push_in : {A B : Type 0} (h : A → B) (rows new : List A) (row : A) → new ≡ rows ++ row ∷ [] → map h new ≡ map h rows ++ h row ∷ []
 push_in h rows new row e = ap (map h) e ∙ map-append h rows (row ∷ [])
 
+-- by two equal values
+pub both : {A B C : Type 0} (f : A → B → C) {a b : A} {x y : B} → a ≡ b → x ≡ y → f a x ≡ f b y
+both f {b = b} {x = x} e g = ap (λ z. f z x) e ∙ ap (f b) g
+
 -- six good cells
 pub six_good : (a b c d e f : PageCell) → IsGoodCell a → IsGoodCell b → IsGoodCell c → IsGoodCell d → IsGoodCell e → IsGoodCell f → All IsGoodCell (a ∷ b ∷ c ∷ d ∷ e ∷ f ∷ [])
 six_good a b c d e f ga gb gc gd ge gf zero x l = ga

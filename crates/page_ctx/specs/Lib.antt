@@ -1,4 +1,5 @@
 pub mod Selectors
+pub mod Index
 pub mod Weights
 pub mod Winners
 pub mod Settings
@@ -6,4 +7,5 @@ pub mod Cells
 pub mod Bounds
 pub mod Tables
 pub mod Margins
+pub mod Strings
 pub mod Laws

@@ -1,6 +1,6 @@
 -- Which pages a page selector takes (css-page-3, 3).
 use Rattle.std.specs.Prelude.{ℕ, ◌==◌, Bool, true, false, not, ◌&&◌, ◌||◌, List, [], ◌∷◌, Option, None, Some}
-use Rattle.std.specs.List.{flat_map, list_any}
+use Rattle.std.specs.List.{flat_map}
 use Rattle.std.specs.Str.{bytes_eq}
 use Rattle.boxes.specs.Frames.{is_first, side_of, is_left}
 use Rattle.boxes.specs.declared.frames.PageKind.{PageKind}
@@ -37,10 +37,6 @@ takes_classes s c =
 -- a selector takes the pages that have its name and each of its pseudo-classes
 abbrev pub takes : PageSelector → List ℕ → PageClasses → Bool
 takes s name c = takes_name s.name name && takes_classes s c
-
--- a rule has a selector that takes the name, whatever its pseudo-classes
-abbrev pub may_take : List ℕ → PageRule → Bool
-may_take name r = list_any (λ s. takes_name s.name name) r.selectors
 
 -- a name that is asked for, if any
 abbrev pub name_in : Option (List ℕ) → List (List ℕ)

@@ -14,7 +14,8 @@ use Rattle.page_ctx.specs.declared.classes.PageClasses.{PageClasses}
 use Rattle.page_ctx.specs.declared.weight.PageWeight.{PageWeight}
 use Rattle.page_ctx.specs.declared.applied.AppliedPageRule.{AppliedPageRule}
 use Rattle.page_ctx.specs.declared.winner.PageCandidate.{PageCandidate}
-use Rattle.page_ctx.specs.Weights.{is_above, greatest, of_decl}
+use Rattle.page_ctx.specs.Index.{RuleSelectorOf}
+use Rattle.page_ctx.specs.Weights.{is_above, greater, greatest, of_decl, specificity}
 
 -- a declared value, with what decides
 pub record Declared : Type 0 where
@@ -41,6 +42,33 @@ applied_by r w = record { weight = w; rule = r }
 -- a rule with its specificity, if it is for a page
 abbrev pub applied : List ℕ → PageClasses → PageRule → Option AppliedPageRuleOf
 applied name c r = option_map (applied_by r) (greatest name c r.selectors)
+
+-- a rule that is for a page, with its number
+pub record NumberedRule : Type 0 where
+  pub number : ℕ
+  pub applied : AppliedPageRuleOf
+
+-- the same as values
+abbrev pub numbered_in : AppliedPageRule → NumberedRule
+numbered_in a = record { number = a.number; applied = applied_in a }
+
+-- a rule of a number with a weight
+abbrev pub numbered_by : ℕ → PageRule → PageWeight → NumberedRule
+numbered_by number r w = record { number = number; applied = applied_by r w }
+
+-- the weight of a rule, if it has this number
+abbrev pub weight_at : Option NumberedRule → ℕ → Option PageWeight
+weight_at None number = None
+weight_at (Some a) number = if a.number == number then Some a.applied.weight else None
+
+-- a rule, if it has another number
+abbrev pub other_than : Option NumberedRule → ℕ → Option AppliedPageRuleOf
+other_than None number = None
+other_than (Some a) number = if a.number == number then None else Some a.applied
+
+-- the rule of a selector that takes the page, with the greater of its weights where it is that rule already
+abbrev pub rule_with : Option NumberedRule → RuleSelectorOf → Option NumberedRule
+rule_with last e = option_map (numbered_by e.number e.rule) (greater (weight_at last e.number) (specificity e.selector))
 
 -- the rules that are for a page, in their order
 abbrev pub applied_to : List ℕ → PageClasses → List PageRule → List AppliedPageRuleOf

@@ -2,30 +2,60 @@
 
 ghost use Rattle.std.specs.Prelude.{◌≡◌, ◌++◌, map, option_map, option_to_list, IfOk, OnOk};
 ghost use Rattle.std.specs.List.{flat_map};
+ghost use Rattle.page_ctx.specs.Index.{AreOwn, selector_in};
 ghost use Rattle.page_ctx.specs.Winners as spec;
 
-use crate::classes::PageClasses;
-use crate::weight::{PageWeight, greatest};
+use crate::classes::{PageClasses, takes_classes};
+use crate::index::{OwnSelectors, RuleSelector};
+use crate::weight::{PageWeight, greater, specificity};
 use crate::winner::PageCandidate;
 use bk_num::name::NoMem;
 use css_page::rules::{BoxDecls, PageRule};
 use css_page::values::{PageDecl, PageLong};
 use std::alloc::Global;
 
-/// A rule that is for a page, with the greatest specificity of its selectors that take the page.
+/// A rule that is for a page, with its number and the greatest specificity of its selectors that take the page.
 #[derive(Clone, Copy)]
 pub struct AppliedPageRule<'s> {
+    pub number: usize,
     pub weight: PageWeight,
     pub rule: &'s PageRule,
 }
 
-fn taken<'s>(name: &str, classes: PageClasses, rule: &'s PageRule) -> Option<AppliedPageRule<'s>>
-    ensures { option_map spec.applied_in result ≡ spec.applied name.now classes rule.entry.now }
+/// The weight of a rule, if it has this number.
+fn weight_at(last: Option<AppliedPageRule<'_>>, number: usize) -> Option<PageWeight>
+    ensures { result ≡ spec.weight_at (option_map spec.numbered_in last.entry) number }
 {
-    match greatest(name, classes, rule.selectors.as_slice()) {
-        Some(weight) => Some(AppliedPageRule { weight, rule }),
-        None => None,
+    match last {
+        Some(rule) if rule.number == number => Some(rule.weight),
+        _ => None,
     }
+}
+
+/// A rule, if it has another number.
+fn other_than<'s>(last: Option<AppliedPageRule<'s>>, number: usize) -> Option<AppliedPageRule<'s>>
+    ensures { option_map spec.applied_in result ≡ spec.other_than (option_map spec.numbered_in last.entry) number }
+{
+    match last {
+        Some(rule) if rule.number != number => Some(rule),
+        _ => None,
+    }
+}
+
+/// The rule of a selector that takes the page, with the greater of its weights where it is that rule already.
+fn rule_with<'s>(
+    last: Option<AppliedPageRule<'s>>,
+    entry: &RuleSelector<'s>,
+) -> Option<AppliedPageRule<'s>>
+    ensures { option_map spec.numbered_in result ≡
+        spec.rule_with (option_map spec.numbered_in last.entry) (selector_in entry.now) }
+{
+    let weight = greater(weight_at(last, entry.number), specificity(entry.selector))?;
+    Some(AppliedPageRule {
+        number: entry.number,
+        weight,
+        rule: entry.rule,
+    })
 }
 
 /// Appends a rule, if there is one.
@@ -42,20 +72,26 @@ fn push_applied<'s>(
     Ok(())
 }
 
-/// The rules that are for the pages of a name with these pseudo-classes, in their order.
+/// The rules that are for the pages of a name with these pseudo-classes, in their order, by the selectors that take the
+/// name. It takes time in proportion to these.
 pub fn applied_to<'s>(
     alloc: Global,
-    name: &str,
     classes: PageClasses,
-    rules: &[&'s PageRule],
+    own: &OwnSelectors<'s, '_>,
 ) -> Result<Vec<AppliedPageRule<'s>>, NoMem>
+    requires { AreOwn own.now }
     ensures { IfOk result (λ v. map spec.applied_in v.items ≡
-        spec.applied_to name.now classes (map (λ r. r.now) rules.now)) }
+        spec.applied_to own.now.name.now classes own.now.rules.now) }
 {
     let mut found = Vec::new(alloc);
-    for rule in rules {
-        push_applied(&mut found, taken(name, classes, rule))?;
+    let mut last = None;
+    for entry in &own.selectors {
+        if takes_classes(entry.selector, classes) {
+            push_applied(&mut found, other_than(last, entry.number))?;
+            last = rule_with(last, entry);
+        }
     }
+    push_applied(&mut found, last)?;
     Ok(found)
 }
 

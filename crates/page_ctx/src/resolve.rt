@@ -9,14 +9,16 @@ ghost use Rattle.boxes.specs.Table.{cell_in, cell_of, row_of};
 ghost use Rattle.page_seq.specs.Frames.{IsGoodTable};
 ghost use Rattle.bk_num.specs.Names.{with_name};
 ghost use Rattle.page_ctx.specs.Bounds.{AreGoodCells, HasGoodRows, IsGoodCell};
+ghost use Rattle.page_ctx.specs.Index.{AreOwn, IsIndex};
 ghost use Rattle.page_ctx.specs.Selectors.{all_asked};
 ghost use Rattle.page_ctx.specs.Margins.{AreMarginStyles, boxes_by, boxes_of_name, cells_in, filled, margin_style};
 ghost use Rattle.page_ctx.specs.Tables as spec;
 
 use crate::applied::{applied_to, page_declared};
-use crate::asked::{asked_names, is_asked, rules_of};
+use crate::asked::{asked_names, is_asked};
 use crate::cells::cell_by;
 use crate::classes::PageClasses;
+use crate::index::{OwnSelectors, SelectorIndex, index_of, own_selectors};
 use crate::margins::{BoxCells, MarginStyles, boxes_by};
 use crate::settings::page_setting;
 use bk_num::ids::NameId;
@@ -35,18 +37,18 @@ use style::names::Names;
 fn add_page<'s>(
     alloc: Global,
     boxes: &mut BoxCells<'s>,
-    rules: &[&'s PageRule],
+    own: &OwnSelectors<'s, '_>,
     initial: &'s [Name],
-    name: &str,
     classes: PageClasses,
 ) -> Result<PageCell, NoMem>
-    requires { initial.now ≡ initial_style.font_family }
-    ensures cell { IfOk result (λ cell. cell ≡ spec.page_cell (map (λ r. r.now) rules.now) name.now classes) }
+    requires own { AreOwn own.now }
+    requires initial { initial.now ≡ initial_style.font_family }
+    ensures cell { IfOk result (λ cell. cell ≡ spec.page_cell own.now.rules.now own.now.name.now classes) }
     ensures boxes { IfOk result (λ cell. cells_in boxes.new ≡
-        cells_in boxes.old ++ boxes_by (margin_style (map (λ r. r.now) rules.now) name.now classes) ∷ []) }
+        cells_in boxes.old ++ boxes_by (margin_style own.now.rules.now own.now.name.now classes) ∷ []) }
     ensures good { IfOk result (λ cell. IsGoodCell cell) }
 {
-    let applied = applied_to(alloc, name, classes, rules)?;
+    let applied = applied_to(alloc, classes, own)?;
     let declared = page_declared(alloc, &applied)?;
     let setting = page_setting(initial, &declared);
     let cell = cell_by(setting.size, &declared);
@@ -95,22 +97,22 @@ const A_BLANK_RIGHT_PAGE: PageClasses = PageClasses {
 fn add_name<'s>(
     alloc: Global,
     boxes: &mut BoxCells<'s>,
-    rules: &[&'s PageRule],
+    own: &OwnSelectors<'s, '_>,
     initial: &'s [Name],
-    name: &str,
 ) -> Result<PageRow, NoMem>
-    requires { initial.now ≡ initial_style.font_family }
-    ensures row { IfOk result (λ row. row ≡ spec.row_by (map (λ r. r.now) rules.now) name.now) }
+    requires own { AreOwn own.now }
+    requires initial { initial.now ≡ initial_style.font_family }
+    ensures row { IfOk result (λ row. row ≡ spec.row_by own.now.rules.now own.now.name.now) }
     ensures boxes { IfOk result (λ row. cells_in boxes.new ≡
-        cells_in boxes.old ++ boxes_of_name (map (λ r. r.now) rules.now) name.now) }
+        cells_in boxes.old ++ boxes_of_name own.now.rules.now own.now.name.now) }
     ensures good { IfOk result (λ row. AreGoodCells row) }
 {
-    let first = add_page(alloc, boxes, rules, initial, name, PAGE_1)?;
-    let left = add_page(alloc, boxes, rules, initial, name, A_LEFT_PAGE)?;
-    let right = add_page(alloc, boxes, rules, initial, name, A_RIGHT_PAGE)?;
-    let blank_first = add_page(alloc, boxes, rules, initial, name, BLANK_PAGE_1)?;
-    let blank_left = add_page(alloc, boxes, rules, initial, name, A_BLANK_LEFT_PAGE)?;
-    let blank_right = add_page(alloc, boxes, rules, initial, name, A_BLANK_RIGHT_PAGE)?;
+    let first = add_page(alloc, boxes, own, initial, PAGE_1)?;
+    let left = add_page(alloc, boxes, own, initial, A_LEFT_PAGE)?;
+    let right = add_page(alloc, boxes, own, initial, A_RIGHT_PAGE)?;
+    let blank_first = add_page(alloc, boxes, own, initial, BLANK_PAGE_1)?;
+    let blank_left = add_page(alloc, boxes, own, initial, A_BLANK_LEFT_PAGE)?;
+    let blank_right = add_page(alloc, boxes, own, initial, A_BLANK_RIGHT_PAGE)?;
     Ok(PageRow {
         cells: [first, left, right, blank_first, blank_left, blank_right],
     })
@@ -138,22 +140,23 @@ struct Rows<'s> {
 fn push_row<'s>(
     alloc: Global,
     rows: &mut Rows<'s>,
-    rules: &'s [PageRule],
+    index: &SelectorIndex<'s>,
     initial: &'s [Name],
     name: &str,
 ) -> Result<PageRow, NoMem>
-    requires { initial.now ≡ initial_style.font_family }
-    ensures row { IfOk result (λ row. row ≡ spec.row_by rules.entry.now name.now) }
+    requires index { IsIndex index.now }
+    requires initial { initial.now ≡ initial_style.font_family }
+    ensures row { IfOk result (λ row. row ≡ spec.row_by index.now.rules.now name.now) }
     ensures table { IfOk result (λ row. rows.new.table ≡
-        rows.old.table ++ spec.row_by rules.entry.now name.now ∷ []) }
+        rows.old.table ++ spec.row_by index.now.rules.now name.now ∷ []) }
     ensures boxes { IfOk result (λ row. map cells_in rows.new.boxes ≡
-        map cells_in rows.old.boxes ++ boxes_of_name rules.entry.now name.now ∷ []) }
+        map cells_in rows.old.boxes ++ boxes_of_name index.now.rules.now name.now ∷ []) }
     ensures good { All AreGoodCells rows.old.table → IfOk result (λ row. All AreGoodCells rows.new.table) }
     ensures good_row { IfOk result (λ row. AreGoodCells row) }
 {
-    let own = rules_of(alloc, name, rules)?;
+    let own = own_selectors(alloc, index, name)?;
     let mut boxes = Items::new(alloc);
-    let row = add_name(alloc, &mut boxes, &own, initial, name)?;
+    let row = add_name(alloc, &mut boxes, &own, initial)?;
     rows.boxes.push(boxes)?;
     rows.table.push(row)?;
     Ok(row)
@@ -163,20 +166,21 @@ fn push_row<'s>(
 fn push_own<'s>(
     alloc: Global,
     rows: &mut Rows<'s>,
-    rules: &'s [PageRule],
+    index: &SelectorIndex<'s>,
     initial: &'s [Name],
     name: &str,
 ) -> Result<(), NoMem>
+    requires index { IsIndex index.now }
     requires initial { initial.now ≡ initial_style.font_family }
-    requires first { slice_get (map cells_in rows.old.boxes) 0 ≡ Some (boxes_of_name rules.now []) }
-    ensures table { OnOk result (rows.new.table ≡ rows.old.table ++ spec.row_by rules.entry.now name.now ∷ []) }
+    requires first { slice_get (map cells_in rows.old.boxes) 0 ≡ Some (boxes_of_name index.now.rules.now []) }
+    ensures table { OnOk result (rows.new.table ≡ rows.old.table ++ spec.row_by index.now.rules.now name.now ∷ []) }
     ensures boxes { OnOk result (filled (map cells_in rows.new.boxes) ≡
-        filled (map cells_in rows.old.boxes) ++ boxes_of_name rules.entry.now name.now ∷ []) }
+        filled (map cells_in rows.old.boxes) ++ boxes_of_name index.now.rules.now name.now ∷ []) }
     ensures first { OnOk result (slice_get (map cells_in rows.new.boxes) 0 ≡
-        Some (boxes_of_name rules.entry.now [])) }
+        Some (boxes_of_name index.now.rules.now [])) }
     ensures good { All AreGoodCells rows.old.table → OnOk result (All AreGoodCells rows.new.table) }
 {
-    push_row(alloc, rows, rules, initial, name)?;
+    push_row(alloc, rows, index, initial, name)?;
     Ok(())
 }
 
@@ -202,26 +206,27 @@ fn has_rules(asked: &IndexSet<String>, name: &str) -> bool
 fn push_name<'s>(
     alloc: Global,
     rows: &mut Rows<'s>,
-    rules: &'s [PageRule],
+    index: &SelectorIndex<'s>,
     initial: &'s [Name],
     asked: &IndexSet<String>,
     row: PageRow,
     name: &str,
 ) -> Result<(), NoMem>
+    requires index { IsIndex index.now }
     requires initial { initial.now ≡ initial_style.font_family }
-    requires asked { map (λ k. string_bytes k) asked.now.keys ≡ fold with_name [] (all_asked rules.now) }
-    requires row { row ≡ spec.row_by rules.now [] }
+    requires asked { map (λ k. string_bytes k) asked.now.keys ≡ fold with_name [] (all_asked index.now.rules.now) }
+    requires row { row ≡ spec.row_by index.now.rules.now [] }
     requires good { AreGoodCells row }
-    requires first { slice_get (map cells_in rows.old.boxes) 0 ≡ Some (boxes_of_name rules.now []) }
-    ensures table { OnOk result (rows.new.table ≡ rows.old.table ++ spec.row_by rules.entry.now name.now ∷ []) }
+    requires first { slice_get (map cells_in rows.old.boxes) 0 ≡ Some (boxes_of_name index.now.rules.now []) }
+    ensures table { OnOk result (rows.new.table ≡ rows.old.table ++ spec.row_by index.now.rules.now name.now ∷ []) }
     ensures boxes { OnOk result (filled (map cells_in rows.new.boxes) ≡
-        filled (map cells_in rows.old.boxes) ++ boxes_of_name rules.entry.now name.now ∷ []) }
+        filled (map cells_in rows.old.boxes) ++ boxes_of_name index.now.rules.now name.now ∷ []) }
     ensures first { OnOk result (slice_get (map cells_in rows.new.boxes) 0 ≡
-        Some (boxes_of_name rules.entry.now [])) }
+        Some (boxes_of_name index.now.rules.now [])) }
     ensures good { All AreGoodCells rows.old.table → OnOk result (All AreGoodCells rows.new.table) }
 {
     if has_rules(asked, name) {
-        return push_own(alloc, rows, rules, initial, name);
+        return push_own(alloc, rows, index, initial, name);
     }
     push_same(alloc, rows, row)
 }
@@ -229,24 +234,27 @@ fn push_name<'s>(
 /// Number 0 is no name.
 fn rows_by<'s>(
     alloc: Global,
-    rules: &'s [PageRule],
+    index: &SelectorIndex<'s>,
     initial: &'s [Name],
+    asked: &IndexSet<String>,
     names: &Names,
 ) -> Result<Rows<'s>, NoMem>
-    requires { initial.now ≡ initial_style.font_family }
-    ensures table { IfOk result (λ rows. rows.table ≡ map (spec.row_by rules.entry.now) (spec.texts_of names.now)) }
+    requires index { IsIndex index.now }
+    requires initial { initial.now ≡ initial_style.font_family }
+    requires asked { map (λ k. string_bytes k) asked.now.keys ≡ fold with_name [] (all_asked index.now.rules.now) }
+    ensures table { IfOk result (λ rows. rows.table ≡
+        map (spec.row_by index.now.rules.now) (spec.texts_of names.now)) }
     ensures boxes { IfOk result (λ rows. filled (map cells_in rows.boxes) ≡
-        map (boxes_of_name rules.entry.now) (spec.texts_of names.now)) }
+        map (boxes_of_name index.now.rules.now) (spec.texts_of names.now)) }
     ensures good { IfOk result (λ rows. All AreGoodCells rows.table) }
 {
-    let asked = asked_names(alloc, rules)?;
     let table = Items::new(alloc);
     let boxes = Items::new(alloc);
     let mut rows = Rows { table, boxes };
-    let row = push_row(alloc, &mut rows, rules, initial, "")?;
+    let row = push_row(alloc, &mut rows, index, initial, "")?;
     for number in 1..names.len() {
         let name = text_at(names, number);
-        push_name(alloc, &mut rows, rules, initial, &asked, row, name)?;
+        push_name(alloc, &mut rows, index, initial, asked, row, name)?;
     }
     Ok(rows)
 }
@@ -272,7 +280,8 @@ impl PageStyles<'_> {
 
 /// The table of pages and the styles of margin boxes by rules in the order of the sheets: what the winning declarations
 /// give for each index, name and kind. `initial` are the initial families. It takes time in proportion to the names, to
-/// the names that selectors ask for times the page selectors, and to the declarations that apply.
+/// the page selectors, and, for each name that selectors ask for, to the selectors that take it and to the declarations of
+/// their rules.
 pub fn resolve<'s>(
     alloc: Global,
     rules: &'s [PageRule],
@@ -284,7 +293,9 @@ pub fn resolve<'s>(
     ensures good { IfOk result (λ styles. IsGoodTable styles.table.rows) }
     ensures boxes { IfOk result (λ styles. AreMarginStyles rules.entry.now names.now styles.boxes) }
 {
-    let rows = rows_by(alloc, rules, initial.as_slice(), names)?;
+    let asked = asked_names(alloc, rules)?;
+    let index = index_of(alloc, rules)?;
+    let rows = rows_by(alloc, &index, initial.as_slice(), &asked, names)?;
     Ok(PageStyles {
         table: PageTable { rows: rows.table },
         boxes: MarginStyles::of_names(rows.boxes),

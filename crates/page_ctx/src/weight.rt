@@ -1,9 +1,8 @@
 //! What decides between two declarations for a page.
 
-ghost use Rattle.std.specs.Prelude.{◌≡◌, None};
+ghost use Rattle.std.specs.Prelude.{◌≡◌};
 ghost use Rattle.page_ctx.specs.Weights as spec;
 
-use crate::classes::{PageClasses, takes};
 use css_page::selectors::PageSelector;
 use style::ranking::outranks;
 
@@ -49,7 +48,7 @@ impl PageWeight {
 }
 
 /// The specificity of a selector.
-fn specificity(selector: &PageSelector) -> PageWeight
+pub(crate) fn specificity(selector: &PageSelector) -> PageWeight
     ensures { result ≡ spec.specificity selector.now }
 {
     PageWeight {
@@ -61,7 +60,7 @@ fn specificity(selector: &PageSelector) -> PageWeight
 }
 
 /// The greater of two weights.
-fn greater(best: Option<PageWeight>, weight: PageWeight) -> Option<PageWeight>
+pub(crate) fn greater(best: Option<PageWeight>, weight: PageWeight) -> Option<PageWeight>
     ensures { result ≡ spec.greater best weight }
 {
     match best {
@@ -74,32 +73,4 @@ fn greater(best: Option<PageWeight>, weight: PageWeight) -> Option<PageWeight>
             }
         }
     }
-}
-
-/// The greatest specificity so far with that of one more selector, if it takes the page.
-fn with_selector(
-    name: &str,
-    classes: PageClasses,
-    best: Option<PageWeight>,
-    selector: &PageSelector,
-) -> Option<PageWeight>
-    ensures { result ≡ spec.with_selector name.now classes best selector.now }
-{
-    if takes(selector, name, classes) {
-        greater(best, specificity(selector))
-    } else {
-        best
-    }
-}
-
-/// The greatest specificity of the selectors that take the pages of a name with these pseudo-classes; None exactly
-/// where none does.
-pub fn greatest(name: &str, classes: PageClasses, selectors: &[PageSelector]) -> Option<PageWeight>
-    ensures { result ≡ spec.greatest name.now classes selectors.now }
-{
-    let mut best = None;
-    for selector in selectors {
-        best = with_selector(name, classes, best, selector);
-    }
-    best
 }

@@ -1,7 +1,11 @@
-use Rattle.std.proofs.Common.{◌≡◌, ◌++◌, map, drop}
-use Rattle.std.specs.List.{filter_map}
-use Rattle.page_ctx.specs.Winners.{applied_in, applied}
+use Rattle.std.proofs.Common.{◌≡◌, map, option_map, drop}
+use Rattle.std.specs.Prelude.{fold}
+use Rattle.page_ctx.specs.Index.{selector_in}
+use Rattle.page_ctx.specs.Winners.{applied_in, applied_to, numbered_in}
+use Rattle.page_ctx.proofs.AppliedLemmas.{all_rules, going, with_one}
 use Rattle.page_ctx.proofs.applied.applied_to.Given as goal
 
-abbrev pub invariant-loop-rule : goal.invariant-loop-rule
-invariant-loop-rule l = map applied_in l.found.items ++ filter_map (applied l.name l.classes) (map (λ r. r.now) (drop l.rule-index l.rules)) ≡ filter_map (applied l.name l.classes) (map (λ r. r.now) l.rules)
+abbrev pub invariant-loop-entry : goal.invariant-loop-entry
+invariant-loop-entry l =
+    all_rules (fold (with_one l.classes) (going (map applied_in l.found.items) (option_map numbered_in l.last)) (map selector_in (drop l.entry-index l.own.selectors.items)))
+    ≡ applied_to l.own.name.now l.classes l.own.rules.now

@@ -7,7 +7,7 @@ use Rattle.page_ctx.proofs.resolve.add_page.Goals as goal
 
 pub returns-clause-boxes : goal.returns-clause-boxes
 returns-clause-boxes c =
-    let rules : List AppliedPageRuleOf = applied_to c.args.name.now c.args.classes (map (λ r. r.now) c.args.rules.now) in
+    let rules : List AppliedPageRuleOf = applied_to c.args.own.now.name.now c.args.classes c.args.own.now.rules.now in
     let first : map applied_in c.deref.result.now ≡ rules = ap (map applied_in) c.deref.ensures.value ∙ c.in_ok-applied.ensures in
     let last : map applied_in c.deref-4.result.now ≡ rules = ap (map applied_in) c.deref-4.ensures.value ∙ c.in_ok-applied.ensures in
     let declared : map candidate_in c.deref-2.result.now ≡ page_declared rules = ap (map candidate_in) c.deref-2.ensures.value ∙ c.in_ok-declared.ensures ∙ ap page_declared first in

@@ -5,7 +5,7 @@ use Rattle.page_ctx.proofs.FilledLemmas.{filled-more}
 use Rattle.page_ctx.proofs.resolve.push_own.Goals as goal
 
 pub returns-clause-boxes : goal.returns-clause-boxes
-returns-clause-boxes c = ap filled c.in_ok-push_row.ensures.boxes ∙ filled-more (map cells_in c.args.rows.now.boxes) (boxes_of_name c.args.rules.now []) (boxes_of_name c.args.rules.now c.args.name.now) (boxes_of_name c.args.rules.now c.args.name.now) c.requires.first refl
+returns-clause-boxes c = ap filled c.in_ok-push_row.ensures.boxes ∙ filled-more (map cells_in c.args.rows.now.boxes) (boxes_of_name c.args.index.now.rules.now []) (boxes_of_name c.args.index.now.rules.now c.args.name.now) (boxes_of_name c.args.index.now.rules.now c.args.name.now) c.requires.first refl
 
 pub returns-clause-first : goal.returns-clause-first
 returns-clause-first c = ap (λ z. slice_get z 0) c.in_ok-push_row.ensures.boxes ∙ get-keep (map cells_in c.args.rows.now.boxes) _ 0 _ c.requires.first
