@@ -1,3 +1,4 @@
 pub mod Assigned
+pub mod Laws
 pub mod Shown
 pub mod StringFields

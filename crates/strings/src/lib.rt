@@ -2,5 +2,6 @@
 #![tactic(auto)]
 
 pub mod assigned;
+pub mod laws;
 mod named;
 pub mod shown;
