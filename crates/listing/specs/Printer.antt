@@ -1,20 +1,14 @@
--- What a printer stands for, what is asked of it, and what its pages print.
-use Rattle.std.specs.Prelude.{◌≡◌, ◌<◌, ◌^◌, ℕ, All, List, length}
-use Rattle.std.specs.List.{flat_map, range_with_len}
+-- What a printer stands for, and what is asked of it.
+use Rattle.std.specs.Prelude.{◌≡◌, ◌<◌, ◌^◌, All, length}
 use Rattle.boxes.specs.Table.{cell_in, cell_of, row_of}
-use Rattle.listing.specs.Pages.{page_records}
-use Rattle.margin_box.specs.Margins.{HasFace}
-use Rattle.metrics.specs.Face.{FontFace}
 use Rattle.page_ctx.specs.Margins.{style_of}
 use Rattle.boxes.specs.Frames.{IsPerPage}
 use Rattle.page_seq.specs.Folds.{fold_of}
 use Rattle.page_seq.specs.Numbers.{numbers_of}
 use Rattle.paint.specs.Conditions.{CanFlowBePainted}
 use Rattle.paint.specs.Order.{IsPageOf}
-use Rattle.paint.specs.Views.{HasItemFace}
 use Rattle.strings.specs.Assigned.{AreStrings}
-use Rattle.listing.specs.Printed.{Print, page_bytes}
-use Rattle.listing.specs.declared.pages.PrintedPage.{PrintedPage}
+use Rattle.listing.specs.Printed.{Print}
 use Rattle.listing.specs.declared.pages.Printer.{Printer}
 
 -- the page boxes and the styles of margin boxes stand in a table
@@ -40,24 +34,3 @@ pub record CanPrint (p : Printer) : Type 0 where
   pub numbers : p.numbers.now ≡ numbers_of p.flow.now.main p.list.now.pages p.flow.now.resets
   pub strings : AreStrings p.flow.now.main p.list.now.pages p.flow.now.strings p.strings.now
   pub few : length p.list.now.pages < 2 ^ 31
-
--- the records that a page prints
-abbrev pub page_in : List FontFace → PrintedPage → List ℕ
-page_in faces q = page_records faces q.head q.items.items q.texts.items
-
--- the faces that its items and texts name are there
-pub record IsGoodPage (faces : List FontFace) (q : PrintedPage) : Type 0 where
-  pub items : All (HasItemFace faces) q.items.items
-  pub texts : All (HasFace faces) q.texts.items
-
--- a page prints what the page at a place of the list does
-pub record IsPrinted (p : Printer) (place : ℕ) (q : PrintedPage) : Type 0 where
-  pub bytes : page_in p.faces.now q ≡ page_bytes (view_of p) p.list.now.pages place
-  pub good : IsGoodPage p.faces.now q
-
--- pages print what those of the list do, one after the other
-pub record ArePrinted (p : Printer) (qs : List PrintedPage) : Type 0 where
-  pub count : length qs ≡ length p.list.now.pages
-  pub bytes : flat_map (page_in p.faces.now) qs ≡ flat_map (page_bytes (view_of p) p.list.now.pages)
-      (range_with_len 0 (length p.list.now.pages))
-  pub good : All (IsGoodPage p.faces.now) qs

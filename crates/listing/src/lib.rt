@@ -2,6 +2,7 @@
 #![tactic(auto)]
 
 mod fields;
+mod listing_bytes;
 pub mod pages;
 pub mod print;
 pub mod records;

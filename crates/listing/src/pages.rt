@@ -1,6 +1,6 @@
 //! What the pages of a list print.
 
-ghost use Rattle.std.specs.Prelude.{◌≡◌, ◌<◌, Some, length, slice_get, unwrap_or, pos, All, IfOk};
+ghost use Rattle.std.specs.Prelude.{◌≡◌, ◌<◌, Some, length, slice_get, unwrap_or, pos, All, IfOk, OnOk};
 ghost use Rattle.boxes.specs.Frames.{side_of};
 ghost use Rattle.listing.specs.Pages.{head_record};
 ghost use Rattle.margin_box.specs.Conditions.{CanShowMargins};
@@ -12,7 +12,7 @@ ghost use Rattle.paint.specs.Order.{IsPageOf};
 ghost use Rattle.paint.specs.Pages.{items_of};
 ghost use Rattle.paint.specs.Views.{HaveItemFaces, items_in};
 ghost use Rattle.listing.specs.Printed.{head_at, items_at, margins_of, page_name, page_numbers};
-ghost use Rattle.listing.specs.Printer.{ArePrinted, CanPrint, IsPrinted, view_of};
+ghost use Rattle.listing.specs.Printer.{CanPrint, view_of};
 
 use crate::records::PageHead;
 use bk_num::name::NoMem;
@@ -47,14 +47,6 @@ pub struct Printer<'a> {
     pub styles: &'a PageStyles<'a>,
 }
 
-/// What a page prints: its record, the items on it, and the texts of its margin boxes.
-#[derive(Drop)]
-pub(crate) struct PrintedPage<'a> {
-    pub(crate) head: PageHead<'a>,
-    pub(crate) items: Vec<ItemRef<'a>>,
-    pub(crate) texts: Vec<MarginText>,
-}
-
 /// The text of a page's name, which is empty for no name.
 fn name_of<'a>(names: &'a Names, page: &Page) -> &'a str
     ensures { result.now ≡ page_name names.now page.now.name }
@@ -75,7 +67,7 @@ fn number_of(printer: &Printer<'_>, place: usize) -> i64
 }
 
 /// The record of the page at a place of the list.
-fn head_of<'a>(printer: &Printer<'a>, page: &Page, place: usize) -> PageHead<'a>
+pub(crate) fn head_of<'a>(printer: &Printer<'a>, page: &Page, place: usize) -> PageHead<'a>
     requires { CanPrint printer.now }
     ensures { head_record result ≡ head_at (view_of printer.now) printer.now.list.now.pages place page.now }
 {
@@ -110,7 +102,7 @@ fn margins_of<'a>(printer: &Printer<'a>) -> Margins<'a>
 }
 
 /// The texts in the margin boxes of the page at a place of the list.
-fn margin_texts(
+pub(crate) fn margin_texts(
     alloc: Global,
     printer: &Printer<'_>,
     place: usize,
@@ -125,80 +117,47 @@ fn margin_texts(
 }
 
 /// The page at a place of a list.
-fn page_at(pages: &[Page], place: usize) -> &Page
+pub(crate) fn page_at(pages: &[Page], place: usize) -> &Page
     requires { place < length pages.now }
     ensures { slice_get pages.now place ≡ Some result.now }
 {
     &pages[place]
 }
 
-/// The items on some frames, frame after frame.
-fn items_on<'a>(
+/// Replaces the items of a list by those on some frames, frame after frame.
+fn refill_from<'a>(
     alloc: Global,
     printer: &Printer<'a>,
     frames: &[Page],
-) -> Result<Vec<ItemRef<'a>>, NoMem>
+    items: &mut Vec<ItemRef<'a>>,
+) -> Result<(), NoMem>
     requires flow { CanFlowBePainted printer.now.faces.now printer.now.flow.now }
     requires pages { All (IsPageOf printer.now.flow.now) frames.now }
-    ensures items { IfOk result (λ v. items_in printer.now.faces.now v.items ≡
+    ensures items { OnOk result (items_in printer.now.faces.now items.new.items ≡
         flat_map (items_of printer.now.faces.now printer.now.flow.now) frames.now) }
-    ensures faces { IfOk result (λ v. HaveItemFaces printer.now.faces.now v.items) }
+    ensures faces { OnOk result (HaveItemFaces printer.now.faces.now items.new.items) }
 {
-    let mut items = Vec::new(alloc);
+    items.clear();
     for frame in frames {
-        push_items(alloc, &mut items, printer.flow, printer.faces, frame)?;
+        push_items(alloc, items, printer.flow, printer.faces, frame)?;
     }
-    Ok(items)
+    Ok(())
 }
 
-/// What stands on the page at a place.
-fn items_at<'a>(
+/// Replaces the items of a list by what stands on the page at a place.
+pub(crate) fn refill_items<'a>(
     alloc: Global,
     printer: &Printer<'a>,
     place: usize,
-) -> Result<Vec<ItemRef<'a>>, NoMem>
+    items: &mut Vec<ItemRef<'a>>,
+) -> Result<(), NoMem>
     requires printer { CanPrint printer.now }
     requires place { place < length printer.now.list.now.pages }
-    ensures items { IfOk result (λ v. items_in printer.now.faces.now v.items ≡ items_at (view_of printer.now) place) }
-    ensures faces { IfOk result (λ v. HaveItemFaces printer.now.faces.now v.items) }
+    ensures items { OnOk result (items_in printer.now.faces.now items.new.items ≡ items_at (view_of printer.now) place) }
+    ensures faces { OnOk result (HaveItemFaces printer.now.faces.now items.new.items) }
 {
     folds_keep_all();
     let frames = printer.frames.pages.as_slice();
-    items_on(
-        alloc,
-        printer,
-        frames_on(frames, printer.per as usize, place),
-    )
-}
-
-/// What the page at a place of the list prints.
-fn printed<'a>(alloc: Global, printer: &Printer<'a>, place: usize) -> Result<PrintedPage<'a>, NoMem>
-    requires printer { CanPrint printer.now }
-    requires place { place < length printer.now.list.now.pages }
-    ensures { IfOk result (λ q. IsPrinted printer.now place q) }
-{
-    let page = page_at(printer.list.pages.as_slice(), place);
-    let items = items_at(alloc, printer, place)?;
-    let texts = margin_texts(alloc, printer, place)?;
-    Ok(PrintedPage {
-        head: head_of(printer, page, place),
-        items,
-        texts,
-    })
-}
-
-/// What the pages print, in order.
-pub(crate) fn printed_pages<'a>(
-    alloc: Global,
-    printer: &Printer<'a>,
-) -> Result<Vec<PrintedPage<'a>>, NoMem>
-    requires { CanPrint printer.now }
-    ensures { IfOk result (λ v. ArePrinted printer.now v.items) }
-{
-    let count = printer.list.pages.as_slice().len();
-    let mut pages = Vec::new(alloc);
-    for place in 0..count {
-        pages.push(printed(alloc, printer, place)?)?;
-    }
-    Ok(pages)
+    let on_page = frames_on(frames, printer.per as usize, place);
+    refill_from(alloc, printer, on_page, items)
 }

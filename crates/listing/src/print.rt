@@ -1,17 +1,18 @@
 //! Prints a page list to a sink.
 
-ghost use Rattle.std.specs.Prelude.{◌≡◌, ◌<◌, ◌^◌, All, length};
-ghost use Rattle.std.specs.List.{flat_map};
-ghost use Rattle.bk_io.specs.Sink.{AppendsAllOrPrefix, HasCause};
-ghost use Rattle.listing.specs.Printed.{listing_of};
-ghost use Rattle.listing.specs.Printer.{ArePrinted, CanPrint, IsGoodPage, page_in, view_of};
+ghost use Rattle.std.specs.Prelude.{◌≡◌, ◌++◌, ◌<◌, length, IfOk, IsOk, OnOk};
+ghost use Rattle.std.specs.List.{flat_map, range_with_len};
+ghost use Rattle.listing.specs.Printed.{listing_of, page_bytes};
+ghost use Rattle.listing.specs.Printer.{CanPrint, view_of};
 ghost use Rattle.listing.specs.Puts.{HasPutCause, Puts};
 
-use crate::pages::{PrintedPage, Printer, printed_pages};
+use crate::listing_bytes::ListingBytes;
+use crate::pages::{Printer, head_of, margin_texts, page_at, refill_items};
 use crate::write::{write_end, write_head, write_page};
+use bk_io::put_all::put_all;
 use bk_io::sink::{Failed, Sink};
 use bk_num::name::NoMem;
-use metrics::Faces;
+use paint::item::ItemRef;
 use std::alloc::Global;
 use thiserror::Error;
 
@@ -46,61 +47,76 @@ impl From<Failed> for PrintErr {
     }
 }
 
+/// The answer of a write into memory, which fails only where none is left.
+fn kept(written: Result<(), Failed>) -> Result<(), NoMem>
+    ensures { OnOk result (IsOk written) }
+{
+    written.map_err(|_| NoMem)
+}
+
 /// How many pages there are.
-fn count_of(pages: &[PrintedPage<'_>]) -> u32
-    requires { length pages.now < 2 ^ 31 }
-    ensures { result ≡ length pages.now }
+fn count_of(printer: &Printer<'_>) -> u32
+    requires { CanPrint printer.now }
+    ensures { result ≡ length printer.now.list.now.pages }
 {
-    pages.len() as u32
+    printer.list.pages.as_slice().len() as u32
 }
 
-/// Writes a page.
-fn put_page<O: Sink>(out: &mut O, faces: &Faces, page: &PrintedPage<'_>) -> Result<(), Failed>
-    requires { IsGoodPage faces.now page.now }
-    ensures bytes { AppendsAllOrPrefix (O.taken out.old) (O.taken out.new) (page_in faces.now page.now) result }
-    ensures cause { HasCause (O.faults out.old) (O.faults out.new) result }
+/// Adds the page at a place of the list to a listing. Its items take the memory of those of the page before it.
+fn add_page<'a>(
+    alloc: Global,
+    printer: &Printer<'a>,
+    place: usize,
+    items: &mut Vec<ItemRef<'a>>,
+    listing: &mut ListingBytes,
+) -> Result<(), NoMem>
+    requires printer { CanPrint printer.now }
+    requires place { place < length printer.now.list.now.pages }
+    ensures { OnOk result (listing.new.bytes.items ≡ listing.old.bytes.items
+        ++ page_bytes (view_of printer.now) printer.now.list.now.pages place) }
 {
-    write_page(
-        out,
-        faces,
-        page.head,
-        page.items.as_slice(),
-        page.texts.as_slice(),
-    )
+    let page = page_at(printer.list.pages.as_slice(), place);
+    let head = head_of(printer, page, place);
+    refill_items(alloc, printer, place, items)?;
+    let texts = margin_texts(alloc, printer, place)?;
+    kept(write_page(
+        listing,
+        printer.faces,
+        head,
+        items.as_slice(),
+        texts.as_slice(),
+    ))
 }
 
-/// Writes pages one after the other.
-fn put_pages<O: Sink>(out: &mut O, faces: &Faces, pages: &[PrintedPage<'_>]) -> Result<(), Failed>
-    requires { All (IsGoodPage faces.now) pages.now }
-    ensures bytes { AppendsAllOrPrefix (O.taken out.old) (O.taken out.new)
-        (flat_map (page_in faces.now) pages.now) result }
-    ensures cause { HasCause (O.faults out.old) (O.faults out.new) result }
+/// Adds the pages of the list to a listing, one after the other.
+fn add_pages(alloc: Global, printer: &Printer<'_>, listing: &mut ListingBytes) -> Result<(), NoMem>
+    requires { CanPrint printer.now }
+    ensures { OnOk result (listing.new.bytes.items ≡ listing.old.bytes.items
+        ++ flat_map (page_bytes (view_of printer.now) printer.now.list.now.pages)
+        (range_with_len 0 (length printer.now.list.now.pages))) }
 {
-    for page in pages {
-        put_page(out, faces, page)?;
+    let count = printer.list.pages.as_slice().len();
+    let mut items = Vec::new(alloc);
+    for place in 0..count {
+        add_page(alloc, printer, place, &mut items, listing)?;
     }
     Ok(())
 }
 
-/// Writes the listing of pages that are made.
-fn put_listing<O: Sink>(
-    out: &mut O,
-    printer: &Printer<'_>,
-    pages: &[PrintedPage<'_>],
-) -> Result<(), Failed>
-    requires printer { CanPrint printer.now }
-    requires pages { ArePrinted printer.now pages.now }
-    ensures bytes { AppendsAllOrPrefix (O.taken out.old) (O.taken out.new)
-        (listing_of (view_of printer.now) printer.now.list.now.pages) result }
-    ensures cause { HasCause (O.faults out.old) (O.faults out.new) result }
+/// The listing of a page list.
+fn listing_of(alloc: Global, printer: &Printer<'_>) -> Result<ListingBytes, NoMem>
+    requires { CanPrint printer.now }
+    ensures { IfOk result (λ l. l.bytes.items ≡ listing_of (view_of printer.now) printer.now.list.now.pages) }
 {
-    write_head(out, count_of(pages), printer.passes)?;
-    put_pages(out, printer.faces, pages)?;
-    write_end(out)
+    let mut listing = ListingBytes::new(alloc);
+    kept(write_head(&mut listing, count_of(printer), printer.passes))?;
+    add_pages(alloc, printer, &mut listing)?;
+    kept(write_end(&mut listing))?;
+    Ok(listing)
 }
 
-/// Puts the listing of a page list, page by page. What the pages print is made before the first put, and nothing takes
-/// memory from then on.
+/// Puts the listing of a page list. All of it is made in memory before the first put; what a page prints is made, written
+/// there, and let go before the next page.
 ///
 /// # Errors
 ///
@@ -111,7 +127,7 @@ pub fn print<O: Sink>(alloc: Global, printer: &Printer<'_>, out: &mut O) -> Resu
         (listing_of (view_of printer.now) printer.now.list.now.pages) result }
     ensures cause { HasPutCause (O.faults out.old) (O.faults out.new) result }
 {
-    let pages = printed_pages(alloc, printer)?;
-    put_listing(out, printer, &pages)?;
+    let listing = listing_of(alloc, printer)?;
+    put_all(out, listing.as_slice())?;
     Ok(())
 }

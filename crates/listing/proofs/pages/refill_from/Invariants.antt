@@ -2,7 +2,7 @@ use Rattle.std.proofs.Common.{◌≡◌, take}
 use Rattle.std.specs.List.{flat_map}
 use Rattle.paint.specs.Pages.{items_of}
 use Rattle.paint.specs.Views.{HaveItemFaces, items_in}
-use Rattle.listing.proofs.pages.items_on.Given as goal
+use Rattle.listing.proofs.pages.refill_from.Given as goal
 
 abbrev pub invariant-loop-frame : goal.invariant-loop-frame
 invariant-loop-frame l = record {
