@@ -13,7 +13,7 @@ use Rattle.book.specs.Answer.{Book, IsBookOf, output_of, print_of}
 use Rattle.page_seq.specs.Folds.{fold_of}
 use Rattle.book.specs.Document.{Document, IsGoodGrid}
 use Rattle.book.specs.declared.document.ColumnGrid.{ColumnGrid}
-use Rattle.book.specs.Flow.{HasEnd, IsWorkOf, page_frames, work_by}
+use Rattle.book.specs.Flow.{HasEnd, IsWorkOf, asked_of, page_frames, work_by}
 use Rattle.book.specs.Keeps.{IsWholeBook}
 use Rattle.book.specs.Laid.{EndSo, IsBookBy, IsStyledOf, StopsBy, WritesBy, of_print, work_in}
 use Rattle.book.specs.Run.{IsOfBook, PutsOnlyABook, Writes}
@@ -42,6 +42,7 @@ module _ (d : Document) (s : Styled) (is : IsStyledOf d s) where
         nodes = is.nodes i;
         rows = s.styles;
         values = values i;
+        asked = asked_of s.rules;
         faces = is.faces i;
         points = is.points i;
         frames = page_frames s.rules s.names (is.grid i);

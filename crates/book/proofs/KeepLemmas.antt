@@ -22,8 +22,8 @@ KeepsEnd w long = Unit {0}
 KeepsEnd w many = Unit {0}
 
 -- the notes of a flow are those of the note elements
-of-elements : (w : Work) (table : List Entry) (flow : Flow) (is : IsFlowUnder w table flow) → AreNotesOf (source_for w is.texts) flow.notes
-of-elements w table flow is = subst (λ (f : Flow). AreNotesOf (source_for w is.texts) f.notes) (sym is.is) (notes-are (source_for w is.texts))
+of-elements : (w : Work) (table : List Entry) (flow : Flow) → IsFlowUnder w table flow → AreNotesOf (source_for w table) flow.notes
+of-elements w table flow is = subst (λ (f : Flow). AreNotesOf (source_for w table) f.notes) (sym is.is) (notes-are (source_for w table))
 
 last_keeps : PageLaws → (w : Work) → HaveWidths w.frames → IsPerPage w.per → (limit k : ℕ) (table : List Entry) (end : End) → IsLast w limit k table end → KeepsEnd w end
 last_keeps laws w wide per limit k table _ (settles flow pages pass) = λ can. record {

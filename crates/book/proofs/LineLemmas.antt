@@ -15,7 +15,7 @@ use Rattle.sheets.specs.Readings.{SheetOf}
 use Rattle.soft_hyphens.specs.Words.{Points, points_in}
 use Rattle.book.specs.Document.{Document, Texts, document_of}
 use Rattle.book.specs.Expect.{Expect, free, refused, given, IsGiven, IsRefusedUnlessMemory, ◌>>=◌}
-use Rattle.book.specs.Flow.{page_frames}
+use Rattle.book.specs.Flow.{asked_of, page_frames}
 use Rattle.book.specs.Laid.{StopsBy, of_passes, of_print}
 use Rattle.book.specs.Lines.{EndsInFew, FillsFew, MeetsInFew, SettlesInFew, TakesFewBy}
 use Rattle.book.specs.Request.{Task}
@@ -27,11 +27,11 @@ use Rattle.book.proofs.PassLemmas.{work_with}
 use Rattle.book.proofs.Stopping.{after_given}
 
 -- ---- passes in the frames of a document's page rules
-pub few_in : (s : Styled) (points : Option Points) (frames : PageFrames) (per : ℕ) (passes old new : ℕ) → points ≡ points_in s.patterns → frames ≡ page_frames s.rules s.names s.grid → per ≡ s.grid.columns → (targets : List NodeId) → AreTargets s.dom s.styles targets → TakesFewSteps (work_with s points targets frames per) passes old new → TakesFewBy s passes old new
-few_in s points frames per passes old new by same count targets are few = record {
+pub few_in : (s : Styled) (asked : List (List ℕ)) (points : Option Points) (frames : PageFrames) (per : ℕ) (passes old new : ℕ) → asked ≡ asked_of s.rules → points ≡ points_in s.patterns → frames ≡ page_frames s.rules s.names s.grid → per ≡ s.grid.columns → (targets : List NodeId) → AreTargets s.dom s.styles targets → TakesFewSteps (work_with s asked points targets frames per) passes old new → TakesFewBy s passes old new
+few_in s asked points frames per passes old new names by same count targets are few = record {
   targets = targets;
   are = are;
-  few = subst (λ (w : Work). TakesFewSteps w passes old new) (λ i. work_with s (by i) targets (same i) (count i)) few;
+  few = subst (λ (w : Work). TakesFewSteps w passes old new) (λ i. work_with s (names i) (by i) targets (same i) (count i)) few;
 }
 
 pub unsettled_few : (s : Styled) (input : Input) (frames : PageFrames) (per old new : ℕ) → (HaveLooked input frames per s.passes old new → TakesFewBy s s.passes old new) → (e : PassErr) → LookWithin input frames per s.passes (Err e) old new → SettlesInFew s (Err (of_passes e)) old new

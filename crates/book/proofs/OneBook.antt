@@ -90,17 +90,15 @@ module _ (reading : HaveOneReading) (styles : StylesAreOne) (one_targets : Targe
   pub one_end_of : HasOneEnd
   one_end_of d a b tree x y =
       let work = one_work d x.rules y.rules x.names y.names x.work y.work tree x.of y.of in
-      let nodes : IsTree y.work.nodes = subst (λ (w : Work). IsTree w.nodes) (sym y.of.is) tree in
-      one_end y.work d.passes a b nodes (subst (λ (w : Work). EndsIn w d.passes a) work x.ends) y.ends
+      one_end y.work d.passes a b (subst (λ (w : Work). EndsIn w d.passes a) work x.ends) y.ends
 
   pub one_book : HasOneBook
   one_book d b c tree x y =
       let rules = one_rules d x.rules y.rules x.names y.names x.work y.work x.of y.of in
       let names = one_names d x.rules y.rules x.names y.names x.work y.work tree x.of y.of in
       let work = one_work d x.rules y.rules x.names y.names x.work y.work tree x.of y.of in
-      let nodes : IsTree y.work.nodes = subst (λ (w : Work). IsTree w.nodes) (sym y.of.is) tree in
       let ends : EndsIn y.work d.passes (settled b.passes x.flow x.frames x.table) = subst (λ (w : Work). EndsIn w d.passes (settled b.passes x.flow x.frames x.table)) work x.settles in
-      let end : settled b.passes x.flow x.frames x.table ≡ settled c.passes y.flow y.frames y.table = one_end y.work d.passes (settled b.passes x.flow x.frames x.table) (settled c.passes y.flow y.frames y.table) nodes ends y.settles in
+      let end : settled b.passes x.flow x.frames x.table ≡ settled c.passes y.flow y.frames y.table = one_end y.work d.passes (settled b.passes x.flow x.frames x.table) (settled c.passes y.flow y.frames y.table) ends y.settles in
       let passes : b.passes ≡ c.passes = ap passes_of end in
       let flow : x.flow ≡ y.flow = ap (flow_or x.flow) end in
       let list : x.frames ≡ y.frames = ap pages_of end in

@@ -12,7 +12,7 @@ use Rattle.passes.specs.Passes.{End, EndsIn, IsLast, settled, unsettled, long, m
 use Rattle.passes.specs.Work.{Work}
 use Rattle.book.specs.Answer.{Book, IsBookOf}
 use Rattle.book.specs.Document.{Document}
-use Rattle.book.specs.Flow.{IsWorkOf, gap_units, page_frames, whole_frames, work_by}
+use Rattle.book.specs.Flow.{IsWorkOf, asked_of, gap_units, page_frames, whole_frames, work_by}
 use Rattle.book.specs.Laws.{HasOneBook, OneColumnHasNoGap, OneColumnIsThePage, with_gap}
 use Rattle.book.specs.declared.document.ColumnGrid.{ColumnGrid}
 use Rattle.book.proofs.ColumnLemmas.{one_column}
@@ -53,6 +53,7 @@ work_is d gap rules names w one of =
       nodes = d.nodes;
       rows = of.rows;
       values = values_of d.nodes of.rows;
+      asked = asked_of rules;
       faces = d.faces;
       points = d.points;
       frames = frames i;

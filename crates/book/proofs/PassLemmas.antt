@@ -15,19 +15,19 @@ use Rattle.columns.specs.declared.columns.Columns.{Columns}
 use Rattle.page_ctx.specs.declared.resolve.PageStyles.{PageStyles}
 use Rattle.soft_hyphens.specs.Words.{Points, points_in}
 use Rattle.book.specs.Document.{IsGoodGrid}
-use Rattle.book.specs.Flow.{gap_units, page_frames}
+use Rattle.book.specs.Flow.{asked_of, gap_units, page_frames}
 use Rattle.book.specs.Laid.{AreBoxesOf, AreColumnsOf, EndSo, StopsBy, of_passes, work_in}
 use Rattle.book.specs.declared.styled.Styled.{Styled}
 use Rattle.book.proofs.Tables.{frames_are}
 
-abbrev pub work_with : Styled → Option Points → List NodeId → PageFrames → ℕ → Work
-work_with s points targets frames per = record (work_in s targets) { points = points; frames = frames; per = per }
+abbrev pub work_with : Styled → List (List ℕ) → Option Points → List NodeId → PageFrames → ℕ → Work
+work_with s asked points targets frames per = record (work_in s targets) { asked = asked; points = points; frames = frames; per = per }
 
-pub in_frames : (s : Styled) (points : Option Points) (frames : PageFrames) (per : ℕ) (end : End) → points ≡ points_in s.patterns → frames ≡ page_frames s.rules s.names s.grid → per ≡ s.grid.columns → (targets : List NodeId) → AreTargets s.dom s.styles targets → EndsIn (work_with s points targets frames per) s.passes end → EndSo s end
-in_frames s points frames per end by same count targets are ends = record {
+pub in_frames : (s : Styled) (asked : List (List ℕ)) (points : Option Points) (frames : PageFrames) (per : ℕ) (end : End) → asked ≡ asked_of s.rules → points ≡ points_in s.patterns → frames ≡ page_frames s.rules s.names s.grid → per ≡ s.grid.columns → (targets : List NodeId) → AreTargets s.dom s.styles targets → EndsIn (work_with s asked points targets frames per) s.passes end → EndSo s end
+in_frames s asked points frames per end names by same count targets are ends = record {
   targets = targets;
   are = are;
-  ends = subst (λ (w : Work). EndsIn w s.passes end) (λ i. work_with s (by i) targets (same i) (count i)) ends;
+  ends = subst (λ (w : Work). EndsIn w s.passes end) (λ i. work_with s (names i) (by i) targets (same i) (count i)) ends;
 }
 
 pub stops_by : (s : Styled) (input : Input) (frames : PageFrames) (per : ℕ) → ((end : End) → HasEnd input frames per s.passes end → EndSo s end) → (e : PassErr) → Settles input frames per s.passes (Err e) → StopsBy s (of_passes e)

@@ -1,6 +1,7 @@
 -- What the passes over a document read, and how they end.
-use Rattle.std.specs.Prelude.{◌≡◌, ℕ, ◌*◌, ℤ, pos, List}
+use Rattle.std.specs.Prelude.{◌≡◌, ℕ, ◌*◌, ℤ, pos, List, [], fold}
 use Rattle.std.specs.List.{AllZip}
+use Rattle.bk_num.specs.Names.{with_name}
 use Rattle.bk_num.specs.declared.ids.NodeId.{NodeId}
 use Rattle.boxes.specs.Frames.{column_at, meets_by, meets_by_parity, page_at, PageFrames}
 use Rattle.cascade.specs.declared.sheet.ReadSheet.{ReadSheet}
@@ -10,6 +11,7 @@ use Rattle.counters.specs.Document.{values_of}
 use Rattle.css_page.specs.declared.rules.PageRule.{PageRule}
 use Rattle.gen_text.specs.References.{AreTargets, IsNamed}
 use Rattle.page_ctx.specs.Selectors.{classes_of}
+use Rattle.page_ctx.specs.Strings.{all_running}
 use Rattle.page_ctx.specs.Tables.{page_cell, text_of}
 use Rattle.passes.specs.Passes.{End, EndsIn}
 use Rattle.passes.specs.Work.{Work}
@@ -54,14 +56,19 @@ pub record AreStylesBy (d : Document) (names : List (List ℕ)) (rows : List Nod
   pub read : AllZip IsReadFrom (sources_of (texts_of d)) sheets
   pub styles : AreDocumentStyles names d.nodes sheets rows
 
+-- the names of the strings that the margin boxes of page rules ask for, each once (css-gcpm-3, string())
+abbrev pub asked_of : List PageRule → List (List ℕ)
+asked_of rules = fold with_name [] (all_running rules)
+
 -- what the passes over a document read: its nodes in their styles, the values of its counters by them (CSS 2.1, 12.4),
--- its faces, the points of its words, the columns of the frames that its page rules give, and the elements that its
--- page references lead to
+-- the names of the strings that its page rules ask for, its faces, the points of its words, the columns of the frames
+-- that its page rules give, and the elements that its page references lead to
 abbrev pub work_by : Document → List PageRule → List (List ℕ) → List NodeStyles → List NodeId → Work
 work_by d rules names rows targets = record {
   nodes = d.nodes;
   rows = rows;
   values = values_of d.nodes rows;
+  asked = asked_of rules;
   faces = d.faces;
   points = d.points;
   frames = page_frames rules names d.grid;

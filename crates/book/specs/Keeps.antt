@@ -51,7 +51,7 @@ pub record Keeps (w : Work) (flow : Flow) (frames : List Page) (table : List Ent
   -- the texts of the flow print the numbers of a table
   pub printed : IsFlowUnder w table flow
   -- the notes of the flow are those of the note elements that are shown, one each, in tree order
-  pub elements : AreNotesOf (source_for w printed.texts) flow.notes
+  pub elements : AreNotesOf (source_for w table) flow.notes
   -- the table is the one that these very pages show
   pub shown : table ≡ table_of flow (fold_of w.per frames) w.targets
 

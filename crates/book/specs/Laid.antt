@@ -31,7 +31,7 @@ use Rattle.passes.specs.declared.settle.PassErr.{PassErr}
 use Rattle.passes.specs.declared.settle.PassErr.TheVariants as err
 use Rattle.book.specs.Answer.{Book, output_of, print_of}
 use Rattle.book.specs.Document.{Document, IsGoodGrid}
-use Rattle.book.specs.Flow.{AreRulesOf, AreStylesBy, page_frames}
+use Rattle.book.specs.Flow.{AreRulesOf, AreStylesBy, asked_of, page_frames}
 use Rattle.book.specs.declared.lay_out.Done.{Done}
 use Rattle.book.specs.declared.outcome.LimitOf.TheVariants as limit
 use Rattle.book.specs.declared.outcome.Outcome.{Outcome}
@@ -98,6 +98,7 @@ work_in s targets = record {
   nodes = s.dom;
   rows = s.styles;
   values = counter_values s.counters;
+  asked = asked_of s.rules;
   faces = s.faces;
   points = points_in s.patterns;
   frames = page_frames s.rules s.names s.grid;

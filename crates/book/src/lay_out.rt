@@ -1,6 +1,6 @@
 //! Lays a document out, and puts what is asked for of its book.
 
-ghost use Rattle.std.specs.Prelude.{◌≡◌, ◌<◌, ◌≤◌, All, IfOk, IfErr, length, option_map};
+ghost use Rattle.std.specs.Prelude.{◌≡◌, ◌<◌, ◌≤◌, All, IfOk, IfErr, length, map, option_map, string_bytes};
 ghost use Rattle.bk_io.specs.Causes.{Rose};
 ghost use Rattle.bk_num.specs.Limits.{most_pages};
 ghost use Rattle.boxes.specs.Frames.{IsPerPage};
@@ -12,7 +12,7 @@ ghost use Rattle.listing.specs.Puts.{HasPutCause, Puts};
 ghost use Rattle.page_seq.specs.Folds.{fold_of};
 ghost use Rattle.book.specs.Document.{IsGoodGrid};
 ghost use Rattle.book.specs.DocumentView.{document_in, HasSheets};
-ghost use Rattle.book.specs.Flow.{gap_units};
+ghost use Rattle.book.specs.Flow.{asked_of, gap_units};
 ghost use Rattle.book.specs.Laid.{AreBoxesOf, AreColumnsOf, AreGoodStyles, CanPut, EndSo, StopsBy, WritesBy, listing_by, outcome_of, output_by};
 ghost use Rattle.book.specs.Laws.{PageLaws};
 ghost use Rattle.book.specs.Lines.{EndsInFew, FillsFew, SettlesInFew};
@@ -28,9 +28,11 @@ use bk_num::steps::Steps;
 use boxes::page::PageList;
 use columns::columns::Columns;
 use hyphen::Patterns;
+use indexmap::IndexSet;
 use listing::pages::Printer;
 use listing::print::{PrintErr, print};
 use page_ctx::resolve::{PageStyles, resolve};
+use page_ctx::strings_asked::asked_strings;
 use page_list::laws::{
     breaks_hold, main_stands_once, notes_begin_in_time, notes_stand_once, pages_end_inside,
 };
@@ -136,6 +138,39 @@ fn patterns_of(styled: &Styled) -> Option<&Patterns>
     }
 }
 
+/// The flow whose page references print the numbers of its own pages, with its frames, where pages ask for these
+/// strings.
+fn settle_asked<L: Ledger>(
+    alloc: Global,
+    styled: &Styled,
+    boxes: &PageStyles<'_>,
+    asked: &IndexSet<String>,
+    steps: &mut Steps<L>,
+) -> Result<Settled, Outcome>
+    requires passes { 0 < styled.now.passes }
+    requires grid { IsGoodGrid styled.now.grid }
+    requires good { AreGoodStyles styled.now }
+    requires boxes { AreBoxesOf styled.now boxes.now }
+    requires asked { map (λ k. string_bytes k) asked.now.keys ≡ asked_of styled.now.rules }
+    ensures settled { IfOk result (λ s. EndSo styled.now (settled s.passes s.flow s.pages.pages s.table)) }
+    ensures good { IfOk result (λ s. IsGoodFlow styled.now.faces s.flow) }
+    ensures frames { IfOk result (λ s. All (IsPageOf s.flow) s.pages.pages) }
+    ensures few { IfOk result (λ s. length s.pages.pages ≤ most_pages) }
+    ensures stops { IfErr result (λ o. StopsBy styled.now o) }
+    ensures lines { SettlesInFew styled.now result steps.old steps.new }
+{
+    let frames = columns_of(alloc, styled, boxes)?;
+    let input = Input {
+        dom: &styled.dom,
+        styles: &styled.styles,
+        counters: &styled.counters,
+        asked,
+        faces: &styled.faces,
+        patterns: patterns_of(styled),
+    };
+    Ok(settle(alloc, &input, &frames, styled.passes, steps)?)
+}
+
 /// The flow whose page references print the numbers of its own pages, with its frames.
 fn settle_passes<L: Ledger>(
     alloc: Global,
@@ -154,15 +189,8 @@ fn settle_passes<L: Ledger>(
     ensures stops { IfErr result (λ o. StopsBy styled.now o) }
     ensures lines { SettlesInFew styled.now result steps.old steps.new }
 {
-    let frames = columns_of(alloc, styled, boxes)?;
-    let input = Input {
-        dom: &styled.dom,
-        styles: &styled.styles,
-        counters: &styled.counters,
-        faces: &styled.faces,
-        patterns: patterns_of(styled),
-    };
-    Ok(settle(alloc, &input, &frames, styled.passes, steps)?)
+    let asked = asked_strings(alloc, styled.rules.as_slice())?;
+    settle_asked(alloc, styled, boxes, &asked, steps)
 }
 
 /// Puts the listing of the pages of frames that settled. Their numbers and the running strings along them are found

@@ -11,6 +11,7 @@ use book::document::{ColumnGrid, Output, Texts, read_document};
 use book::styled::{Styled, in_styles};
 use boxes::page::{Page, PageList};
 use page_ctx::resolve::resolve;
+use page_ctx::strings_asked::asked_strings;
 use page_seq::pages::Pages;
 use passes::settle::{Input, settle};
 use std::alloc::Global;
@@ -66,10 +67,12 @@ fn settled_pages<L: Ledger>(
 ) -> Result<PageList, NoMem>
     requires { AreGoodStyles styled.now }
 {
+    let asked = asked_strings(alloc, styled.rules.as_slice())?;
     let input = Input {
         dom: &styled.dom,
         styles: &styled.styles,
         counters: &styled.counters,
+        asked: &asked,
         faces: &styled.faces,
         patterns: styled.patterns.as_ref(),
     };

@@ -13,7 +13,7 @@ use Rattle.dom.specs.declared.walk.Step.TheVariants.{Enter, Leave}
 use Rattle.dom.proofs.WalkLemmas.{root-parent}
 use Rattle.style.specs.declared.style.Style.{Style}
 use Rattle.style.specs.Styles.{initial_style}
-use Rattle.box_gen.specs.declared.inline.InlineItem.TheVariants as item
+use Rattle.box_gen.specs.Items as item
 use Rattle.box_gen.specs.Bodies.{Noted, noted, Walks, walks, CanInNote, WalkBuildsFlow, after_all, after_both, body_at, is_end, note_begun, note_ended, notes_after, outside, walks_start}
 use Rattle.box_gen.specs.Flow.{Built, bodies_in, bodies_of, body_in, closed, first_items, generated_items, last_items, node_bodies, note_first_items, note_root, nothing, text_item}
 use Rattle.box_gen.specs.Gather.{Gathered, adds, begun, called, make}

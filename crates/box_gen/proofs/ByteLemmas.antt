@@ -8,7 +8,7 @@ use Rattle.dom.specs.declared.walk.Step.{Step}
 use Rattle.dom.specs.declared.walk.Step.TheVariants.{Enter, Leave}
 use Rattle.style.specs.declared.style.Style.{Style}
 use Rattle.soft_hyphens.specs.Words.{Points}
-use Rattle.box_gen.specs.declared.inline.InlineItem.{InlineItem}
+use Rattle.box_gen.specs.Items.{InlineItem}
 use Rattle.box_gen.specs.declared.leaf.LeafStyle.{LeafStyle}
 use Rattle.boxes.specs.declared.leaf.Span.{Span}
 use Rattle.box_gen.specs.declared.inline.InlineStart.{InlineStart}

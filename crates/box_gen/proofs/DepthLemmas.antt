@@ -11,8 +11,8 @@ use Rattle.dom.specs.Walk.{children_of}
 use Rattle.dom.proofs.WalkLemmas.{falling}
 use Rattle.style.specs.declared.style.Style.{Style}
 use Rattle.style.specs.Styles.{initial_style}
-use Rattle.box_gen.specs.declared.inline.InlineItem.{InlineItem}
-use Rattle.box_gen.specs.declared.inline.InlineItem.TheVariants as item
+use Rattle.box_gen.specs.Items.{InlineItem}
+use Rattle.box_gen.specs.Items as item
 use Rattle.box_gen.specs.Flow.{Built, built_of, close_by, end, nothing, put_by, shut, with_run, first_items, last_items}
 use Rattle.box_gen.specs.Gather.{Gathered, adds, begun, make}
 use Rattle.box_gen.specs.Leaves.{leaf_by, leaf_style_of}

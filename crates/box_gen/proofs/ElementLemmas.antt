@@ -12,8 +12,8 @@ use Rattle.style.specs.declared.style.Style.{Style}
 use Rattle.style.specs.Nodes.{NodeStyles, style_at}
 use Rattle.style.specs.Styles.{initial_style}
 use Rattle.soft_hyphens.specs.Words.{Points}
-use Rattle.box_gen.specs.declared.inline.InlineItem.{InlineItem}
-use Rattle.box_gen.specs.declared.inline.InlineItem.TheVariants as item
+use Rattle.box_gen.specs.Items.{InlineItem}
+use Rattle.box_gen.specs.Items as item
 use Rattle.box_gen.specs.Flow.{Built, bodies_in, bodies_of, built_of, calls_of, first_items, generated_by, generated_items, last_items, node_bodies, nothing, put_by, represented_items, starts_by, text_item, with_run}
 use Rattle.box_gen.specs.Gather.{Gathered, adds, begun, called, ended, make}
 use Rattle.box_gen.specs.Leaves.{leaf_style_of}

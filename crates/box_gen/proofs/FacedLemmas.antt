@@ -19,8 +19,8 @@ use Rattle.metrics.specs.Face.{FontFace}
 use Rattle.style.specs.declared.style.Style.{Style}
 use Rattle.style.specs.Nodes.{style_at}
 use Rattle.style.specs.Styles.{initial_style}
-use Rattle.box_gen.specs.declared.inline.InlineItem.{InlineItem}
-use Rattle.box_gen.specs.declared.inline.InlineItem.TheVariants as item
+use Rattle.box_gen.specs.Items.{InlineItem}
+use Rattle.box_gen.specs.Items as item
 use Rattle.box_gen.specs.declared.text_style.TextStyle.{TextStyle}
 use Rattle.box_gen.specs.Faces.{AreFaced}
 use Rattle.box_gen.specs.Flow.{Built, built_of, nothing, without, with_run, put_by, leads_of, first_items, last_items, generated_by, generated_items, represented_items, styled, text_item}

@@ -8,8 +8,8 @@ use Rattle.soft_hyphens.specs.Hyphenated.{hyphenated}
 use Rattle.soft_hyphens.specs.Words.{Points}
 use Rattle.style.specs.declared.style.Style.{Style}
 use Rattle.box_gen.specs.declared.leaf.LeafStyle.{LeafStyle}
-use Rattle.box_gen.specs.declared.inline.InlineItem.{InlineItem}
-use Rattle.box_gen.specs.declared.inline.InlineItem.TheVariants as item
+use Rattle.box_gen.specs.Items.{InlineItem}
+use Rattle.box_gen.specs.Items as item
 use Rattle.box_gen.specs.Leaves.{leaf_style_of}
 use Rattle.box_gen.specs.Props.{anonymous_props, props_of}
 use Rattle.box_gen.specs.Runs.{text_of, starts_of}

@@ -1,7 +1,7 @@
 -- What the nodes of a tree gather, as a recursion over it.
 use Rattle.std.specs.Prelude.{ℕ, [], ◌∷◌}
 use Rattle.style.specs.declared.style.Style.{Style}
-use Rattle.box_gen.specs.declared.inline.InlineItem.TheVariants as item
+use Rattle.box_gen.specs.Items as item
 use Rattle.box_gen.specs.Trees.{Source, Forest, none, node, Role, text, hidden, inline, block, note, role_of}
 use Rattle.box_gen.specs.Flow.{first_items, last_items, text_item}
 use Rattle.box_gen.specs.Gather.{Gathered, adds, begun, called, ended}

@@ -11,7 +11,7 @@ use Rattle.inline_text.specs.Joined.{ends_from, joined}
 use Rattle.soft_hyphens.specs.Words.{Points}
 use Rattle.box_gen.specs.declared.text_style.TextStyle.{TextStyle}
 use Rattle.box_gen.specs.TextStyles.{IsGoodTextStyle, span_by}
-use Rattle.box_gen.specs.declared.inline.InlineItem.{InlineItem}
+use Rattle.box_gen.specs.Items.{InlineItem}
 use Rattle.box_gen.specs.declared.leaf.RunText.{RunText}
 use Rattle.box_gen.specs.Leaves.{IsGoodRun}
 use Rattle.box_gen.specs.Runs.{marks_in, printed_in, spans_from, styles_in}

@@ -5,6 +5,8 @@ pub mod RunLawLemmas
 pub mod TextLemmas
 pub mod LeafLemmas
 pub mod FillLemmas
+pub mod LengthLemmas
+pub mod ItemLemmas
 pub mod TreeLemmas
 pub mod FlowLemmas
 pub mod WalkLemmas
@@ -27,5 +29,6 @@ pub mod NoteSums
 pub mod RoomLemmas
 pub mod PlaceLemmas
 pub mod StartLemmas
+pub mod WithinLemmas
 pub mod EventSums
 pub mod BuildLemmas

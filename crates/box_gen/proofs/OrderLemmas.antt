@@ -18,7 +18,7 @@ use Rattle.style.specs.declared.style.Style.{Style}
 use Rattle.style.specs.Nodes.{style_at}
 use Rattle.style.specs.Styles.{initial_style}
 use Rattle.soft_hyphens.specs.Words.{Points}
-use Rattle.box_gen.specs.declared.inline.InlineItem.{InlineItem}
+use Rattle.box_gen.specs.Items.{InlineItem}
 use Rattle.box_gen.specs.declared.inline.ItemMark.{ItemMark}
 use Rattle.box_gen.specs.declared.inline.ItemMark.TheVariants as mark
 use Rattle.box_gen.specs.declared.leaf.LeafStyle.{LeafStyle}

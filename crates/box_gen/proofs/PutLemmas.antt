@@ -8,7 +8,7 @@ use Rattle.boxes.specs.declared.leaf.Lead.{Lead}
 use Rattle.boxes.specs.declared.props.BoxProps.{BoxProps}
 use Rattle.boxes.specs.Tree.{Tree, HaveOwners, with_box, with_leaf, with_close, innermost_of, first_of}
 use Rattle.soft_hyphens.specs.Words.{Points}
-use Rattle.box_gen.specs.declared.inline.InlineItem.{InlineItem}
+use Rattle.box_gen.specs.Items.{InlineItem}
 use Rattle.box_gen.specs.declared.leaf.LeafStyle.{LeafStyle}
 use Rattle.boxes.specs.declared.leaf.Span.{Span}
 use Rattle.boxes.specs.declared.flow.Start.{Start}

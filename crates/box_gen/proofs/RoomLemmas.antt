@@ -10,7 +10,7 @@ use Rattle.boxes.specs.Tree.{IsTree, Tree, innermost_of, takes_leaf, with_box, w
 use Rattle.dom.specs.Walk.{node_of}
 use Rattle.dom.specs.declared.walk.Step.{Step}
 use Rattle.style.specs.declared.style.Style.{Style}
-use Rattle.box_gen.specs.declared.inline.InlineItem.{InlineItem}
+use Rattle.box_gen.specs.Items.{InlineItem}
 use Rattle.box_gen.specs.declared.put.TreeRoom.{TreeRoom}
 use Rattle.box_gen.specs.declared.put.Site.{Site}
 use Rattle.box_gen.specs.Bodies.{Walks, walks, after_all, after_both, is_end, note_ended, noted, notes_after}

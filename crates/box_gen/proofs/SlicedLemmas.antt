@@ -1,13 +1,12 @@
 -- The edges of boxes in a note never stand again.
 use Rattle.std.proofs.Common.{◌≡◌, ℕ, Bool, true, false, ◌&&◌, Option, None, Some, List, [], ◌∷◌, ◌++◌, length, ◌==◌, sym, subst, refl}
-use Rattle.std.specs.List.{All}
 use Rattle.std.proofs.lemmas.List.Elements.{All-nil, All-cons}
 use Rattle.boxes.specs.Clones.{AreSliced}
 use Rattle.boxes.specs.Tree.{Tree, innermost_of, with_box, with_leaf}
 use Rattle.boxes.specs.declared.props.BoxProps.{BoxProps}
 use Rattle.style.specs.declared.style.Style.{Style}
 use Rattle.soft_hyphens.specs.Words.{Points}
-use Rattle.box_gen.specs.declared.inline.InlineItem.{InlineItem}
+use Rattle.box_gen.specs.Items.{InlineItem}
 use Rattle.box_gen.specs.Flow.{Built, Content, end, run, box, body_in, close_by, closed, grown, has_block, note_content, note_root, opened, put_by, shut, with_run}
 use Rattle.box_gen.specs.Runs.{spans_of, text_of}
 use Rattle.box_gen.specs.declared.leaf.LeafStyle.{LeafStyle}

@@ -21,11 +21,10 @@ use Rattle.dom.specs.declared.walk.Step.{Step}
 use Rattle.dom.specs.declared.walk.Step.TheVariants.{Enter, Leave}
 use Rattle.inline_text.specs.declared.space.TextPart.{TextPart}
 use Rattle.style.specs.declared.style.Style.{Style}
-use Rattle.style.specs.declared.values.LineHeight.TheVariants as height
 use Rattle.style.specs.Nodes.{NodeStyles, style_at}
 use Rattle.style.specs.Styles.{initial_style}
-use Rattle.box_gen.specs.declared.inline.InlineItem.{InlineItem}
-use Rattle.box_gen.specs.declared.inline.InlineItem.TheVariants as item
+use Rattle.box_gen.specs.Items.{InlineItem}
+use Rattle.box_gen.specs.Items as item
 use Rattle.box_gen.specs.declared.text_style.TextStyle.{TextStyle}
 use Rattle.box_gen.specs.Flow.{Built, built_of, nothing, without, with_run, put_by, leads_of, first_items, last_items, generated_by, generated_items, leads_by, represented_items, styled, text_item}
 use Rattle.box_gen.specs.Gather.{Gathered, make, adds, begun, called, ended}

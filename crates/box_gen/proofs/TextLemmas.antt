@@ -6,8 +6,8 @@ use Rattle.inline_text.proofs.EndLemmas.{NextText, next-text}
 use Rattle.inline_text.specs.Space.{Char, appended, collapsed, spelled, placed, squeezed, trimmed, chars_from}
 use Rattle.inline_text.specs.declared.space.TextPart.{TextPart}
 use Rattle.soft_hyphens.specs.Words.{Points}
-use Rattle.box_gen.specs.declared.inline.InlineItem.{InlineItem}
-use Rattle.box_gen.specs.declared.inline.InlineItem.TheVariants as item
+use Rattle.box_gen.specs.Items.{InlineItem}
+use Rattle.box_gen.specs.Items as item
 use Rattle.box_gen.specs.Runs.{autos_in, printed_in, parts_in, marks_in, styles_in}
 use Rattle.box_gen.proofs.HyphenLemmas.{hyphenated-length}
 

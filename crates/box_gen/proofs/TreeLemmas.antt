@@ -9,7 +9,7 @@ use Rattle.boxes.proofs.ListLemmas.{get-end}
 use Rattle.boxes.proofs.TreeLemmas.{open-append}
 use Rattle.style.specs.declared.style.Style.{Style}
 use Rattle.soft_hyphens.specs.Words.{Points}
-use Rattle.box_gen.specs.declared.inline.InlineItem.{InlineItem}
+use Rattle.box_gen.specs.Items.{InlineItem}
 use Rattle.box_gen.specs.declared.leaf.LeafStyle.{LeafStyle}
 use Rattle.box_gen.specs.Leaves.{leaf_by, leaf_style_of}
 use Rattle.box_gen.specs.Props.{anonymous_props, props_of}

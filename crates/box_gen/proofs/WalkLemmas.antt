@@ -12,7 +12,7 @@ use Rattle.dom.specs.declared.walk.Step.TheVariants.{Enter, Leave}
 use Rattle.dom.proofs.WalkLemmas.{AreFalling, falling, root-parent}
 use Rattle.style.specs.declared.style.Style.{Style}
 use Rattle.style.specs.Nodes.{NodeStyles, style_at, style_of}
-use Rattle.box_gen.specs.declared.inline.InlineItem.TheVariants as item
+use Rattle.box_gen.specs.Items as item
 use Rattle.box_gen.specs.Trees.{Source, Forest, none, node, side_by_side, below, forest_of, Role, text, hidden, inline, block, note, is_block, is_note_element, shown_role, element_role, role_by, role_of}
 use Rattle.style.specs.Styles.{initial_style}
 use Rattle.box_gen.specs.Flow.{built_of, end, nothing, with_run, first_items, text_item}

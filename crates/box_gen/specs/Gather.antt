@@ -3,8 +3,8 @@ use Rattle.std.specs.Prelude.{ℕ, true, not, List, [], ◌∷◌, ◌++◌}
 use Rattle.boxes.specs.Tree.{takes_leaf}
 use Rattle.bk_num.specs.declared.values.Pseudo.TheVariants as pseudo
 use Rattle.style.specs.declared.style.Style.{Style}
-use Rattle.box_gen.specs.declared.inline.InlineItem.{InlineItem}
-use Rattle.box_gen.specs.declared.inline.InlineItem.TheVariants as item
+use Rattle.box_gen.specs.Items.{InlineItem}
+use Rattle.box_gen.specs.Items as item
 use Rattle.box_gen.specs.Trees.{Source}
 use Rattle.box_gen.specs.Flow.{Built, closed, first_items, generated_items, opened, with_run}
 

@@ -5,7 +5,7 @@ use Rattle.std.specs.Str.{IsUtf8, chars}
 use Rattle.inline_text.specs.Space.{collapsed}
 use Rattle.soft_hyphens.specs.Hyphenated.{encoded, put_from}
 use Rattle.soft_hyphens.specs.Words.{Points, is_put, letters_in, points_with}
-use Rattle.box_gen.specs.declared.inline.InlineItem.{InlineItem}
+use Rattle.box_gen.specs.Items.{InlineItem}
 use Rattle.box_gen.specs.Runs.{autos_in, parts_in, printed_in, spans_of, starts_of, text_of}
 
 -- the texts of a run are UTF-8, as they are in every document

@@ -2,6 +2,7 @@ pub mod TextStyles
 pub mod Props
 pub mod Represented
 pub mod Markers
+pub mod Items
 pub mod Runs
 pub mod Hyphens
 pub mod Leaves

@@ -7,8 +7,8 @@ use Rattle.inline_text.specs.Joined.{joined}
 use Rattle.inline_text.specs.Space.{collapsed}
 use Rattle.soft_hyphens.specs.Hyphenated.{hyphenated}
 use Rattle.soft_hyphens.specs.Words.{Points}
-use Rattle.box_gen.specs.declared.inline.InlineItem.{InlineItem}
-use Rattle.box_gen.specs.declared.inline.InlineItem.TheVariants as item
+use Rattle.box_gen.specs.Items.{InlineItem}
+use Rattle.box_gen.specs.Items as item
 use Rattle.box_gen.specs.declared.inline.ItemMark.{ItemMark}
 use Rattle.box_gen.specs.declared.inline.ItemMark.TheVariants.{Text, Start}
 use Rattle.box_gen.specs.declared.inline.InlineStart.{InlineStart}

@@ -1,11 +1,10 @@
 -- What a flow is made from, as the arguments have it.
-use Rattle.std.specs.Prelude.{◌≡◌, ◌&&◌, not, true, ℕ, IsTrue, List, Option, Some, option_map, slice_get, ℤ}
-use Rattle.bk_num.specs.declared.values.Pseudo.{Pseudo}
+use Rattle.std.specs.Prelude.{◌≡◌, ◌<◌, ◌&&◌, not, true, IsTrue, List, Option, Some, length, option_map, slice_get}
+use Rattle.std.specs.List.{All}
 use Rattle.bk_num.specs.declared.values.Pseudo.TheVariants as pseudo
-use Rattle.counters.specs.At.{counter_values}
+use Rattle.boxes.specs.declared.flow.Start.{Start}
 use Rattle.dom.specs.Nodes.{Node}
-use Rattle.gen_text.specs.declared.generated.NodeTexts.{NodeTexts}
-use Rattle.gen_text.specs.Generated.{assigned_strings, generated_text}
+use Rattle.gen_text.specs.Texts.{TextSource, assigned_strings, generated_text, source_in as text_source}
 use Rattle.metrics.specs.Face.{FontFace}
 use Rattle.soft_hyphens.specs.Words.{Points, points_in}
 use Rattle.style.specs.declared.style.Style.{Style}
@@ -19,18 +18,15 @@ use Rattle.box_gen.specs.Trees.{Source}
 
 -- ---- the source
 
--- nodes with their styles, the values of counters at places, and generated texts, set in some faces, and where words
--- may be hyphenated
-abbrev pub source_of :
-    List Node → List NodeStyles → (ℕ → Pseudo → List ℕ → List ℤ) → List FontFace → List NodeTexts → Option Points →
-    Source
-source_of nodes styles values faces texts points = record {
-  nodes = nodes;
-  styles = styles;
-  items = λ n. list_values values n;
+-- what texts are generated from, set in some faces, and where words may be hyphenated
+abbrev pub source_of : TextSource → List FontFace → Option Points → Source
+source_of texts faces points = record {
+  nodes = texts.nodes;
+  styles = texts.styles;
+  items = λ n. list_values texts.values n;
   face = λ s. face_of faces s;
   generated = λ n p. generated_text texts n p;
-  is_note = λ n. is_note_in (slice_get styles n);
+  is_note = λ n. is_note_in (slice_get texts.styles n);
   clones = true;
   assigned = λ n. assigned_strings texts n;
   points = points;
@@ -38,11 +34,10 @@ source_of nodes styles values faces texts points = record {
 
 -- what a flow is made from, and in a note what is in the note
 abbrev pub source_in : FlowInput → Source
-source_in i = record (source_of i.dom.now i.styles.now (counter_values i.counters.now) i.faces.now i.texts.now
-    (points_in (option_map (λ h. h.now) i.hyphenator))) {
-      is_note = λ n. not i.in_note && is_note_in (slice_get i.styles.now n);
-      clones = not i.in_note;
-    }
+source_in i = record (source_of (text_source i.texts) i.faces.now (points_in (option_map (λ h. h.now) i.hyphenator))) {
+  is_note = λ n. not i.in_note && is_note_in (slice_get i.texts.styles.now n);
+  clones = not i.in_note;
+}
 
 -- ---- the root
 
@@ -57,4 +52,8 @@ pub record IsRootShown (styles : List NodeStyles) : Type 0 where
 -- what holds of the input of a walk
 pub record IsInput (i : FlowInput) : Type 0 where
   pub initial : i.initial.now ≡ initial_style
-  pub ranges : AreInRange i.styles.now
+  pub ranges : AreInRange i.texts.styles.now
+
+-- the elements that begin somewhere are nodes of a document
+abbrev pub AreWithin : List Node → List Start → Type 0
+AreWithin nodes starts = All (λ a. a.node.0 < length nodes) starts

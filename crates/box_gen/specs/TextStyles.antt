@@ -1,5 +1,5 @@
 -- How texts are set (CSS 2.1, 10.8.1, 15 and 16.6; CSS Text 3, 5).
-use Rattle.std.specs.Prelude.{ℕ, ℤ, pos, ◌≤ℤ◌, Bool, true, false}
+use Rattle.std.specs.Prelude.{ℕ, pos, ◌≤ℤ◌, Bool, true, false}
 use Rattle.bk_num.specs.declared.ids.FaceId.{FaceId}
 use Rattle.bk_num.specs.declared.values.WhiteSpace.{WhiteSpace}
 use Rattle.bk_num.specs.declared.values.WhiteSpace.TheVariants as space

@@ -8,7 +8,7 @@ use Rattle.dom.specs.declared.walk.Step.TheVariants.{Enter, Leave}
 use Rattle.style.specs.declared.style.Style.{Style}
 use Rattle.style.specs.Nodes.{style_at}
 use Rattle.style.specs.Styles.{initial_style}
-use Rattle.box_gen.specs.declared.inline.InlineItem.TheVariants as item
+use Rattle.box_gen.specs.Items as item
 use Rattle.box_gen.specs.Trees.{Source, Role, text, hidden, inline, block, note, role_of}
 use Rattle.box_gen.specs.Flow.{first_items, last_items, nothing, text_item}
 use Rattle.box_gen.specs.Gather.{Gathered, adds, begun, called, ended, make}

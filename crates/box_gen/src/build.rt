@@ -20,14 +20,14 @@ ghost use Rattle.box_gen.specs.Flow.{
   resets_at,
   starts_in_note,
 };
-ghost use Rattle.counters.specs.At.{counter_values};
+ghost use Rattle.gen_text.specs.Texts.{source_in as text_source};
 ghost use Rattle.page_seq.specs.Numbers.{IsSmallReset};
 ghost use Rattle.page_seq.specs.Places.{NeverFall};
 ghost use Rattle.style.specs.Nodes.{style_at};
 ghost use Rattle.box_gen.specs.Faces.{AreFaced};
 ghost use Rattle.box_gen.specs.Notes.{AreNotesOf, IsGoodBody, bytes_in, events_in};
 ghost use Rattle.box_gen.specs.Sites.{built_in};
-ghost use Rattle.box_gen.specs.Sources.{AreInRange, IsInput, IsRootShown, source_in, source_of};
+ghost use Rattle.box_gen.specs.Sources.{AreInRange, AreWithin, IsInput, IsRootShown, source_in, source_of};
 ghost use Rattle.soft_hyphens.specs.Words.{points_in};
 
 use crate::builder::FlowBuilder;
@@ -41,41 +41,51 @@ use bk_num::name::{Name, NoMem};
 use bk_num::values::Pseudo;
 use boxes::flow::{Assign, Flow, Note, Reset, Start};
 use boxes::place::Position;
-use counters::at::CounterAt;
-use dom::Dom;
-use gen_text::generated::Generated;
+use gen_text::texts::{Texts, assigned_strings};
 use hyphen::Patterns;
 use metrics::Faces;
 use soft_hyphens::hyphenator::Hyphenator;
 use std::alloc::Global;
 use style::style::Style;
-use style::styles::Styles;
 
 /// Adds running strings that are assigned at a place.
 fn push_assigned(
-    assigned: &[(Name, Name)],
+    assigned: Items<(Name, Name)>,
     at: Position,
     strings: &mut Vec<Assign>,
 ) -> Result<(), NoMem>
-    ensures { OnOk result (strings.new.items ≡ strings.old.items ++ assigns_at at assigned.now) }
+    ensures { OnOk result (strings.new.items ≡ strings.old.items ++ assigns_at at assigned) }
 {
+    let assigned = assigned.into_vec();
     for (name, value) in assigned {
-        strings.push(Assign {
-            name: name.copy()?,
-            value: value.copy()?,
-            at,
-        })?;
+        strings.push(Assign { name, value, at })?;
     }
     Ok(())
 }
 
+/// Adds the running strings that are assigned where an element begins.
+fn push_strings_of(
+    alloc: Global,
+    input: &FlowInput,
+    start: &Start,
+    strings: &mut Vec<Assign>,
+) -> Result<(), NoMem>
+    requires { start.now.node.0 < length input.now.texts.dom.now }
+    ensures { OnOk result (strings.new.items ≡ strings.old.items ++
+        assigns_at start.now.at ((source_in input.now).assigned start.now.node.0)) }
+{
+    let assigned = assigned_strings(alloc, &input.texts, start.node)?;
+    push_assigned(assigned, start.at, strings)
+}
+
 /// The running strings that are assigned where elements begin.
 fn strings_of(alloc: Global, input: &FlowInput, starts: &[Start]) -> Result<Vec<Assign>, NoMem>
+    requires { AreWithin input.now.texts.dom.now starts.now }
     ensures { IfOk result (λ v. v.items ≡ spec.strings_of (source_in input.now) starts.now) }
 {
     let mut strings = Vec::new(alloc);
     for start in starts {
-        push_assigned(input.texts.strings(start.node), start.at, &mut strings)?;
+        push_strings_of(alloc, input, start, &mut strings)?;
     }
     Ok(strings)
 }
@@ -109,10 +119,10 @@ fn push_resets(counters: &[(Name, i64)], at: Position, resets: &mut Vec<Reset>) 
 /// Adds the resets of the page number at an element.
 fn push_resets_of(input: &FlowInput, start: &Start, resets: &mut Vec<Reset>) -> Result<(), NoMem>
     ensures list { OnOk result (resets.new.items ≡ resets.old.items ++
-        resets_at start.now.at (page_resets (style_at input.now.styles.now start.now.node.0 pseudo.Element))) }
+        resets_at start.now.at (page_resets (style_at input.now.texts.styles.now start.now.node.0 pseudo.Element))) }
     ensures small { OnOk result (All IsSmallReset resets.old.items → All IsSmallReset resets.new.items) }
 {
-    match input.styles.of(start.node, Pseudo::Element) {
+    match input.texts.styles.of(start.node, Pseudo::Element) {
         None => Ok(()),
         Some(style) => {
             push_resets(style.counter_reset.as_slice(), start.at, resets)?;
@@ -239,6 +249,7 @@ fn set_at(
     input: &FlowInput,
     starts: &[Start],
 ) -> Result<(Vec<Assign>, Vec<Reset>), NoMem>
+    requires { AreWithin input.now.texts.dom.now starts.now }
     ensures strings { IfOk result (λ r. r.0.items ≡ spec.strings_of (source_in input.now) starts.now) }
     ensures resets { IfOk result (λ r. r.1.items ≡ spec.resets_of (source_in input.now) starts.now) }
     ensures small { IfOk result (λ r. All IsSmallReset r.1.items) }
@@ -255,6 +266,7 @@ fn anchors_of(
     places: Vec<Start>,
     bodies: Vec<Site>,
 ) -> Result<Anchors, NoMem>
+    requires within { AreWithin input.now.texts.dom.now places.items }
     requires each { length bodies.items ≡ length (calls_of (source_in input.now) places.items) }
     requires few { length bodies.items ≤ most_events }
     ensures notes { IfOk result (λ a. a.notes.items ≡
@@ -281,6 +293,7 @@ fn anchors_of(
 
 /// The flow of what is built.
 fn finish(alloc: Global, input: &FlowInput, walker: Walker) -> Result<Flow, NoMem>
+    requires within { AreWithin input.now.texts.dom.now walker.main.site.starts.items }
     requires main { built_of (source_in input.now) ≡ built_in walker.main.site }
     requires bodies { map built_in walker.bodies.items ≡ bodies_of (source_in input.now) }
     requires few { length walker.bodies.items ≤ most_events }
@@ -311,7 +324,7 @@ fn flow_by(alloc: Global, input: &FlowInput) -> Result<Flow, BuildErr>
     ensures small { IfOk result (λ flow. All IsSmallReset flow.resets) }
     ensures cause { IfErr result (λ e. e ≡ BuildErr.Text → most_text_bytes < bytes_in (flow_of (source_in input.now))) }
 {
-    prove!(input.dom.len() > 0);
+    prove!(input.texts.dom.len() > 0);
     prove!(input.faces.len() > 0);
     let walker = walk_through(alloc, input)?;
     match finish(alloc, input, walker) {
@@ -328,23 +341,20 @@ fn flow_by(alloc: Global, input: &FlowInput) -> Result<Flow, BuildErr>
 /// Those of `build`.
 pub fn build_by(
     alloc: Global,
-    dom: &Dom,
-    styles: &Styles,
-    counters: &CounterAt,
+    texts: &Texts<'_>,
     faces: &Faces,
-    texts: &Generated,
     hyphenator: Option<&Hyphenator<'_>>,
 ) -> Result<Flow, BuildErr>
-    requires { AreInRange styles.now }
+    requires { AreInRange texts.now.styles.now }
     ensures flow { IfOk result (λ flow. flow ≡
-        flow_of (source_of dom.now styles.now (counter_values counters.now) faces.now texts.now
+        flow_of (source_of (text_source texts.now) faces.now
         (points_in (option_map (λ h. h.now) hyphenator.entry)))) }
-    ensures whole { IsRootShown styles.now → IfOk result (λ flow. IsWhole flow.main.events) }
+    ensures whole { IsRootShown texts.now.styles.now → IfOk result (λ flow. IsWhole flow.main.events) }
     ensures depth { IfOk result (λ flow. depth_of flow.main.events ≤ most_open) }
     ensures faced { IfOk result (λ flow. AreFaced faces.now flow.main.leaves) }
     ensures bodies { IfOk result (λ flow. All (IsGoodBody faces.now) flow.notes) }
     ensures notes { IfOk result (λ flow.
-        AreNotesOf (source_of dom.now styles.now (counter_values counters.now) faces.now texts.now
+        AreNotesOf (source_of (text_source texts.now) faces.now
         (points_in (option_map (λ h. h.now) hyphenator.entry))) flow.notes) }
     ensures calls { IfOk result (λ flow. NeverFall (map (λ n. n.call) flow.notes)) }
     ensures few { IfOk result (λ flow. bytes_in flow ≤ most_text_bytes) }
@@ -354,20 +364,17 @@ pub fn build_by(
     ensures resets { IfOk result (λ flow. NeverFall (map (λ r. r.at) flow.resets)) }
     ensures small { IfOk result (λ flow. All IsSmallReset flow.resets) }
     ensures cause { IfErr result (λ e. e ≡ BuildErr.Text → most_text_bytes <
-        bytes_in (flow_of (source_of dom.now styles.now (counter_values counters.now) faces.now texts.now
+        bytes_in (flow_of (source_of (text_source texts.now) faces.now
         (points_in (option_map (λ h. h.now) hyphenator.entry))))) }
 {
-    prove!(dom.len() > 0);
+    prove!(texts.dom.len() > 0);
     prove!(faces.len() > 0);
     let Ok(initial) = Style::initial(alloc) else {
         return Err(BuildErr::NoMemory);
     };
     let input = FlowInput {
-        dom,
-        styles,
-        counters,
+        texts: *texts,
         faces,
-        texts,
         hyphenator,
         initial: &initial,
         in_note: false,
@@ -378,12 +385,13 @@ pub fn build_by(
     }
 }
 
-/// The flow of a document by its styles, its counters and its generated texts, set in some faces. Its main tree is
-/// whole where the root is shown, and so are the bodies of its notes; each has at most 2,048 boxes open at once, and
-/// its faces are there. Where patterns are given, U+00AD stands at the points of the words that are hyphenated.
+/// The flow of a document by what its texts are generated from, set in some faces. Its main tree is whole where the
+/// root is shown, and so are the bodies of its notes; each has at most 2,048 boxes open at once, and its faces are
+/// there. Where patterns are given, U+00AD stands at the points of the words that are hyphenated.
 ///
 /// A document of `n` nodes is walked once; each character of it is passed once, and what is left of it is copied once,
-/// and once more in a leaf with words that are hyphenated.
+/// and once more in a leaf with words that are hyphenated. A text is generated where its run is put, and let go before
+/// the next one is made; a string is made only where pages ask for it.
 ///
 /// # Errors
 ///
@@ -391,23 +399,20 @@ pub fn build_by(
 /// passes this number is made.
 pub fn build(
     alloc: Global,
-    dom: &Dom,
-    styles: &Styles,
-    counters: &CounterAt,
+    texts: &Texts<'_>,
     faces: &Faces,
-    texts: &Generated,
     patterns: Option<&Patterns>,
 ) -> Result<Flow, BuildErr>
-    requires { AreInRange styles.now }
+    requires { AreInRange texts.now.styles.now }
     ensures flow { IfOk result (λ flow. flow ≡
-        flow_of (source_of dom.now styles.now (counter_values counters.now) faces.now texts.now
+        flow_of (source_of (text_source texts.now) faces.now
         (points_in (option_map (λ p. p.now) patterns.entry)))) }
-    ensures whole { IsRootShown styles.now → IfOk result (λ flow. IsWhole flow.main.events) }
+    ensures whole { IsRootShown texts.now.styles.now → IfOk result (λ flow. IsWhole flow.main.events) }
     ensures depth { IfOk result (λ flow. depth_of flow.main.events ≤ most_open) }
     ensures faced { IfOk result (λ flow. AreFaced faces.now flow.main.leaves) }
     ensures bodies { IfOk result (λ flow. All (IsGoodBody faces.now) flow.notes) }
     ensures notes { IfOk result (λ flow.
-        AreNotesOf (source_of dom.now styles.now (counter_values counters.now) faces.now texts.now
+        AreNotesOf (source_of (text_source texts.now) faces.now
         (points_in (option_map (λ p. p.now) patterns.entry))) flow.notes) }
     ensures calls { IfOk result (λ flow. NeverFall (map (λ n. n.call) flow.notes)) }
     ensures few { IfOk result (λ flow. bytes_in flow ≤ most_text_bytes) }
@@ -417,17 +422,9 @@ pub fn build(
     ensures resets { IfOk result (λ flow. NeverFall (map (λ r. r.at) flow.resets)) }
     ensures small { IfOk result (λ flow. All IsSmallReset flow.resets) }
     ensures cause { IfErr result (λ e. e ≡ BuildErr.Text → most_text_bytes <
-        bytes_in (flow_of (source_of dom.now styles.now (counter_values counters.now) faces.now texts.now
+        bytes_in (flow_of (source_of (text_source texts.now) faces.now
         (points_in (option_map (λ p. p.now) patterns.entry))))) }
 {
     let hyphenator = hyphenator_of(alloc, patterns);
-    build_by(
-        alloc,
-        dom,
-        styles,
-        counters,
-        faces,
-        texts,
-        hyphenator.as_ref(),
-    )
+    build_by(alloc, texts, faces, hyphenator.as_ref())
 }

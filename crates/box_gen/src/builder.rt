@@ -8,7 +8,8 @@ ghost use Rattle.dom.specs.Walk.{node_of};
 ghost use Rattle.style.specs.Nodes.{NodeStyles};
 ghost use Rattle.box_gen.specs.Flow as spec;
 ghost use Rattle.box_gen.specs.Flow.{closed, leads_of, opened};
-ghost use Rattle.box_gen.specs.declared.inline.InlineItem.TheVariants as item;
+ghost use Rattle.box_gen.specs.Items as item;
+ghost use Rattle.box_gen.specs.Items.{run_in};
 ghost use Rattle.box_gen.specs.Gather.{adds, begun, ended, make};
 ghost use Rattle.box_gen.specs.Kinds.{HasRange, IsKindOf, role_in};
 ghost use Rattle.box_gen.specs.Sites.{HasRoom, IsWithinRoom, built_in, leaf_bytes};
@@ -17,10 +18,10 @@ ghost use Rattle.box_gen.specs.Steps.{CanBegin, CanEnd, CanEnterNode, CanLeaveNo
 ghost use Rattle.box_gen.specs.Walk as walk;
 ghost use Rattle.box_gen.specs.Walk.{after_step, enter_node, leave_node};
 
-use crate::inline::{BuildErr, InlineItem};
+use crate::inline::{BuildErr, RunItem};
 use crate::input::{FlowInput, NodeKind, kind_of, style_around, style_of};
 use crate::marker::{lead_of, marker_text};
-use crate::pieces::{push_call, push_first, push_last, push_text};
+use crate::pieces::{push_call, push_first, push_item, push_last, push_text};
 use crate::props::props_of;
 use crate::put::{Site, TreeRoom, put_run, start_at};
 use crate::text_style::text_style;
@@ -38,7 +39,7 @@ use style::style::Style;
 #[derive(Drop)]
 pub(crate) struct FlowBuilder<'a> {
     pub(crate) site: Site,
-    pub(crate) run: Vec<InlineItem<'a>>,
+    pub(crate) run: Vec<RunItem<'a>>,
     pub(crate) blocks: Vec<NodeId>,
     pub(crate) unshown: Option<NodeId>,
 }
@@ -80,7 +81,7 @@ pub(crate) fn new_builder<'a>(alloc: Global, room: TreeRoom) -> FlowBuilder<'a>
 /// The style of the innermost open block.
 pub(crate) fn innermost<'a>(input: &FlowInput<'a>, blocks: &[NodeId]) -> &'a Style
     requires { IsInput input.now }
-    ensures value { result.now ≡ walk.innermost (styles_of input.now.styles.now blocks.now) }
+    ensures value { result.now ≡ walk.innermost (styles_of input.now.texts.styles.now blocks.now) }
     ensures range { IsInRange result.now }
 {
     match blocks.last() {
@@ -104,7 +105,7 @@ fn push_lead(
     if !has_marker(node.0 == 0, style) {
         return Ok(());
     }
-    match marker_text(alloc, input.counters, node, style.list_style_type)? {
+    match marker_text(alloc, input.texts.counters, node, style.list_style_type)? {
         None => Ok(()),
         Some(text) => {
             let look = text_style(input.faces, style, style.white_space);
@@ -175,30 +176,29 @@ fn enter_inline<'a>(
     input: &FlowInput<'a>,
     node: NodeId,
     style: &Style,
-    run: &mut Vec<InlineItem<'a>>,
+    run: &mut Vec<RunItem<'a>>,
 ) -> Result<(), NoMem>
-    requires { node.0 < length input.now.dom.now }
-    ensures { OnOk result (run.new.items ≡ (run.old.items ++ item.Start node ∷ []) ++
+    requires { node.0 < length input.now.texts.dom.now }
+    ensures { OnOk result (run_in run.new.items ≡ (run_in run.old.items ++ item.Start node ∷ []) ++
         spec.first_items (source_in input.now) style.now node.0) }
 {
-    run.push(InlineItem::Start(node))?;
-    push_first(input, node, style, run)?;
-    Ok(())
+    push_item(run, RunItem::Start(node))?;
+    push_first(input, node, style, run)
 }
 
 /// Enters a note element: its call stands where it would begin.
 fn enter_note<'a>(
     input: &FlowInput<'a>,
     node: NodeId,
-    run: &mut Vec<InlineItem<'a>>,
+    run: &mut Vec<RunItem<'a>>,
 ) -> Result<(), NoMem>
-    ensures { OnOk result (run.new.items ≡
-        (run.old.items ++ item.Start node ∷ []) ++ spec.generated_items (source_in input.now) node.0 pseudo.Call) }
+    requires { node.0 < length input.now.texts.dom.now }
+    ensures { OnOk result (run_in run.new.items ≡
+        (run_in run.old.items ++ item.Start node ∷ []) ++
+        spec.generated_items (source_in input.now) node.0 pseudo.Call) }
 {
-    let call = InlineItem::Start(node);
-    run.push(call)?;
-    push_call(input, node, run)?;
-    Ok(())
+    push_item(run, RunItem::Start(node))?;
+    push_call(input, node, run)
 }
 
 /// Enters a block: the run before it is put, and its box opened.
@@ -210,25 +210,25 @@ fn enter_block<'a>(
     builder: &mut FlowBuilder<'a>,
 ) -> Result<(), BuildErr>
     requires input { IsInput input.now }
-    requires node { node.0 < length input.now.dom.now }
+    requires node { node.0 < length input.now.texts.dom.now }
     requires range { IsInRange style.now }
     requires within { IsWithinRoom builder.old.site }
     requires room { HasRoom builder.old.site }
     requires can { CanBegin (source_in input.now)
-        (walk.innermost (styles_of input.now.styles.now builder.old.blocks.items))
-        (make (built_in builder.old.site) builder.old.run.items) }
-    ensures gathered { OnOk result (make (built_in builder.new.site) builder.new.run.items ≡
+        (walk.innermost (styles_of input.now.texts.styles.now builder.old.blocks.items))
+        (make (built_in builder.old.site) (run_in builder.old.run.items)) }
+    ensures gathered { OnOk result (make (built_in builder.new.site) (run_in builder.new.run.items) ≡
         begun (source_in input.now)
-        (walk.innermost (styles_of input.now.styles.now builder.old.blocks.items)) node.0 style.now
-        (make (built_in builder.old.site) builder.old.run.items)) }
+        (walk.innermost (styles_of input.now.texts.styles.now builder.old.blocks.items)) node.0 style.now
+        (make (built_in builder.old.site) (run_in builder.old.run.items))) }
     ensures blocks { OnOk result (builder.new.blocks.items ≡ builder.old.blocks.items ++ node ∷ []) }
     ensures unshown { OnOk result (builder.new.unshown ≡ builder.old.unshown) }
     ensures within { OnOk result (IsWithinRoom builder.new.site) }
     ensures room { OnOk result (builder.new.site.room ≡ builder.old.site.room) }
     ensures cause { IfErr result (λ e. e ≡ BuildErr.Text → builder.old.site.room.bytes <
         leaf_bytes (begun (source_in input.now)
-        (walk.innermost (styles_of input.now.styles.now builder.old.blocks.items)) node.0 style.now
-        (make (built_in builder.old.site) builder.old.run.items)).built.tree.leaves) }
+        (walk.innermost (styles_of input.now.texts.styles.now builder.old.blocks.items)) node.0 style.now
+        (make (built_in builder.old.site) (run_in builder.old.run.items))).built.tree.leaves) }
 {
     let around = innermost(input, &builder.blocks);
     let items = std::mem::replace(&mut builder.run, Vec::new(alloc));
@@ -261,15 +261,17 @@ pub(crate) fn leave_block<'a>(
     style: &Style,
     builder: &mut FlowBuilder<'a>,
 ) -> Result<(), BuildErr>
+    requires node { node.0 < length input.now.texts.dom.now }
     requires range { IsInRange style.now }
     requires within { IsWithinRoom builder.old.site }
     requires room { HasRoom builder.old.site }
     requires can { CanEnd (source_in input.now) style.now
-        (adds (spec.last_items (source_in input.now) node.0) (make (built_in builder.old.site) builder.old.run.items)) }
-    ensures gathered { OnOk result (make (built_in builder.new.site) builder.new.run.items ≡
+        (adds (spec.last_items (source_in input.now) node.0)
+        (make (built_in builder.old.site) (run_in builder.old.run.items))) }
+    ensures gathered { OnOk result (make (built_in builder.new.site) (run_in builder.new.run.items) ≡
         ended (source_in input.now) style.now
         (adds (spec.last_items (source_in input.now) node.0)
-        (make (built_in builder.old.site) builder.old.run.items))) }
+        (make (built_in builder.old.site) (run_in builder.old.run.items)))) }
     ensures blocks { OnOk result (builder.new.blocks ≡ builder.old.blocks) }
     ensures unshown { OnOk result (builder.new.unshown ≡ builder.old.unshown) }
     ensures within { OnOk result (IsWithinRoom builder.new.site) }
@@ -277,7 +279,7 @@ pub(crate) fn leave_block<'a>(
     ensures cause { IfErr result (λ e. e ≡ BuildErr.Text → builder.old.site.room.bytes <
         leaf_bytes (ended (source_in input.now) style.now
         (adds (spec.last_items (source_in input.now) node.0)
-        (make (built_in builder.old.site) builder.old.run.items))).built.tree.leaves) }
+        (make (built_in builder.old.site) (run_in builder.old.run.items)))).built.tree.leaves) }
 {
     let Ok(()) = push_last(input, node, &mut builder.run) else {
         return Err(BuildErr::NoMemory);
@@ -308,19 +310,19 @@ fn enter<'a>(
     builder: &mut FlowBuilder<'a>,
 ) -> Result<(), BuildErr>
     requires input { IsInput input.now }
-    requires node { node.0 < length input.now.dom.now }
+    requires node { node.0 < length input.now.texts.dom.now }
     requires kind { IsKindOf input.now node.0 kind }
     requires shown { builder.old.unshown ≡ None }
     requires within { IsWithinRoom builder.old.site }
     requires room { HasRoom builder.old.site }
-    requires can { CanEnterNode (source_in input.now) (role_in kind) (walk_in input.now.styles.now builder.old) }
-    ensures walk { OnOk result (walk_in input.now.styles.now builder.new ≡
-        enter_node (source_in input.now) node.0 (role_in kind.entry) (walk_in input.now.styles.now builder.old)) }
+    requires can { CanEnterNode (source_in input.now) (role_in kind) (walk_in input.now.texts.styles.now builder.old) }
+    ensures walk { OnOk result (walk_in input.now.texts.styles.now builder.new ≡
+        enter_node (source_in input.now) node.0 (role_in kind.entry) (walk_in input.now.texts.styles.now builder.old)) }
     ensures within { OnOk result (IsWithinRoom builder.new.site) }
     ensures room { OnOk result (builder.new.site.room ≡ builder.old.site.room) }
     ensures cause { IfErr result (λ e. e ≡ BuildErr.Text → builder.old.site.room.bytes <
         leaf_bytes (enter_node (source_in input.now) node.0 (role_in kind.entry)
-        (walk_in input.now.styles.now builder.old)).gathered.built.tree.leaves) }
+        (walk_in input.now.texts.styles.now builder.old)).gathered.built.tree.leaves) }
 {
     match kind {
         NodeKind::Hidden => builder.unshown = Some(node),
@@ -354,18 +356,20 @@ fn leave<'a>(
     kind: NodeKind<'a>,
     builder: &mut FlowBuilder<'a>,
 ) -> Result<(), BuildErr>
+    requires node { node.0 < length input.now.texts.dom.now }
     requires range { HasRange kind }
     requires shown { builder.old.unshown ≡ None }
     requires within { IsWithinRoom builder.old.site }
     requires room { HasRoom builder.old.site }
-    requires can { CanLeaveNode (source_in input.now) node.0 (role_in kind) (walk_in input.now.styles.now builder.old) }
-    ensures walk { OnOk result (walk_in input.now.styles.now builder.new ≡
-        leave_node (source_in input.now) node.0 (role_in kind.entry) (walk_in input.now.styles.now builder.old)) }
+    requires can { CanLeaveNode (source_in input.now) node.0 (role_in kind)
+        (walk_in input.now.texts.styles.now builder.old) }
+    ensures walk { OnOk result (walk_in input.now.texts.styles.now builder.new ≡
+        leave_node (source_in input.now) node.0 (role_in kind.entry) (walk_in input.now.texts.styles.now builder.old)) }
     ensures within { OnOk result (IsWithinRoom builder.new.site) }
     ensures room { OnOk result (builder.new.site.room ≡ builder.old.site.room) }
     ensures cause { IfErr result (λ e. e ≡ BuildErr.Text → builder.old.site.room.bytes <
         leaf_bytes (leave_node (source_in input.now) node.0 (role_in kind.entry)
-        (walk_in input.now.styles.now builder.old)).gathered.built.tree.leaves) }
+        (walk_in input.now.texts.styles.now builder.old)).gathered.built.tree.leaves) }
 {
     match kind {
         NodeKind::Hidden | NodeKind::Text(_) | NodeKind::Note(_) => {}
@@ -390,17 +394,17 @@ pub(crate) fn pass<'a>(
     builder: &mut FlowBuilder<'a>,
 ) -> Result<(), BuildErr>
     requires input { IsInput input.now }
-    requires node { node_of step < length input.now.dom.now }
+    requires node { node_of step < length input.now.texts.dom.now }
     requires within { IsWithinRoom builder.old.site }
     requires room { HasRoom builder.old.site }
-    requires can { CanStep (source_in input.now) (walk_in input.now.styles.now builder.old) step }
-    ensures walk { OnOk result (walk_in input.now.styles.now builder.new ≡
-        after_step (source_in input.now) (walk_in input.now.styles.now builder.old) step) }
+    requires can { CanStep (source_in input.now) (walk_in input.now.texts.styles.now builder.old) step }
+    ensures walk { OnOk result (walk_in input.now.texts.styles.now builder.new ≡
+        after_step (source_in input.now) (walk_in input.now.texts.styles.now builder.old) step) }
     ensures within { OnOk result (IsWithinRoom builder.new.site) }
     ensures room { OnOk result (builder.new.site.room ≡ builder.old.site.room) }
     ensures cause { IfErr result (λ e. e ≡ BuildErr.Text → builder.old.site.room.bytes <
         leaf_bytes (after_step (source_in input.now)
-        (walk_in input.now.styles.now builder.old) step).gathered.built.tree.leaves) }
+        (walk_in input.now.texts.styles.now builder.old) step).gathered.built.tree.leaves) }
 {
     match (step, builder.unshown) {
         (Step::Enter(node), None) => enter(alloc, input, node, kind_of(input, node), builder),

@@ -1,7 +1,11 @@
 //! Inline text: texts in their styles, and the elements that begin among them (CSS 2.1, 9.2.2).
 
+ghost use Rattle.std.specs.Prelude.{◌<◌, length};
+
 use crate::text_style::TextStyle;
 use bk_num::ids::NodeId;
+use bk_num::values::{Pseudo, WhiteSpace};
+use gen_text::texts::Texts;
 use inline_text::part::BorrowedPart;
 use thiserror::Error;
 
@@ -12,10 +16,24 @@ pub struct StyledText<'a> {
     pub style: TextStyle,
 }
 
-/// What a run of inline text is made of: texts, and places at which inline elements begin.
+/// What a pseudo-element of a node of the document will print, how its white space is treated, and how it is set. The
+/// text is made where its run is put, and let go there.
+#[derive(Clone, Copy)]
+pub struct GeneratedText<'a> {
+    pub texts: Texts<'a>,
+    pub node: NodeId,
+    pub pseudo: Pseudo,
+    pub space: WhiteSpace,
+    pub style: TextStyle,
+    ghost within: { node.0 < length texts.dom.now },
+}
+
+/// What a run of inline text is made of: texts that stand in the document, texts that are generated, and places at
+/// which inline elements begin.
 #[derive(Drop)]
-pub enum InlineItem<'a> {
+pub enum RunItem<'a> {
     Text(StyledText<'a>),
+    Generated(GeneratedText<'a>),
     Start(NodeId),
 }
 

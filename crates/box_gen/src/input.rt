@@ -10,24 +10,19 @@ ghost use Rattle.box_gen.specs.Walk.{element_style, style_around};
 
 use bk_num::ids::NodeId;
 use bk_num::values::Pseudo;
-use counters::at::CounterAt;
-use dom::Dom;
-use gen_text::generated::Generated;
+use gen_text::texts::Texts;
 use metrics::Faces;
 use soft_hyphens::hyphenator::Hyphenator;
 use style::style::Style;
 use style::styles::Styles;
 use style::values::Display;
 
-/// A document with its styles, its counters and its generated texts, the faces that set it, what hyphenates its words,
-/// the initial style, and whether what is meant stands in a note.
+/// A document with what its texts are generated from, the faces that set it, what hyphenates its words, the initial
+/// style, and whether what is meant stands in a note.
 #[derive(Clone, Copy)]
 pub(crate) struct FlowInput<'a> {
-    pub(crate) dom: &'a Dom,
-    pub(crate) styles: &'a Styles,
-    pub(crate) counters: &'a CounterAt,
+    pub(crate) texts: Texts<'a>,
     pub(crate) faces: &'a Faces,
-    pub(crate) texts: &'a Generated,
     pub(crate) hyphenator: Option<&'a Hyphenator<'a>>,
     pub(crate) initial: &'a Style,
     pub(crate) in_note: bool,
@@ -73,7 +68,7 @@ fn is_block(root: bool, style: &Style) -> bool
 pub(crate) fn is_note_element(input: &FlowInput, node: NodeId) -> bool
     ensures { result ≡ spec.is_note_element (source_in input.now) node.0 }
 {
-    node.0 != 0 && !input.in_note && input.styles.is_note(node)
+    node.0 != 0 && !input.in_note && input.texts.styles.is_note(node)
 }
 
 /// The style of an element.
@@ -104,14 +99,14 @@ fn shown_style(styles: &Styles, node: NodeId) -> Option<&Style>
 /// What a node is to the flow.
 pub(crate) fn kind_of<'a>(input: &FlowInput<'a>, node: NodeId) -> NodeKind<'a>
     requires input { IsInput input.now }
-    requires node { node.0 < length input.now.dom.now }
+    requires node { node.0 < length input.now.texts.dom.now }
     ensures role { role_in result ≡ spec.role_of (source_in input.now) node.0 }
     ensures range { HasRange result }
 {
-    if let Some(text) = input.dom.text(node) {
+    if let Some(text) = input.texts.dom.text(node) {
         return NodeKind::Text(text);
     }
-    match shown_style(input.styles, node) {
+    match shown_style(input.texts.styles, node) {
         None => NodeKind::Hidden,
         Some(style) => {
             if is_note_element(input, node) {
@@ -131,7 +126,7 @@ pub(crate) fn style_of<'a>(input: &FlowInput<'a>, node: NodeId) -> &'a Style
     ensures value { result.now ≡ element_style (source_in input.now) (Some node.0) }
     ensures range { IsInRange result.now }
 {
-    match own_style(input.styles, node) {
+    match own_style(input.texts.styles, node) {
         Some(style) => style,
         None => input.initial,
     }
@@ -140,10 +135,10 @@ pub(crate) fn style_of<'a>(input: &FlowInput<'a>, node: NodeId) -> &'a Style
 /// The style of the element around a node.
 pub(crate) fn style_around<'a>(input: &FlowInput<'a>, node: NodeId) -> &'a Style
     requires input { IsInput input.now }
-    requires node { node.0 < length input.now.dom.now }
+    requires node { node.0 < length input.now.texts.dom.now }
     ensures { result.now ≡ style_around (source_in input.now) node.0 }
 {
-    match input.dom.parent(node) {
+    match input.texts.dom.parent(node) {
         Some(parent) => style_of(input, parent),
         None => input.initial,
     }

@@ -1,6 +1,6 @@
 //! The leaves of inline text.
 
-ghost use Rattle.std.specs.Prelude.{◌≡◌, ◌<◌, ◌≤◌, ◌++◌, ◌∷◌, [], List, ℕ, length, option_map, IfOk, IfErr, OnOk};
+ghost use Rattle.std.specs.Prelude.{◌≡◌, ◌<◌, ◌≤◌, ◌++◌, ◌∷◌, [], List, ℕ, Option, length, option_map, IfOk, IfErr, OnOk};
 ghost use Rattle.std.specs.List.{All};
 ghost use Rattle.std.specs.Str.{IsCharBoundary};
 ghost use Rattle.inline_text.specs.Joined.{ends_from, laid_texts};
@@ -8,12 +8,14 @@ ghost use Rattle.bk_num.specs.Limits.{most_text_bytes};
 ghost use Rattle.bk_num.specs.Ranges.{IsNotAuto};
 ghost use Rattle.boxes.specs.Contents.{IsGoodLeaf, IsGoodSpan};
 ghost use Rattle.metrics.specs.Choice.{Chooses};
-ghost use Rattle.soft_hyphens.specs.Words.{points_in};
+ghost use Rattle.inline_text.specs.Space.{collapsed};
+ghost use Rattle.soft_hyphens.specs.Words.{Points, points_in};
 ghost use Rattle.box_gen.specs.Faces.{face_of};
-ghost use Rattle.box_gen.specs.Leaves.{IsGoodRun, leaf_by, leaf_style_of};
+ghost use Rattle.box_gen.specs.Items as item;
+ghost use Rattle.box_gen.specs.Items.{InlineItem, generated_part, item_in, run_in};
+ghost use Rattle.box_gen.specs.Leaves.{HasRun, IsGoodRun, leaf_by, leaf_style_of};
 ghost use Rattle.box_gen.specs.Runs.{
   AreGoodTexts,
-  mark_of,
   marks_in,
   parts_in,
   printed_in,
@@ -28,7 +30,7 @@ ghost use Rattle.box_gen.specs.Runs.{
 ghost use Rattle.box_gen.specs.TextStyles.{IsGoodTextStyle};
 
 use crate::hyphens::hyphenated;
-use crate::inline::{BuildErr, InlineItem, InlineStart, ItemMark};
+use crate::inline::{BuildErr, GeneratedText, InlineStart, ItemMark, RunItem};
 use crate::text_style::{TextStyle, span_by, text_style};
 use bk_num::ids::NodeId;
 use bk_num::items::{Items, Text};
@@ -36,10 +38,11 @@ use bk_num::length::Len;
 use bk_num::name::NoMem;
 use bk_num::values::Align;
 use boxes::leaf::{Leads, Leaf, Span, Spans};
+use gen_text::texts::generated_text;
 use inline_text::joined::JoinedText;
 use inline_text::part::BorrowedPart;
 use inline_text::places::opportunities;
-use inline_text::space::collapse_joined;
+use inline_text::space::Collapser;
 use metrics::Faces;
 use soft_hyphens::hyphenator::Hyphenator;
 use std::alloc::Global;
@@ -77,56 +80,149 @@ pub fn leaf_style(faces: &Faces, style: &Style) -> LeafStyle
     }
 }
 
-fn push_item<'a>(
-    parts: &mut Vec<BorrowedPart<'a>>,
-    marks: &mut Vec<ItemMark>,
-    item: InlineItem<'a>,
-) -> Result<(), NoMem>
-    ensures parts { OnOk result (parts.new.items ≡ parts.old.items ++ parts_in (item.entry ∷ [])) }
-    ensures marks { OnOk result (marks.new.items ≡ marks.old.items ++ mark_of item.entry ∷ []) }
+/// The pass over a run: its texts with their white space collapsed, and its items without their letters.
+#[derive(Drop)]
+pub(crate) struct RunPass {
+    collapser: Collapser,
+    marks: Vec<ItemMark>,
+}
+
+/// The pass before the first item, with room for some bytes.
+fn new_pass(alloc: Global, room: usize) -> Result<RunPass, NoMem>
+    ensures { IfOk result (λ pass. HasRun pass []) }
+{
+    Ok(RunPass {
+        collapser: Collapser::new(alloc, room)?,
+        marks: Vec::new(alloc),
+    })
+}
+
+/// Passes a text that is set so.
+fn pass_text(part: &BorrowedPart<'_>, style: TextStyle, pass: &mut RunPass) -> Result<(), NoMem>
+    ensures { (items : List InlineItem) → HasRun pass.old items → OnOk result
+        (HasRun pass.new (items ++ item.Text (record { part = part.now; style = style }) ∷ [])) }
+{
+    pass.marks.push(ItemMark::Text(style))?;
+    pass.collapser.pass(part)?;
+    Ok(())
+}
+
+/// Passes a text that is generated: it is made here, and let go.
+fn pass_generated(alloc: Global, made: &GeneratedText<'_>, pass: &mut RunPass) -> Result<(), NoMem>
+    ensures { (items : List InlineItem) → HasRun pass.old items → OnOk result (HasRun pass.new
+        (items ++ item.Text (record { part = generated_part made.now; style = made.now.style }) ∷ [])) }
+{
+    let text = generated_text(alloc, &made.texts, made.node, made.pseudo)?;
+    let part = BorrowedPart::new(text.as_str(), made.space);
+    pass_text(&part, made.style, pass)?;
+    Ok(())
+}
+
+/// Passes the place at which an element begins.
+fn pass_start(node: NodeId, pass: &mut RunPass) -> Result<(), NoMem>
+    ensures { (items : List InlineItem) → HasRun pass.old items →
+        OnOk result (HasRun pass.new (items ++ item.Start node ∷ [])) }
+{
+    pass.marks.push(ItemMark::Start(node))?;
+    Ok(())
+}
+
+/// Passes an item.
+fn pass_item(alloc: Global, item: &RunItem<'_>, pass: &mut RunPass) -> Result<(), NoMem>
+    ensures { (items : List InlineItem) → HasRun pass.old items →
+        OnOk result (HasRun pass.new (items ++ item_in item.now ∷ [])) }
 {
     match item {
-        InlineItem::Text(text) => {
-            parts.push(text.part)?;
-            marks.push(ItemMark::Text(text.style))?;
-        }
-        InlineItem::Start(node) => {
-            marks.push(ItemMark::Start(node))?;
-        }
+        RunItem::Text(text) => pass_text(&text.part, text.style, pass),
+        RunItem::Generated(text) => pass_generated(alloc, text, pass),
+        RunItem::Start(node) => pass_start(*node, pass),
+    }
+}
+
+/// Passes an item, unless the text so far has more bytes than `most` then: no later item takes any of it away.
+fn pass_within(
+    alloc: Global,
+    item: &RunItem<'_>,
+    most: u32,
+    pass: &mut RunPass,
+) -> Result<(), BuildErr>
+    ensures run { (items : List InlineItem) → HasRun pass.old items →
+        OnOk result (HasRun pass.new (items ++ item_in item.now ∷ [])) }
+    ensures cause { (points : Option Points) (items more : List InlineItem) → HasRun pass.old items →
+        IfErr result (λ e. e ≡ BuildErr.Text → most < length (text_of points (items ++ item_in item.now ∷ more))) }
+{
+    let Ok(()) = pass_item(alloc, item, pass) else {
+        return Err(BuildErr::NoMemory);
+    };
+    if pass.collapser.len() > most as usize {
+        return Err(BuildErr::Text);
     }
     Ok(())
 }
 
-/// The texts of a run, and the run without their letters.
-fn split<'a>(
-    alloc: Global,
-    items: Vec<InlineItem<'a>>,
-) -> Result<(Vec<BorrowedPart<'a>>, Vec<ItemMark>), NoMem>
-    ensures parts { IfOk result (λ r. r.0.items ≡ parts_in items.entry.items) }
-    ensures marks { IfOk result (λ r. r.1.items ≡ marks_in items.entry.items) }
-{
-    let mut parts = Vec::new(alloc);
-    let mut marks = Vec::new(alloc);
+/// How many bytes the texts of a run have together that stand in the document, or the greatest number.
+fn bytes_in(items: &[RunItem<'_>]) -> usize {
+    let mut bytes: usize = 0;
     for item in items {
-        push_item(&mut parts, &mut marks, item)?;
+        if let RunItem::Text(text) = item {
+            bytes = bytes.saturating_add(text.part.text().len());
+        }
     }
-    Ok((parts, marks))
+    bytes
+}
+
+/// The pass over a whole run.
+fn pass_run(alloc: Global, items: &[RunItem<'_>], most: u32) -> Result<RunPass, BuildErr>
+    ensures run { IfOk result (λ pass. HasRun pass (run_in items.now)) }
+    ensures cause { (points : Option Points) → IfErr result (λ e. e ≡ BuildErr.Text →
+        most < length (text_of points (run_in items.now))) }
+{
+    let Ok(mut pass) = new_pass(alloc, bytes_in(items).min(most as usize)) else {
+        return Err(BuildErr::NoMemory);
+    };
+    for item in items {
+        match pass_within(alloc, item, most, &mut pass) {
+            Ok(()) => {}
+            Err(e) => return Err(e),
+        }
+    }
+    Ok(pass)
+}
+
+/// The texts of a run that is passed, and the run without its letters.
+fn finished(pass: RunPass) -> Result<(JoinedText, Vec<ItemMark>), NoMem>
+    ensures { (items : List InlineItem) → HasRun pass items → IfOk result (λ r.
+        (r.0 ≡ laid_texts (collapsed (parts_in items))) × (r.1.items ≡ marks_in items)) }
+{
+    let RunPass { collapser, marks } = pass;
+    let texts = collapser.finish()?;
+    Ok((texts, marks))
 }
 
 /// The texts of a run with its white space collapsed and its words hyphenated, and the run without its letters.
-fn printed<'a>(
+fn printed(
     alloc: Global,
-    items: Vec<InlineItem<'a>>,
+    items: &[RunItem<'_>],
+    most: u32,
     hyphenator: Option<&Hyphenator<'_>>,
-) -> Result<(JoinedText, Vec<ItemMark>), NoMem>
+) -> Result<(JoinedText, Vec<ItemMark>), BuildErr>
     ensures texts { IfOk result (λ r. r.0 ≡
-        laid_texts (printed_in (points_in (option_map (λ h. h.now) hyphenator.entry)) items.entry.items)) }
-    ensures marks { IfOk result (λ r. r.1.items ≡ marks_in items.entry.items) }
+        laid_texts (printed_in (points_in (option_map (λ h. h.now) hyphenator.entry)) (run_in items.now))) }
+    ensures marks { IfOk result (λ r. r.1.items ≡ marks_in (run_in items.now)) }
+    ensures cause { (points : Option Points) → IfErr result (λ e. e ≡ BuildErr.Text →
+        most < length (text_of points (run_in items.now))) }
 {
-    let (parts, marks) = split(alloc, items)?;
-    let texts = collapse_joined(alloc, &parts)?;
-    let texts = hyphenated(alloc, &marks, texts, hyphenator)?;
-    Ok((texts, marks))
+    let pass = match pass_run(alloc, items, most) {
+        Ok(pass) => pass,
+        Err(e) => return Err(e),
+    };
+    let Ok((texts, marks)) = finished(pass) else {
+        return Err(BuildErr::NoMemory);
+    };
+    match hyphenated(alloc, &marks, texts, hyphenator) {
+        Ok(texts) => Ok((texts, marks)),
+        Err(_) => Err(BuildErr::NoMemory),
+    }
 }
 
 /// Adds a span, unless it is empty.
@@ -205,36 +301,38 @@ fn marked_run(alloc: Global, marks: &[ItemMark], joined: JoinedText) -> Result<R
 
 /// The text of a run with its white space collapsed and its words hyphenated, its spans, and where its elements begin.
 ///
-/// Each character is passed once, and what is left of it is copied once, from where it stands in the document; where
-/// patterns are given and some text of the run is hyphenated, it is passed and copied once more.
+/// Each character is passed once, and what is left of it is copied, from where it stands in the document, or from a
+/// text that is generated and let go before the next item is passed; where patterns are given and some text of the run
+/// is hyphenated, it is passed and copied once more.
 ///
 /// # Errors
 ///
-/// `Text` where the text has more bytes than `most`, at most 33,554,432.
+/// `Text` where the text has more bytes than `most`, at most 33,554,432. No item is passed after that is known.
 #[tactic(auto, unfolding(crate::specs::Runs::text_of, crate::specs::Runs::spans_of, crate::specs::Runs::starts_of))]
 pub fn run_text(
     alloc: Global,
-    items: Vec<InlineItem>,
+    items: &[RunItem<'_>],
     most: u32,
     hyphenator: Option<&Hyphenator<'_>>,
 ) -> Result<RunText, BuildErr>
     requires { most ≤ most_text_bytes }
     ensures text { IfOk result (λ run. run.text ≡
-        text_of (points_in (option_map (λ h. h.now) hyphenator.entry)) items.entry.items) }
+        text_of (points_in (option_map (λ h. h.now) hyphenator.entry)) (run_in items.now)) }
     ensures spans { IfOk result (λ run. run.spans ≡
-        spans_of (points_in (option_map (λ h. h.now) hyphenator.entry)) items.entry.items) }
+        spans_of (points_in (option_map (λ h. h.now) hyphenator.entry)) (run_in items.now)) }
     ensures starts { IfOk result (λ run. run.starts ≡
-        starts_of (points_in (option_map (λ h. h.now) hyphenator.entry)) items.entry.items) }
+        starts_of (points_in (option_map (λ h. h.now) hyphenator.entry)) (run_in items.now)) }
     ensures good { IfOk result (λ run. IsGoodRun run) }
-    ensures sizes { AreGoodTexts items.entry.items → IfOk result (λ run. All IsGoodSpan run.spans) }
+    ensures sizes { AreGoodTexts (run_in items.now) → IfOk result (λ run. All IsGoodSpan run.spans) }
     ensures most { IfOk result (λ run. length run.text ≤ most) }
     ensures cause { IfErr result (λ e. e ≡ BuildErr.Text →
-        most < length (text_of (points_in (option_map (λ h. h.now) hyphenator.entry)) items.entry.items)) }
+        most < length (text_of (points_in (option_map (λ h. h.now) hyphenator.entry)) (run_in items.now))) }
 {
-    let Ok((texts, marks)) = printed(alloc, items, hyphenator) else {
-        return Err(BuildErr::NoMemory);
+    let (texts, marks) = match printed(alloc, items, most, hyphenator) {
+        Ok(said) => said,
+        Err(e) => return Err(e),
     };
-    if texts.text().len() > most as usize {
+    if texts.len() > most as usize {
         return Err(BuildErr::Text);
     }
     match marked_run(alloc, &marks, texts) {

@@ -3,11 +3,13 @@
 ghost use Rattle.std.specs.Prelude.{◌≡◌, ◌<◌, ◌++◌, ◌∷◌, [], length, OnOk};
 ghost use Rattle.bk_num.specs.declared.values.Pseudo.TheVariants as pseudo;
 ghost use Rattle.box_gen.specs.Flow as spec;
+ghost use Rattle.box_gen.specs.declared.inline.RunItem.TheVariants as run;
 ghost use Rattle.box_gen.specs.Flow.{styled, text_item, generated_items};
+ghost use Rattle.box_gen.specs.Items.{item_in, run_in};
 ghost use Rattle.box_gen.specs.Represented as represented;
 ghost use Rattle.box_gen.specs.Sources.{source_in};
 
-use crate::inline::{InlineItem, StyledText};
+use crate::inline::{GeneratedText, RunItem, StyledText};
 use crate::input::FlowInput;
 use crate::represented::represented_text;
 use crate::text_style::text_style;
@@ -17,18 +19,26 @@ use bk_num::values::Pseudo;
 use inline_text::part::BorrowedPart;
 use style::style::Style;
 
+/// Adds an item.
+pub(crate) fn push_item<'a>(run: &mut Vec<RunItem<'a>>, item: RunItem<'a>) -> Result<(), NoMem>
+    ensures { OnOk result (run_in run.new.items ≡ run_in run.old.items ++ item_in item.entry ∷ []) }
+{
+    run.push(item)?;
+    Ok(())
+}
+
 /// Adds a text that a style sets.
 fn push_styled<'a>(
     input: &FlowInput,
     style: &Style,
     part: BorrowedPart<'a>,
-    run: &mut Vec<InlineItem<'a>>,
+    run: &mut Vec<RunItem<'a>>,
 ) -> Result<(), NoMem>
-    ensures { OnOk result (run.new.items ≡ run.old.items ++ styled (source_in input.now) style.now part.entry ∷ []) }
+    ensures { OnOk result (run_in run.new.items ≡
+        run_in run.old.items ++ styled (source_in input.now) style.now part.entry ∷ []) }
 {
     let style = text_style(input.faces, style, part.space());
-    run.push(InlineItem::Text(StyledText { part, style }))?;
-    Ok(())
+    push_item(run, RunItem::Text(StyledText { part, style }))
 }
 
 /// Adds a text of an element of a style.
@@ -36,14 +46,34 @@ pub(crate) fn push_text<'a>(
     input: &FlowInput,
     style: &Style,
     text: &'a str,
-    run: &mut Vec<InlineItem<'a>>,
+    run: &mut Vec<RunItem<'a>>,
 ) -> Result<(), NoMem>
-    ensures { OnOk result (run.new.items ≡ run.old.items ++ text_item (source_in input.now) style.now text.entry.now ∷
-        []) }
+    ensures { OnOk result (run_in run.new.items ≡
+        run_in run.old.items ++ text_item (source_in input.now) style.now text.entry.now ∷ []) }
 {
     let part = BorrowedPart::new(text, style.white_space);
     push_styled(input, style, part, run)?;
     Ok(())
+}
+
+/// What a pseudo-element of a style will print.
+fn generated<'a>(
+    input: &FlowInput<'a>,
+    node: NodeId,
+    pseudo: Pseudo,
+    style: &Style,
+) -> GeneratedText<'a>
+    requires { node.0 < length input.now.texts.dom.now }
+    ensures { item_in (run.Generated result) ≡
+        text_item (source_in input.now) style.now ((source_in input.now).generated node.0 pseudo) }
+{
+    GeneratedText {
+        texts: input.texts,
+        node,
+        pseudo,
+        space: style.white_space,
+        style: text_style(input.faces, style, style.white_space),
+    }
 }
 
 /// Adds the text of a pseudo-element that is there.
@@ -51,16 +81,18 @@ fn push_generated<'a>(
     input: &FlowInput<'a>,
     node: NodeId,
     pseudo: Pseudo,
-    run: &mut Vec<InlineItem<'a>>,
+    run: &mut Vec<RunItem<'a>>,
 ) -> Result<(), NoMem>
-    ensures { OnOk result (run.new.items ≡ run.old.items ++ generated_items (source_in input.now) node.0 pseudo) }
+    requires { node.0 < length input.now.texts.dom.now }
+    ensures { OnOk result (run_in run.new.items ≡
+        run_in run.old.items ++ generated_items (source_in input.now) node.0 pseudo) }
 {
-    match input.styles.of(node, pseudo) {
+    match input.texts.styles.of(node, pseudo) {
         None => Ok(()),
-        Some(style) => {
-            push_text(input, style, input.texts.text(node, pseudo), run)?;
-            Ok(())
-        }
+        Some(style) => push_item(
+            run,
+            RunItem::Generated(generated(input, node, pseudo, style)),
+        ),
     }
 }
 
@@ -69,13 +101,14 @@ fn push_represented<'a>(
     input: &FlowInput<'a>,
     node: NodeId,
     style: &Style,
-    run: &mut Vec<InlineItem<'a>>,
+    run: &mut Vec<RunItem<'a>>,
 ) -> Result<(), NoMem>
-    requires { node.0 < length input.now.dom.now }
-    ensures { OnOk result (run.new.items ≡ run.old.items ++ spec.represented_items (source_in input.now) style.now
-        (represented.represented_text input.now.dom.now node.0 style.now.white_space)) }
+    requires { node.0 < length input.now.texts.dom.now }
+    ensures { OnOk result (run_in run.new.items ≡
+        run_in run.old.items ++ spec.represented_items (source_in input.now) style.now
+        (represented.represented_text input.now.texts.dom.now node.0 style.now.white_space)) }
 {
-    match represented_text(input.dom, node, style.white_space) {
+    match represented_text(input.texts.dom, node, style.white_space) {
         None => Ok(()),
         Some(part) => {
             push_styled(input, style, part, run)?;
@@ -89,10 +122,11 @@ pub(crate) fn push_first<'a>(
     input: &FlowInput<'a>,
     node: NodeId,
     style: &Style,
-    run: &mut Vec<InlineItem<'a>>,
+    run: &mut Vec<RunItem<'a>>,
 ) -> Result<(), NoMem>
-    requires { node.0 < length input.now.dom.now }
-    ensures { OnOk result (run.new.items ≡ run.old.items ++ spec.first_items (source_in input.now) style.now node.0) }
+    requires { node.0 < length input.now.texts.dom.now }
+    ensures { OnOk result (run_in run.new.items ≡
+        run_in run.old.items ++ spec.first_items (source_in input.now) style.now node.0) }
 {
     push_generated(input, node, Pseudo::Before, run)?;
     push_represented(input, node, style, run)?;
@@ -103,9 +137,11 @@ pub(crate) fn push_first<'a>(
 pub(crate) fn push_call<'a>(
     input: &FlowInput<'a>,
     node: NodeId,
-    run: &mut Vec<InlineItem<'a>>,
+    run: &mut Vec<RunItem<'a>>,
 ) -> Result<(), NoMem>
-    ensures { OnOk result (run.new.items ≡ run.old.items ++ generated_items (source_in input.now) node.0 pseudo.Call) }
+    requires { node.0 < length input.now.texts.dom.now }
+    ensures { OnOk result (run_in run.new.items ≡
+        run_in run.old.items ++ generated_items (source_in input.now) node.0 pseudo.Call) }
 {
     push_generated(input, node, Pseudo::Call, run)?;
     Ok(())
@@ -116,11 +152,11 @@ pub(crate) fn push_note_first<'a>(
     input: &FlowInput<'a>,
     node: NodeId,
     style: &Style,
-    run: &mut Vec<InlineItem<'a>>,
+    run: &mut Vec<RunItem<'a>>,
 ) -> Result<(), NoMem>
-    requires { node.0 < length input.now.dom.now }
-    ensures { OnOk result (run.new.items ≡
-        run.old.items ++ spec.note_first_items (source_in input.now) style.now node.0) }
+    requires { node.0 < length input.now.texts.dom.now }
+    ensures { OnOk result (run_in run.new.items ≡
+        run_in run.old.items ++ spec.note_first_items (source_in input.now) style.now node.0) }
 {
     push_generated(input, node, Pseudo::Marker, run)?;
     push_first(input, node, style, run)?;
@@ -131,9 +167,11 @@ pub(crate) fn push_note_first<'a>(
 pub(crate) fn push_last<'a>(
     input: &FlowInput<'a>,
     node: NodeId,
-    run: &mut Vec<InlineItem<'a>>,
+    run: &mut Vec<RunItem<'a>>,
 ) -> Result<(), NoMem>
-    ensures { OnOk result (run.new.items ≡ run.old.items ++ spec.last_items (source_in input.now) node.0) }
+    requires { node.0 < length input.now.texts.dom.now }
+    ensures { OnOk result (run_in run.new.items ≡
+        run_in run.old.items ++ spec.last_items (source_in input.now) node.0) }
 {
     push_generated(input, node, Pseudo::After, run)?;
     Ok(())

@@ -8,6 +8,7 @@ ghost use Rattle.boxes.specs.Tree.{HaveOwners, takes_box, takes_leaf, with_box, 
 ghost use Rattle.box_gen.specs.Faces.{face_of};
 ghost use Rattle.box_gen.specs.Flow as spec;
 ghost use Rattle.box_gen.specs.Flow.{put, shut, starts_by};
+ghost use Rattle.box_gen.specs.Items.{run_in};
 ghost use Rattle.box_gen.specs.Leaves.{IsGoodRun, leaf_style_of};
 ghost use Rattle.box_gen.specs.Props as props;
 ghost use Rattle.box_gen.specs.Runs.{AreGoodTexts};
@@ -15,7 +16,7 @@ ghost use Rattle.box_gen.specs.Sites.{IsCounted, TakesRun, built_in, leaf_bytes,
 ghost use Rattle.box_gen.specs.Sources.{IsInRange};
 ghost use Rattle.soft_hyphens.specs.Words.{points_in};
 
-use crate::inline::{BuildErr, InlineItem, InlineStart};
+use crate::inline::{BuildErr, InlineStart, RunItem};
 use crate::leaf::{RunText, leaf_of, leaf_style, run_text};
 use crate::props::anonymous_props;
 use bk_num::ids::NodeId;
@@ -214,24 +215,24 @@ pub(crate) fn put_run<'a>(
     style: &Style,
     wrap: bool,
     site: &mut Site,
-    items: Vec<InlineItem<'a>>,
+    items: Vec<RunItem<'a>>,
 ) -> Result<(), BuildErr>
     requires range { IsInRange style.now }
-    requires texts { AreGoodTexts items.items }
+    requires texts { AreGoodTexts (run_in items.items) }
     requires takes { TakesRun wrap site.old }
     requires count { IsCounted site.old }
     ensures built { OnOk result (built_in site.new ≡
         put (points_in (option_map (λ h. h.now) hyphenator.entry))
         (leaf_style_of style.now (face_of faces.now style.now)) (props.anonymous_props style.now) wrap
-        (built_in site.old) items.entry.items) }
+        (built_in site.old) (run_in items.entry.items)) }
     ensures count { OnOk result (IsCounted site.new) }
     ensures room { OnOk result (site.new.room ≡ site.old.room) }
     ensures cause { IfErr result (λ e. e ≡ BuildErr.Text → site.old.room.bytes < leaf_bytes
         (put (points_in (option_map (λ h. h.now) hyphenator.entry))
         (leaf_style_of style.now (face_of faces.now style.now)) (props.anonymous_props style.now) wrap
-        (built_in site.old) items.entry.items).tree.leaves) }
+        (built_in site.old) (run_in items.entry.items)).tree.leaves) }
 {
-    match run_text(alloc, items, site.room.bytes - site.bytes, hyphenator) {
+    match run_text(alloc, &items, site.room.bytes - site.bytes, hyphenator) {
         Err(e) => Err(e),
         Ok(run) => match put_text(alloc, faces, style, wrap, site, run) {
             Ok(()) => Ok(()),

@@ -17,9 +17,10 @@ use counters::at::CounterAt;
 use counters::number::number_all;
 use css_rules::sheet::read_sheet;
 use dom::Dom;
-use gen_text::generate::generate;
 use gen_text::table::Table;
+use gen_text::texts::Texts;
 use html_tree::read_html;
+use indexmap::IndexSet;
 use metrics::{Faces, read_metrics};
 use rows::{part, parts_from, unescaped};
 use sheets::default_sheet::default_sheet;
@@ -85,8 +86,15 @@ fn flow_by(
     requires { AreInRange styles.now }
 {
     let table = Table::of(Items::new(alloc));
-    let texts = generate(alloc, dom, styles, counters, &table)?;
-    match build(alloc, dom, styles, counters, faces, &texts, None) {
+    let asked = IndexSet::new(alloc);
+    let texts = Texts {
+        dom,
+        styles,
+        counters,
+        table: &table,
+        asked: &asked,
+    };
+    match build(alloc, &texts, faces, None) {
         Ok(flow) => Ok(flow),
         Err(_) => Err(NoMem),
     }

@@ -5,4 +5,4 @@ pub mod OneLemmas
 pub mod WordLemmas
 pub mod OwnLemmas
 pub mod ContentLemmas
-pub mod GeneratedLemmas
+pub mod TextLemmas

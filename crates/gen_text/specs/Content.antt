@@ -1,5 +1,6 @@
 -- The text of a list of content (CSS 2.1, 12.2; css-gcpm-3).
 use Rattle.std.specs.Prelude.{◌≡◌, ℕ, List, [], ◌∷◌, ◌++◌, ℤ}
+use Rattle.std.specs.List.{flat_map}
 use Rattle.bk_num.specs.declared.values.Pseudo.{Pseudo}
 use Rattle.dom.specs.Nodes.{Node, IsTree, attribute_at}
 use Rattle.style.specs.declared.content.Part.{Part}
@@ -7,7 +8,8 @@ use Rattle.style.specs.declared.content.Part.TheVariants as part
 use Rattle.style.specs.Nodes.{NodeStyles}
 use Rattle.gen_text.specs.declared.table.Entry.{Entry}
 use Rattle.gen_text.specs.Own.{own_text}
-use Rattle.gen_text.specs.Parts.{PrintsReference, attribute_text, innermost_text, joined_text}
+use Rattle.gen_text.specs.Parts.{PrintsReference, attribute_text, innermost_text, joined_text, reference_text}
+use Rattle.gen_text.specs.Target.{target_of}
 
 -- where a list of content is printed: the document, its styles, an element or a pseudo-element of it, the values of a
 -- counter at an element or a pseudo-element, the outermost scope first, and the numbers of pages
@@ -47,9 +49,33 @@ PrintsParts p (x ∷ xs) old new = (middle : List ℕ) × PrintsPart p x old mid
 abbrev pub IsTextOf : Place → List Part → List ℕ → Type 0
 IsTextOf p content text = PrintsParts p content [] text
 
--- ---- law
+-- ---- the same as a function
+
+-- what a part prints. The parts of margin boxes alone print nothing in the flow
+abbrev pub printed_by : Place → Part → List ℕ
+printed_by p (part.Text text) = text
+printed_by p (part.Attr name) = attribute_text (attribute_at p.nodes p.node name)
+printed_by p (part.Counter name style) = innermost_text style (p.values p.node p.pseudo name)
+printed_by p (part.Counters name between style) = joined_text between style (p.values p.node p.pseudo name)
+printed_by p (part.Target link name style) =
+    reference_text p.values p.table name style (target_of p.nodes p.styles p.node link)
+printed_by p part.Own = own_text p.nodes p.styles p.node
+printed_by p (part.Running name keyword) = []
+printed_by p (part.Page style) = []
+printed_by p (part.Pages style) = []
+
+-- the text of a list of content: what its parts print, joined
+abbrev pub text_of : Place → List Part → List ℕ
+text_of p content = flat_map (printed_by p) content
+
+-- ---- laws
 
 -- a list of content has one text at a place
 abbrev pub TextIsOne : Type 0
 TextIsOne = (p : Place) (content : List Part) (a b : List ℕ) → IsTree p.nodes → IsTextOf p content a →
     IsTextOf p content b → a ≡ b
+
+-- the text that a list of content has is that
+abbrev pub TextIsThat : Type 0
+TextIsThat = (p : Place) (content : List Part) (text : List ℕ) → IsTree p.nodes → IsTextOf p content text →
+    text ≡ text_of p content

@@ -4,4 +4,4 @@ pub mod References
 pub mod Parts
 pub mod Own
 pub mod Content
-pub mod Generated
+pub mod Texts

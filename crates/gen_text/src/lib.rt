@@ -2,11 +2,10 @@
 #![tactic(auto)]
 
 pub mod eval;
-pub mod generate;
-pub mod generated;
 pub mod laws;
 pub mod own;
 pub mod parts;
 pub mod references;
 pub mod table;
 pub mod target;
+pub mod texts;

@@ -1,5 +1,7 @@
 -- Texts that stand one after the other in one text, and where each of them ends.
 use Rattle.std.specs.Prelude.{ℕ, zero, suc, ◌+◌, ◌-◌, List, [], ◌∷◌, ◌++◌, length}
+use Rattle.std.specs.List.{All}
+use Rattle.std.specs.Str.{IsCharBoundary, IsUtf8}
 
 -- some texts, one after the other
 abbrev pub joined : List (List ℕ) → List ℕ
@@ -32,3 +34,8 @@ reached l n = record { bytes = l.bytes; ends = l.ends ++ repeated (n - length l.
 -- more at the end of the text with a number, before which all are complete
 abbrev pub laid_on : Laid → ℕ → List ℕ → Laid
 laid_on l n s = record { bytes = l.bytes ++ s; ends = (reached l n).ends }
+
+-- the one text is UTF-8, and each of those that are complete ends at a character
+pub record AreTexts (l : Laid) : Type 0 where
+  pub utf8 : IsUtf8 l.bytes
+  pub stand : All (IsCharBoundary l.bytes) l.ends

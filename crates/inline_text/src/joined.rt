@@ -4,7 +4,7 @@ ghost use Rattle.std.specs.Prelude.{◌≡◌, ◌-◌, ◌++◌, [], ℕ, List,
 ghost use Rattle.std.specs.Char.{encode_utf8};
 ghost use Rattle.std.specs.List.{All};
 ghost use Rattle.std.specs.Str.{IsCharBoundary};
-ghost use Rattle.inline_text.specs.Joined.{laid_on, laid_texts, reached, repeated};
+ghost use Rattle.inline_text.specs.Joined.{AreTexts, laid_on, laid_texts, reached, repeated};
 
 use bk_num::name::NoMem;
 use std::alloc::Global;
@@ -85,6 +85,14 @@ impl JoinedText {
         ensures { result.now ≡ self.now.bytes }
     {
         self.text.as_str()
+    }
+
+    /// How many bytes the text has.
+    pub fn len(&self) -> usize
+        ensures value { result ≡ length self.now.bytes }
+        ensures texts { AreTexts self.now }
+    {
+        self.text.len()
     }
 
     /// Where the texts end, as byte offsets.

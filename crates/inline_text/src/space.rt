@@ -1,11 +1,12 @@
 //! White space over the parts of a leaf (CSS 2.1, 16.6.1).
 
-ghost use Rattle.std.specs.Prelude.{◌≡◌, ◌<◌, ◌≤◌, ◌++◌, List, ℕ, false, true, length, IfOk, OnOk, slice_index};
-ghost use Rattle.inline_text.specs.Joined.{laid_on, laid_texts, reached};
-ghost use Rattle.inline_text.specs.Space.{Char, class_of, chars_from, chars_of_part, collapsed};
+ghost use Rattle.std.specs.Prelude.{◌≡◌, ◌<◌, ◌≤◌, ◌++◌, ◌∷◌, [], List, ℕ, false, true, length, IfOk, OnOk, slice_index};
+ghost use Rattle.inline_text.specs.Joined.{AreTexts, laid_on, laid_texts};
+ghost use Rattle.inline_text.specs.Passed.{HasPassed};
+ghost use Rattle.inline_text.specs.Space.{Char, class_of, chars_of_part, collapsed};
 ghost use Rattle.inline_text.specs.Space as spec;
 ghost use Rattle.inline_text.specs.Gaps.{is_joint, is_white, laid, left_from, next_gap, put_of, settled, stops};
-ghost use Rattle.inline_text.specs.declared.space.Gap.TheVariants as gap_before;
+ghost use Rattle.inline_text.specs.declared.space.TextPart.{TextPart};
 
 use crate::joined::JoinedText;
 use crate::part::BorrowedPart;
@@ -212,17 +213,63 @@ fn pass_part(
     Ok(gap)
 }
 
-/// Passes all parts.
-fn pass_parts(joined: &mut JoinedText, parts: &[BorrowedPart]) -> Result<(), NoMem>
-    ensures { OnOk result (joined.new ≡
-        reached (laid joined.old (left_from gap_before.Spaced (chars_from 0 parts.now))) (length parts.now)) }
-{
-    let mut gap = Gap::Spaced;
-    for index in 0..parts.len() {
-        gap = pass_part(joined, gap, &parts[index], index)?;
+/// The parts of one leaf that are passed so far, with their white space collapsed: their texts, what stands before the
+/// next character, and how many parts there are. Each part may be let go once it is passed.
+#[derive(Drop)]
+pub struct Collapser {
+    joined: JoinedText,
+    gap: Gap,
+    parts: usize,
+}
+
+impl Collapser {
+    /// No part, with room for some bytes.
+    pub fn new(alloc: Global, room: usize) -> Result<Collapser, NoMem>
+        ensures { IfOk result (λ c. HasPassed c []) }
+    {
+        Ok(Collapser {
+            joined: JoinedText::new(alloc, room)?,
+            gap: Gap::Spaced,
+            parts: 0,
+        })
     }
-    settle(joined, gap)?;
-    joined.reach(parts.len())
+
+    /// Passes one more part. Each character that is left is copied once.
+    ///
+    /// # Errors
+    ///
+    /// `NoMem`, also where there are 2^64 parts.
+    pub fn pass(&mut self, part: &BorrowedPart) -> Result<(), NoMem>
+        ensures { (parts : List TextPart) → HasPassed self.old parts →
+            OnOk result (HasPassed self.new (parts ++ part.now ∷ [])) }
+    {
+        let Some(next) = self.parts.checked_add(1) else {
+            return Err(NoMem);
+        };
+        self.gap = pass_part(&mut self.joined, self.gap, part, self.parts)?;
+        self.parts = next;
+        Ok(())
+    }
+
+    /// How many bytes the text so far has: that of all parts has no fewer, whichever are passed later.
+    pub fn len(&self) -> usize
+        ensures value { result ≡ length self.now.joined.bytes }
+        ensures texts { AreTexts self.now.joined }
+    {
+        self.joined.len()
+    }
+
+    /// The text of the parts that are passed, and where the text of each of them ends in it.
+    pub fn finish(self) -> Result<JoinedText, NoMem>
+        ensures { (parts : List TextPart) → HasPassed self parts →
+            IfOk result (λ joined. joined ≡ laid_texts (collapsed parts)) }
+    {
+        let Collapser { joined, gap, parts } = self;
+        let mut joined = joined;
+        settle(&mut joined, gap)?;
+        joined.reach(parts)?;
+        Ok(joined)
+    }
 }
 
 /// How many bytes parts have together, or the greatest number.
@@ -240,9 +287,11 @@ fn room_of(parts: &[BorrowedPart]) -> usize {
 pub fn collapse_joined(alloc: Global, parts: &[BorrowedPart]) -> Result<JoinedText, NoMem>
     ensures { IfOk result (λ joined. joined ≡ laid_texts (collapsed parts.now)) }
 {
-    let mut joined = JoinedText::new(alloc, room_of(parts))?;
-    pass_parts(&mut joined, parts)?;
-    Ok(joined)
+    let mut collapser = Collapser::new(alloc, room_of(parts))?;
+    for part in parts {
+        collapser.pass(part)?;
+    }
+    collapser.finish()
 }
 
 /// The same parts, borrowed.

@@ -3,14 +3,9 @@ use Rattle.std.proofs.Common.{◌≡◌, ◌≢◌, ◌∙◌, ◌⊎◌, inl, i
 use Rattle.std.proofs.lemmas.Bool.{cases_order}
 use Rattle.std.proofs.lemmas.Option.{none-some}
 use Rattle.bk_num.specs.Limits.{most_pages, most_text_bytes}
-use Rattle.bk_num.specs.declared.values.Pseudo.{Pseudo}
 use Rattle.boxes.specs.declared.flow.Flow.{Flow}
 use Rattle.boxes.specs.declared.page.Page.{Page}
-use Rattle.box_gen.specs.Flow.{flow_of}
 use Rattle.box_gen.specs.Notes.{bytes_in}
-use Rattle.dom.specs.Nodes.{IsTree}
-use Rattle.gen_text.specs.Generated.{AreOne, GeneratedIsOne, assigned_strings, generated_text, source_of as texts_from}
-use Rattle.gen_text.specs.declared.generated.NodeTexts.{NodeTexts}
 use Rattle.gen_text.specs.declared.table.Entry.{Entry}
 use Rattle.page_seq.specs.Folds.{fold_of}
 use Rattle.page_list.specs.Pages.{HasOnePageList, IsPaged, LeavesNothing, LeavesSome}
@@ -18,27 +13,11 @@ use Rattle.refs.proofs.LawLemmas.{differences}
 use Rattle.refs.specs.Differences.{IsFirstDifference}
 use Rattle.refs.specs.Tables.{opening_of, table_of}
 use Rattle.passes.specs.Passes.{End, EndsIn, HaveOneEnd, IsAtOnce, IsLast, IsOpenAfter, IsPass, SettleAtOnce, Shows, differs, id_of, settled, settles, too_long, too_many, unsettled}
-use Rattle.passes.specs.Work.{IsFlowUnder, Work, source_for}
+use Rattle.passes.specs.Work.{IsFlowUnder, Work}
 
--- equal texts and strings make one source
-one_source : (w : Work) (a b : List NodeTexts) → ((n : ℕ) (p : Pseudo) → generated_text a n p ≡ generated_text b n p) → ((n : ℕ) → assigned_strings a n ≡ assigned_strings b n) → source_for w a ≡ source_for w b
-one_source w a b texts strings = λ i. record {
-  nodes = w.nodes;
-  styles = w.rows;
-  items = (source_for w a).items;
-  face = (source_for w a).face;
-  generated = λ n p. texts n p i;
-  is_note = (source_for w a).is_note;
-  clones = (source_for w a).clones;
-  assigned = λ n. strings n i;
-  points = w.points;
-}
-
-module _ (texts : GeneratedIsOne) (list : HasOnePageList) (nothing : LeavesNothing) (w : Work) (tree : IsTree w.nodes) where
+module _ (list : HasOnePageList) (nothing : LeavesNothing) (w : Work) where
   one_flow : (t : List Entry) (f g : Flow) → IsFlowUnder w t f → IsFlowUnder w t g → f ≡ g
-  one_flow t f g x y =
-      let one : (n : ℕ) → AreOne (texts_from w.nodes w.rows w.values t) x.texts y.texts n = λ n. texts (texts_from w.nodes w.rows w.values t) x.texts y.texts n tree x.generated y.generated in
-      x.is ∙ ap flow_of (one_source w x.texts y.texts (λ n p. (one n).texts p) (λ n. (one n).strings)) ∙ sym y.is
+  one_flow t f g x y = x.is ∙ sym y.is
 
   -- ---- a pass
 
@@ -140,8 +119,8 @@ module _ (texts : GeneratedIsOne) (list : HasOnePageList) (nothing : LeavesNothi
       by (inr (inl l)) = absurd (not_before limit j k s t d l most o last p)
       by (inr (inr l)) = absurd (not_before limit k j t s e l below p other o)
 
-pub one_end : GeneratedIsOne → HasOnePageList → LeavesNothing → HaveOneEnd
-one_end texts list nothing w limit a b tree p q = one_of texts list nothing w tree limit a b p q
+pub one_end : HasOnePageList → LeavesNothing → HaveOneEnd
+one_end list nothing w limit a b p q = one_of list nothing w limit a b p q
 
 -- ---- without page references
 

@@ -1,5 +1,5 @@
 -- What passes look at: lines that the pass before placed are held.
-use Rattle.std.proofs.Common.{◌≡◌, ◌∙◌, ℕ, zero, suc, ◌+◌, ◌-◌, ◌<◌, ◌≤◌, ℤ, List, Bool, true, false, Some, Ok, Err, Result, slice_get, refl, sym, ap, subst, arith}
+use Rattle.std.proofs.Common.{◌≡◌, ℕ, suc, ◌+◌, ◌≤◌, ℤ, List, Bool, false, Err, refl, sym, subst, arith}
 use Rattle.bk_num.proofs.ListLemmas.{all-get}
 use Rattle.bk_num.specs.declared.ids.NodeId.{NodeId}
 use Rattle.boxes.specs.Frames.{PageFrames}
@@ -12,7 +12,7 @@ use Rattle.cursor.specs.Asks.{IsHeldNow}
 use Rattle.fragment.specs.Kept.{ArePagesHeld, IsPageHeld}
 use Rattle.gen_text.specs.References.{AreTargets}
 use Rattle.gen_text.specs.declared.table.Entry.{Entry}
-use Rattle.line_fill.specs.Kept.{Asked, HasTurned, Holds, HoldsNow}
+use Rattle.line_fill.specs.Kept.{Asked, HasTurned, HoldsNow}
 use Rattle.line_fill.specs.declared.kept.KeptLeaf.{KeptLeaf}
 use Rattle.note_list.specs.Kept.{IsHeldIn}
 use Rattle.note_list.specs.Known.{AreKnown}

@@ -8,12 +8,15 @@ use Rattle.boxes.specs.declared.flow.Flow.{Flow}
 use Rattle.box_gen.specs.Notes.{bytes_in}
 use Rattle.box_gen.specs.declared.inline.BuildErr.{BuildErr}
 use Rattle.box_gen.specs.declared.inline.BuildErr.TheVariants as by_build
+use Rattle.fragment.specs.declared.paginate.PageErr.{PageErr}
+use Rattle.fragment.specs.declared.paginate.PageErr.TheVariants as by_pages
 use Rattle.gen_text.specs.References.{AreTargets}
 use Rattle.gen_text.specs.declared.table.Entry.{Entry}
 use Rattle.boxes.specs.Frames.{IsPerPage, PageFrames}
 use Rattle.boxes.specs.declared.page.Page.{Page}
 use Rattle.refs.proofs.LawLemmas.{differences, have_nodes}
 use Rattle.refs.specs.Differences.{IsFirstDifference}
+use Rattle.page_list.specs.Pages.{LeavesSome}
 use Rattle.page_seq.specs.FoldLaws.{FoldsKeepAll}
 use Rattle.page_seq.specs.Folds.{fold_of}
 use Rattle.passes.proofs.TargetLemmas.{targets_within}
@@ -23,7 +26,7 @@ use Rattle.passes.specs.declared.settle.PassErr.{PassErr}
 use Rattle.passes.specs.declared.settle.PassErr.TheVariants as err
 use Rattle.passes.specs.Passes.{IsPass, Shows, IsOpenAfter, settled, settles, differs, too_long, too_many, EndsIn}
 use Rattle.passes.specs.Settles.{HasEnd, Settles, work_of}
-use Rattle.passes.specs.Stops.{IsNotSettled, Stops, of_build}
+use Rattle.passes.specs.Stops.{IsNotSettled, Stops, of_build, of_pages}
 use Rattle.passes.specs.Work.{Work, IsFlowUnder}
 
 -- ---- the nodes of tables
@@ -63,6 +66,10 @@ pages_few per frames pages is keep same few =
 pub build_stops : (w : Work) (t : List Entry) (flow : Flow) (e : BuildErr) → IsFlowUnder w t flow → (e ≡ by_build.Text → most_text_bytes < bytes_in flow) → Stops w t (of_build e)
 build_stops w t flow by_build.Text is much = record { flow = flow; is = is; much = much refl }
 build_stops w t flow by_build.NoMemory is much = tt
+
+pub pages_stop : (w : Work) (t : List Entry) (flow : Flow) (e : PageErr) → IsFlowUnder w t flow → bytes_in flow ≤ most_text_bytes → (e ≡ by_pages.Pages → LeavesSome w.faces flow w.frames most_pages) → Stops w t (of_pages e)
+pages_stop w t flow by_pages.Pages is fits left = record { flow = flow; is = is; fits = fits; left = left refl }
+pages_stop w t flow by_pages.NoMemory is fits left = tt
 
 -- ---- what the passes answer
 

@@ -4,7 +4,7 @@ use Rattle.bk_num.specs.Limits.{most_pages, most_text_bytes}
 use Rattle.boxes.specs.declared.flow.Flow.{Flow}
 use Rattle.boxes.specs.declared.page.Page.{Page}
 use Rattle.box_gen.specs.Notes.{bytes_in}
-use Rattle.dom.specs.Nodes.{Node, IsTree, attribute_at}
+use Rattle.dom.specs.Nodes.{Node, attribute_at}
 use Rattle.gen_text.specs.declared.table.Entry.{Entry}
 use Rattle.page_list.specs.Pages.{IsPaged, LeavesSome}
 use Rattle.page_seq.specs.Folds.{fold_of}
@@ -62,7 +62,7 @@ EndsIn w limit end = (k : ℕ) × (k < limit) × (table : List Entry) × IsOpenA
 
 -- they end in one way
 abbrev pub HaveOneEnd : Type 0
-HaveOneEnd = (w : Work) (limit : ℕ) (a b : End) → IsTree w.nodes → EndsIn w limit a → EndsIn w limit b → a ≡ b
+HaveOneEnd = (w : Work) (limit : ℕ) (a b : End) → EndsIn w limit a → EndsIn w limit b → a ≡ b
 
 -- the first pass is the last: it settles, or it can't be laid out
 abbrev pub IsAtOnce : End → Type 0

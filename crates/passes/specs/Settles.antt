@@ -1,5 +1,6 @@
 -- What the passes over a document answer.
-use Rattle.std.specs.Prelude.{ℕ, List, Result, Ok, Err, option_map}
+use Rattle.std.specs.Prelude.{ℕ, List, Result, Ok, Err, map, option_map}
+use Rattle.std.specs.String.{string_bytes}
 use Rattle.bk_num.specs.declared.ids.NodeId.{NodeId}
 use Rattle.counters.specs.At.{counter_values}
 use Rattle.gen_text.specs.References.{AreTargets}
@@ -19,6 +20,7 @@ work_of input frames per targets = record {
   nodes = input.dom.now;
   rows = input.styles.now;
   values = counter_values input.counters.now;
+  asked = map (λ k. string_bytes k) input.asked.now.keys;
   faces = input.faces.now;
   points = points_in (option_map (λ p. p.now) input.patterns);
   frames = frames;

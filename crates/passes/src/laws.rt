@@ -2,14 +2,12 @@
 
 ghost use Rattle.passes.specs.Passes.{HaveOneEnd, SettleAtOnce};
 
-use gen_text::laws::generated_texts_are_one;
 use page_list::laws::{a_page_list_leaves_nothing, one_page_list};
 
 /// Passes over a document end in one way: so each answer of `settle` but want of memory comes exactly where it may.
 pub fn one_end()
     ensures { HaveOneEnd }
 {
-    generated_texts_are_one();
     one_page_list();
     a_page_list_leaves_nothing();
 }

@@ -26,8 +26,8 @@ use boxes::frames::Frames;
 use boxes::page::PageList;
 use cursor::KeptLines;
 use fragment::paginate::paginate_kept;
-use gen_text::generate::generate;
 use gen_text::table::Table;
+use gen_text::texts::Texts;
 use page_seq::fold::fold;
 use page_seq::laws::folds_keep_all;
 use refs::shown::shown;
@@ -60,16 +60,14 @@ fn flow_under(
     ensures stops { (frames : PageFrames) (per : ℕ) (targets : List NodeId) → IfErr result
         (λ err. Stops (work_of input.now frames per targets) table.now err) }
 {
-    let texts = generate(alloc, input.dom, input.styles, input.counters, table)?;
-    let flow = build_by(
-        alloc,
-        input.dom,
-        input.styles,
-        input.counters,
-        input.faces,
-        &texts,
-        hyphenator,
-    )?;
+    let texts = Texts {
+        dom: input.dom,
+        styles: input.styles,
+        counters: input.counters,
+        table,
+        asked: input.asked,
+    };
+    let flow = build_by(alloc, &texts, input.faces, hyphenator)?;
     // a tree of boxes is one that can be built
     let _count = flow.main.count();
     Ok(flow)

@@ -27,6 +27,7 @@ use fragment::paginate::PageErr;
 use gen_text::references::targets;
 use gen_text::table::{Entry, Table};
 use hyphen::Patterns;
+use indexmap::IndexSet;
 use metrics::Faces;
 use refs::difference::first_difference;
 use refs::opening::opening;
@@ -37,13 +38,14 @@ use std::sync::ledger::Ledger;
 use style::styles::Styles;
 use thiserror::Error;
 
-/// A document with its styles and counters, the faces that set it, and the patterns by which words are hyphenated, if
-/// there are any.
+/// A document with its styles and counters, the names of the strings that its pages ask for, the faces that set it, and
+/// the patterns by which words are hyphenated, if there are any.
 #[derive(Clone, Copy)]
 pub struct Input<'a> {
     pub dom: &'a Dom,
     pub styles: &'a Styles,
     pub counters: &'a CounterAt,
+    pub asked: &'a IndexSet<String>,
     pub faces: &'a Faces,
     pub patterns: Option<&'a Patterns>,
 }

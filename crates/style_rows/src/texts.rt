@@ -1,6 +1,6 @@
 //! Generated texts: what a list of content prints at an element, and what a whole document generates.
 
-ghost use Rattle.std.specs.Prelude.{◌<◌};
+ghost use Rattle.std.specs.Prelude.{◌<◌, length};
 
 use crate::documents::Styled;
 use crate::questions::{Question, cut, node_of};
@@ -14,10 +14,10 @@ use css_content::content::{ContentPlace, content_list};
 use css_words::reader::{Reader, Skipped};
 use css_words::unread::Unread;
 use gen_text::eval::eval;
-use gen_text::generate::generate;
-use gen_text::generated::NodeTexts;
 use gen_text::references::targets;
 use gen_text::table::{Entry, Table};
+use gen_text::texts::{Texts, assigned_strings, generated_text};
+use indexmap::IndexSet;
 use rows::{escaped, number};
 use std::alloc::Global;
 use style::content::{Content, Keyword, Part};
@@ -155,39 +155,105 @@ pub(crate) fn push_content(
     }
 }
 
-fn push_text(alloc: Global, answer: &mut String, before: &str, text: &Name) -> Result<(), NoMem> {
+fn push_text(alloc: Global, line: &mut String, before: &str, text: &Name) -> Result<(), NoMem> {
     if text.as_str().is_empty() {
         return Ok(());
     }
-    write!(answer, " {before} ")?;
-    push_quoted(alloc, answer, text.as_str())
+    write!(line, " {before} ")?;
+    push_quoted(alloc, line, text.as_str())
 }
 
-fn push_strings(alloc: Global, answer: &mut String, strings: &[(Name, Name)]) -> Result<(), NoMem> {
+/// What a pseudo-element prints, if it prints something.
+fn push_pseudo(
+    alloc: Global,
+    line: &mut String,
+    texts: &Texts<'_>,
+    node: NodeId,
+    pseudo: Pseudo,
+    before: &str,
+) -> Result<(), NoMem>
+    requires { node.0 < length texts.now.dom.now }
+{
+    let text = generated_text(alloc, texts, node, pseudo)?;
+    push_text(alloc, line, before, &text)
+}
+
+/// What the pseudo-elements of a node print.
+fn push_pseudos(
+    alloc: Global,
+    line: &mut String,
+    texts: &Texts<'_>,
+    node: NodeId,
+) -> Result<(), NoMem>
+    requires { node.0 < length texts.now.dom.now }
+{
+    push_pseudo(alloc, line, texts, node, Pseudo::Before, "before")?;
+    push_pseudo(alloc, line, texts, node, Pseudo::After, "after")?;
+    push_pseudo(alloc, line, texts, node, Pseudo::Call, "call")?;
+    push_pseudo(alloc, line, texts, node, Pseudo::Marker, "marker")
+}
+
+fn push_strings(alloc: Global, line: &mut String, strings: &[(Name, Name)]) -> Result<(), NoMem> {
     for string in strings {
-        push_text(alloc, answer, string.0.as_str(), &string.1)?;
+        push_text(alloc, line, string.0.as_str(), &string.1)?;
     }
     Ok(())
 }
 
-/// The texts of a node's pseudo-elements, and the strings that it assigns.
-fn push_texts(alloc: Global, answer: &mut String, texts: &NodeTexts) -> Result<(), NoMem> {
-    write!(answer, "{}", texts.node.0)?;
-    push_text(alloc, answer, "before", &texts.before)?;
-    push_text(alloc, answer, "after", &texts.after)?;
-    push_text(alloc, answer, "call", &texts.call)?;
-    push_text(alloc, answer, "marker", &texts.marker)?;
-    push_strings(alloc, answer, texts.strings.as_slice())
+/// The texts of a node's pseudo-elements, and the strings that it assigns, if there are any; and what stands before
+/// those of the next node.
+fn push_texts<'b>(
+    alloc: Global,
+    answer: &mut String,
+    between: &'b str,
+    texts: &Texts<'_>,
+    node: NodeId,
+) -> Result<&'b str, NoMem>
+    requires { node.0 < length texts.now.dom.now }
+{
+    let mut line = String::new(alloc);
+    push_pseudos(alloc, &mut line, texts, node)?;
+    let strings = assigned_strings(alloc, texts, node)?;
+    push_strings(alloc, &mut line, strings.as_slice())?;
+    if line.is_empty() && strings.as_slice().is_empty() {
+        return Ok(between);
+    }
+    write!(answer, "{between}{}{line}", node.0)?;
+    Ok(", ")
 }
 
-fn push_all(alloc: Global, answer: &mut String, texts: &[NodeTexts]) -> Result<(), NoMem> {
+fn push_all(alloc: Global, answer: &mut String, texts: &Texts<'_>) -> Result<(), NoMem> {
     let mut between = "";
-    for node in texts {
-        answer.push_str(between)?;
-        push_texts(alloc, answer, node)?;
-        between = ", ";
+    for index in 0..texts.dom.len() {
+        between = push_texts(alloc, answer, between, texts, NodeId(index))?;
     }
     Ok(())
+}
+
+fn add_names(
+    alloc: Global,
+    asked: &mut IndexSet<String>,
+    sets: &[(Name, Content)],
+) -> Result<(), NoMem> {
+    for set in sets {
+        let name = String::from_str(alloc, set.0.as_str())?;
+        match asked.insert_full(name) {
+            Ok(_) => {}
+            Err(_) => return Err(NoMem),
+        }
+    }
+    Ok(())
+}
+
+/// The names of all strings that elements set.
+fn names_set(alloc: Global, styled: &Styled<'_>) -> Result<IndexSet<String>, NoMem> {
+    let mut asked = IndexSet::new(alloc);
+    for index in 0..styled.dom.len() {
+        if let Some(style) = styled.styles.of(NodeId(index), Pseudo::Element) {
+            add_names(alloc, &mut asked, style.string_set.as_slice())?;
+        }
+    }
+    Ok(asked)
 }
 
 fn push_by_counters(
@@ -197,8 +263,15 @@ fn push_by_counters(
     counters: &CounterAt,
     table: &Table,
 ) -> Result<(), NoMem> {
-    let texts = generate(alloc, styled.dom, styled.styles, counters, table)?;
-    push_all(alloc, answer, texts.as_slice())
+    let asked = names_set(alloc, styled)?;
+    let texts = Texts {
+        dom: styled.dom,
+        styles: styled.styles,
+        counters,
+        table,
+        asked: &asked,
+    };
+    push_all(alloc, answer, &texts)
 }
 
 fn push_by_table(

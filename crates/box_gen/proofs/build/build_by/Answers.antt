@@ -8,7 +8,7 @@ use Rattle.boxes.specs.declared.flow.Reset.{Reset}
 use Rattle.page_seq.specs.Places.{NeverFall}
 use Rattle.style.specs.declared.style.Style.{Style}
 use Rattle.metrics.proofs.FaceLemmas.{face-within}
-use Rattle.counters.specs.At.{counter_values}
+use Rattle.gen_text.specs.Texts.{source_in as text_source}
 use Rattle.soft_hyphens.specs.Words.{points_in}
 use Rattle.box_gen.specs.Faces.{AreFaced}
 use Rattle.box_gen.specs.Flow.{bodies_of}
@@ -24,36 +24,36 @@ use Rattle.box_gen.proofs.build.build_by.Goals as goal
 
 pub returns-in-Ok-flow_by-clause-whole : goal.returns-in-Ok-flow_by-clause-whole
 returns-in-Ok-flow_by-clause-whole c =
-    let src : Source = source_of c.args.dom.now c.args.styles.now (counter_values c.args.counters.now) c.args.faces.now c.args.texts.now (points_in (option_map (λ h. h.now) c.args.hyphenator)) in
+    let src : Source = source_of (text_source c.args.texts.now) c.args.faces.now (points_in (option_map (λ h. h.now) c.args.hyphenator)) in
     λ r. subst (λ (f : Flow). IsWhole f.main.events) (sym c.in-Ok-flow_by.ensures.flow) (whole src c.len.ensures.tree r)
 
 pub returns-in-Ok-flow_by-clause-depth : goal.returns-in-Ok-flow_by-clause-depth
 returns-in-Ok-flow_by-clause-depth c =
-    let src : Source = source_of c.args.dom.now c.args.styles.now (counter_values c.args.counters.now) c.args.faces.now c.args.texts.now (points_in (option_map (λ h. h.now) c.args.hyphenator)) in
+    let src : Source = source_of (text_source c.args.texts.now) c.args.faces.now (points_in (option_map (λ h. h.now) c.args.hyphenator)) in
     subst (λ (f : Flow). depth_of f.main.events ≤ most_open) (sym c.in-Ok-flow_by.ensures.flow) (few-open src c.len.ensures.tree)
 
 pub returns-in-Ok-flow_by-clause-faced : goal.returns-in-Ok-flow_by-clause-faced
 returns-in-Ok-flow_by-clause-faced c =
-    let src : Source = source_of c.args.dom.now c.args.styles.now (counter_values c.args.counters.now) c.args.faces.now c.args.texts.now (points_in (option_map (λ h. h.now) c.args.hyphenator)) in
+    let src : Source = source_of (text_source c.args.texts.now) c.args.faces.now (points_in (option_map (λ h. h.now) c.args.hyphenator)) in
     subst (λ (f : Flow). AreFaced c.args.faces.now f.main.leaves) (sym c.in-Ok-flow_by.ensures.flow)
     (all-faced c.args.faces.now src (λ (s : Style). face-within c.args.faces.now s.font_family s.font_style s.font_weight (search rules)) c.len.ensures.tree)
 
 pub returns-in-Ok-flow_by-clause-strings : goal.returns-in-Ok-flow_by-clause-strings
 returns-in-Ok-flow_by-clause-strings c =
-    let src : Source = source_of c.args.dom.now c.args.styles.now (counter_values c.args.counters.now) c.args.faces.now c.args.texts.now (points_in (option_map (λ h. h.now) c.args.hyphenator)) in
+    let src : Source = source_of (text_source c.args.texts.now) c.args.faces.now (points_in (option_map (λ h. h.now) c.args.hyphenator)) in
     subst (λ (f : Flow). NeverFall (map (λ (a : Assign). a.at) f.strings)) (sym c.in-Ok-flow_by.ensures.flow) (strings-never-fall src)
 
 pub returns-in-Ok-flow_by-clause-resets : goal.returns-in-Ok-flow_by-clause-resets
 returns-in-Ok-flow_by-clause-resets c =
-    let src : Source = source_of c.args.dom.now c.args.styles.now (counter_values c.args.counters.now) c.args.faces.now c.args.texts.now (points_in (option_map (λ h. h.now) c.args.hyphenator)) in
+    let src : Source = source_of (text_source c.args.texts.now) c.args.faces.now (points_in (option_map (λ h. h.now) c.args.hyphenator)) in
     subst (λ (f : Flow). NeverFall (map (λ (r : Reset). r.at) f.resets)) (sym c.in-Ok-flow_by.ensures.flow) (resets-never-fall src)
 
 pub returns-in-Ok-flow_by-clause-calls : goal.returns-in-Ok-flow_by-clause-calls
 returns-in-Ok-flow_by-clause-calls c =
-    let src : Source = source_of c.args.dom.now c.args.styles.now (counter_values c.args.counters.now) c.args.faces.now c.args.texts.now (points_in (option_map (λ h. h.now) c.args.hyphenator)) in
+    let src : Source = source_of (text_source c.args.texts.now) c.args.faces.now (points_in (option_map (λ h. h.now) c.args.hyphenator)) in
     subst (λ (f : Flow). NeverFall (map (λ (n : Note). n.call) f.notes)) (sym c.in-Ok-flow_by.ensures.flow) (calls-never-fall src (bodies_of src))
 
 pub returns-in-Ok-flow_by-clause-notes : goal.returns-in-Ok-flow_by-clause-notes
 returns-in-Ok-flow_by-clause-notes c =
-    let src : Source = source_of c.args.dom.now c.args.styles.now (counter_values c.args.counters.now) c.args.faces.now c.args.texts.now (points_in (option_map (λ h. h.now) c.args.hyphenator)) in
+    let src : Source = source_of (text_source c.args.texts.now) c.args.faces.now (points_in (option_map (λ h. h.now) c.args.hyphenator)) in
     subst (λ (f : Flow). AreNotesOf src f.notes) (sym c.in-Ok-flow_by.ensures.flow) (notes-are src)

@@ -1,4 +1,4 @@
-use Rattle.std.proofs.Common.{◌≤◌, length, rules, sym, subst}
+use Rattle.std.proofs.Common.{◌≤◌, length, rules, ap, sym, subst}
 use Rattle.std.proofs.lemmas.Result.{err_from_is_err_and}
 use Rattle.std.specs.List.{All}
 use Rattle.bk_num.specs.Limits.{most_entries, most_events, most_text_bytes}
@@ -6,10 +6,12 @@ use Rattle.boxes.specs.declared.flow.Flow.{Flow}
 use Rattle.style.specs.declared.style.Style.{Style}
 use Rattle.metrics.proofs.FaceLemmas.{face-within}
 use Rattle.box_gen.specs.Notes.{IsGoodBody, bytes_in, events_in}
-use Rattle.box_gen.specs.Sources.{source_in}
+use Rattle.box_gen.specs.Flow.{Built}
+use Rattle.box_gen.specs.Sources.{AreWithin, source_in}
 use Rattle.box_gen.specs.Trees.{Source}
 use Rattle.box_gen.proofs.FacedLemmas.{HasStyleFaces}
 use Rattle.box_gen.proofs.BuildLemmas.{flow-bodies, flow-bytes, flow-cause, flow-count, flow-events, sites-few}
+use Rattle.box_gen.proofs.WithinLemmas.{starts-within}
 use Rattle.box_gen.proofs.build.flow_by.Goals as goal
 
 pub finish-requires-clause-few : goal.finish-requires-clause-few
@@ -45,3 +47,8 @@ returns-in-Ok-clause-count c =
     let src : Source = source_in c.args.input.now in
     let there : HasStyleFaces c.args.input.now.faces.now src = λ (s : Style). face-within c.args.input.now.faces.now s.font_family s.font_style s.font_weight (search rules) in
     subst (λ (f : Flow). length f.notes ≤ most_entries) (sym c.in-Ok.ensures.flow) (flow-count c.args.input.now.faces.now src c.in_ok-walker.walker.main.site c.in_ok-walker.walker.bodies.items there c.len.ensures.tree c.in_ok-walker.ensures.bodies c.in_ok-walker.ensures.shared)
+
+pub finish-requires-clause-within : goal.finish-requires-clause-within
+finish-requires-clause-within c =
+    let src : Source = source_in c.args.input.now in
+    subst (AreWithin src.nodes) (ap (λ (b : Built). b.starts) c.in_ok-walker.ensures.main) (starts-within src c.len.ensures.tree)

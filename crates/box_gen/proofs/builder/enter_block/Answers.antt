@@ -2,7 +2,7 @@ use Rattle.std.proofs.Common.{◌∙◌, ◌<◌, ◌∷◌, List, [], true, len
 use Rattle.std.proofs.lemmas.Result.{err_from_is_err_and}
 use Rattle.boxes.specs.declared.place.Event.TheVariants.{Opens}
 use Rattle.style.specs.declared.style.Style.{Style}
-use Rattle.box_gen.specs.declared.inline.InlineItem.{InlineItem}
+use Rattle.box_gen.specs.Items.{InlineItem, run_in}
 use Rattle.bk_num.specs.declared.ids.NodeId.{NodeId}
 use Rattle.box_gen.specs.Flow.{Built, with_run}
 use Rattle.box_gen.specs.Steps.{styles_of}
@@ -15,7 +15,7 @@ use Rattle.box_gen.proofs.builder.enter_block.Goals as goal
 pub returns-clause-within : goal.returns-clause-within
 returns-clause-within c =
     let put = c.put_run.new.site in
-    let run = events-run (source_in c.args.input.now) c.innermost-around.result.now true (built_in c.args.builder.now.site) c.replace-items.result.items in
+    let run = events-run (source_in c.args.input.now) c.innermost-around.result.now true (built_in c.args.builder.now.site) (run_in c.replace-items.result.items) in
     let e = ap (λ (b : Built). length b.tree.events) c.in_ok-put_run.ensures.built in
     let o = ap (λ (b : Built). length b.tree.events) c.in-Ok.ensures.built in
     let a = length-append put.tree.events (Opens (length put.tree.boxes) ∷ []) in
@@ -27,5 +27,5 @@ returns-in_err-put_run-clause-cause c =
     let old = c.args.builder.now in
     let p = err_from_is_err_and c.from_residual.result c.from_residual.ensures.1 in
     rw (p.1, p.2) (λ e.
-    subst (λ (s : Style). old.site.room.bytes < leaf_bytes (with_run src s true (built_in old.site) old.run.items).tree.leaves) (c.innermost-around.ensures.value ∙ ap (λ (l : List NodeId). innermost (styles_of c.args.input.now.styles.now l)) c.deref.ensures.value)
-    (subst (λ (l : List InlineItem). old.site.room.bytes < leaf_bytes (with_run src c.innermost-around.result.now true (built_in old.site) l).tree.leaves) (ap (λ v. v.items) c.replace-items.ensures.value) (c.in_err-put_run.ensures.cause e)))
+    subst (λ (s : Style). old.site.room.bytes < leaf_bytes (with_run src s true (built_in old.site) (run_in old.run.items)).tree.leaves) (c.innermost-around.ensures.value ∙ ap (λ (l : List NodeId). innermost (styles_of c.args.input.now.texts.styles.now l)) c.deref.ensures.value)
+    (subst (λ (l : List InlineItem). old.site.room.bytes < leaf_bytes (with_run src c.innermost-around.result.now true (built_in old.site) l).tree.leaves) (ap (λ v. run_in v.items) c.replace-items.ensures.value) (c.in_err-put_run.ensures.cause e)))

@@ -6,4 +6,4 @@ use Rattle.box_gen.specs.Steps.{walk_in}
 use Rattle.box_gen.proofs.notes.begin_note.Goals as goal
 
 pub returns-in-Ok-clause-walk : goal.returns-in-Ok-clause-walk
-returns-in-Ok-clause-walk c = subst (λ (i : FlowInput). walk_in i.styles.now c.in-Ok.body ≡ note_begun (source_in i) c.args.node.0 c.args.style.now) c.within_note.ensures.same c.in-Ok.ensures.walk
+returns-in-Ok-clause-walk c = subst (λ (i : FlowInput). walk_in i.texts.styles.now c.in-Ok.body ≡ note_begun (source_in i) c.args.node.0 c.args.style.now) c.within_note.ensures.same c.in-Ok.ensures.walk

@@ -2,4 +2,4 @@ use Rattle.passes.proofs.EndLemmas.{one_end}
 use Rattle.passes.proofs.laws.one_end.Goals as goal
 
 pub returns : goal.returns
-returns c = one_end c.generated_texts_are_one.ensures c.one_page_list.ensures c.a_page_list_leaves_nothing.ensures
+returns c = one_end c.one_page_list.ensures c.a_page_list_leaves_nothing.ensures

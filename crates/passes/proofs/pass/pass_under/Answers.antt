@@ -4,13 +4,22 @@ use Rattle.page_seq.specs.Folds.{fold_of}
 use Rattle.refs.specs.Tables.{table_of}
 use Rattle.boxes.specs.Frames.{IsPerPage}
 use Rattle.std.proofs.lemmas.Result.{err_from_is_err_and}
-use Rattle.passes.proofs.PassLemmas.{pages_few}
+use Rattle.passes.specs.Settles.{work_of}
+use Rattle.passes.proofs.PassLemmas.{pages_few, pages_stop}
 use Rattle.passes.proofs.pass.pass_under.Goals as goal
 
 pub returns-in_err-flow-clause-stops : goal.returns-in_err-flow-clause-stops
 returns-in_err-flow-clause-stops g c =
     let p = err_from_is_err_and c.from_residual.result c.from_residual.ensures.1 in
     rw (p.1, p.2) (c.in_err-flow.ensures.stops (g.Fr.Frames.view c.args.frames.now) (g.Fr.Frames.per c.args.frames.now) c.args.targets.now)
+
+pub returns-in_err-pages-clause-stops : goal.returns-in_err-pages-clause-stops
+returns-in_err-pages-clause-stops g c =
+    let frames = (g.Fr.Frames.view c.args.frames.now) in
+    let per = (g.Fr.Frames.per c.args.frames.now) in
+    let w = work_of c.args.input.now frames per c.args.targets.now in
+    let p = err_from_is_err_and c.from_residual-in_err-pages.result c.from_residual-in_err-pages.ensures.1 in
+    rw (p.1, p.2) (pages_stop w c.args.table.now c.in_ok-flow.flow c.in_err-pages.field-0.0 (c.in_ok-flow.ensures.flow frames per c.args.targets.now) c.in_ok-flow.ensures.fits c.in_err-pages.ensures.many)
 
 pub fold-requires-clause-per : goal.fold-requires-clause-per
 fold-requires-clause-per g c = subst IsPerPage (sym c.per_page.ensures) (g.met.Fr.Frames.few c.args.frames.now)
