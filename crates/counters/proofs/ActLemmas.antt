@@ -19,7 +19,7 @@ use Rattle.style.specs.Nodes.{NodeStyles}
 use Rattle.counters.specs.declared.scopes.Act.{Act}
 use Rattle.counters.specs.declared.scopes.Act.TheVariants as act
 use Rattle.counters.specs.declared.scopes.CounterEvent.{CounterEvent}
-use Rattle.counters.specs.At.{place_number}
+use Rattle.counters.specs.Document.{place_number}
 use Rattle.counters.specs.Scopes.{Each, IsAfter, AreNested, Scope, live, holding, new_scope, opened_by, share, History, nothing_yet, with_event, history_of, total, value_of, or_zero}
 use Rattle.counters.specs.Document.{changes_at, into, out_of, named, events_from, events_of, values_of, values_up_to}
 use Rattle.named_lists.specs.Lists.{of_name}

@@ -1,5 +1,5 @@
 -- What a document does to its counters (CSS 2.1, 12.4 and 12.4.1; css-gcpm-3 on notes and named strings).
-use Rattle.std.specs.Prelude.{ℕ, ◌+◌, ◌*◌, Bool, false, not, ◌&&◌, ◌==◌, if◌then◌else◌, List, [], ◌∷◌, ◌++◌, Option, None, Some, map, filter, length, slice_get, codes, ℤ, pos}
+use Rattle.std.specs.Prelude.{ℕ, ◌+◌, ◌*◌, Bool, false, not, ◌&&◌, ◌==◌, if◌then◌else◌, List, [], ◌∷◌, ◌++◌, Option, None, Some, option_map, map, filter, length, slice_get, codes, ℤ, pos}
 use Rattle.std.specs.Str.{bytes_eq}
 use Rattle.std.specs.List.{position, flat_map}
 use Rattle.bk_num.specs.declared.values.Pseudo.{Pseudo}
@@ -16,7 +16,6 @@ use Rattle.counters.specs.declared.scopes.Act.{Act}
 use Rattle.counters.specs.declared.scopes.Act.TheVariants as act
 use Rattle.counters.specs.declared.scopes.CounterEvent.{CounterEvent}
 use Rattle.counters.specs.Scopes.{AreNested, values_by}
-use Rattle.counters.specs.At.{place_number}
 use Rattle.counters.specs.Markers.{has_marker}
 use Rattle.counters.specs.Numerals.{is_numeral}
 
@@ -102,6 +101,15 @@ abbrev pub changes_at : List NodeStyles → ℕ → Pseudo → List (List ℕ ×
 changes_at styles n p = changes_in n p (slice_get styles n)
 
 -- ---- in document order
+
+-- places are numbered in document order: four at each step into an element, itself, its call, its marker and its
+-- `::before`, and its `::after` at the step out of it
+abbrev pub place_number : Option ℕ → Option ℕ → Pseudo → Option ℕ
+place_number into out pseudo.Element = option_map (λ i. 4 * i) into
+place_number into out pseudo.Call = option_map (λ i. 4 * i + 1) into
+place_number into out pseudo.Marker = option_map (λ i. 4 * i + 2) into
+place_number into out pseudo.Before = option_map (λ i. 4 * i + 3) into
+place_number into out pseudo.After = option_map (λ i. 4 * i) out
 
 -- a step into a node
 abbrev pub enters : ℕ → Step → Bool

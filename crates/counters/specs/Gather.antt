@@ -7,16 +7,11 @@ use Rattle.named_lists.specs.Lists.{ListsOf, AreDistinct, items_of, of_name, wit
 use Rattle.counters.specs.declared.scopes.Act.{Act}
 use Rattle.counters.specs.declared.scopes.Act.TheVariants as act
 use Rattle.counters.specs.declared.scopes.CounterEvent.{CounterEvent}
-use Rattle.counters.specs.declared.events.EventPlace.{EventPlace}
 use Rattle.counters.specs.declared.at.Spot.{Spot}
 use Rattle.std.specs.List.Sorted.{IsNonDecreasingBy}
 use Rattle.counters.specs.declared.scopes.ScopeMark.{ScopeMark}
 use Rattle.counters.specs.Chains.{AreMarks, AreMarked}
-use Rattle.counters.specs.Document.{named, not_page, into, out_of}
-
--- the events of what a place does
-abbrev pub placed : EventPlace → List (List ℕ × Act) → List (List ℕ × CounterEvent)
-placed p changes = named p.at p.end (not_page changes)
+use Rattle.counters.specs.Document.{into, out_of}
 
 -- the spot of a node, which has no steps where the list ends
 abbrev pub spot_at : Option Spot → Spot

@@ -1,12 +1,17 @@
 //! The values of counters at the places of a document.
 
-ghost use Rattle.std.specs.Prelude.{◌≡◌, ◌+◌, ◌*◌, ◌<◌, [], ◌∷◌, pos, IfOk, Some, None, option_map, map, slice_get};
+ghost use Rattle.std.specs.Prelude.{◌≡◌, ◌+◌, ◌*◌, ◌<◌, ◌++◌, [], ◌∷◌, pos, IfOk, OnOk, Some, None, option_map, map, slice_get};
 ghost use Rattle.std.specs.Str.{bytes_eq};
 ghost use Rattle.std.specs.List.{position};
 ghost use Rattle.std.specs.String.{string_bytes};
-ghost use Rattle.counters.specs.At.{AreAllMarks, AreSmall, IsSmall, counter_values, marks_by, place_in, place_number};
+ghost use Rattle.named_lists.specs.Lists.{of_name};
+ghost use Rattle.counters.specs.At.{AreAllMarks, AreAllNested, AreSmall, IsSmall, KeepAsked, counter_values, marks_by, marks_named, place_in, values_of_marks};
+ghost use Rattle.counters.specs.Document.{place_number};
+ghost use Rattle.counters.specs.Log.{events_at, events_in};
+ghost use Rattle.counters.specs.Scopes.{values_by};
 
-use crate::scopes::{ScopeMark, values_at};
+use crate::log::{LogRow, is_asked};
+use crate::scopes::{CounterEvent, ScopeMark, marks_of, values_at};
 use bk_num::ids::NodeId;
 use bk_num::items::Items;
 use bk_num::name::NoMem;
@@ -22,10 +27,13 @@ pub struct Spot {
     pub out: Option<u32>,
 }
 
-/// The values of all counters at all places. Contracts see what is kept of them; `counter_values` says what it stands
-/// for.
+/// The values of all counters at all places. Of a counter that the document asks for the marks are kept; of the others
+/// what is done to them, from which their values are found. Contracts see what is done; `counter_values` says what it
+/// stands for.
 #[derive(Drop)]
 pub struct CounterAt {
+    rows: Vec<LogRow>,
+    asked: IndexSet<String>,
     names: IndexSet<String>,
     lists: Vec<Items<ScopeMark>>,
     spots: Vec<Spot>,
@@ -46,17 +54,23 @@ impl Model for CounterAt {
 impl CounterAt {
     /// What is kept of these counters.
     pub(crate) fn of(
+        rows: Vec<LogRow>,
+        asked: IndexSet<String>,
         names: IndexSet<String>,
         lists: Vec<Items<ScopeMark>>,
         spots: Vec<Spot>,
     ) -> CounterAt
         requires marks { AreAllMarks lists.items }
         requires spots { AreSmall spots.items }
-        ensures names { result.names ≡ map (λ k. string_bytes k) names.keys }
-        ensures marks { result.marks ≡ lists.items }
+        requires nested { AreAllNested (events_in rows.items) }
+        requires asked { KeepAsked (map (λ k. string_bytes k) asked.keys) (map (λ k. string_bytes k) names.keys)
+            lists.items (events_in rows.items) }
+        ensures events { result.events ≡ events_in rows.items }
         ensures spots { result.spots ≡ spots.items }
     {
         CounterAt {
+            rows,
+            asked,
             names,
             lists,
             spots,
@@ -64,8 +78,8 @@ impl CounterAt {
     }
 
     /// The values of a counter at an element or a pseudo-element, the outermost scope first; `[0]` where no scope
-    /// holds. It costs the scopes that hold after the counter's last change up to there, and a binary search for that
-    /// change.
+    /// holds. Of a counter that the document asks for it costs the scopes that hold after the counter's last change up
+    /// to there, and a binary search for that change; of another one all that the document does to counters.
     pub fn values(
         &self,
         alloc: Global,
@@ -75,13 +89,13 @@ impl CounterAt {
     ) -> Result<Items<i64>, NoMem>
         ensures { IfOk result (λ values. values ≡ counter_values self.now node.0 pseudo name.now) }
     {
-        let index = index_of(&self.names, name);
-        let place = place_of(&self.spots, node, pseudo);
-        let list = list_of(&self.lists, index);
-        match (list, place) {
-            (Some(list), Some(place)) => Ok(Items::of(values_at(alloc, list.as_slice(), place)?)),
-            _ => zero(alloc),
+        let Some(place) = place_of(&self.spots, node, pseudo) else {
+            return zero(alloc);
+        };
+        if is_asked(&self.asked, name) {
+            return marked_values(alloc, &self.names, &self.lists, name, place);
         }
+        logged_values(alloc, &self.rows, name, place)
     }
 }
 
@@ -106,6 +120,66 @@ fn zero(alloc: Global) -> Result<Items<i64>, NoMem>
     let mut values = Items::new(alloc);
     values.push(0)?;
     Ok(values)
+}
+
+/// The values at a place by the marks of a counter.
+fn marked_values(
+    alloc: Global,
+    names: &IndexSet<String>,
+    lists: &[Items<ScopeMark>],
+    name: &str,
+    place: u32,
+) -> Result<Items<i64>, NoMem>
+    requires { AreAllMarks lists.now }
+    ensures { IfOk result (λ values. values ≡
+        values_of_marks (marks_named (map (λ k. string_bytes k) names.now.keys) lists.now name.now) place) }
+{
+    match list_of(lists, index_of(names, name)) {
+        Some(list) => Ok(Items::of(values_at(alloc, list.as_slice(), place)?)),
+        None => zero(alloc),
+    }
+}
+
+/// Appends what a place does to a counter.
+fn push_named(row: &LogRow, name: &str, into: &mut Vec<CounterEvent>) -> Result<(), NoMem>
+    ensures { OnOk result (into.new.items ≡ into.old.items ++ of_name (events_at row.now) name.now) }
+{
+    for change in row.changes.as_ref().as_slice() {
+        if change.0.as_str() == name {
+            into.push(CounterEvent {
+                at: row.at,
+                end: row.end,
+                act: change.1,
+            })?;
+        }
+    }
+    Ok(())
+}
+
+/// What places do to a counter.
+fn named_events(alloc: Global, rows: &[LogRow], name: &str) -> Result<Vec<CounterEvent>, NoMem>
+    ensures { IfOk result (λ events. events.items ≡ of_name (events_in rows.now) name.now) }
+{
+    let mut events = Vec::new(alloc);
+    for row in rows {
+        push_named(row, name, &mut events)?;
+    }
+    Ok(events)
+}
+
+/// The values at a place by what places do to a counter.
+fn logged_values(
+    alloc: Global,
+    rows: &[LogRow],
+    name: &str,
+    place: u32,
+) -> Result<Items<i64>, NoMem>
+    requires { AreAllNested (events_in rows.now) }
+    ensures { IfOk result (λ values. values ≡ values_by (of_name (events_in rows.now) name.now) place) }
+{
+    let events = named_events(alloc, rows, name)?;
+    let marks = marks_of(alloc, events.as_slice())?;
+    Ok(Items::of(values_at(alloc, marks.as_slice(), place)?))
 }
 
 /// The number of a place in document order.

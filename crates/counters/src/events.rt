@@ -1,150 +1,155 @@
-//! What an element or a pseudo-element does to counters (CSS 2.1, 12.4), written down as events.
+//! What an element or a pseudo-element does to counters (CSS 2.1, 12.4), and which counters its content asks for.
 
-ghost use Rattle.std.specs.Prelude.{◌≡◌, ◌==◌, ◌&&◌, if◌then◌else◌, codes, ◌∷◌, [], OnOk};
+ghost use Rattle.std.specs.Prelude.{◌≡◌, ◌&&◌, ◌++◌, if◌then◌else◌, codes, ◌∷◌, [], IfOk, OnOk};
 ghost use Rattle.std.specs.List.{flat_map};
-ghost use Rattle.counters.specs.Gather.{adds_nothing, is_use, placed, with_changes};
-ghost use Rattle.counters.specs.Document.{by_element, by_generated, changes_at, named, note_count, note_start, increments_in, resets_in, use_of, uses_by, uses_in};
+ghost use Rattle.counters.specs.Document.{by_element, by_generated, changes_at, increments_in, named, not_page, note_count, note_start, resets_in, use_of, uses_by, uses_in};
+ghost use Rattle.counters.specs.Log.{changes_in, placed};
 ghost use Rattle.counters.specs.Markers.{has_marker};
 ghost use Rattle.counters.specs.Numerals.{is_numeral};
-ghost use Rattle.counters.specs.declared.scopes.Act.TheVariants as act;
 
+use crate::log::{Change, EventPlace, Log, push_change};
 use crate::marker::has_marker;
 use crate::numeral::is_numeral;
-use crate::scopes::{Act, CounterEvent};
+use crate::scopes::Act;
 use bk_num::ids::NodeId;
 use bk_num::name::NoMem;
 use bk_num::values::Pseudo;
-use named_lists::lists::NamedLists;
 use std::alloc::Global;
 use style::content::{Content, Part};
 use style::lists::{CounterList, StringSets};
 use style::style::Style;
 use style::styles::Styles;
 
-/// A place's number, and where scopes end that begin at it.
-#[derive(Clone, Copy)]
-pub(crate) struct EventPlace {
-    pub at: u32,
-    pub end: u32,
-}
-
-/// The events of each counter, but for uses that add nothing.
-pub(crate) type CounterEvents = NamedLists<CounterEvent>;
-
-/// Whether a use is written down: 0 is added.
-fn is_use(act: Act) -> bool
-    ensures { result ≡ is_use act }
-{
-    match act {
-        Act::Reset(_) => false,
-        Act::Add(number) => number == 0,
-    }
-}
-
-/// Whether an event after others of its counter is a use that adds nothing to the last of them.
-fn adds_nothing(events: &[CounterEvent], event: &CounterEvent) -> bool
-    ensures { result ≡ adds_nothing events.now event.now }
-{
-    match events.last() {
-        Some(last) => last.at == event.at && is_use(event.act),
-        None => false,
-    }
-}
-
-/// A counter of the document is changed: `page` is none.
-fn push(
+fn push_resets<'s>(
     alloc: Global,
     place: EventPlace,
-    name: &str,
-    act: Act,
-    into: &mut CounterEvents,
+    list: &'s CounterList,
+    into: &mut Log<'s>,
 ) -> Result<(), NoMem>
-    ensures { OnOk result (into.new ≡ with_changes into.old (placed place ((name.now, act) ∷ []))) }
+    ensures { OnOk result (into.new ≡ into.old ++ placed place (resets_in list.entry.now)) }
 {
-    if name == "page" {
-        return Ok(());
-    }
-    let event = CounterEvent {
-        at: place.at,
-        end: place.end,
-        act,
-    };
-    if adds_nothing(into.of(name), &event) {
-        return Ok(());
-    }
-    into.push(alloc, name, event)
-}
-
-fn push_resets(
-    alloc: Global,
-    place: EventPlace,
-    list: &CounterList,
-    into: &mut CounterEvents,
-) -> Result<(), NoMem>
-    ensures { OnOk result (into.new ≡ with_changes into.old (placed place (resets_in list.now))) }
-{
+    let mut changes = Vec::new(alloc);
     for entry in list.as_slice() {
-        push(alloc, place, entry.0.as_str(), Act::Reset(entry.1), into)?;
+        push_change(&mut changes, entry.0.as_str(), Act::Reset(entry.1))?;
     }
-    Ok(())
+    into.put(alloc, place, changes)
 }
 
-fn push_increments(
+fn push_increments<'s>(
     alloc: Global,
     place: EventPlace,
-    list: &CounterList,
-    into: &mut CounterEvents,
+    list: &'s CounterList,
+    into: &mut Log<'s>,
 ) -> Result<(), NoMem>
-    ensures { OnOk result (into.new ≡ with_changes into.old (placed place (increments_in list.now))) }
+    ensures { OnOk result (into.new ≡ into.old ++ placed place (increments_in list.entry.now)) }
 {
+    let mut changes = Vec::new(alloc);
     for entry in list.as_slice() {
-        push(alloc, place, entry.0.as_str(), Act::Add(entry.1), into)?;
+        push_change(&mut changes, entry.0.as_str(), Act::Add(entry.1))?;
     }
-    Ok(())
+    into.put(alloc, place, changes)
 }
 
-fn push_use(
-    alloc: Global,
-    place: EventPlace,
-    part: &Part,
-    into: &mut CounterEvents,
-) -> Result<(), NoMem>
-    ensures { OnOk result (into.new ≡ with_changes into.old (placed place (uses_by part.now))) }
+fn push_use<'s>(changes: &mut Vec<Change<'s>>, part: &'s Part) -> Result<(), NoMem>
+    ensures { OnOk result (changes_in changes.new.items ≡
+        changes_in changes.old.items ++ not_page (uses_by part.entry.now)) }
 {
     match part {
-        Part::Counter(name, _) => push(alloc, place, name.as_str(), Act::Add(0), into),
-        Part::Counters(name, _, _) => push(alloc, place, name.as_str(), Act::Add(0), into),
+        Part::Counter(name, _) => push_change(changes, name.as_str(), Act::Add(0)),
+        Part::Counters(name, _, _) => push_change(changes, name.as_str(), Act::Add(0)),
         _ => Ok(()),
     }
 }
 
-fn push_uses(
-    alloc: Global,
-    place: EventPlace,
-    content: &Content,
-    into: &mut CounterEvents,
-) -> Result<(), NoMem>
-    ensures { OnOk result (into.new ≡ with_changes into.old (placed place (uses_in content.now))) }
+fn push_uses<'s>(changes: &mut Vec<Change<'s>>, content: &'s Content) -> Result<(), NoMem>
+    ensures { OnOk result (changes_in changes.new.items ≡
+        changes_in changes.old.items ++ not_page (uses_in content.entry.now)) }
 {
     for part in content.as_slice() {
-        push_use(alloc, place, part, into)?;
+        push_use(changes, part)?;
     }
     Ok(())
 }
 
-fn push_string_uses(
-    alloc: Global,
-    place: EventPlace,
-    sets: &StringSets,
-    into: &mut CounterEvents,
-) -> Result<(), NoMem>
-    ensures { OnOk result (into.new ≡
-        with_changes into.old (placed place (flat_map (λ e. uses_in e.1) sets.now))) }
+/// The counter whose values a part prints, if it prints any.
+fn name_of(part: &Part) -> Option<&str> {
+    match part {
+        Part::Counter(name, _) => Some(name.as_str()),
+        Part::Counters(name, _, _) => Some(name.as_str()),
+        Part::Target(_, name, _) => Some(name.as_str()),
+        _ => None,
+    }
+}
+
+/// Notes the counters that a content asks for.
+fn ask_all(alloc: Global, content: &Content, into: &mut Log<'_>) -> Result<(), NoMem>
+    ensures { OnOk result (into.new ≡ into.old) }
 {
-    for entry in sets.as_slice() {
-        push_uses(alloc, place, &entry.1, into)?;
+    for part in content.as_slice() {
+        if let Some(name) = name_of(part) {
+            into.ask(alloc, name)?;
+        }
     }
     Ok(())
+}
+
+fn push_content<'s>(
+    alloc: Global,
+    place: EventPlace,
+    content: &'s Content,
+    into: &mut Log<'s>,
+) -> Result<(), NoMem>
+    ensures { OnOk result (into.new ≡ into.old ++ placed place (uses_in content.entry.now)) }
+{
+    let mut changes = Vec::new(alloc);
+    push_uses(&mut changes, content)?;
+    ask_all(alloc, content, into)?;
+    into.put(alloc, place, changes)
+}
+
+/// The uses of all named strings, and the counters that they ask for.
+fn string_uses<'s>(
+    alloc: Global,
+    sets: &'s StringSets,
+    into: &mut Log<'_>,
+) -> Result<Vec<Change<'s>>, NoMem>
+    ensures uses { IfOk result (λ v. changes_in v.items ≡ not_page (flat_map (λ e. uses_in e.1) sets.entry.now)) }
+    ensures same { OnOk result (into.new ≡ into.old) }
+{
+    let mut changes = Vec::new(alloc);
+    for entry in sets.as_slice() {
+        push_uses(&mut changes, &entry.1)?;
+        ask_all(alloc, &entry.1, into)?;
+    }
+    Ok(changes)
+}
+
+fn push_string_uses<'s>(
+    alloc: Global,
+    place: EventPlace,
+    sets: &'s StringSets,
+    into: &mut Log<'s>,
+) -> Result<(), NoMem>
+    ensures { OnOk result (into.new ≡
+        into.old ++ placed place (flat_map (λ e. uses_in e.1) sets.entry.now)) }
+{
+    let changes = string_uses(alloc, sets, into)?;
+    into.put(alloc, place, changes)
+}
+
+/// Appends one change at a place.
+fn push_one<'s>(
+    alloc: Global,
+    place: EventPlace,
+    name: &'s str,
+    act: Act,
+    into: &mut Log<'s>,
+) -> Result<(), NoMem>
+    ensures { OnOk result (into.new ≡ into.old ++ placed place ((name.entry.now, act) ∷ [])) }
+{
+    let mut changes = Vec::new(alloc);
+    push_change(&mut changes, name, act)?;
+    into.put(alloc, place, changes)
 }
 
 fn has_numeral(root: bool, style: &Style) -> bool
@@ -157,13 +162,14 @@ fn push_marker_use(
     alloc: Global,
     place: EventPlace,
     numeral: bool,
-    into: &mut CounterEvents,
+    into: &mut Log<'_>,
 ) -> Result<(), NoMem>
     ensures { OnOk result (into.new ≡
-        with_changes into.old (placed place (if numeral then use_of (codes "list-item") else []))) }
+        into.old ++ placed place (if numeral then use_of (codes "list-item") else [])) }
 {
     if numeral {
-        return push(alloc, place, "list-item", Act::Add(0), into);
+        into.ask(alloc, "list-item")?;
+        return push_one(alloc, place, "list-item", Act::Add(0), into);
     }
     Ok(())
 }
@@ -172,12 +178,12 @@ fn push_note_start(
     alloc: Global,
     place: EventPlace,
     root: bool,
-    into: &mut CounterEvents,
+    into: &mut Log<'_>,
 ) -> Result<(), NoMem>
-    ensures { OnOk result (into.new ≡ with_changes into.old (placed place (note_start root))) }
+    ensures { OnOk result (into.new ≡ into.old ++ placed place (note_start root)) }
 {
     if root {
-        return push(alloc, place, "footnote", Act::Reset(0), into);
+        return push_one(alloc, place, "footnote", Act::Reset(0), into);
     }
     Ok(())
 }
@@ -186,25 +192,25 @@ fn push_note_count(
     alloc: Global,
     place: EventPlace,
     note: bool,
-    into: &mut CounterEvents,
+    into: &mut Log<'_>,
 ) -> Result<(), NoMem>
-    ensures { OnOk result (into.new ≡ with_changes into.old (placed place (note_count note))) }
+    ensures { OnOk result (into.new ≡ into.old ++ placed place (note_count note)) }
 {
     if note {
-        return push(alloc, place, "footnote", Act::Add(1), into);
+        return push_one(alloc, place, "footnote", Act::Add(1), into);
     }
     Ok(())
 }
 
-fn push_element(
+fn push_element<'s>(
     alloc: Global,
     place: EventPlace,
     root: bool,
     note: bool,
-    style: &Style,
-    into: &mut CounterEvents,
+    style: &'s Style,
+    into: &mut Log<'s>,
 ) -> Result<(), NoMem>
-    ensures { OnOk result (into.new ≡ with_changes into.old (placed place (by_element root note style.now))) }
+    ensures { OnOk result (into.new ≡ into.old ++ placed place (by_element root note style.entry.now)) }
 {
     push_note_start(alloc, place, root, into)?;
     push_resets(alloc, place, &style.counter_reset, into)?;
@@ -214,32 +220,33 @@ fn push_element(
     push_marker_use(alloc, place, has_numeral(root, style), into)
 }
 
-fn push_generated(
+fn push_generated<'s>(
     alloc: Global,
     place: EventPlace,
-    style: &Style,
-    into: &mut CounterEvents,
+    style: &'s Style,
+    into: &mut Log<'s>,
 ) -> Result<(), NoMem>
-    ensures { OnOk result (into.new ≡ with_changes into.old (placed place (by_generated style.now))) }
+    ensures { OnOk result (into.new ≡ into.old ++ placed place (by_generated style.entry.now)) }
 {
     push_resets(alloc, place, &style.counter_reset, into)?;
     push_increments(alloc, place, &style.counter_increment, into)?;
     match &style.content {
-        Some(content) => push_uses(alloc, place, content, into),
+        Some(content) => push_content(alloc, place, content, into),
         None => Ok(()),
     }
 }
 
-/// Appends the events of an element or a pseudo-element, in order.
-pub(crate) fn push_changes(
+/// Appends what an element or a pseudo-element does, in order.
+pub(crate) fn push_changes<'s>(
     alloc: Global,
     place: EventPlace,
-    styles: &Styles,
+    styles: &'s Styles,
     node: NodeId,
     pseudo: Pseudo,
-    into: &mut CounterEvents,
+    into: &mut Log<'s>,
 ) -> Result<(), NoMem>
-    ensures { OnOk result (into.new ≡ with_changes into.old (named place.at place.end (changes_at styles.now node.0 pseudo))) }
+    ensures { OnOk result (into.new ≡
+        into.old ++ named place.at place.end (changes_at styles.entry.now node.0 pseudo)) }
 {
     if !styles.is_shown(node) {
         return Ok(());

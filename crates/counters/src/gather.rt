@@ -1,4 +1,4 @@
-//! The events of a whole document, in document order.
+//! What a whole document does to its counters, in document order.
 
 ghost use Rattle.std.specs.Prelude.{◌≡◌, ◌+◌, ◌*◌, ◌<◌, ◌^◌, ◌++◌, IfOk, OnOk, length, option_map};
 ghost use Rattle.bk_num.specs.declared.values.Pseudo.TheVariants as pseudo;
@@ -6,11 +6,11 @@ ghost use Rattle.dom.specs.Nodes.{parents_of};
 ghost use Rattle.dom.specs.Walk.{node_of, steps_of};
 ghost use Rattle.counters.specs.At.{AreSmall};
 ghost use Rattle.counters.specs.Document.{changes_at, document_events, named, step_events};
-ghost use Rattle.counters.specs.Gather.{AreSpots, end_below, with_changes};
-ghost use Rattle.named_lists.specs.Lists.{no_lists};
+ghost use Rattle.counters.specs.Gather.{AreSpots, end_below};
 
 use crate::at::Spot;
-use crate::events::{CounterEvents, EventPlace, push_changes};
+use crate::events::push_changes;
+use crate::log::{EventPlace, Log};
 use bk_num::ids::NodeId;
 use bk_num::name::NoMem;
 use bk_num::values::Pseudo;
@@ -37,21 +37,21 @@ fn end_below(spots: &[Spot], count: u32, node: Option<NodeId>) -> u32
 }
 
 /// Appends the events of a step into an element.
-fn push_entered(
+fn push_entered<'s>(
     alloc: Global,
-    styles: &Styles,
+    styles: &'s Styles,
     node: NodeId,
     at: u32,
     outside: u32,
     inside: u32,
-    into: &mut CounterEvents,
+    into: &mut Log<'s>,
 ) -> Result<(), NoMem>
     requires { at + 3 < 2 ^ 32 }
-    ensures { OnOk result (into.new ≡ with_changes into.old
-        (named at outside (changes_at styles.now node.0 pseudo.Element) ++
-        (named (at + 1) inside (changes_at styles.now node.0 pseudo.Call) ++
-        (named (at + 2) inside (changes_at styles.now node.0 pseudo.Marker) ++
-        named (at + 3) inside (changes_at styles.now node.0 pseudo.Before))))) }
+    ensures { OnOk result (into.new ≡ into.old ++
+        (named at outside (changes_at styles.entry.now node.0 pseudo.Element) ++
+        (named (at + 1) inside (changes_at styles.entry.now node.0 pseudo.Call) ++
+        (named (at + 2) inside (changes_at styles.entry.now node.0 pseudo.Marker) ++
+        named (at + 3) inside (changes_at styles.entry.now node.0 pseudo.Before))))) }
 {
     let own = EventPlace { at, end: outside };
     push_changes(alloc, own, styles, node, Pseudo::Element, into)?;
@@ -73,15 +73,15 @@ fn push_entered(
 }
 
 /// Appends the events of a step.
-fn push_step(
+fn push_step<'s>(
     alloc: Global,
     dom: &Dom,
-    styles: &Styles,
+    styles: &'s Styles,
     spots: &[Spot],
     count: u32,
     index: u32,
     step: Step,
-    into: &mut CounterEvents,
+    into: &mut Log<'s>,
 ) -> Result<(), NoMem>
     requires spots { AreSpots (steps_of dom.now) spots.now }
     requires small { AreSmall spots.now }
@@ -89,8 +89,8 @@ fn push_step(
     requires few { count < 2 ^ 28 }
     requires index { index < count }
     requires within { node_of step < length dom.now }
-    ensures { OnOk result (into.new ≡ with_changes into.old
-        (step_events (parents_of dom.now) styles.now (steps_of dom.now) index step)) }
+    ensures { OnOk result (into.new ≡ into.old ++
+        (step_events (parents_of dom.now) styles.entry.now (steps_of dom.now) index step)) }
 {
     match step {
         Step::Enter(node) => {
@@ -109,30 +109,30 @@ fn push_step(
     }
 }
 
-/// The events of each counter of a document, but for uses that add nothing.
+/// What a document does to its counters, and which of them it asks for.
 ///
 /// # Errors
 ///
 /// `NoMem`.
-pub(crate) fn all_events(
+pub(crate) fn all_changes<'s>(
     alloc: Global,
     dom: &Dom,
-    styles: &Styles,
+    styles: &'s Styles,
     spots: &[Spot],
     count: u32,
-) -> Result<CounterEvents, NoMem>
+) -> Result<Log<'s>, NoMem>
     requires spots { AreSpots (steps_of dom.now) spots.now }
     requires small { AreSmall spots.now }
     requires count { count ≡ length (steps_of dom.now) }
     requires few { count < 2 ^ 28 }
-    ensures { IfOk result (λ v. v ≡ with_changes no_lists (document_events dom.now styles.now)) }
+    ensures { IfOk result (λ v. v ≡ document_events dom.now styles.entry.now) }
 {
-    let mut events = CounterEvents::new(alloc);
+    let mut log = Log::new(alloc);
     let mut walk = Walk::new(dom);
     let mut index = 0;
     while let Some(step) = walk.next() {
-        push_step(alloc, dom, styles, spots, count, index, step, &mut events)?;
+        push_step(alloc, dom, styles, spots, count, index, step, &mut log)?;
         index += 1;
     }
-    Ok(events)
+    Ok(log)
 }

@@ -5,6 +5,7 @@ pub mod at;
 mod events;
 mod gather;
 pub mod laws;
+mod log;
 pub mod marker;
 pub mod number;
 pub mod numeral;

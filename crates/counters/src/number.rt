@@ -1,46 +1,105 @@
 //! The counters of a whole document (CSS 2.1, 12.4).
 
-ghost use Rattle.std.specs.Prelude.{◌≡◌, ◌^◌, ℕ, List, IfOk, length, nat_lt};
-ghost use Rattle.std.specs.List.Sorted.{IsNonDecreasingBy};
+ghost use Rattle.std.specs.Prelude.{◌≡◌, ◌∷◌, [], ℕ, List, IfOk, OnOk, map};
+ghost use Rattle.std.specs.String.{string_bytes};
 ghost use Rattle.bk_num.specs.declared.values.Pseudo.{Pseudo};
 ghost use Rattle.counters.specs.At.{counter_values};
-ghost use Rattle.counters.specs.Chains.{AreMarked, AreMarks};
+ghost use Rattle.named_lists.specs.Lists.{no_lists};
 ghost use Rattle.counters.specs.Document.{values_of};
-ghost use Rattle.counters.specs.Gather.{AreInOrder, AreMarksOf};
+ghost use Rattle.counters.specs.Gather.{AreInOrder, AreMarksOf, adds_nothing, is_use, with_changes};
+ghost use Rattle.counters.specs.Log.{events_at, events_in, of_asked};
 
 use crate::at::CounterAt;
-use crate::gather::all_events;
-use crate::scopes::{CounterEvent, ScopeMark, mark_all};
+use crate::gather::all_changes;
+use crate::log::{LogRow, is_asked};
+use crate::scopes::{Act, CounterEvent, ScopeMark, marks_of};
 use crate::spots::spots_of;
 use bk_num::items::Items;
 use bk_num::name::NoMem;
 use dom::Dom;
+use indexmap::IndexSet;
+use named_lists::lists::NamedLists;
 use std::alloc::Global;
 use style::styles::Styles;
 
-/// Marks have numbers of 32 bits.
-const MOST_EVENTS: usize = 4294967295;
+/// The events of each counter.
+type CounterEvents = NamedLists<CounterEvent>;
 
-/// Whether so many events have marks with numbers of 32 bits.
-fn are_few(events: &[CounterEvent]) -> bool
-    ensures { result ≡ nat_lt (length events.now) (2 ^ 32) }
+/// Whether an event after others of its counter is a use that adds nothing to the last of them.
+fn adds_nothing(events: &[CounterEvent], event: &CounterEvent) -> bool
+    ensures { result ≡ adds_nothing events.now event.now }
 {
-    events.len() <= MOST_EVENTS
-}
-
-/// The marks of one counter.
-fn marks_of(alloc: Global, events: &[CounterEvent]) -> Result<Items<ScopeMark>, NoMem>
-    requires { IsNonDecreasingBy (λ e. e.at) events.now }
-    ensures marks { IfOk result (λ v. AreMarks v) }
-    ensures marked { IfOk result (λ v. AreMarked events.now v) }
-{
-    if !are_few(events) {
-        return Err(NoMem);
+    match events.last() {
+        Some(last) => last.at == event.at && is_use(event.act),
+        None => false,
     }
-    Ok(Items::of(mark_all(alloc, events)?))
 }
 
-/// The marks of all counters.
+/// Whether a use is written down: 0 is added.
+fn is_use(act: Act) -> bool
+    ensures { result ≡ is_use act }
+{
+    match act {
+        Act::Reset(_) => false,
+        Act::Add(number) => number == 0,
+    }
+}
+
+/// Appends an event of a counter, if the counter is asked for and the event is no use that adds nothing.
+fn push_event(
+    alloc: Global,
+    asked: &IndexSet<String>,
+    name: &str,
+    event: CounterEvent,
+    into: &mut CounterEvents,
+) -> Result<(), NoMem>
+    ensures { OnOk result (into.new ≡ with_changes into.old
+        (of_asked (map (λ k. string_bytes k) asked.now.keys) ((name.now, event) ∷ []))) }
+{
+    if !is_asked(asked, name) || adds_nothing(into.of(name), &event) {
+        return Ok(());
+    }
+    into.push(alloc, name, event)
+}
+
+/// Appends the events of a place.
+fn push_row(
+    alloc: Global,
+    asked: &IndexSet<String>,
+    row: &LogRow,
+    into: &mut CounterEvents,
+) -> Result<(), NoMem>
+    ensures { OnOk result (into.new ≡ with_changes into.old
+        (of_asked (map (λ k. string_bytes k) asked.now.keys) (events_at row.now))) }
+{
+    for change in row.changes.as_ref().as_slice() {
+        let event = CounterEvent {
+            at: row.at,
+            end: row.end,
+            act: change.1,
+        };
+        push_event(alloc, asked, change.0.as_str(), event, into)?;
+    }
+    Ok(())
+}
+
+/// The events of the counters that are asked for, but for uses that add nothing.
+fn asked_events(
+    alloc: Global,
+    asked: &IndexSet<String>,
+    rows: &[LogRow],
+) -> Result<CounterEvents, NoMem>
+    ensures { IfOk result (λ v. v ≡ with_changes no_lists
+        (of_asked (map (λ k. string_bytes k) asked.now.keys) (events_in rows.now))) }
+{
+    let mut events = CounterEvents::new(alloc);
+    for row in rows {
+        push_row(alloc, asked, row, &mut events)?;
+    }
+    Ok(events)
+}
+
+/// The marks of the counters that have events here.
 fn all_marks(alloc: Global, lists: &[Items<CounterEvent>]) -> Result<Vec<Items<ScopeMark>>, NoMem>
     requires { AreInOrder lists.now }
     ensures { IfOk result (λ v. AreMarksOf lists.now v.items) }
@@ -64,8 +123,8 @@ pub fn number_all(alloc: Global, dom: &Dom, styles: &Styles) -> Result<CounterAt
         counter_values c n p x ≡ values_of dom.now styles.now n p x) }
 {
     let (spots, count) = spots_of(alloc, dom)?;
-    let events = all_events(alloc, dom, styles, &spots, count)?;
-    let (names, lists) = events.into_parts();
+    let (rows, asked) = all_changes(alloc, dom, styles, &spots, count)?.into_parts();
+    let (names, lists) = asked_events(alloc, &asked, &rows)?.into_parts();
     let lists = all_marks(alloc, &lists)?;
-    Ok(CounterAt::of(names, lists, spots))
+    Ok(CounterAt::of(rows, asked, names, lists, spots))
 }

@@ -1,14 +1,15 @@
 //! The scopes of one counter (CSS 2.1, 12.4.1), event by event.
 
-ghost use Rattle.std.specs.Prelude.{◌≡◌, ℕ, ◌<◌, ◌≤◌, ◌^◌, IfNone, IfSome, Option, Some, None, IfOk, length, map, slice_get};
+ghost use Rattle.std.specs.Prelude.{◌≡◌, ℕ, ◌<◌, ◌≤◌, ◌^◌, IfNone, IfSome, Option, Some, None, IfOk, length, map, nat_lt, slice_get};
 ghost use Rattle.counters.specs.Chains.{AreFalling, AreMarks, IsNext, IsPastLong, AreMarked, all_of, chain, beyond, front, kept_values, last_of, seen_to};
 ghost use Rattle.std.specs.List.Sorted.{IsNonDecreasingBy};
 
+use bk_num::items::Items;
 use bk_num::name::NoMem;
 use std::alloc::Global;
 
 /// What is done to a counter. A use adds 0.
-#[derive(Clone, Copy, Debug, PartialEq, Eq)]
+#[derive(Clone, Copy, Debug, PartialEq, Eq, Hash)]
 pub enum Act {
     Reset(i64),
     Add(i64),
@@ -179,4 +180,26 @@ pub fn mark_all(alloc: Global, events: &[CounterEvent]) -> Result<Vec<ScopeMark>
         marks.push(mark)?;
     }
     Ok(marks)
+}
+
+/// Marks have numbers of 32 bits.
+const MOST_EVENTS: usize = 4294967295;
+
+/// Whether so many events have marks with numbers of 32 bits.
+fn are_few(events: &[CounterEvent]) -> bool
+    ensures { result ≡ nat_lt (length events.now) (2 ^ 32) }
+{
+    events.len() <= MOST_EVENTS
+}
+
+/// The marks of one counter.
+pub(crate) fn marks_of(alloc: Global, events: &[CounterEvent]) -> Result<Items<ScopeMark>, NoMem>
+    requires { IsNonDecreasingBy (λ e. e.at) events.now }
+    ensures marks { IfOk result (λ v. AreMarks v) }
+    ensures marked { IfOk result (λ v. AreMarked events.now v) }
+{
+    if !are_few(events) {
+        return Err(NoMem);
+    }
+    Ok(Items::of(mark_all(alloc, events)?))
 }

@@ -1,0 +1,230 @@
+//! What a document does to its counters, written down place by place.
+
+ghost use Rattle.std.specs.Prelude.{◌≡◌, ◌++◌, ◌∷◌, [], IfOk, IfSome, IsTrue, OnOk, map};
+ghost use Rattle.std.specs.Str.{bytes_eq};
+ghost use Rattle.std.specs.List.{list_any};
+ghost use Rattle.std.specs.String.{string_bytes};
+ghost use Rattle.counters.specs.Document.{named, not_page};
+ghost use Rattle.counters.specs.Log.{changes_in, events_at, events_in, is_asked};
+
+use crate::scopes::Act;
+use bk_num::items::Items;
+use bk_num::name::{Name, NoMem};
+use indexmap::{IndexMap, IndexSet};
+use std::alloc::Global;
+use std::marker::Model;
+use std::rc::Rc;
+
+/// A place's number, and where scopes end that begin at it.
+#[derive(Clone, Copy)]
+pub(crate) struct EventPlace {
+    pub at: u32,
+    pub end: u32,
+}
+
+/// What is done to a counter, by its name in a style.
+pub(crate) type Change<'s> = (&'s str, Act);
+
+/// What is done to counters, in order.
+pub(crate) type ChangeList = Items<(Name, Act)>;
+
+/// What is done at a place. Places at which the same is done share one list of it.
+#[derive(Drop)]
+pub(crate) struct LogRow {
+    pub at: u32,
+    pub end: u32,
+    pub changes: Rc<ChangeList>,
+}
+
+/// Lists that are shared. It is asked for one that may be equal, and what it answers is compared.
+type Known<'s> = IndexMap<Vec<Change<'s>>, Rc<ChangeList>>;
+
+/// What is done at places, one after the other; and beside it the names of counters that are asked for. Contracts see
+/// the events.
+#[derive(Drop)]
+pub(crate) struct Log<'s> {
+    rows: Vec<LogRow>,
+    known: Known<'s>,
+    asked: IndexSet<String>,
+}
+
+impl<'s> Model for Log<'s> {
+    ghost use Rattle.std.specs.Prelude.{List, ℕ};
+    ghost use Rattle.counters.specs.declared.scopes.CounterEvent.{CounterEvent};
+    ghost use Rattle.counters.specs.Log.{events_in};
+
+    ghost Value = { List (List ℕ × CounterEvent) };
+
+    ghost view = { λ l. events_in l.rows.items };
+}
+
+/// Appends a change, unless it is one of `page`, which is no counter of the document.
+pub(crate) fn push_change<'s>(
+    changes: &mut Vec<Change<'s>>,
+    name: &'s str,
+    act: Act,
+) -> Result<(), NoMem>
+    ensures { OnOk result (changes_in changes.new.items ≡
+        changes_in changes.old.items ++ not_page ((name.entry.now, act) ∷ [])) }
+{
+    if name != "page" {
+        changes.push((name, act))?;
+    }
+    Ok(())
+}
+
+fn is_same_change(own: &(Name, Act), change: &Change<'_>) -> bool
+    ensures { IsTrue result → own.now ≡ (change.now.0.now, change.now.1) }
+{
+    own.0.as_str() == change.0 && own.1 == change.1
+}
+
+/// Whether a list is of these changes.
+fn is_same(list: &[(Name, Act)], changes: &[Change<'_>]) -> bool
+    ensures { IsTrue result → list.now ≡ changes_in changes.now }
+{
+    if list.len() != changes.len() {
+        return false;
+    }
+    for i in 0..list.len() {
+        if !is_same_change(&list[i], &changes[i]) {
+            return false;
+        }
+    }
+    true
+}
+
+/// A list of these changes.
+fn owned(alloc: Global, changes: &[Change<'_>]) -> Result<ChangeList, NoMem>
+    ensures { IfOk result (λ list. list ≡ changes_in changes.now) }
+{
+    let mut list = Items::new(alloc);
+    for change in changes {
+        list.push((Name::new(alloc, change.0)?, change.1))?;
+    }
+    Ok(list)
+}
+
+/// A known list of these changes.
+fn find<'k, 's>(known: &'k Known<'s>, changes: &Vec<Change<'s>>) -> Option<&'k Rc<ChangeList>>
+    ensures { IfSome result (λ list. list.now.value ≡ changes_in changes.now.items) }
+{
+    let list = known.get(changes)?;
+    if is_same(list.as_ref().as_slice(), changes.as_slice()) {
+        Some(list)
+    } else {
+        None
+    }
+}
+
+fn share(list: &Rc<ChangeList>) -> Result<Rc<ChangeList>, NoMem>
+    ensures { IfOk result (λ shared. shared.value ≡ list.now.value) }
+{
+    match list.clone() {
+        Ok(shared) => Ok(shared),
+        Err(_) => Err(NoMem),
+    }
+}
+
+/// Makes a list of these changes, which is known from then on.
+fn add<'s>(
+    alloc: Global,
+    known: &mut Known<'s>,
+    changes: Vec<Change<'s>>,
+) -> Result<Rc<ChangeList>, NoMem>
+    ensures { IfOk result (λ list. list.value ≡ changes_in changes.entry.items) }
+{
+    let Ok(list) = Rc::new(alloc, owned(alloc, changes.as_slice())?) else {
+        return Err(NoMem);
+    };
+    let shared = share(&list)?;
+    match known.insert(changes, shared) {
+        Ok(_) => Ok(list),
+        Err(_) => Err(NoMem),
+    }
+}
+
+/// A list of these changes: a known one, if there is one.
+fn list_of<'s>(
+    alloc: Global,
+    known: &mut Known<'s>,
+    changes: Vec<Change<'s>>,
+) -> Result<Rc<ChangeList>, NoMem>
+    ensures { IfOk result (λ list. list.value ≡ changes_in changes.entry.items) }
+{
+    if let Some(list) = find(known, &changes) {
+        return share(list);
+    }
+    add(alloc, known, changes)
+}
+
+fn push_row(rows: &mut Vec<LogRow>, row: LogRow) -> Result<(), NoMem>
+    ensures { OnOk result (events_in rows.new.items ≡ events_in rows.old.items ++ events_at row) }
+{
+    match rows.push(row) {
+        Ok(_) => Ok(()),
+        Err(_) => Err(NoMem),
+    }
+}
+
+/// Whether a counter is among those that are asked for.
+pub(crate) fn is_asked(asked: &IndexSet<String>, name: &str) -> bool
+    ensures { result ≡ is_asked (map (λ k. string_bytes k) asked.now.keys) name.now }
+{
+    asked.contains(name)
+}
+
+impl<'s> Log<'s> {
+    /// Nothing is done, and no counter is asked for.
+    pub(crate) fn new(alloc: Global) -> Log<'s>
+        ensures { result ≡ [] }
+    {
+        Log {
+            rows: Vec::new(alloc),
+            known: IndexMap::new(alloc),
+            asked: IndexSet::new(alloc),
+        }
+    }
+
+    /// Appends what is done at a place.
+    pub(crate) fn put(
+        &mut self,
+        alloc: Global,
+        place: EventPlace,
+        changes: Vec<Change<'s>>,
+    ) -> Result<(), NoMem>
+        ensures { OnOk result (self.new ≡ self.old ++ named place.at place.end (changes_in changes.entry.items)) }
+    {
+        if changes.is_empty() {
+            return Ok(());
+        }
+        let row = LogRow {
+            at: place.at,
+            end: place.end,
+            changes: list_of(alloc, &mut self.known, changes)?,
+        };
+        push_row(&mut self.rows, row)
+    }
+
+    /// Notes that a counter is asked for.
+    pub(crate) fn ask(&mut self, alloc: Global, name: &str) -> Result<(), NoMem>
+        ensures { self.new ≡ self.old }
+    {
+        if is_asked(&self.asked, name) {
+            return Ok(());
+        }
+        let text = String::from_str(alloc, name)?;
+        match self.asked.insert(text) {
+            Ok(_) => Ok(()),
+            Err(_) => Err(NoMem),
+        }
+    }
+
+    /// What is done at places, and the names of the counters that are asked for. It takes no memory.
+    pub(crate) fn into_parts(self) -> (Vec<LogRow>, IndexSet<String>)
+        ensures { events_in result.0.items ≡ self.entry }
+    {
+        let Log { rows, asked, .. } = self;
+        (rows, asked)
+    }
+}
