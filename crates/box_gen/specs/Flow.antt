@@ -19,6 +19,8 @@ use Rattle.soft_hyphens.specs.Words.{Points}
 use Rattle.style.specs.declared.style.Style.{Style}
 use Rattle.style.specs.Nodes.{style_at}
 use Rattle.style.specs.Styles.{initial_style}
+use Rattle.box_gen.specs.Faced.{StyleIn}
+use Rattle.box_gen.specs.Faces.{face_of}
 use Rattle.box_gen.specs.Items.{InlineItem}
 use Rattle.box_gen.specs.Items as item
 use Rattle.box_gen.specs.declared.inline.InlineStart.{InlineStart}
@@ -36,6 +38,11 @@ use Rattle.box_gen.specs.Trees.{Source, Forest, none, node, forest_of, in_note, 
 -- a text that a style sets
 abbrev pub styled : Source → Style → TextPart → InlineItem
 styled src s part = item.Text (record { part = part; style = text_style_of s part.space (src.face s) })
+
+-- a text that a style sets in the face that it chooses among some faces
+abbrev pub styled_in : StyleIn → TextPart → InlineItem
+styled_in s part =
+    item.Text (record { part = part; style = text_style_of s.style part.space (face_of s.faces s.style) })
 
 -- a text node in an element of a style, or a generated text
 abbrev pub text_item : Source → Style → List ℕ → InlineItem

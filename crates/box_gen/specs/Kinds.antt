@@ -1,5 +1,6 @@
 -- What nodes are to the flow, as the code has it.
 use Rattle.std.specs.Prelude.{◌≡◌, ℕ, List, Option, None, Some, slice_get, if◌then◌else◌}
+use Rattle.metrics.specs.Face.{FontFace}
 use Rattle.style.specs.declared.style.Style.{Style}
 use Rattle.style.specs.Nodes.{NodeStyles}
 use Rattle.box_gen.specs.declared.input.FlowInput.{FlowInput}
@@ -12,9 +13,9 @@ use Rattle.box_gen.specs.Trees.{Role, text, hidden, inline, block, note, role_of
 abbrev pub role_in : NodeKind → Role
 role_in (kind.Text t) = text t.now
 role_in kind.Hidden = hidden
-role_in (kind.Inline s) = inline s.now
-role_in (kind.Block s) = block s.now
-role_in (kind.Note s) = note s.now
+role_in (kind.Inline s) = inline s.now.style
+role_in (kind.Block s) = block s.now.style
+role_in (kind.Note s) = note s.now.style
 
 -- the style of an element, where it is shown
 abbrev pub shown_by : Option NodeStyles → Option Style
@@ -29,11 +30,20 @@ shown_in styles n = shown_by (slice_get styles n)
 abbrev pub HasRange : NodeKind → Type 0
 HasRange (kind.Text t) = Unit {0}
 HasRange kind.Hidden = Unit {0}
-HasRange (kind.Inline s) = IsInRange s.now
-HasRange (kind.Block s) = IsInRange s.now
-HasRange (kind.Note s) = IsInRange s.now
+HasRange (kind.Inline s) = IsInRange s.now.style
+HasRange (kind.Block s) = IsInRange s.now.style
+HasRange (kind.Note s) = IsInRange s.now.style
 
--- what a node is to the flow, in range
+-- the style of an element that is shown chooses among some faces
+abbrev pub IsSetIn : List FontFace → NodeKind → Type 0
+IsSetIn faces (kind.Text t) = Unit {0}
+IsSetIn faces kind.Hidden = Unit {0}
+IsSetIn faces (kind.Inline s) = s.now.faces ≡ faces
+IsSetIn faces (kind.Block s) = s.now.faces ≡ faces
+IsSetIn faces (kind.Note s) = s.now.faces ≡ faces
+
+-- what a node is to the flow, set in its faces and in range
 pub record IsKindOf (input : FlowInput) (n : ℕ) (k : NodeKind) : Type 0 where
   pub role : role_in k ≡ role_of (source_in input) n
+  pub faces : IsSetIn input.faces.now k
   pub range : HasRange k

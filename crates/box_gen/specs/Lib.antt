@@ -11,7 +11,11 @@ pub mod Flow
 pub mod Gather
 pub mod Walk
 pub mod Faces
+pub mod Faced
+pub mod FacedFields
+pub mod KnownFaces
 pub mod Sources
+pub mod Given
 pub mod Kinds
 pub mod Sites
 pub mod Steps

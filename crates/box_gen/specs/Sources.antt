@@ -13,6 +13,7 @@ pub use Rattle.style.specs.Ranges.{AreInRange, IsInRange}
 use Rattle.style.specs.Styles.{initial_style}
 use Rattle.box_gen.specs.declared.input.FlowInput.{FlowInput}
 use Rattle.box_gen.specs.Faces.{face_of}
+use Rattle.box_gen.specs.KnownFaces.{KnowsFaces}
 use Rattle.box_gen.specs.Markers.{list_values}
 use Rattle.box_gen.specs.Trees.{Source}
 
@@ -51,7 +52,9 @@ pub record IsRootShown (styles : List NodeStyles) : Type 0 where
 
 -- what holds of the input of a walk
 pub record IsInput (i : FlowInput) : Type 0 where
-  pub initial : i.initial.now ≡ initial_style
+  pub initial : i.known.now.initial.style ≡ initial_style
+  pub faces : i.known.now.initial.faces ≡ i.faces.now
+  pub known : KnowsFaces i.texts.styles.now i.faces.now i.known.now
   pub ranges : AreInRange i.texts.styles.now
 
 -- the elements that begin somewhere are nodes of a document

@@ -24,9 +24,12 @@ ghost use Rattle.gen_text.specs.Texts.{source_in as text_source};
 ghost use Rattle.page_seq.specs.Numbers.{IsSmallReset};
 ghost use Rattle.page_seq.specs.Places.{NeverFall};
 ghost use Rattle.style.specs.Nodes.{style_at};
+ghost use Rattle.style.specs.Styles.{initial_style};
 ghost use Rattle.box_gen.specs.Faces.{AreFaced};
 ghost use Rattle.box_gen.specs.Notes.{AreNotesOf, IsGoodBody, bytes_in, events_in};
 ghost use Rattle.box_gen.specs.Sites.{built_in};
+ghost use Rattle.box_gen.specs.Given.{source_given};
+ghost use Rattle.box_gen.specs.KnownFaces.{KnowsFaces};
 ghost use Rattle.box_gen.specs.Sources.{AreInRange, AreWithin, IsInput, IsRootShown, source_in, source_of};
 ghost use Rattle.soft_hyphens.specs.Words.{points_in};
 
@@ -35,6 +38,7 @@ use crate::inline::BuildErr;
 use crate::input::{FlowInput, is_note_element};
 use crate::notes::{Walker, walk_through};
 use crate::put::Site;
+use crate::style_faces::{StyleFaces, style_faces};
 use crate::words::hyphenator_of;
 use bk_num::items::Items;
 use bk_num::name::{Name, NoMem};
@@ -333,6 +337,62 @@ fn flow_by(alloc: Global, input: &FlowInput) -> Result<Flow, BuildErr>
     }
 }
 
+/// What a flow is made from, as it is given, and the initial style.
+#[derive(Clone, Copy)]
+struct Given<'a> {
+    texts: Texts<'a>,
+    faces: &'a Faces,
+    hyphenator: Option<&'a Hyphenator<'a>>,
+    initial: &'a Style,
+}
+
+/// The flow of what is given, where the faces of its styles are known.
+fn flow_in_faces(alloc: Global, given: &Given<'_>, known: &StyleFaces<'_>) -> Result<Flow, BuildErr>
+    requires ranges { AreInRange given.now.texts.styles.now }
+    requires initial { known.now.initial.style ≡ initial_style }
+    requires faces { known.now.initial.faces ≡ given.now.faces.now }
+    requires known { KnowsFaces given.now.texts.styles.now given.now.faces.now known.now }
+    ensures flow { IfOk result (λ flow. flow ≡ flow_of (source_given given.now)) }
+    ensures bodies { IfOk result (λ flow. All (IsGoodBody given.now.faces.now) flow.notes) }
+    ensures few { IfOk result (λ flow. bytes_in flow ≤ most_text_bytes) }
+    ensures events { IfOk result (λ flow. events_in flow ≤ most_events) }
+    ensures count { IfOk result (λ flow. length flow.notes ≤ most_entries) }
+    ensures small { IfOk result (λ flow. All IsSmallReset flow.resets) }
+    ensures cause { IfErr result (λ e. e ≡ BuildErr.Text → most_text_bytes <
+        bytes_in (flow_of (source_given given.now))) }
+{
+    let input = FlowInput {
+        texts: given.texts,
+        faces: given.faces,
+        known,
+        hyphenator: given.hyphenator,
+        in_note: false,
+    };
+    match flow_by(alloc, &input) {
+        Ok(flow) => Ok(flow),
+        Err(e) => Err(e),
+    }
+}
+
+/// The flow of what is given: its styles choose their faces, and its nodes are walked.
+fn flow_of_given(alloc: Global, given: &Given<'_>) -> Result<Flow, BuildErr>
+    requires ranges { AreInRange given.now.texts.styles.now }
+    requires initial { given.now.initial.now ≡ initial_style }
+    ensures flow { IfOk result (λ flow. flow ≡ flow_of (source_given given.now)) }
+    ensures bodies { IfOk result (λ flow. All (IsGoodBody given.now.faces.now) flow.notes) }
+    ensures few { IfOk result (λ flow. bytes_in flow ≤ most_text_bytes) }
+    ensures events { IfOk result (λ flow. events_in flow ≤ most_events) }
+    ensures count { IfOk result (λ flow. length flow.notes ≤ most_entries) }
+    ensures small { IfOk result (λ flow. All IsSmallReset flow.resets) }
+    ensures cause { IfErr result (λ e. e ≡ BuildErr.Text → most_text_bytes <
+        bytes_in (flow_of (source_given given.now))) }
+{
+    match style_faces(alloc, given.texts.styles, given.initial, given.faces) {
+        Ok(known) => flow_in_faces(alloc, given, &known),
+        Err(_) => Err(BuildErr::NoMemory),
+    }
+}
+
 /// The flow of a document, as `build` makes it, by what hyphenates its words: words that it knows are not looked up in
 /// patterns again.
 ///
@@ -372,14 +432,13 @@ pub fn build_by(
     let Ok(initial) = Style::initial(alloc) else {
         return Err(BuildErr::NoMemory);
     };
-    let input = FlowInput {
+    let given = Given {
         texts: *texts,
         faces,
         hyphenator,
         initial: &initial,
-        in_note: false,
     };
-    match flow_by(alloc, &input) {
+    match flow_of_given(alloc, &given) {
         Ok(flow) => Ok(flow),
         Err(e) => Err(e),
     }

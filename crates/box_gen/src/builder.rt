@@ -11,13 +11,14 @@ ghost use Rattle.box_gen.specs.Flow.{closed, leads_of, opened};
 ghost use Rattle.box_gen.specs.Items as item;
 ghost use Rattle.box_gen.specs.Items.{run_in};
 ghost use Rattle.box_gen.specs.Gather.{adds, begun, ended, make};
-ghost use Rattle.box_gen.specs.Kinds.{HasRange, IsKindOf, role_in};
+ghost use Rattle.box_gen.specs.Kinds.{HasRange, IsKindOf, IsSetIn, role_in};
 ghost use Rattle.box_gen.specs.Sites.{HasRoom, IsWithinRoom, built_in, leaf_bytes};
 ghost use Rattle.box_gen.specs.Sources.{IsInput, IsInRange, source_in};
 ghost use Rattle.box_gen.specs.Steps.{CanBegin, CanEnd, CanEnterNode, CanLeaveNode, CanStep, styles_of, walk_in};
 ghost use Rattle.box_gen.specs.Walk as walk;
 ghost use Rattle.box_gen.specs.Walk.{after_step, enter_node, leave_node};
 
+use crate::faced::FacedStyle;
 use crate::inline::{BuildErr, RunItem};
 use crate::input::{FlowInput, NodeKind, kind_of, style_around, style_of};
 use crate::marker::{lead_of, marker_text};
@@ -32,7 +33,6 @@ use boxes::tree::BoxTree;
 use counters::marker::has_marker;
 use dom::Step;
 use std::alloc::Global;
-use style::style::Style;
 
 /// What the walk over a tree keeps: what is built, the run that isn't put yet, the open blocks, and the element that it
 /// passes over, which isn't shown or is a note.
@@ -79,14 +79,15 @@ pub(crate) fn new_builder<'a>(alloc: Global, room: TreeRoom) -> FlowBuilder<'a>
 }
 
 /// The style of the innermost open block.
-pub(crate) fn innermost<'a>(input: &FlowInput<'a>, blocks: &[NodeId]) -> &'a Style
+pub(crate) fn innermost<'a>(input: &FlowInput<'a>, blocks: &[NodeId]) -> &'a FacedStyle<'a>
     requires { IsInput input.now }
-    ensures value { result.now ≡ walk.innermost (styles_of input.now.texts.styles.now blocks.now) }
-    ensures range { IsInRange result.now }
+    ensures value { result.now.style ≡ walk.innermost (styles_of input.now.texts.styles.now blocks.now) }
+    ensures faces { result.now.faces ≡ input.now.faces.now }
+    ensures range { IsInRange result.now.style }
 {
     match blocks.last() {
         Some(node) => style_of(input, *node),
-        None => input.initial,
+        None => &input.known.initial,
     }
 }
 
@@ -95,20 +96,22 @@ fn push_lead(
     alloc: Global,
     input: &FlowInput,
     node: NodeId,
-    style: &Style,
+    faced: &FacedStyle<'_>,
     owner: u32,
     pending: &mut Vec<Lead>,
 ) -> Result<(), NoMem>
+    requires { faced.now.faces ≡ input.now.faces.now }
     ensures { OnOk result (pending.new.items ≡ pending.old.items ++
-        leads_of (source_in input.now) node.0 style.now owner) }
+        leads_of (source_in input.now) node.0 faced.now.style owner) }
 {
+    let style = faced.style();
     if !has_marker(node.0 == 0, style) {
         return Ok(());
     }
     match marker_text(alloc, input.texts.counters, node, style.list_style_type)? {
         None => Ok(()),
         Some(text) => {
-            let look = text_style(input.faces, style, style.white_space);
+            let look = text_style(faced, style.white_space);
             let Some(lead) = lead_of(text, &look, owner) else {
                 return Err(NoMem);
             };
@@ -123,21 +126,23 @@ fn open_box(
     alloc: Global,
     input: &FlowInput,
     node: NodeId,
-    style: &Style,
+    faced: &FacedStyle<'_>,
     site: &mut Site,
 ) -> Result<(), NoMem>
-    requires range { IsInRange style.now }
+    requires faces { faced.now.faces ≡ input.now.faces.now }
+    requires range { IsInRange faced.now.style }
     requires few { length site.old.tree.events < 7999995 }
     requires place { IsTrue (takes_box site.old.tree.events) }
     ensures built { OnOk result (built_in site.new ≡
-        opened (source_in input.now) node.0 style.now (built_in site.old)) }
+        opened (source_in input.now) node.0 faced.now.style (built_in site.old)) }
     ensures bytes { OnOk result (site.new.bytes ≡ site.old.bytes) }
     ensures room { OnOk result (site.new.room ≡ site.old.room) }
 {
+    let style = faced.style();
     let event = site.tree.count();
     let owner = site.tree.add_box(props_of(style, node, !input.in_note))?;
     site.starts.push(start_at(node, event, 0))?;
-    push_lead(alloc, input, node, style, owner, &mut site.pending)?;
+    push_lead(alloc, input, node, faced, owner, &mut site.pending)?;
     Ok(())
 }
 
@@ -175,15 +180,17 @@ fn close_box(site: &mut Site) -> Result<(), NoMem>
 fn enter_inline<'a>(
     input: &FlowInput<'a>,
     node: NodeId,
-    style: &Style,
+    faced: &FacedStyle<'_>,
     run: &mut Vec<RunItem<'a>>,
 ) -> Result<(), NoMem>
-    requires { node.0 < length input.now.texts.dom.now }
+    requires input { IsInput input.now }
+    requires node { node.0 < length input.now.texts.dom.now }
+    requires faces { faced.now.faces ≡ input.now.faces.now }
     ensures { OnOk result (run_in run.new.items ≡ (run_in run.old.items ++ item.Start node ∷ []) ++
-        spec.first_items (source_in input.now) style.now node.0) }
+        spec.first_items (source_in input.now) faced.now.style node.0) }
 {
     push_item(run, RunItem::Start(node))?;
-    push_first(input, node, style, run)
+    push_first(input, node, faced, run)
 }
 
 /// Enters a note element: its call stands where it would begin.
@@ -192,7 +199,8 @@ fn enter_note<'a>(
     node: NodeId,
     run: &mut Vec<RunItem<'a>>,
 ) -> Result<(), NoMem>
-    requires { node.0 < length input.now.texts.dom.now }
+    requires input { IsInput input.now }
+    requires node { node.0 < length input.now.texts.dom.now }
     ensures { OnOk result (run_in run.new.items ≡
         (run_in run.old.items ++ item.Start node ∷ []) ++
         spec.generated_items (source_in input.now) node.0 pseudo.Call) }
@@ -206,12 +214,13 @@ fn enter_block<'a>(
     alloc: Global,
     input: &FlowInput<'a>,
     node: NodeId,
-    style: &Style,
+    faced: &FacedStyle<'_>,
     builder: &mut FlowBuilder<'a>,
 ) -> Result<(), BuildErr>
     requires input { IsInput input.now }
     requires node { node.0 < length input.now.texts.dom.now }
-    requires range { IsInRange style.now }
+    requires faces { faced.now.faces ≡ input.now.faces.now }
+    requires range { IsInRange faced.now.style }
     requires within { IsWithinRoom builder.old.site }
     requires room { HasRoom builder.old.site }
     requires can { CanBegin (source_in input.now)
@@ -219,7 +228,7 @@ fn enter_block<'a>(
         (make (built_in builder.old.site) (run_in builder.old.run.items)) }
     ensures gathered { OnOk result (make (built_in builder.new.site) (run_in builder.new.run.items) ≡
         begun (source_in input.now)
-        (walk.innermost (styles_of input.now.texts.styles.now builder.old.blocks.items)) node.0 style.now
+        (walk.innermost (styles_of input.now.texts.styles.now builder.old.blocks.items)) node.0 faced.now.style
         (make (built_in builder.old.site) (run_in builder.old.run.items))) }
     ensures blocks { OnOk result (builder.new.blocks.items ≡ builder.old.blocks.items ++ node ∷ []) }
     ensures unshown { OnOk result (builder.new.unshown ≡ builder.old.unshown) }
@@ -227,27 +236,26 @@ fn enter_block<'a>(
     ensures room { OnOk result (builder.new.site.room ≡ builder.old.site.room) }
     ensures cause { IfErr result (λ e. e ≡ BuildErr.Text → builder.old.site.room.bytes <
         leaf_bytes (begun (source_in input.now)
-        (walk.innermost (styles_of input.now.texts.styles.now builder.old.blocks.items)) node.0 style.now
+        (walk.innermost (styles_of input.now.texts.styles.now builder.old.blocks.items)) node.0 faced.now.style
         (make (built_in builder.old.site) (run_in builder.old.run.items))).built.tree.leaves) }
 {
     let around = innermost(input, &builder.blocks);
     let items = std::mem::replace(&mut builder.run, Vec::new(alloc));
     put_run(
         alloc,
-        input.faces,
         input.hyphenator,
         around,
         true,
         &mut builder.site,
         items,
     )?;
-    let Ok(()) = open_box(alloc, input, node, style, &mut builder.site) else {
+    let Ok(()) = open_box(alloc, input, node, faced, &mut builder.site) else {
         return Err(BuildErr::NoMemory);
     };
     let Ok(()) = builder.blocks.push(node) else {
         return Err(BuildErr::NoMemory);
     };
-    let Ok(()) = push_first(input, node, style, &mut builder.run) else {
+    let Ok(()) = push_first(input, node, faced, &mut builder.run) else {
         return Err(BuildErr::NoMemory);
     };
     Ok(())
@@ -258,18 +266,20 @@ pub(crate) fn leave_block<'a>(
     alloc: Global,
     input: &FlowInput<'a>,
     node: NodeId,
-    style: &Style,
+    faced: &FacedStyle<'_>,
     builder: &mut FlowBuilder<'a>,
 ) -> Result<(), BuildErr>
+    requires input { IsInput input.now }
     requires node { node.0 < length input.now.texts.dom.now }
-    requires range { IsInRange style.now }
+    requires faces { faced.now.faces ≡ input.now.faces.now }
+    requires range { IsInRange faced.now.style }
     requires within { IsWithinRoom builder.old.site }
     requires room { HasRoom builder.old.site }
-    requires can { CanEnd (source_in input.now) style.now
+    requires can { CanEnd (source_in input.now) faced.now.style
         (adds (spec.last_items (source_in input.now) node.0)
         (make (built_in builder.old.site) (run_in builder.old.run.items))) }
     ensures gathered { OnOk result (make (built_in builder.new.site) (run_in builder.new.run.items) ≡
-        ended (source_in input.now) style.now
+        ended (source_in input.now) faced.now.style
         (adds (spec.last_items (source_in input.now) node.0)
         (make (built_in builder.old.site) (run_in builder.old.run.items)))) }
     ensures blocks { OnOk result (builder.new.blocks ≡ builder.old.blocks) }
@@ -277,7 +287,7 @@ pub(crate) fn leave_block<'a>(
     ensures within { OnOk result (IsWithinRoom builder.new.site) }
     ensures room { OnOk result (builder.new.site.room ≡ builder.old.site.room) }
     ensures cause { IfErr result (λ e. e ≡ BuildErr.Text → builder.old.site.room.bytes <
-        leaf_bytes (ended (source_in input.now) style.now
+        leaf_bytes (ended (source_in input.now) faced.now.style
         (adds (spec.last_items (source_in input.now) node.0)
         (make (built_in builder.old.site) (run_in builder.old.run.items)))).built.tree.leaves) }
 {
@@ -288,9 +298,8 @@ pub(crate) fn leave_block<'a>(
     let items = std::mem::replace(&mut builder.run, Vec::new(alloc));
     put_run(
         alloc,
-        input.faces,
         input.hyphenator,
-        style,
+        faced,
         wrap,
         &mut builder.site,
         items,
@@ -327,17 +336,17 @@ fn enter<'a>(
     match kind {
         NodeKind::Hidden => builder.unshown = Some(node),
         NodeKind::Text(text) => {
-            let style = style_around(input, node);
-            let Ok(()) = push_text(input, style, text, &mut builder.run) else {
+            let faced = style_around(input, node);
+            let Ok(()) = push_text(faced, text, &mut builder.run) else {
                 return Err(BuildErr::NoMemory);
             };
         }
-        NodeKind::Inline(style) => {
-            let Ok(()) = enter_inline(input, node, style, &mut builder.run) else {
+        NodeKind::Inline(faced) => {
+            let Ok(()) = enter_inline(input, node, faced, &mut builder.run) else {
                 return Err(BuildErr::NoMemory);
             };
         }
-        NodeKind::Block(style) => enter_block(alloc, input, node, style, builder)?,
+        NodeKind::Block(faced) => enter_block(alloc, input, node, faced, builder)?,
         NodeKind::Note(_) => {
             let Ok(()) = enter_note(input, node, &mut builder.run) else {
                 return Err(BuildErr::NoMemory);
@@ -356,7 +365,9 @@ fn leave<'a>(
     kind: NodeKind<'a>,
     builder: &mut FlowBuilder<'a>,
 ) -> Result<(), BuildErr>
+    requires input { IsInput input.now }
     requires node { node.0 < length input.now.texts.dom.now }
+    requires faces { IsSetIn input.now.faces.now kind }
     requires range { HasRange kind }
     requires shown { builder.old.unshown ≡ None }
     requires within { IsWithinRoom builder.old.site }
@@ -378,8 +389,8 @@ fn leave<'a>(
                 return Err(BuildErr::NoMemory);
             };
         }
-        NodeKind::Block(style) => {
-            leave_block(alloc, input, node, style, builder)?;
+        NodeKind::Block(faced) => {
+            leave_block(alloc, input, node, faced, builder)?;
             builder.blocks.pop();
         }
     }

@@ -3,28 +3,29 @@
 ghost use Rattle.std.specs.Prelude.{◌≡◌, ◌<◌, true, IfSome, Some, length, option_map};
 ghost use Rattle.bk_num.specs.declared.values.Pseudo.TheVariants as pseudo;
 ghost use Rattle.style.specs.Nodes.{style_at};
-ghost use Rattle.box_gen.specs.Kinds.{HasRange, role_in, shown_in};
-ghost use Rattle.box_gen.specs.Sources.{AreInRange, IsInput, IsInRange, source_in};
+ghost use Rattle.box_gen.specs.Kinds.{HasRange, IsSetIn, role_in, shown_in};
+ghost use Rattle.box_gen.specs.Sources.{IsInput, IsInRange, source_in};
 ghost use Rattle.box_gen.specs.Trees as spec;
 ghost use Rattle.box_gen.specs.Walk.{element_style, style_around};
 
+use crate::faced::FacedStyle;
+use crate::style_faces::StyleFaces;
 use bk_num::ids::NodeId;
 use bk_num::values::Pseudo;
 use gen_text::texts::Texts;
 use metrics::Faces;
 use soft_hyphens::hyphenator::Hyphenator;
 use style::style::Style;
-use style::styles::Styles;
 use style::values::Display;
 
-/// A document with what its texts are generated from, the faces that set it, what hyphenates its words, the initial
-/// style, and whether what is meant stands in a note.
+/// A document with what its texts are generated from, the faces that set it, its styles and the initial one with their
+/// faces, what hyphenates its words, and whether what is meant stands in a note.
 #[derive(Clone, Copy)]
 pub(crate) struct FlowInput<'a> {
     pub(crate) texts: Texts<'a>,
     pub(crate) faces: &'a Faces,
+    pub(crate) known: &'a StyleFaces<'a>,
     pub(crate) hyphenator: Option<&'a Hyphenator<'a>>,
-    pub(crate) initial: &'a Style,
     pub(crate) in_note: bool,
 }
 
@@ -33,9 +34,9 @@ pub(crate) struct FlowInput<'a> {
 pub(crate) enum NodeKind<'a> {
     Text(&'a str),
     Hidden,
-    Inline(&'a Style),
-    Block(&'a Style),
-    Note(&'a Style),
+    Inline(&'a FacedStyle<'a>),
+    Block(&'a FacedStyle<'a>),
+    Note(&'a FacedStyle<'a>),
 }
 
 /// The same in a note.
@@ -71,26 +72,43 @@ pub(crate) fn is_note_element(input: &FlowInput, node: NodeId) -> bool
     node.0 != 0 && !input.in_note && input.texts.styles.is_note(node)
 }
 
-/// The style of an element.
-fn own_style(styles: &Styles, node: NodeId) -> Option<&Style>
-    requires { AreInRange styles.now }
-    ensures value { option_map (λ s. s.now) result ≡ style_at styles.now node.0 pseudo.Element }
-    ensures range { IfSome result (λ s. IsInRange s.now) }
+/// The style of a node, or of a pseudo-element of it, with its face; None exactly where it has none.
+pub(crate) fn faced_at<'a>(
+    input: &FlowInput<'a>,
+    node: NodeId,
+    pseudo: Pseudo,
+) -> Option<&'a FacedStyle<'a>>
+    requires { IsInput input.now }
+    ensures value { option_map (λ s. s.now.style) result ≡ style_at input.now.texts.styles.now node.0 pseudo }
+    ensures faces { IfSome result (λ s. s.now.faces ≡ input.now.faces.now) }
 {
-    match styles.of(node, Pseudo::Element) {
-        Some(style) => Some(style),
+    let number = input.known.table.number(node, pseudo)?;
+    input.known.styles.get(number as usize)
+}
+
+/// The style of an element.
+fn own_style<'a>(input: &FlowInput<'a>, node: NodeId) -> Option<&'a FacedStyle<'a>>
+    requires { IsInput input.now }
+    ensures value { option_map (λ s. s.now.style) result ≡
+        style_at input.now.texts.styles.now node.0 pseudo.Element }
+    ensures faces { IfSome result (λ s. s.now.faces ≡ input.now.faces.now) }
+    ensures range { IfSome result (λ s. IsInRange s.now.style) }
+{
+    match faced_at(input, node, Pseudo::Element) {
+        Some(faced) => Some(faced),
         None => None,
     }
 }
 
 /// The style of an element that is shown.
-fn shown_style(styles: &Styles, node: NodeId) -> Option<&Style>
-    requires { AreInRange styles.now }
-    ensures value { option_map (λ s. s.now) result ≡ shown_in styles.now node.0 }
-    ensures range { IfSome result (λ s. IsInRange s.now) }
+fn shown_style<'a>(input: &FlowInput<'a>, node: NodeId) -> Option<&'a FacedStyle<'a>>
+    requires { IsInput input.now }
+    ensures value { option_map (λ s. s.now.style) result ≡ shown_in input.now.texts.styles.now node.0 }
+    ensures faces { IfSome result (λ s. s.now.faces ≡ input.now.faces.now) }
+    ensures range { IfSome result (λ s. IsInRange s.now.style) }
 {
-    if styles.is_shown(node) {
-        own_style(styles, node)
+    if input.texts.styles.is_shown(node) {
+        own_style(input, node)
     } else {
         None
     }
@@ -101,45 +119,48 @@ pub(crate) fn kind_of<'a>(input: &FlowInput<'a>, node: NodeId) -> NodeKind<'a>
     requires input { IsInput input.now }
     requires node { node.0 < length input.now.texts.dom.now }
     ensures role { role_in result ≡ spec.role_of (source_in input.now) node.0 }
+    ensures faces { IsSetIn input.now.faces.now result }
     ensures range { HasRange result }
 {
     if let Some(text) = input.texts.dom.text(node) {
         return NodeKind::Text(text);
     }
-    match shown_style(input.texts.styles, node) {
+    match shown_style(input, node) {
         None => NodeKind::Hidden,
-        Some(style) => {
+        Some(faced) => {
             if is_note_element(input, node) {
-                NodeKind::Note(style)
-            } else if is_block(node.0 == 0, style) {
-                NodeKind::Block(style)
+                NodeKind::Note(faced)
+            } else if is_block(node.0 == 0, faced.style()) {
+                NodeKind::Block(faced)
             } else {
-                NodeKind::Inline(style)
+                NodeKind::Inline(faced)
             }
         }
     }
 }
 
 /// The style of an element, or the initial one.
-pub(crate) fn style_of<'a>(input: &FlowInput<'a>, node: NodeId) -> &'a Style
+pub(crate) fn style_of<'a>(input: &FlowInput<'a>, node: NodeId) -> &'a FacedStyle<'a>
     requires { IsInput input.now }
-    ensures value { result.now ≡ element_style (source_in input.now) (Some node.0) }
-    ensures range { IsInRange result.now }
+    ensures value { result.now.style ≡ element_style (source_in input.now) (Some node.0) }
+    ensures faces { result.now.faces ≡ input.now.faces.now }
+    ensures range { IsInRange result.now.style }
 {
-    match own_style(input.texts.styles, node) {
-        Some(style) => style,
-        None => input.initial,
+    if let Some(faced) = own_style(input, node) {
+        return faced;
     }
+    &input.known.initial
 }
 
 /// The style of the element around a node.
-pub(crate) fn style_around<'a>(input: &FlowInput<'a>, node: NodeId) -> &'a Style
+pub(crate) fn style_around<'a>(input: &FlowInput<'a>, node: NodeId) -> &'a FacedStyle<'a>
     requires input { IsInput input.now }
     requires node { node.0 < length input.now.texts.dom.now }
-    ensures { result.now ≡ style_around (source_in input.now) node.0 }
+    ensures value { result.now.style ≡ style_around (source_in input.now) node.0 }
+    ensures faces { result.now.faces ≡ input.now.faces.now }
 {
     match input.texts.dom.parent(node) {
         Some(parent) => style_of(input, parent),
-        None => input.initial,
+        None => &input.known.initial,
     }
 }

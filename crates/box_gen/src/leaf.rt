@@ -29,6 +29,7 @@ ghost use Rattle.box_gen.specs.Runs.{
 };
 ghost use Rattle.box_gen.specs.TextStyles.{IsGoodTextStyle};
 
+use crate::faced::FacedStyle;
 use crate::hyphens::hyphenated;
 use crate::inline::{BuildErr, GeneratedText, InlineStart, ItemMark, RunItem};
 use crate::text_style::{TextStyle, span_by, text_style};
@@ -43,10 +44,8 @@ use inline_text::joined::JoinedText;
 use inline_text::part::BorrowedPart;
 use inline_text::places::opportunities;
 use inline_text::space::Collapser;
-use metrics::Faces;
 use soft_hyphens::hyphenator::Hyphenator;
 use std::alloc::Global;
-use style::style::Style;
 
 /// The text of a run, its spans, and where its elements begin.
 #[derive(Drop)]
@@ -66,14 +65,15 @@ pub struct LeafStyle {
 }
 
 /// What a block of a style gives to the leaves in it.
-pub fn leaf_style(faces: &Faces, style: &Style) -> LeafStyle
-    ensures value { result ≡ leaf_style_of style.now (face_of faces.now style.now) }
-    ensures face { result.strut.face.0 < length faces.now }
-    ensures chosen { Chooses faces.now style.now.font_family style.now.font_style style.now.font_weight
-        result.strut.face }
+pub fn leaf_style(faced: &FacedStyle<'_>) -> LeafStyle
+    ensures value { result ≡ leaf_style_of faced.now.style (face_of faced.now.faces faced.now.style) }
+    ensures face { result.strut.face.0 < length faced.now.faces }
+    ensures chosen { Chooses faced.now.faces faced.now.style.font_family faced.now.style.font_style
+        faced.now.style.font_weight result.strut.face }
 {
+    let style = faced.style();
     LeafStyle {
-        strut: text_style(faces, style, style.white_space),
+        strut: text_style(faced, style.white_space),
         indent: style.text_indent,
         align: style.text_align,
         fit: style.book_fill,

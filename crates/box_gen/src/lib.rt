@@ -3,6 +3,7 @@
 
 pub mod build;
 mod builder;
+pub mod faced;
 mod hyphens;
 pub mod inline;
 mod input;
@@ -14,5 +15,6 @@ mod pieces;
 pub mod props;
 mod put;
 pub mod represented;
+mod style_faces;
 pub mod text_style;
 pub mod words;

@@ -38,6 +38,7 @@ ghost use Rattle.box_gen.specs.Walk.{after_step};
 ghost use Rattle.box_gen.specs.Walkers.{AreShared, IsBody, AreSoundWalks, all_bytes, all_events, bodies_bytes, body_bytes_after, body_in, over_in, walks_in};
 
 use crate::builder::{FlowBuilder, innermost, leave_block, new_builder, new_site, pass};
+use crate::faced::FacedStyle;
 use crate::inline::BuildErr;
 use crate::input::{FlowInput, NodeKind, kind_of, within_note};
 use crate::pieces::push_note_first;
@@ -91,23 +92,25 @@ fn note_builder<'a>(
     alloc: Global,
     input: &FlowInput<'a>,
     node: NodeId,
-    style: &Style,
+    faced: &FacedStyle<'_>,
     room: TreeRoom,
 ) -> Result<FlowBuilder<'a>, NoMem>
+    requires input { IsInput input.now }
     requires node { node.0 < length input.now.texts.dom.now }
-    requires own { style_at input.now.texts.styles.now node.0 pseudo.Element ≡ Some style.now }
-    requires range { IsInRange style.now }
+    requires own { style_at input.now.texts.styles.now node.0 pseudo.Element ≡ Some faced.now.style }
+    requires faces { faced.now.faces ≡ input.now.faces.now }
+    requires range { IsInRange faced.now.style }
     requires bytes { room.bytes ≤ most_text_bytes }
     requires events { room.events ≤ most_events }
     requires some { 0 < room.events }
     ensures walk { IfOk result (λ b. walk_in input.now.texts.styles.now b ≡
-        note_begun (source_in input.now) node.0 style.now) }
+        note_begun (source_in input.now) node.0 faced.now.style) }
     ensures within { IfOk result (λ b. IsWithinRoom b.site) }
     ensures room { IfOk result (λ b. b.site.room ≡ room) }
 {
-    let site = note_site(alloc, node, style, room)?;
+    let site = note_site(alloc, node, faced.style(), room)?;
     let mut run = Vec::new(alloc);
-    push_note_first(input, node, style, &mut run)?;
+    push_note_first(input, node, faced, &mut run)?;
     let mut blocks = Vec::new(alloc);
     blocks.push(node)?;
     Ok(FlowBuilder {
@@ -123,24 +126,25 @@ fn begin_note<'a>(
     alloc: Global,
     input: &FlowInput<'a>,
     node: NodeId,
-    style: &Style,
+    faced: &FacedStyle<'_>,
     main: &Site,
 ) -> Result<FlowBuilder<'a>, BuildErr>
     requires input { IsInput input.now }
     requires node { node.0 < length input.now.texts.dom.now }
-    requires own { style_at input.now.texts.styles.now node.0 pseudo.Element ≡ Some style.now }
-    requires range { IsInRange style.now }
+    requires own { style_at input.now.texts.styles.now node.0 pseudo.Element ≡ Some faced.now.style }
+    requires faces { faced.now.faces ≡ input.now.faces.now }
+    requires range { IsInRange faced.now.style }
     requires within { IsWithinRoom main.now }
     requires room { length main.now.tree.events < main.now.room.events }
     ensures walk { IfOk result (λ b. walk_in input.now.texts.styles.now b ≡
-        note_begun (in_note (source_in input.now)) node.0 style.now) }
+        note_begun (in_note (source_in input.now)) node.0 faced.now.style) }
     ensures within { IfOk result (λ b. IsWithinRoom b.site) }
     ensures bytes { IfOk result (λ b. b.site.room.bytes + main.now.bytes ≡ main.now.room.bytes) }
     ensures events { IfOk result (λ b. b.site.room.events + length main.now.tree.events ≡ main.now.room.events) }
     ensures cause { IfErr result (λ e. e ≡ BuildErr.NoMemory) }
 {
     let room = room_after(main);
-    match note_builder(alloc, &within_note(input), node, style, room) {
+    match note_builder(alloc, &within_note(input), node, faced, room) {
         Ok(body) => Ok(body),
         Err(_) => Err(BuildErr::NoMemory),
     }
@@ -173,7 +177,7 @@ fn pass_outside<'a>(
     pass(alloc, input, step, main)?;
     match (step, over) {
         (Step::Enter(node), None) => match kind_of(input, node) {
-            NodeKind::Note(style) => Ok(Some(begin_note(alloc, input, node, style, &main.site)?)),
+            NodeKind::Note(faced) => Ok(Some(begin_note(alloc, input, node, faced, &main.site)?)),
             _ => Ok(None),
         },
         _ => Ok(None),
@@ -214,8 +218,8 @@ fn end_note<'a>(
         (walk_in input.now.texts.styles.now body.entry)).tree.leaves) }
 {
     let mut body = body;
-    let style = innermost(input, &body.blocks);
-    leave_block(alloc, input, node, style, &mut body)?;
+    let faced = innermost(input, &body.blocks);
+    leave_block(alloc, input, node, faced, &mut body)?;
     Ok(body.site)
 }
 

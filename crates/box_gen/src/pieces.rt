@@ -4,20 +4,20 @@ ghost use Rattle.std.specs.Prelude.{◌≡◌, ◌<◌, ◌++◌, ◌∷◌, [],
 ghost use Rattle.bk_num.specs.declared.values.Pseudo.TheVariants as pseudo;
 ghost use Rattle.box_gen.specs.Flow as spec;
 ghost use Rattle.box_gen.specs.declared.inline.RunItem.TheVariants as run;
-ghost use Rattle.box_gen.specs.Flow.{styled, text_item, generated_items};
+ghost use Rattle.box_gen.specs.Flow.{generated_items, styled_in, text_item};
 ghost use Rattle.box_gen.specs.Items.{item_in, run_in};
 ghost use Rattle.box_gen.specs.Represented as represented;
-ghost use Rattle.box_gen.specs.Sources.{source_in};
+ghost use Rattle.box_gen.specs.Sources.{IsInput, source_in};
 
+use crate::faced::FacedStyle;
 use crate::inline::{GeneratedText, RunItem, StyledText};
-use crate::input::FlowInput;
+use crate::input::{FlowInput, faced_at};
 use crate::represented::represented_text;
 use crate::text_style::text_style;
 use bk_num::ids::NodeId;
 use bk_num::name::NoMem;
 use bk_num::values::Pseudo;
 use inline_text::part::BorrowedPart;
-use style::style::Style;
 
 /// Adds an item.
 pub(crate) fn push_item<'a>(run: &mut Vec<RunItem<'a>>, item: RunItem<'a>) -> Result<(), NoMem>
@@ -29,30 +29,27 @@ pub(crate) fn push_item<'a>(run: &mut Vec<RunItem<'a>>, item: RunItem<'a>) -> Re
 
 /// Adds a text that a style sets.
 fn push_styled<'a>(
-    input: &FlowInput,
-    style: &Style,
+    faced: &FacedStyle<'_>,
     part: BorrowedPart<'a>,
     run: &mut Vec<RunItem<'a>>,
 ) -> Result<(), NoMem>
-    ensures { OnOk result (run_in run.new.items ≡
-        run_in run.old.items ++ styled (source_in input.now) style.now part.entry ∷ []) }
+    ensures { OnOk result (run_in run.new.items ≡ run_in run.old.items ++ styled_in faced.now part.entry ∷ []) }
 {
-    let style = text_style(input.faces, style, part.space());
+    let style = text_style(faced, part.space());
     push_item(run, RunItem::Text(StyledText { part, style }))
 }
 
 /// Adds a text of an element of a style.
 pub(crate) fn push_text<'a>(
-    input: &FlowInput,
-    style: &Style,
+    faced: &FacedStyle<'_>,
     text: &'a str,
     run: &mut Vec<RunItem<'a>>,
 ) -> Result<(), NoMem>
-    ensures { OnOk result (run_in run.new.items ≡
-        run_in run.old.items ++ text_item (source_in input.now) style.now text.entry.now ∷ []) }
+    ensures { OnOk result (run_in run.new.items ≡ run_in run.old.items ++
+        styled_in faced.now (record { text = text.entry.now; space = faced.now.style.white_space }) ∷ []) }
 {
-    let part = BorrowedPart::new(text, style.white_space);
-    push_styled(input, style, part, run)?;
+    let part = BorrowedPart::new(text, faced.style().white_space);
+    push_styled(faced, part, run)?;
     Ok(())
 }
 
@@ -61,18 +58,20 @@ fn generated<'a>(
     input: &FlowInput<'a>,
     node: NodeId,
     pseudo: Pseudo,
-    style: &Style,
+    faced: &FacedStyle<'_>,
 ) -> GeneratedText<'a>
-    requires { node.0 < length input.now.texts.dom.now }
+    requires node { node.0 < length input.now.texts.dom.now }
+    requires faces { faced.now.faces ≡ input.now.faces.now }
     ensures { item_in (run.Generated result) ≡
-        text_item (source_in input.now) style.now ((source_in input.now).generated node.0 pseudo) }
+        text_item (source_in input.now) faced.now.style ((source_in input.now).generated node.0 pseudo) }
 {
+    let space = faced.style().white_space;
     GeneratedText {
         texts: input.texts,
         node,
         pseudo,
-        space: style.white_space,
-        style: text_style(input.faces, style, style.white_space),
+        space,
+        style: text_style(faced, space),
     }
 }
 
@@ -83,15 +82,16 @@ fn push_generated<'a>(
     pseudo: Pseudo,
     run: &mut Vec<RunItem<'a>>,
 ) -> Result<(), NoMem>
-    requires { node.0 < length input.now.texts.dom.now }
+    requires input { IsInput input.now }
+    requires node { node.0 < length input.now.texts.dom.now }
     ensures { OnOk result (run_in run.new.items ≡
         run_in run.old.items ++ generated_items (source_in input.now) node.0 pseudo) }
 {
-    match input.texts.styles.of(node, pseudo) {
+    match faced_at(input, node, pseudo) {
         None => Ok(()),
-        Some(style) => push_item(
+        Some(faced) => push_item(
             run,
-            RunItem::Generated(generated(input, node, pseudo, style)),
+            RunItem::Generated(generated(input, node, pseudo, faced)),
         ),
     }
 }
@@ -100,18 +100,19 @@ fn push_generated<'a>(
 fn push_represented<'a>(
     input: &FlowInput<'a>,
     node: NodeId,
-    style: &Style,
+    faced: &FacedStyle<'_>,
     run: &mut Vec<RunItem<'a>>,
 ) -> Result<(), NoMem>
-    requires { node.0 < length input.now.texts.dom.now }
+    requires node { node.0 < length input.now.texts.dom.now }
+    requires faces { faced.now.faces ≡ input.now.faces.now }
     ensures { OnOk result (run_in run.new.items ≡
-        run_in run.old.items ++ spec.represented_items (source_in input.now) style.now
-        (represented.represented_text input.now.texts.dom.now node.0 style.now.white_space)) }
+        run_in run.old.items ++ spec.represented_items (source_in input.now) faced.now.style
+        (represented.represented_text input.now.texts.dom.now node.0 faced.now.style.white_space)) }
 {
-    match represented_text(input.texts.dom, node, style.white_space) {
+    match represented_text(input.texts.dom, node, faced.style().white_space) {
         None => Ok(()),
         Some(part) => {
-            push_styled(input, style, part, run)?;
+            push_styled(faced, part, run)?;
             Ok(())
         }
     }
@@ -121,15 +122,17 @@ fn push_represented<'a>(
 pub(crate) fn push_first<'a>(
     input: &FlowInput<'a>,
     node: NodeId,
-    style: &Style,
+    faced: &FacedStyle<'_>,
     run: &mut Vec<RunItem<'a>>,
 ) -> Result<(), NoMem>
-    requires { node.0 < length input.now.texts.dom.now }
+    requires input { IsInput input.now }
+    requires node { node.0 < length input.now.texts.dom.now }
+    requires faces { faced.now.faces ≡ input.now.faces.now }
     ensures { OnOk result (run_in run.new.items ≡
-        run_in run.old.items ++ spec.first_items (source_in input.now) style.now node.0) }
+        run_in run.old.items ++ spec.first_items (source_in input.now) faced.now.style node.0) }
 {
     push_generated(input, node, Pseudo::Before, run)?;
-    push_represented(input, node, style, run)?;
+    push_represented(input, node, faced, run)?;
     Ok(())
 }
 
@@ -139,7 +142,8 @@ pub(crate) fn push_call<'a>(
     node: NodeId,
     run: &mut Vec<RunItem<'a>>,
 ) -> Result<(), NoMem>
-    requires { node.0 < length input.now.texts.dom.now }
+    requires input { IsInput input.now }
+    requires node { node.0 < length input.now.texts.dom.now }
     ensures { OnOk result (run_in run.new.items ≡
         run_in run.old.items ++ generated_items (source_in input.now) node.0 pseudo.Call) }
 {
@@ -151,15 +155,17 @@ pub(crate) fn push_call<'a>(
 pub(crate) fn push_note_first<'a>(
     input: &FlowInput<'a>,
     node: NodeId,
-    style: &Style,
+    faced: &FacedStyle<'_>,
     run: &mut Vec<RunItem<'a>>,
 ) -> Result<(), NoMem>
-    requires { node.0 < length input.now.texts.dom.now }
+    requires input { IsInput input.now }
+    requires node { node.0 < length input.now.texts.dom.now }
+    requires faces { faced.now.faces ≡ input.now.faces.now }
     ensures { OnOk result (run_in run.new.items ≡
-        run_in run.old.items ++ spec.note_first_items (source_in input.now) style.now node.0) }
+        run_in run.old.items ++ spec.note_first_items (source_in input.now) faced.now.style node.0) }
 {
     push_generated(input, node, Pseudo::Marker, run)?;
-    push_first(input, node, style, run)?;
+    push_first(input, node, faced, run)?;
     Ok(())
 }
 
@@ -169,7 +175,8 @@ pub(crate) fn push_last<'a>(
     node: NodeId,
     run: &mut Vec<RunItem<'a>>,
 ) -> Result<(), NoMem>
-    requires { node.0 < length input.now.texts.dom.now }
+    requires input { IsInput input.now }
+    requires node { node.0 < length input.now.texts.dom.now }
     ensures { OnOk result (run_in run.new.items ≡
         run_in run.old.items ++ spec.last_items (source_in input.now) node.0) }
 {

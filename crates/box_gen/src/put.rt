@@ -16,6 +16,7 @@ ghost use Rattle.box_gen.specs.Sites.{IsCounted, TakesRun, built_in, leaf_bytes,
 ghost use Rattle.box_gen.specs.Sources.{IsInRange};
 ghost use Rattle.soft_hyphens.specs.Words.{points_in};
 
+use crate::faced::FacedStyle;
 use crate::inline::{BuildErr, InlineStart, RunItem};
 use crate::leaf::{RunText, leaf_of, leaf_style, run_text};
 use crate::props::anonymous_props;
@@ -27,10 +28,8 @@ use boxes::leaf::{Lead, Leaf};
 use boxes::place::Position;
 use boxes::props::BoxProps;
 use boxes::tree::BoxTree;
-use metrics::Faces;
 use soft_hyphens::hyphenator::Hyphenator;
 use std::alloc::Global;
-use style::style::Style;
 
 /// How many bytes the leaves of a tree may have, and how many events the tree: what the other trees of the flow leave.
 #[derive(Clone, Copy)]
@@ -114,48 +113,46 @@ fn leaf_event(tree: &BoxTree, wrap: bool) -> u32
 /// Puts a text that isn't empty into a block of a style: a leaf, which takes the markers that wait.
 fn put_some(
     alloc: Global,
-    faces: &Faces,
-    style: &Style,
+    faced: &FacedStyle<'_>,
     wrap: bool,
     site: &mut Site,
     run: RunText,
 ) -> Result<(), NoMem>
     requires some { 0 < length run.text }
-    requires range { IsInRange style.now }
+    requires range { IsInRange faced.now.style }
     requires good { IsGoodRun run }
     requires sizes { All IsGoodSpan run.spans }
     requires takes { TakesRun wrap site.old }
     ensures built { OnOk result (built_in site.new ≡
-        with_text wrap (leaf_style_of style.now (face_of faces.now style.now)) (props.anonymous_props style.now)
-        (built_in site.old) run.text run.spans run.starts) }
+        with_text wrap (leaf_style_of faced.now.style (face_of faced.now.faces faced.now.style))
+        (props.anonymous_props faced.now.style) (built_in site.old) run.text run.spans run.starts) }
     ensures bytes { OnOk result (site.new.bytes ≡ site.old.bytes) }
     ensures room { OnOk result (site.new.room ≡ site.old.room) }
 {
-    let look = leaf_style(faces, style);
+    let look = leaf_style(faced);
     let event = leaf_event(&site.tree, wrap);
     push_starts(&mut site.starts, event, run.starts.as_slice())?;
     let leads = std::mem::replace(&mut site.pending, Vec::new(alloc));
     let leaf = leaf_of(alloc, run, &look, Items::of(leads))?;
-    put_leaf(&mut site.tree, wrap, anonymous_props(style), leaf)?;
+    put_leaf(&mut site.tree, wrap, anonymous_props(faced.style()), leaf)?;
     Ok(())
 }
 
 /// Puts the text of a run into a block of a style, and the places where its elements begin.
 fn put_any(
     alloc: Global,
-    faces: &Faces,
-    style: &Style,
+    faced: &FacedStyle<'_>,
     wrap: bool,
     site: &mut Site,
     run: RunText,
 ) -> Result<(), NoMem>
-    requires range { IsInRange style.now }
+    requires range { IsInRange faced.now.style }
     requires good { IsGoodRun run }
     requires sizes { All IsGoodSpan run.spans }
     requires takes { TakesRun wrap site.old }
     ensures built { OnOk result (built_in site.new ≡
-        with_any wrap (leaf_style_of style.now (face_of faces.now style.now)) (props.anonymous_props style.now)
-        (built_in site.old) run.text run.spans run.starts) }
+        with_any wrap (leaf_style_of faced.now.style (face_of faced.now.faces faced.now.style))
+        (props.anonymous_props faced.now.style) (built_in site.old) run.text run.spans run.starts) }
     ensures bytes { OnOk result (site.new.bytes ≡ site.old.bytes) }
     ensures room { OnOk result (site.new.room ≡ site.old.room) }
 {
@@ -164,7 +161,7 @@ fn put_any(
         push_starts(&mut site.starts, event, run.starts.as_slice())?;
         Ok(())
     } else {
-        put_some(alloc, faces, style, wrap, site, run)
+        put_some(alloc, faced, wrap, site, run)
     }
 }
 
@@ -179,26 +176,25 @@ fn bytes_of(run: &RunText) -> u32
 /// Puts the text of a run into a block of a style, and counts its bytes.
 fn put_text(
     alloc: Global,
-    faces: &Faces,
-    style: &Style,
+    faced: &FacedStyle<'_>,
     wrap: bool,
     site: &mut Site,
     run: RunText,
 ) -> Result<(), NoMem>
-    requires range { IsInRange style.now }
+    requires range { IsInRange faced.now.style }
     requires good { IsGoodRun run }
     requires sizes { All IsGoodSpan run.spans }
     requires room { site.old.bytes + length run.text ≤ site.old.room.bytes }
     requires takes { TakesRun wrap site.old }
     requires count { IsCounted site.old }
     ensures built { OnOk result (built_in site.new ≡
-        with_any wrap (leaf_style_of style.now (face_of faces.now style.now)) (props.anonymous_props style.now)
-        (built_in site.old) run.text run.spans run.starts) }
+        with_any wrap (leaf_style_of faced.now.style (face_of faced.now.faces faced.now.style))
+        (props.anonymous_props faced.now.style) (built_in site.old) run.text run.spans run.starts) }
     ensures count { OnOk result (IsCounted site.new) }
     ensures room { OnOk result (site.new.room ≡ site.old.room) }
 {
     let bytes = bytes_of(&run);
-    put_any(alloc, faces, style, wrap, site, run)?;
+    put_any(alloc, faced, wrap, site, run)?;
     site.bytes += bytes;
     Ok(())
 }
@@ -210,31 +206,30 @@ fn put_text(
 /// `Text` where the leaves with that of the run have more bytes than there is room for.
 pub(crate) fn put_run<'a>(
     alloc: Global,
-    faces: &Faces,
     hyphenator: Option<&Hyphenator<'_>>,
-    style: &Style,
+    faced: &FacedStyle<'_>,
     wrap: bool,
     site: &mut Site,
     items: Vec<RunItem<'a>>,
 ) -> Result<(), BuildErr>
-    requires range { IsInRange style.now }
+    requires range { IsInRange faced.now.style }
     requires texts { AreGoodTexts (run_in items.items) }
     requires takes { TakesRun wrap site.old }
     requires count { IsCounted site.old }
     ensures built { OnOk result (built_in site.new ≡
         put (points_in (option_map (λ h. h.now) hyphenator.entry))
-        (leaf_style_of style.now (face_of faces.now style.now)) (props.anonymous_props style.now) wrap
-        (built_in site.old) (run_in items.entry.items)) }
+        (leaf_style_of faced.now.style (face_of faced.now.faces faced.now.style))
+        (props.anonymous_props faced.now.style) wrap (built_in site.old) (run_in items.entry.items)) }
     ensures count { OnOk result (IsCounted site.new) }
     ensures room { OnOk result (site.new.room ≡ site.old.room) }
     ensures cause { IfErr result (λ e. e ≡ BuildErr.Text → site.old.room.bytes < leaf_bytes
         (put (points_in (option_map (λ h. h.now) hyphenator.entry))
-        (leaf_style_of style.now (face_of faces.now style.now)) (props.anonymous_props style.now) wrap
-        (built_in site.old) (run_in items.entry.items)).tree.leaves) }
+        (leaf_style_of faced.now.style (face_of faced.now.faces faced.now.style))
+        (props.anonymous_props faced.now.style) wrap (built_in site.old) (run_in items.entry.items)).tree.leaves) }
 {
     match run_text(alloc, &items, site.room.bytes - site.bytes, hyphenator) {
         Err(e) => Err(e),
-        Ok(run) => match put_text(alloc, faces, style, wrap, site, run) {
+        Ok(run) => match put_text(alloc, faced, wrap, site, run) {
             Ok(()) => Ok(()),
             Err(_) => Err(BuildErr::NoMemory),
         },

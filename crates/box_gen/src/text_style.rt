@@ -6,14 +6,12 @@ ghost use Rattle.box_gen.specs.Faces.{face_of};
 ghost use Rattle.box_gen.specs.TextStyles as spec;
 ghost use Rattle.box_gen.specs.TextStyles.{span_by, text_style_of};
 
+use crate::faced::FacedStyle;
 use bk_num::ids::FaceId;
 use bk_num::px::Px;
 use bk_num::values::{Color, WhiteSpace};
 use boxes::leaf::Span;
 use computed_values::fonts::used_line_height;
-use metrics::Faces;
-use metrics::chosen::choose;
-use style::style::Style;
 
 /// How a text is set: its face, its size and used line height in units, its colour, whether lines end in it, and
 /// whether its words are hyphenated.
@@ -38,25 +36,17 @@ fn wraps(space: WhiteSpace) -> bool
     }
 }
 
-/// The face that a style's families, its font style and its weight choose.
-fn face_of(faces: &Faces, style: &Style) -> FaceId
-    ensures face { result ≡ face_of faces.now style.now }
-    ensures within { result.0 < length faces.now }
-    ensures chosen { Chooses faces.now style.now.font_family style.now.font_style style.now.font_weight result }
-{
-    let families = style.font_family.as_slice();
-    choose(faces, families, style.font_style, style.font_weight)
-}
-
 /// How a style sets a text whose white space is treated so: in the face that its families, its font style and its
 /// weight choose.
-pub fn text_style(faces: &Faces, style: &Style, space: WhiteSpace) -> TextStyle
-    ensures value { result ≡ text_style_of style.now space (face_of faces.now style.now) }
-    ensures face { result.face.0 < length faces.now }
-    ensures chosen { Chooses faces.now style.now.font_family style.now.font_style style.now.font_weight result.face }
+pub fn text_style(faced: &FacedStyle<'_>, space: WhiteSpace) -> TextStyle
+    ensures value { result ≡ text_style_of faced.now.style space (face_of faced.now.faces faced.now.style) }
+    ensures face { result.face.0 < length faced.now.faces }
+    ensures chosen { Chooses faced.now.faces faced.now.style.font_family faced.now.style.font_style
+        faced.now.style.font_weight result.face }
 {
+    let style = faced.style();
     TextStyle {
-        face: face_of(faces, style),
+        face: faced.face(),
         size: style.font_size,
         line_height: used_line_height(style.font_size, &style.line_height),
         color: style.color,

@@ -7,8 +7,8 @@ use Rattle.bk_num.specs.declared.values.Pseudo.TheVariants as pseudo
 use Rattle.bk_num.proofs.ListLemmas.{get-push, get-before, get-end}
 use Rattle.style.specs.declared.style.Style.{Style}
 use Rattle.style.specs.declared.styles.NodeRow.{NodeRow}
-use Rattle.style.specs.Nodes.{NodeStyles, AddsLike, change_last, with_style, own_style}
-use Rattle.style.specs.NodeFields.{numbered, node_of, with_number, IsNumber, HasNumbers, AreNumbered}
+use Rattle.style.specs.Nodes.{NodeStyles, AddsLike, AreNumberedBy, IsNumber, change_last, number_at, number_in, number_of, numbered, own_style, style_in, style_of, with_style}
+use Rattle.style.specs.NodeFields.{node_of, numbers_of, with_number, HasNumbers, AreNumbered}
 
 is-more : (n m : ℕ) → n ≤ m → (o : Option ℕ) → IsNumber n o → IsNumber m o
 is-more n m le None h = tt
@@ -115,3 +115,32 @@ get-last xs k x l e = slice_get_read xs (length xs) k x refl l e
 pub like-added : {A E : Type 0} (res : Result A E) (styles : List Style) (rows next : List NodeRow) (k : ℕ) (row : NodeRow) → slice_get rows k ≡ Some row → OnOk res (next ≡ rows ++ row ∷ []) → OnOk res (AddsLike (map (node_of styles) rows) k (map (node_of styles) next))
 like-added (Ok a) styles rows next k row at ok = record { row = node_of styles row; there = slice_get-map (node_of styles) rows k ∙ ap (option_map (node_of styles)) at; added = ap (map (node_of styles)) ok ∙ map-append (node_of styles) rows (row ∷ []) }
 like-added (Err a) styles rows next k row at ok = tt
+
+-- a table
+style-by-number : (styles : List Style) (r : NodeRow) (p : Pseudo) → style_in (node_of styles r) p ≡ numbered styles (number_in (numbers_of r) p)
+style-by-number styles r pseudo.Element = refl
+style-by-number styles r pseudo.Before = refl
+style-by-number styles r pseudo.After = refl
+style-by-number styles r pseudo.Call = refl
+style-by-number styles r pseudo.Marker = refl
+
+of-number : (styles : List Style) (o : Option NodeRow) (p : Pseudo) → style_of (option_map (node_of styles) o) p ≡ numbered styles (number_of (option_map numbers_of o) p)
+of-number styles None p = refl
+of-number styles (Some r) p = style-by-number styles r p
+
+number-below : (count : ℕ) (r : NodeRow) (p : Pseudo) → HasNumbers count r → IsNumber count (number_in (numbers_of r) p)
+number-below count r pseudo.Element h = h.own
+number-below count r pseudo.Before h = h.before
+number-below count r pseudo.After h = h.after
+number-below count r pseudo.Call h = h.call
+number-below count r pseudo.Marker h = h.marker
+
+at-below : (count : ℕ) (rows : List NodeRow) (n : ℕ) (p : Pseudo) → AreNumbered count rows → IsNumber count (number_at (map numbers_of rows) n p)
+at-below count rows n p h = subst (λ o. IsNumber count (number_of o p)) (sym (slice_get-map numbers_of rows n)) (by (slice_get rows n) refl)
+  where
+    by : (o : Option NodeRow) → slice_get rows n ≡ o → IsNumber count (number_of (option_map numbers_of o) p)
+    by None e = tt
+    by (Some r) e = number-below count r p (h n r e)
+
+pub numbered-by : (styles : List Style) (rows : List NodeRow) → AreNumbered (length styles) rows → AreNumberedBy (record { styles = styles; nodes = map numbers_of rows }) (map (node_of styles) rows)
+numbered-by styles rows h = record { styles = λ n p. rw (slice_get-map (node_of styles) rows n, slice_get-map numbers_of rows n) (of-number styles (slice_get rows n) p); below = λ n p. at-below (length styles) rows n p h }

@@ -1,5 +1,5 @@
 -- The styles of a document's nodes.
-use Rattle.std.specs.Prelude.{◌≡◌, ℕ, Bool, false, List, [], ◌∷◌, ◌++◌, Option, None, Some, slice_get}
+use Rattle.std.specs.Prelude.{◌≡◌, ℕ, ◌<◌, Bool, false, List, [], ◌∷◌, ◌++◌, Option, None, Some, length, slice_get}
 use Rattle.bk_num.specs.declared.values.Pseudo.{Pseudo}
 use Rattle.bk_num.specs.declared.values.Pseudo.TheVariants as pseudo
 use Rattle.style.specs.declared.style.Style.{Style}
@@ -85,3 +85,50 @@ pub record AddsLike (nodes : List NodeStyles) (n : ℕ) (more : List NodeStyles)
   pub row : NodeStyles
   pub there : slice_get nodes n ≡ Some row
   pub added : more ≡ nodes ++ row ∷ []
+
+-- ---- numbers of styles
+
+-- the numbers of a node's own style and of those of its pseudo-elements
+pub record NodeNumbers : Type 0 where
+  pub own : Option ℕ
+  pub before : Option ℕ
+  pub after : Option ℕ
+  pub call : Option ℕ
+  pub marker : Option ℕ
+
+-- styles, each with its place among them as its number, and the numbers of the styles of nodes
+pub record NumberedStyles : Type 0 where
+  pub styles : List Style
+  pub nodes : List NodeNumbers
+
+-- the number of a node's own style, or of a pseudo-element's
+abbrev pub number_in : NodeNumbers → Pseudo → Option ℕ
+number_in n pseudo.Element = n.own
+number_in n pseudo.Before = n.before
+number_in n pseudo.After = n.after
+number_in n pseudo.Call = n.call
+number_in n pseudo.Marker = n.marker
+
+-- the same of a node that may not be there
+abbrev pub number_of : Option NodeNumbers → Pseudo → Option ℕ
+number_of None p = None
+number_of (Some n) p = number_in n p
+
+-- the number of the style of a node, or of a pseudo-element of it
+abbrev pub number_at : List NodeNumbers → ℕ → Pseudo → Option ℕ
+number_at nodes n p = number_of (slice_get nodes n) p
+
+-- the style of a number, if there is one
+abbrev pub numbered : List Style → Option ℕ → Option Style
+numbered styles None = None
+numbered styles (Some i) = slice_get styles i
+
+-- a number is below a count
+abbrev pub IsNumber : ℕ → Option ℕ → Type 0
+IsNumber count None = Unit {0}
+IsNumber count (Some i) = i < count
+
+-- nodes have the styles of their numbers: where a number is there it is that of a style, and else there is no style
+pub record AreNumberedBy (t : NumberedStyles) (nodes : List NodeStyles) : Type 0 where
+  pub styles : (n : ℕ) (p : Pseudo) → style_at nodes n p ≡ numbered t.styles (number_at t.nodes n p)
+  pub below : (n : ℕ) (p : Pseudo) → IsNumber (length t.styles) (number_at t.nodes n p)

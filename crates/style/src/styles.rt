@@ -1,8 +1,8 @@
 //! The styles of a document's nodes and of their pseudo-elements.
 
-ghost use Rattle.std.specs.Prelude.{◌≡◌, ◌<◌, ◌+◌, [], ◌∷◌, ◌++◌, OnOk, OnErr, IfOk, None, Some, option_map, length, slice_get};
-ghost use Rattle.style.specs.NodeFields.{number_in, with_number};
-ghost use Rattle.style.specs.Nodes.{no_styles, own_style, style_at, with_style, change_last, is_shown_in, is_note_in, is_in_note_in, AddsLike};
+ghost use Rattle.std.specs.Prelude.{◌≡◌, ◌<◌, ◌+◌, [], ◌∷◌, ◌++◌, OnOk, OnErr, IfOk, IfSome, None, Some, option_map, length, slice_get};
+ghost use Rattle.style.specs.NodeFields.{numbers_of, with_number};
+ghost use Rattle.style.specs.Nodes.{no_styles, own_style, style_at, with_style, change_last, is_shown_in, is_note_in, is_in_note_in, number_in, number_at, AddsLike, AreNumberedBy};
 
 use crate::style::Style;
 use bk_num::ids::NodeId;
@@ -44,6 +44,43 @@ impl Model for Styles {
     ghost invariant = { RowsHaveStyles };
 }
 
+/// The styles that are kept of nodes, by numbers, and which node has which. What follows from a style alone need be found
+/// only once for each. Contracts see the styles, and their numbers at nodes and pseudo-elements.
+#[derive(Drop)]
+pub struct StyleTable<'a> {
+    styles: &'a [Style],
+    rows: &'a [NodeRow],
+}
+
+impl<'a> Model for StyleTable<'a> {
+    ghost use Rattle.style.specs.Nodes.{NumberedStyles};
+
+    ghost Value = { NumberedStyles };
+
+    ghost use Rattle.style.specs.NodeFields.{table_of, TableHasStyles};
+
+    ghost view = { table_of };
+
+    ghost invariant = { TableHasStyles };
+}
+
+impl<'a> StyleTable<'a> {
+    /// The styles, by their numbers.
+    pub fn styles(&self) -> &'a [Style]
+        ensures { result.now ≡ self.now.styles }
+    {
+        self.styles
+    }
+
+    /// The number of the style of a node, or of a pseudo-element of it; None exactly where it has none.
+    pub fn number(&self, node: NodeId, pseudo: Pseudo) -> Option<u32>
+        ensures number { result ≡ number_at self.now.nodes node.0 pseudo }
+        ensures below { IfSome result (λ i. i < length self.now.styles) }
+    {
+        self.rows.get(node.0 as usize)?.number(pseudo)
+    }
+}
+
 impl Styles {
     /// The styles of no nodes.
     pub fn new(alloc: Global) -> Styles
@@ -61,6 +98,16 @@ impl Styles {
     {
         let number = self.rows.get(node.0 as usize)?.number(pseudo)?;
         self.styles.get(number as usize)
+    }
+
+    /// The styles that are kept, by their numbers. It takes no memory.
+    pub fn table(&self) -> StyleTable<'_>
+        ensures { AreNumberedBy result self.now }
+    {
+        StyleTable {
+            styles: &self.styles,
+            rows: &self.rows,
+        }
     }
 
     /// Whether a node is an element that is shown.
@@ -194,7 +241,7 @@ fn put_last(rows: &mut Vec<NodeRow>, pseudo: Pseudo, number: u32)
 
 impl NodeRow {
     fn number(&self, pseudo: Pseudo) -> Option<u32>
-        ensures { result ≡ number_in self.now pseudo }
+        ensures { result ≡ number_in (numbers_of self.now) pseudo }
     {
         match pseudo {
             Pseudo::Element => self.own,

@@ -20,7 +20,7 @@ returns-in_ok-enter_block-in-Block-clause-walk c =
     let styles = c.args.input.now.texts.styles.now in
     let old = c.args.builder.now in
     let new = c.enter_block.new.builder in
-    let u : Style = c.in-Block.style.now in
+    let u : Style = c.in-Block.faced.now.style in
     let g : Gathered = begun src (innermost (styles_of styles old.blocks.items)) c.args.node.0 u (make (built_in old.site) (run_in old.run.items)) in
     let own = own-of src c.args.node.0 u (inr (sym c.requires.kind.role ∙ ap role_in c.in-Block.is)) in
     ap (λ (x : Gathered). walk x (styles_of styles new.blocks.items) (option_map (λ (n : NodeId). n.0) new.unshown)) c.in_ok-enter_block-in-Block.ensures.gathered

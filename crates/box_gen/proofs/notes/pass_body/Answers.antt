@@ -9,7 +9,7 @@ use Rattle.box_gen.specs.Walk.{after_step}
 use Rattle.box_gen.proofs.notes.pass_body.Goals as goal
 
 pub pass-requires-clause-input : goal.pass-requires-clause-input
-pass-requires-clause-input c = subst IsInput (sym c.within_note.ensures.same) (record { initial = c.requires.input.initial; ranges = c.requires.input.ranges })
+pass-requires-clause-input c = subst IsInput (sym c.within_note.ensures.same) (record { initial = c.requires.input.initial; faces = c.requires.input.faces; known = c.requires.input.known; ranges = c.requires.input.ranges })
 
 pub pass-requires-clause-can : goal.pass-requires-clause-can
 pass-requires-clause-can c = subst (λ (i : FlowInput). CanStep (source_in i) (walk_in i.texts.styles.now c.args.body.now) c.args.step) (sym c.within_note.ensures.same) c.requires.can

@@ -12,9 +12,9 @@ use Rattle.box_gen.proofs.put.put_run.Goals as goal
 
 pub returns-in-Err-clause-cause : goal.returns-in-Err-clause-cause
 returns-in-Err-clause-cause c = λ e.
-    let s = c.args.style.now in
+    let s = c.args.faced.now.style in
     let long = subst (λ (l : List RunItem). c.args.site.now.room.bytes - c.args.site.now.bytes < length (text_of (points_in (option_map (λ h. h.now) c.args.hyphenator)) (run_in l))) c.deref.ensures.value (c.in-Err.ensures.cause e) in
-    let all = bytes-put (points_in (option_map (λ h. h.now) c.args.hyphenator)) (leaf_style_of s (face_of c.args.faces.now s)) (anonymous_props s) c.args.wrap (built_in c.args.site.now) (run_in c.args.items.items) in
+    let all = bytes-put (points_in (option_map (λ h. h.now) c.args.hyphenator)) (leaf_style_of s (face_of c.args.faced.now.faces s)) (anonymous_props s) c.args.wrap (built_in c.args.site.now) (run_in c.args.items.items) in
     let n = c.requires.count.count in
     let f = c.requires.count.few in
     omega (arith, long, all, n, f)

@@ -5,6 +5,7 @@ use Rattle.boxes.specs.declared.props.BoxProps.{BoxProps}
 use Rattle.box_gen.specs.declared.inline.InlineStart.{InlineStart}
 use Rattle.box_gen.specs.declared.leaf.LeafStyle.{LeafStyle}
 use Rattle.box_gen.specs.Faces.{face_of}
+use Rattle.box_gen.specs.Props.{anonymous_props}
 use Rattle.box_gen.specs.TextStyles.{IsGoodTextStyle}
 use Rattle.box_gen.specs.Flow.{starts_by}
 use Rattle.box_gen.specs.Sites.{built_in, with_text}
@@ -24,9 +25,9 @@ returns-clause-built c =
     let starts = c.in_ok-push_starts.ensures ∙ ap (λ (l : List InlineStart). c.args.site.now.starts.items ++ starts_by c.leaf_event-event.result l) c.as_slice.ensures in
     text-put c.args.wrap c.leaf_style-look.result c.anonymous_props.result (built_in c.args.site.now) c.args.run.text c.args.run.spans c.args.run.starts c.put_leaf.new.tree c.in_ok-leaf.leaf c.of.result c.replace-leads.new.dest.items c.leaf_event-event.result c.push_starts.new.starts.items
     c.in_ok-put_leaf.ensures c.in_ok-leaf.ensures.leaf leads c.leaf_event-event.ensures starts (ap (λ v. v.items) c.replace-leads.ensures.after ∙ c.new.ensures.items)
-    ∙ ap₂ (λ (look : LeafStyle) (anonymous : BoxProps). with_text c.args.wrap look anonymous (built_in c.args.site.now) c.args.run.text c.args.run.spans c.args.run.starts) c.leaf_style-look.ensures.value c.anonymous_props.ensures
+    ∙ ap₂ (λ (look : LeafStyle) (anonymous : BoxProps). with_text c.args.wrap look anonymous (built_in c.args.site.now) c.args.run.text c.args.run.spans c.args.run.starts) c.leaf_style-look.ensures.value (c.anonymous_props.ensures ∙ ap anonymous_props c.style.ensures)
 
 pub leaf_of-requires-clause-strut : goal.leaf_of-requires-clause-strut
 leaf_of-requires-clause-strut c =
-    let s = c.args.style.now in
-    subst IsGoodTextStyle (sym (ap (λ (l : LeafStyle). l.strut) c.leaf_style-look.ensures.value)) (style-good s s.white_space (face_of c.args.faces.now s) c.requires.range)
+    let s = c.args.faced.now.style in
+    subst IsGoodTextStyle (sym (ap (λ (l : LeafStyle). l.strut) c.leaf_style-look.ensures.value)) (style-good s s.white_space (face_of c.args.faced.now.faces s) c.requires.range)

@@ -11,9 +11,9 @@ use Rattle.box_gen.proofs.put.put_text.Goals as goal
 pub returns-clause-count : goal.returns-clause-count
 returns-clause-count c =
     let run = c.args.run in
-    let s = c.args.style.now in
+    let s = c.args.faced.now.style in
     let all = ap (λ (b : Built). leaf_bytes b.tree.leaves) c.in_ok-put_any.ensures.built in
-    let any = bytes-any c.args.wrap (leaf_style_of s (face_of c.args.faces.now s)) (anonymous_props s) (built_in c.args.site.now) run.text run.spans run.starts in
+    let any = bytes-any c.args.wrap (leaf_style_of s (face_of c.args.faced.now.faces s)) (anonymous_props s) (built_in c.args.site.now) run.text run.spans run.starts in
     let kept = c.in_ok-put_any.ensures.bytes in
     let bytes = c.bytes_of-bytes.ensures in
     let n = c.requires.count.count in
