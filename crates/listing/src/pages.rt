@@ -3,6 +3,7 @@
 ghost use Rattle.std.specs.Prelude.{◌≡◌, ◌<◌, Some, length, slice_get, unwrap_or, pos, All, IfOk, OnOk};
 ghost use Rattle.boxes.specs.Frames.{side_of};
 ghost use Rattle.listing.specs.Pages.{head_record};
+ghost use Rattle.margin_box.specs.Chosen.{AreChosen};
 ghost use Rattle.margin_box.specs.Conditions.{CanShowMargins};
 ghost use Rattle.margin_box.specs.Margins.{HasFace, items_of as texts_of, margins_in};
 ghost use Rattle.margin_box.specs.Margins as spec;
@@ -19,7 +20,8 @@ use bk_num::name::NoMem;
 use boxes::flow::Flow;
 use boxes::frames::side_of;
 use boxes::page::{Page, PageList};
-use margin_box::items::{MarginText, Margins, margin_items};
+use margin_box::faces::MarginFaces;
+use margin_box::items::{MarginText, Margins, margin_items_with};
 use metrics::Faces;
 use page_ctx::resolve::PageStyles;
 use page_seq::fold::frames_on;
@@ -90,6 +92,7 @@ fn margins_of<'a>(printer: &Printer<'a>) -> Margins<'a>
     ensures can { CanShowMargins result }
     ensures list { result.list.now ≡ printer.now.list.now }
     ensures faces { result.faces.now ≡ printer.now.faces.now }
+    ensures boxes { result.styles.now.boxes ≡ printer.now.styles.now.boxes }
 {
     Margins {
         faces: printer.faces,
@@ -101,19 +104,22 @@ fn margins_of<'a>(printer: &Printer<'a>) -> Margins<'a>
     }
 }
 
-/// The texts in the margin boxes of the page at a place of the list.
+/// The texts in the margin boxes of the page at a place of the list. The faces that they choose are kept.
 pub(crate) fn margin_texts(
     alloc: Global,
     printer: &Printer<'_>,
+    chosen: &mut MarginFaces,
     place: usize,
 ) -> Result<Vec<MarginText>, NoMem>
     requires printer { CanPrint printer.now }
+    requires chosen { AreChosen printer.now.faces.now printer.now.styles.now.boxes chosen.old }
     requires place { place < length printer.now.list.now.pages }
     ensures items { IfOk result (λ v. texts_of printer.now.faces.now v.items ≡
         spec.margin_items (margins_of (view_of printer.now) printer.now.list.now.pages) place) }
     ensures faces { IfOk result (λ v. All (HasFace printer.now.faces.now) v.items) }
+    ensures chosen { AreChosen printer.now.faces.now printer.now.styles.now.boxes chosen.new }
 {
-    margin_items(alloc, &margins_of(printer), place)
+    margin_items_with(alloc, &margins_of(printer), chosen, place)
 }
 
 /// The page at a place of a list.

@@ -4,6 +4,7 @@ ghost use Rattle.std.specs.Prelude.{◌≡◌, ◌++◌, ◌<◌, length, IfOk, 
 ghost use Rattle.std.specs.List.{flat_map, range_with_len};
 ghost use Rattle.listing.specs.Printed.{listing_of, page_bytes};
 ghost use Rattle.listing.specs.Printer.{CanPrint, view_of};
+ghost use Rattle.margin_box.specs.Chosen.{AreChosen};
 ghost use Rattle.listing.specs.Puts.{HasPutCause, Puts};
 
 use crate::listing_bytes::ListingBytes;
@@ -12,6 +13,7 @@ use crate::write::{write_end, write_head, write_page};
 use bk_io::put_all::put_all;
 use bk_io::sink::{Failed, Sink};
 use bk_num::name::NoMem;
+use margin_box::faces::MarginFaces;
 use paint::item::ItemRef;
 use std::alloc::Global;
 use thiserror::Error;
@@ -62,23 +64,27 @@ fn count_of(printer: &Printer<'_>) -> u32
     printer.list.pages.as_slice().len() as u32
 }
 
-/// Adds the page at a place of the list to a listing. Its items take the memory of those of the page before it.
+/// Adds the page at a place of the list to a listing. Its items take the memory of those of the page before it, and the
+/// faces that its margin boxes choose are kept for the pages after it.
 fn add_page<'a>(
     alloc: Global,
     printer: &Printer<'a>,
     place: usize,
     items: &mut Vec<ItemRef<'a>>,
+    chosen: &mut MarginFaces,
     listing: &mut ListingBytes,
 ) -> Result<(), NoMem>
     requires printer { CanPrint printer.now }
+    requires chosen { AreChosen printer.now.faces.now printer.now.styles.now.boxes chosen.old }
     requires place { place < length printer.now.list.now.pages }
-    ensures { OnOk result (listing.new.bytes.items ≡ listing.old.bytes.items
+    ensures bytes { OnOk result (listing.new.bytes.items ≡ listing.old.bytes.items
         ++ page_bytes (view_of printer.now) printer.now.list.now.pages place) }
+    ensures chosen { AreChosen printer.now.faces.now printer.now.styles.now.boxes chosen.new }
 {
     let page = page_at(printer.list.pages.as_slice(), place);
     let head = head_of(printer, page, place);
     refill_items(alloc, printer, place, items)?;
-    let texts = margin_texts(alloc, printer, place)?;
+    let texts = margin_texts(alloc, printer, chosen, place)?;
     kept(write_page(
         listing,
         printer.faces,
@@ -97,8 +103,9 @@ fn add_pages(alloc: Global, printer: &Printer<'_>, listing: &mut ListingBytes) -
 {
     let count = printer.list.pages.as_slice().len();
     let mut items = Vec::new(alloc);
+    let mut chosen = MarginFaces::new(alloc);
     for place in 0..count {
-        add_page(alloc, printer, place, &mut items, listing)?;
+        add_page(alloc, printer, place, &mut items, &mut chosen, listing)?;
     }
     Ok(())
 }

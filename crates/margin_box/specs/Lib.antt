@@ -1,5 +1,6 @@
 pub mod Areas
 pub mod Placing
 pub mod Texts
+pub mod Chosen
 pub mod Margins
 pub mod Conditions

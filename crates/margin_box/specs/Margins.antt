@@ -1,6 +1,7 @@
 -- The items of the margin boxes of a page.
 use Rattle.std.specs.Prelude.{ℕ, ◌<◌, ◌==◌, false, List, [], ◌∷◌, Option, length, map, slice_get, if◌then◌else◌}
 use Rattle.std.specs.List.{flat_map, range_with_len}
+use Rattle.bk_num.specs.declared.ids.FaceId.{FaceId}
 use Rattle.metrics.specs.Face.{FontFace}
 use Rattle.boxes.specs.Table.{cell_in, cell_of, row_of}
 use Rattle.boxes.specs.declared.item.Item.{Item}
@@ -24,19 +25,22 @@ use Rattle.margin_box.specs.Texts.{MarginsOf, box_text}
 use Rattle.margin_box.specs.declared.items.Margins.{Margins}
 use Rattle.margin_box.specs.declared.items.MarginText.{MarginText}
 
--- the strut of a margin box: its style as a span over no text, in the face that its families, its style and its weight
--- choose
-abbrev pub strut_of : List FontFace → MarginStyleOf → Span
-strut_of faces s = record {
+-- the strut of a margin box in a face: its style as a span over no text
+abbrev pub strut_with : FaceId → MarginStyleOf → Span
+strut_with face s = record {
   from = 0;
   to = 0;
-  face = face_by faces s.families s.italic s.weight;
+  face = face;
   size = s.size;
   line_height = s.line_height;
   color = s.color;
   wrap = false;
   anywhere = false;
 }
+
+-- the strut in the face that its families, its style and its weight choose
+abbrev pub strut_of : List FontFace → MarginStyleOf → Span
+strut_of faces s = strut_with (face_by faces s.families s.italic s.weight) s
 
 -- where a text of a strut stands in its box
 abbrev pub placed_by : List FontFace → Area → MarginStyleOf → Span → List ℕ → TextPlace

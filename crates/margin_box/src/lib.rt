@@ -2,7 +2,9 @@
 #![tactic(auto)]
 
 pub mod areas;
+pub mod faces;
 pub mod items;
+pub mod keys;
 mod line;
 pub mod place;
 mod text;

@@ -8,8 +8,8 @@ use Rattle.listing.specs.Printer.{view_of}
 use Rattle.listing.proofs.Printing.{kept_page, printed_is}
 use Rattle.listing.proofs.print.add_page.Goals as goal
 
-pub returns : goal.returns
-returns c =
+pub returns-clause-bytes : goal.returns-clause-bytes
+returns-clause-bytes c =
     let p = c.args.printer.now in
     let faces = p.faces.now in
     let pages = p.list.now.pages in

@@ -6,4 +6,7 @@ use Rattle.listing.proofs.print.add_pages.Goals as goal
 pub loop-place-preserved : goal.loop-place-preserved
 loop-place-preserved c =
     let p = c.args.printer.now in
-    pages_more (page_bytes (view_of p) p.list.now.pages) _ _ _ c.loop-place.place c.loop-place.invariant c.in_ok-add_page.ensures
+    record {
+      chosen = c.in_ok-add_page.ensures.chosen;
+      bytes = pages_more (page_bytes (view_of p) p.list.now.pages) _ _ _ c.loop-place.place c.loop-place.invariant.bytes c.in_ok-add_page.ensures.bytes;
+    }
