@@ -1,3 +1,4 @@
+pub mod AheadLemmas
 pub mod CallLemmas
 pub mod CutLemmas
 pub mod FlowLemmas

@@ -8,7 +8,7 @@ use Rattle.boxes.specs.declared.flow.Flow.{Flow}
 use Rattle.boxes.specs.declared.frames.Frame.{Frame}
 use Rattle.cursor.specs.Fields.{solid_view}
 use Rattle.cursor.specs.KeptLines.{KeptLinesView}
-use Rattle.cursor.specs.Remainder.{IsSmallSolid}
+use Rattle.cursor.specs.Remainder.{IsSmallSolid, SolidView}
 use Rattle.cuts.specs.Areas.{IsArea}
 use Rattle.cuts.specs.Rows.{AreForcedBetween}
 use Rattle.cuts.specs.declared.row.PageRoom.{PageRoom}
@@ -19,6 +19,7 @@ use Rattle.note_list.specs.Reads.{EndInNotes, IsReady}
 use Rattle.note_list.specs.declared.carried.Carried.{Carried}
 use Rattle.page_list.specs.Cuts.{rows_of}
 use Rattle.page_list.specs.declared.cut.CutFrom.{CutFrom}
+use Rattle.fragment.specs.Ahead.{AreAhead}
 use Rattle.fragment.specs.Reads.{AreRead}
 use Rattle.fragment.specs.declared.page_notes.PageNotes.{PageNotes}
 use Rattle.fragment.specs.declared.rows.PageSolids.{PageSolids}
@@ -46,10 +47,10 @@ pub record CanCut (flow : Flow) (parts : List Carried) (from : ℕ) (notes : Pag
   pub low : pos 0 ≤ℤ room.height
   pub high : room.height ≤ℤ pos (2 ^ 40)
 
--- a page of a frame begins at a place of a flow, whose lines are kept, with this room, and the notes that are carried to
--- it are read
+-- a page of a frame begins at a place of a flow, whose lines are kept, with this room, the notes that are carried to it
+-- are read, and so are some of its first solids
 pub record CanRead (faces : List FontFace) (f : Flow) (from : CutFrom) (page : Frame) (room : PageRoom)
-    (notes : PageNotes) (lines : KeptLinesView) : Type 0
+    (notes : PageNotes) (solids : List SolidView) (lines : KeptLinesView) : Type 0
   where
     pub flow : CanBePaged faces f
     pub holds : Holds f.main from.at
@@ -58,4 +59,5 @@ pub record CanRead (faces : List FontFace) (f : Flow) (from : CutFrom) (page : F
     pub height : room.height ≡ page.height
     pub carried : IsArea room.carried
     pub lines_are : AreFlowLines faces f lines
+    pub ahead : AreAhead faces f.main page.width lines.kept from.at solids
     pub read : (parts : List Carried) × AreRead faces f page from.at parts [] notes

@@ -4,6 +4,7 @@ ghost use Rattle.std.specs.Prelude.{IfOk, All, ◌≤◌, []};
 ghost use Rattle.boxes.specs.Frames.{IsGoodFrame};
 ghost use Rattle.boxes.specs.Tree.{Holds};
 ghost use Rattle.cursor.specs.Asks.{KeepsHeld, TakesSteps};
+ghost use Rattle.fragment.specs.Ahead.{IsAhead};
 ghost use Rattle.fragment.specs.Kept.{IsPageHeld};
 ghost use Rattle.fragment.specs.Misses.{NoLaterFits};
 ghost use Rattle.note_list.specs.Conditions.{AreCarried, CanBePaged, IsAtSolid};
@@ -13,6 +14,7 @@ ghost use Rattle.page_list.specs.Inside.{AreInside};
 ghost use Rattle.page_list.specs.Looked.{LooksAtFlow};
 ghost use Rattle.page_list.specs.Pages.{AreNear};
 
+use crate::ahead::{Ahead, solids_from};
 use crate::cut_solids::{cut_end, cut_solids};
 use crate::laws::no_later_point_fits;
 use crate::page_notes::PageNotes;
@@ -31,14 +33,15 @@ use std::alloc::Global;
 use std::sync::ledger::Ledger;
 
 /// The cut of a page, what is carried to which goes on at solids. Any boxes may be open at first. It takes no more steps
-/// than such a page may look at lines that aren't held.
-pub(crate) fn cut_page<L: Ledger>(
+/// than such a page may look at lines that aren't held. What was read ahead isn't sought again.
+pub(crate) fn cut_page<'t, L: Ledger>(
     alloc: Global,
-    flow: &Flow,
+    flow: &'t Flow,
     faces: &Faces,
     from: CutFrom,
     carried: CarriedNotes,
     frame: Frame,
+    ahead: &mut Ahead<'t>,
     widths: &mut PageWidths,
     lines: &mut KeptLines,
     steps: &mut Steps<L>,
@@ -49,10 +52,12 @@ pub(crate) fn cut_page<L: Ledger>(
     requires stands { All (IsAtSolid flow.now.notes) carried }
     requires frame { IsGoodFrame frame }
     requires kept { AreFlowLines faces.now flow.now lines.old }
+    requires ahead { IsAhead faces.now flow.now.main lines.old.kept ahead.old }
     ensures kept { AreFlowLines faces.now flow.now lines.new }
     ensures keeps { KeepsHeld lines.old.kept lines.new.kept }
     ensures takes { IfOk result (λ cut. TakesSteps lines.old.kept lines.new.kept steps.old steps.new) }
     ensures now { IfOk result (λ cut. IsPageHeld flow.now frame.width lines.new.kept cut.solids cut.notes) }
+    ensures ahead { IfOk result (λ cut. IsAhead faces.now flow.now.main lines.new.kept ahead.new) }
     ensures cut { IfOk result (λ cut. IsFlowCut faces.now flow.now frame from carried cut) }
     ensures holds { IfOk result (λ cut. Holds flow.now.main cut.to) }
     ensures carried { IfOk result (λ cut. AreCarried flow.now cut.to cut.carried) }
@@ -79,14 +84,27 @@ pub(crate) fn cut_page<L: Ledger>(
         height: frame.height,
         carried: notes.list.own_area(),
     };
+    let first = ahead.first_at(from.at, frame.width);
     let read = prefix(
-        alloc, flow, faces, from, frame, &room, &mut notes, widths, lines, steps,
+        alloc,
+        flow,
+        faces,
+        from,
+        frame,
+        &room,
+        &mut notes,
+        solids_from(ahead.solids.as_slice(), first),
+        widths,
+        lines,
+        steps,
     )?;
     if read.solids.is_empty() {
         notes.take(flow, faces, from.at, frame, &mut widths.notes, lines, steps)?;
         return cut_end(alloc, flow, carried, called, &notes, &room);
     }
-    cut_solids(alloc, flow, &read, carried, called, &notes, &room)
+    let cut = cut_solids(alloc, flow, &read, carried, called, &notes, &room);
+    ahead.keep(read, frame.width);
+    cut
 }
 
 /// The cut of the next page of a flow, by kept lines: it is that of `next_cut`. A line takes a step only where it isn't
@@ -124,6 +142,7 @@ pub fn next_cut_kept<L: Ledger>(
 {
     no_later_point_fits();
     let settled = CarriedNotes::settled(alloc, flow, carried)?;
+    let mut ahead = Ahead::none(alloc);
     let mut widths = PageWidths::none();
     cut_page(
         alloc,
@@ -132,6 +151,7 @@ pub fn next_cut_kept<L: Ledger>(
         from,
         settled,
         frame,
+        &mut ahead,
         &mut widths,
         lines,
         steps,

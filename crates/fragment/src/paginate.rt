@@ -17,6 +17,7 @@ ghost use Rattle.page_list.specs.Noted.{BeginInTime, HoldsNotes};
 ghost use Rattle.page_list.specs.Pages.{AddsBlanks, HaveNearTops, IsPaged, LeavesSome, blank_of, flow_page_of, meets_at, notes_page_of};
 ghost use Rattle.page_list.specs.Parted.{HoldsBreaks};
 
+use crate::ahead::Ahead;
 use crate::laws::no_later_point_fits;
 use crate::next_cut::cut_page;
 use crate::next_notes::next_notes;
@@ -251,6 +252,7 @@ fn flow_pages<Fr: Frames, L: Ledger>(
     let mut index = 1;
     let mut demand = seam(tree, from.at, 0).forced;
     let mut carried = CarriedNotes::new(alloc);
+    let mut ahead = Ahead::none(alloc);
     let mut widths = PageWidths::none();
     for turn in 0..MOST_PAGES {
         // the invariant counts the turns
@@ -268,6 +270,7 @@ fn flow_pages<Fr: Frames, L: Ledger>(
             from,
             carried,
             frame,
+            &mut ahead,
             &mut widths,
             lines,
             steps,

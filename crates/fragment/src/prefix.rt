@@ -10,12 +10,14 @@ ghost use Rattle.cuts.specs.Rows.{rows_extent};
 ghost use Rattle.cuts.specs.declared.row.SolidRow.{SolidRow};
 ghost use Rattle.note_list.specs.Kept.{AreFlowLines, AreHeldNow};
 ghost use Rattle.note_list.specs.declared.carried.Carried.{Carried};
+ghost use Rattle.fragment.specs.Ahead.{AreAhead};
 ghost use Rattle.fragment.specs.Conditions.{CanRead};
 ghost use Rattle.fragment.specs.Reads.{AreRead, AreReadInside, IsPagePrefix, StepsForPage};
 ghost use Rattle.note_list.specs.Short.{IsShortList};
 ghost use Rattle.page_list.specs.Cuts.{rows_of};
 ghost use Rattle.page_list.specs.Looked.{AreFewLines};
 
+use crate::ahead::next_read;
 use crate::page_notes::PageNotes;
 use crate::page_widths::PageWidths;
 use crate::rows::{PageSolids, row_of};
@@ -23,8 +25,8 @@ use bk_num::name::NoMem;
 use bk_num::steps::Steps;
 use boxes::flow::Flow;
 use boxes::frames::Frame;
+use cursor::KeptLines;
 use cursor::solid::Solid;
-use cursor::{KeptLines, next_solid_kept};
 use cuts::look::Look;
 use cuts::row::PageRoom;
 use metrics::Faces;
@@ -56,6 +58,7 @@ fn reads_notes(look: &Look, ends: bool, height: i64) -> bool
 /// first point without room, and as many lines after it as widows ask for; else all that are left. The notes called in
 /// them are read with them, as far as they end inside the frame and before a forced seam. They have no more lines than
 /// the page may look at, and steps are taken for lines of theirs and of the notes alone, as far as these aren't held.
+/// The first of them are those that were read ahead.
 pub(crate) fn prefix<'t, L: Ledger>(
     alloc: Global,
     flow: &'t Flow,
@@ -64,11 +67,12 @@ pub(crate) fn prefix<'t, L: Ledger>(
     frame: Frame,
     room: &PageRoom,
     notes: &mut PageNotes,
+    ahead: &[Solid<'t>],
     widths: &mut PageWidths,
     lines: &mut KeptLines,
     steps: &mut Steps<L>,
 ) -> Result<PageSolids<'t>, NoMem>
-    requires { CanRead faces.now flow.now from frame room.now notes.old lines.old }
+    requires { CanRead faces.now flow.now from frame room.now notes.old (map solid_view ahead.now) lines.old }
     ensures kept { AreFlowLines faces.now flow.now lines.new }
     ensures keeps { KeepsHeld lines.old.kept lines.new.kept }
     ensures takes { IfOk result (λ v. TakesSteps lines.old.kept lines.new.kept steps.old steps.new) }
@@ -85,6 +89,8 @@ pub(crate) fn prefix<'t, L: Ledger>(
     ensures small { IfOk result (λ v. All IsSmallSolid (map solid_view v.solids.items)) }
     ensures placed { IfOk result (λ v. All (λ s. Holds flow.now.main s.placed_at) (map solid_view v.solids.items)) }
     ensures rows { IfOk result (λ v. v.rows.items ≡ rows_of flow.now.main (map solid_view v.solids.items)) }
+    ensures ahead { IfOk result (λ v. AreAhead faces.now flow.now.main frame.width lines.new.kept from.at
+        (map solid_view v.solids.items)) }
     ensures few { IfOk result (λ v.
         AreFewLines faces.now flow.now.main frame from (map solid_view v.solids.items)) }
     ensures short { IfOk result (λ v. IsShortList frame.height notes.old.list → IsShortList frame.height notes.new.list) }
@@ -100,12 +106,13 @@ pub(crate) fn prefix<'t, L: Ledger>(
     widths_at(tree, from.at, frame.width, &mut widths.flow);
     let mut at = from.at;
     loop {
-        let Ok(next) = next_solid_kept(
-            0,
+        let Ok(next) = next_read(
             tree,
             faces,
             at,
             frame.width,
+            ahead,
+            solids.len(),
             &mut widths.flow,
             lines,
             steps,

@@ -1,4 +1,4 @@
-use Rattle.std.proofs.Common.{◌≡◌, ◌+◌, ◌<◌, zero, suc, take, ◌++◌, ◌∷◌, [], ℕ, ℤ, true, false, None, List, All, length, map, rules, refl, sym, ap, ◌∙◌, subst, arith, to_z, of_z, Result, Ok, Err, IfOk}
+use Rattle.std.proofs.Common.{◌≡◌, ◌<◌, zero, suc, take, drop, ◌++◌, ◌∷◌, [], ℕ, ℤ, true, false, None, List, All, length, map, rules, refl, sym, ap, ◌∙◌, subst, arith, to_z, of_z, Result, Ok, Err, IfOk}
 use Rattle.std.proofs.lemmas.Bool.Decides.{nat_tests}
 use Rattle.std.proofs.lemmas.Int.{ints, to_z-of_z}
 use Rattle.std.proofs.lemmas.List.{length-map}
@@ -26,11 +26,13 @@ use Rattle.note_list.proofs.KnownLemmas.{known_more}
 use Rattle.note_list.specs.Calls.{called_before}
 use Rattle.note_list.specs.Known.{StepsForNotes, new_in}
 use Rattle.note_list.specs.Lists.{note_rows}
+use Rattle.fragment.specs.Ahead.{AreAhead}
 use Rattle.fragment.specs.CutsAt.{CutsAt}
 use Rattle.fragment.specs.Reads.{AreRead, AreReadInside, IsPagePrefix, StepsForPage, called_by, called_in}
 use Rattle.page_list.specs.Cuts.{rows_of}
 use Rattle.page_list.specs.declared.cut.CutFrom.{CutFrom}
 use Rattle.page_list.proofs.InsideLemmas.{flow_inside}
+use Rattle.fragment.proofs.AheadLemmas.{ahead_on, first_ahead, some_ahead, stays_ahead}
 use Rattle.fragment.proofs.CutLemmas.{called_low, end_cut, flow_cut, none_left, room_is}
 use Rattle.fragment.proofs.FlowLemmas.{prefix_between, prefix_few}
 use Rattle.fragment.proofs.KeptLemmas.{cut_held}
@@ -39,7 +41,7 @@ use Rattle.fragment.proofs.PlaceLemmas.{before_most, by_all}
 use Rattle.fragment.proofs.SolidLemmas.{all_views, if_ok}
 use Rattle.fragment.proofs.next_cut.cut_page.Given as given
 use Rattle.fragment.proofs.next_cut.cut_page.Goals as goal
-use Rattle.fragment.proofs.next_cut.cut_page.Goals.{After-is_empty}
+use Rattle.fragment.proofs.next_cut.cut_page.Goals.{After-first_at-first, After-is_empty}
 
 -- the notes that are read with the solids
 read : (g : given.Over) (c : After-is_empty g) → AreReadInside c.args.faces.now c.args.flow.now c.args.frame c.args.from c.args.carried (map solid_view c.in_ok-read.read.solids.items) c.prefix.new.notes
@@ -150,9 +152,9 @@ returns-then-is_empty-clause-inside g c = if_ok _ _ c.cut_end.result (λ cut is.
 some_read : (g : given.Over) (c : After-is_empty g) → c.is_empty.result ≡ false → 0 < length (map solid_view c.in_ok-read.read.solids.items)
 some_read g c e = rw length-map (let v = c.is_empty.ensures in grind (arith, nat_tests))
 
-pub cut_solids-requires-clause-solids : goal.cut_solids-requires-clause-solids
-cut_solids-requires-clause-solids g c =
-    let d = (goal.at.cut_solids-requires-clause-solids g c).After-is_empty in
+pub cut_solids-cut-requires-clause-solids : goal.cut_solids-cut-requires-clause-solids
+cut_solids-cut-requires-clause-solids g c =
+    let d = (goal.at.cut_solids-cut-requires-clause-solids g c).After-is_empty in
     let items : List Solid = c.in_ok-read.read.solids.items in
     let size : length (map solid_view items) ≡ length items = rw length-map refl in
     let some = some_read g d c.if-is_empty.false in
@@ -166,9 +168,9 @@ cut_solids-requires-clause-solids g c =
       rows_are = c.in_ok-read.ensures.rows;
     }
 
-pub cut_solids-requires-clause-cut : goal.cut_solids-requires-clause-cut
-cut_solids-requires-clause-cut g c =
-    let all = (read g (goal.at.cut_solids-requires-clause-cut g c).After-is_empty).read in
+pub cut_solids-cut-requires-clause-cut : goal.cut_solids-cut-requires-clause-cut
+cut_solids-cut-requires-clause-cut g c =
+    let all = (read g (goal.at.cut_solids-cut-requires-clause-cut g c).After-is_empty).read in
     let low = c.requires.frame.height_low in
     let high = c.requires.frame.height_high in
     record {
@@ -184,11 +186,19 @@ cut_solids-requires-clause-cut g c =
       high = omega (arith, ints);
     }
 
-pub cut_solids-requires-clause-called : goal.cut_solids-requires-clause-called
-cut_solids-requires-clause-called g c j some =
-    let d = (goal.at.cut_solids-requires-clause-called g c).After-is_empty in
+pub cut_solids-cut-requires-clause-called : goal.cut_solids-cut-requires-clause-called
+cut_solids-cut-requires-clause-called g c j some =
+    let d = (goal.at.cut_solids-cut-requires-clause-called g c).After-is_empty in
     let first : c.in_ok-notes.notes.called ≡ called_before c.args.flow.now.main c.args.flow.now.notes c.args.from.at = c.in_ok-notes.ensures.read.called in
     let low = called_low c.args.faces.now c.args.flow.now c.args.frame c.args.from c.args.carried c.requires.flow c.requires.holds c.requires.carried (map solid_view c.in_ok-read.read.solids.items) c.prefix.new.notes (room g d) (tells g d) (read g d) (room_was g d) j some in omega arith
+
+-- the page begins with what is read ahead
+first_read : (g : given.Over) (c : After-first_at-first g) → AreAhead c.args.faces.now c.args.flow.now.main c.args.frame.width c.start.new.lines.kept c.args.from.at (map solid_view (drop c.first_at-first.result c.args.ahead.now.solids.items))
+first_read g c =
+    let wide : SFits w64 c.args.frame.width = search rules in
+    ahead_on c.args.faces.now c.args.flow.now.main c.args.frame.width c.args.lines.now.kept c.start.new.lines.kept c.args.from.at (map solid_view (drop c.first_at-first.result c.args.ahead.now.solids.items)) c.start.ensures.keeps
+    (first_ahead c.args.faces.now c.args.flow.now.main c.args.frame.width c.args.lines.now.kept c.args.from.at c.args.ahead.now c.first_at-first.result c.requires.ahead
+    (λ s is. let there = c.first_at-first.ensures.at s is in (there.0, there.1 ∙ to_z-of_z w64 c.args.frame.width wide)))
 
 pub prefix-requires : goal.prefix-requires
 prefix-requires g c =
@@ -205,6 +215,7 @@ prefix-requires g c =
       height = to_z-of_z w64 c.args.frame.height tall;
       carried = record { low = omega (arith, ints); high = omega (arith, ints) };
       lines_are = c.start.ensures.kept;
+      ahead = subst (λ (xs : List Solid). AreAhead c.args.faces.now c.args.flow.now.main c.args.frame.width c.start.new.lines.kept c.args.from.at (map solid_view xs)) (sym (c.solids_from.ensures ∙ ap (drop c.first_at-first.result) c.as_slice.ensures.value)) (first_read g (goal.at.prefix-requires g c).After-first_at-first);
       read = (c.args.carried, c.in_ok-notes.ensures.read);
     }
 
@@ -217,13 +228,13 @@ returns-clause-cut g c =
     let own = c.prefix.new.notes.list.own in
     let areas = c.prefix.new.notes.areas.items in
     let rows = rows_of c.args.flow.now.main views in
-    if_ok _ _ c.cut_solids.result
+    if_ok _ _ c.cut_solids-cut.result
     (λ cut is. flow_cut c.args.faces.now c.args.flow.now c.args.frame c.args.from c.args.carried c.requires.flow c.requires.holds c.requires.carried views c.prefix.new.notes (room g d) (tells g d) (read g d) (room_was g d) c.requires.frame.width_low cut (some_read g d c.if-is_empty.false)
     (subst (λ (n : ℕ). CutsAt c.args.flow.now c.args.from.kept c.args.frame.height c.args.carried n (λ list. AreAreas c.args.from.kept rows c.args.frame.height list own areas (room g d)) c.prefix.new.notes.list views cut) first
-    (subst (λ (z : ℤ). CutsAt c.args.flow.now c.args.from.kept z c.args.carried c.in_ok-notes.notes.called (λ list. AreAreas c.args.from.kept rows z list own areas (room g d)) c.prefix.new.notes.list views cut) (to_z-of_z w64 c.args.frame.height tall) is))) c.cut_solids.ensures.cut
+    (subst (λ (z : ℤ). CutsAt c.args.flow.now c.args.from.kept z c.args.carried c.in_ok-notes.notes.called (λ list. AreAreas c.args.from.kept rows z list own areas (room g d)) c.prefix.new.notes.list views cut) (to_z-of_z w64 c.args.frame.height tall) is))) c.cut_solids-cut.ensures.cut
 
 pub returns-clause-inside : goal.returns-clause-inside
-returns-clause-inside g c = if_ok _ _ c.cut_solids.result (λ cut is. flow_inside c.args.faces.now c.args.flow.now c.args.frame c.args.from c.args.carried cut c.requires.flow.main.is c.requires.frame.width_low is) (returns-clause-cut g c)
+returns-clause-inside g c = if_ok _ _ c.cut_solids-cut.result (λ cut is. flow_inside c.args.faces.now c.args.flow.now c.args.frame c.args.from c.args.carried cut c.requires.flow.main.is c.requires.frame.width_low is) (returns-clause-cut g c)
 
 -- what is held once the page is read
 read_keeps : (g : given.Over) (c : After-is_empty g) → KeepsHeld c.args.lines.now.kept c.prefix.new.lines.kept
@@ -236,7 +247,7 @@ pub returns-clause-keeps : goal.returns-clause-keeps
 returns-clause-keeps g c = read_keeps g (goal.at.returns-clause-keeps g c).After-is_empty
 
 pub returns-clause-takes : goal.returns-clause-takes
-returns-clause-takes g c = if_ok _ _ c.cut_solids.result (λ cut near. read_takes g (goal.at.returns-clause-takes g c).After-is_empty) c.cut_solids.ensures.near
+returns-clause-takes g c = if_ok _ _ c.cut_solids-cut.result (λ cut near. read_takes g (goal.at.returns-clause-takes g c).After-is_empty) c.cut_solids-cut.ensures.near
 
 both : {A E : Type 0} (P Q : A → Type 0) (r : Result A E) → IfOk r P → IfOk r Q → IfOk r (λ x. P x × Q x)
 both P Q (Ok x) p q = (p, q)
@@ -245,9 +256,9 @@ both P Q (Err e) p q = tt
 pub returns-clause-now : goal.returns-clause-now
 returns-clause-now g c =
     let views : List SolidView = map solid_view c.in_ok-read.read.solids.items in
-    if_ok _ _ c.cut_solids.result
+    if_ok _ _ c.cut_solids-cut.result
     (λ cut is. cut_held c.args.flow.now c.args.frame.width c.prefix.new.lines.kept _ views is.0.count c.prefix.new.notes.list.solids.items cut.solids cut.notes c.in_ok-read.ensures.held is.0.solids_is (c.in_ok-read.ensures.noted c.in_ok-notes.ensures.now) is.1)
-    (both _ _ c.cut_solids.result c.cut_solids.ensures.cut c.cut_solids.ensures.front)
+    (both _ _ c.cut_solids-cut.result c.cut_solids-cut.ensures.cut c.cut_solids-cut.ensures.front)
 
 pub returns-then-is_empty-clause-keeps : goal.returns-then-is_empty-clause-keeps
 returns-then-is_empty-clause-keeps g c =
@@ -283,10 +294,10 @@ read_steps g c known held =
 pub returns-clause-lines : goal.returns-clause-lines
 returns-clause-lines g c =
     let d = (goal.at.returns-clause-lines g c).After-is_empty in
-    if_ok _ _ c.cut_solids.result
+    if_ok _ _ c.cut_solids-cut.result
     (λ cut near. looks_at c.args.faces.now c.args.flow.now c.args.frame c.args.from c.args.carried c.requires.flow c.requires.holds c.requires.carried c.requires.frame.height_low (map solid_view c.in_ok-read.read.solids.items) c.prefix.new.notes (room g d) (tells g d) (read g d) (room_was g d)
     c.args.lines.now.kept c.args.steps.now c.prefix.new.steps c.in_ok-read.ensures.few (c.in_ok-read.ensures.short c.in_ok-notes.ensures.short) (read_steps g d))
-    c.cut_solids.ensures.near
+    c.cut_solids-cut.ensures.near
 
 end_steps : (g : given.Over) (c : After-is_empty g) (list : List NotedSolid) (steps : ℕ) → c.is_empty.result ≡ true → StepsForNotes c.args.flow.now.notes c.args.frame.width c.prefix.new.lines.kept c.prefix.new.notes.list.solids.items list c.prefix.new.steps steps →
     StepsForPage c.args.flow.now c.args.frame.width c.args.lines.now.kept [] [] list c.args.steps.now steps
@@ -303,4 +314,18 @@ returns-then-is_empty-clause-lines g c =
     if_ok _ _ c.cut_end.result
     (λ cut near. looks_end c.args.faces.now c.args.flow.now c.args.frame c.args.from c.args.carried c.requires.flow c.requires.holds c.requires.carried c.requires.frame.height_low (ended g d c.if-is_empty.true) c.take.new.self all
     c.args.lines.now.kept c.args.steps.now c.take.new.steps (c.in_ok-take.ensures.short (c.in_ok-read.ensures.short c.in_ok-notes.ensures.short)) (end_steps g d c.take.new.self.list.solids.items c.take.new.steps c.if-is_empty.true c.in_ok-take.ensures.lines))
+    c.cut_end.ensures.near
+
+-- ---- what is read ahead of the next page
+pub returns-clause-ahead : goal.returns-clause-ahead
+returns-clause-ahead g c =
+    let wide : SFits w64 c.args.frame.width = search rules in
+    if_ok _ _ c.cut_solids-cut.result
+    (λ cut near. some_ahead c.args.faces.now c.args.flow.now.main c.args.frame.width c.prefix.new.lines.kept c.args.from.at c.in_ok-read.read.solids.items c.keep.new.self c.keep.ensures.solids (c.keep.ensures.width ∙ to_z-of_z w64 c.args.frame.width wide) c.in_ok-read.ensures.ahead)
+    c.cut_solids-cut.ensures.near
+
+pub returns-then-is_empty-clause-ahead : goal.returns-then-is_empty-clause-ahead
+returns-then-is_empty-clause-ahead g c =
+    if_ok _ _ c.cut_end.result
+    (λ cut near. stays_ahead c.args.faces.now c.args.flow.now.main c.args.lines.now.kept c.take.new.lines.kept c.args.ahead.now (returns-then-is_empty-clause-keeps g c) c.requires.ahead)
     c.cut_end.ensures.near

@@ -1,4 +1,5 @@
 use Rattle.note_list.specs.Calls.{called_before}
+use Rattle.fragment.proofs.AheadLemmas.{none_ahead}
 use Rattle.fragment.proofs.SettledLemmas.{settled_cut, settled_looks}
 use Rattle.fragment.proofs.SolidLemmas.{if_ok}
 use Rattle.fragment.proofs.next_cut.next_cut_kept.Goals as goal
@@ -9,6 +10,9 @@ cut_page-requires-clause-carried g c = record {
   called = c.in_ok-settled.ensures.below (called_before c.args.flow.now.main c.args.flow.now.notes c.args.from.at) c.requires.carried.called;
   order = c.in_ok-settled.ensures.order;
 }
+
+pub cut_page-requires-clause-ahead : goal.cut_page-requires-clause-ahead
+cut_page-requires-clause-ahead g c = none_ahead c.args.faces.now c.args.flow.now.main c.args.lines.now.kept c.none-ahead.result c.none-ahead.ensures
 
 pub returns-clause-cut : goal.returns-clause-cut
 returns-clause-cut g c =

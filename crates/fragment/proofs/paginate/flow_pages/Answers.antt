@@ -17,6 +17,7 @@ use Rattle.page_list.specs.LookedPages.IsLookedNext.{flows as looked_flow}
 use Rattle.note_list.specs.Calls.{start_place}
 use Rattle.fragment.specs.Runs.{Leads}
 use Rattle.std.proofs.lemmas.List.Elements.{All-nil}
+use Rattle.fragment.proofs.AheadLemmas.{none_ahead}
 use Rattle.fragment.proofs.RunLemmas.{leaves_some, not_done, state_at, run_step, run_added, adds_size, adds_grow, page_is, forced_some, frame_cut, none_carried, start_holds, next_state, ended_at}
 use Rattle.cursor.proofs.AskLemmas.{keeps_all, keeps_twice}
 use Rattle.cursor.proofs.StepLemmas.{takes_none, takes_twice}
@@ -44,6 +45,7 @@ loop-turn-init g c = rw c.new-pages.ensures.items (rw c.new-carried.ensures (rec
   kept = c.requires.kept;
   keeps = keeps_all c.args.lines.now.kept;
   takes = takes_none c.args.lines.now.kept c.args.lines.now.kept c.args.steps.now;
+  ahead = none_ahead c.args.faces.now c.args.flow.now.main c.args.lines.now.kept c.none-ahead.result c.none-ahead.ensures;
   held = All-nil (λ (q : Page). IsPageHeld c.args.flow.now q.frame.width c.args.lines.now.kept q.solids q.notes);
 }))
 
@@ -198,6 +200,7 @@ loop-turn-preserved g c =
       kept = c.cut_page.ensures.kept;
       keeps = keeps_on g p;
       takes = takes_on g p;
+      ahead = c.in-Ok-cut_page.ensures.ahead;
       held = held_now g p c.push.new.self.items now;
     }
 

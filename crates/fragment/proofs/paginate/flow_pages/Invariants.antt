@@ -3,6 +3,7 @@ use Rattle.boxes.specs.Tree.{Holds}
 use Rattle.bk_num.specs.declared.ids.NameId.{NameId}
 use Rattle.cursor.specs.Asks.{KeepsHeld, TakesSteps}
 use Rattle.note_list.specs.Kept.{AreFlowLines}
+use Rattle.fragment.specs.Ahead.{IsAhead}
 use Rattle.fragment.specs.Kept.{ArePagesHeld}
 use Rattle.note_list.specs.Conditions.{AreCarried, IsAtSolid}
 use Rattle.page_list.specs.Pages.{HaveNearTops}
@@ -24,5 +25,6 @@ invariant-loop-turn g l = record {
   kept : AreFlowLines l.faces l.flow l.lines;
   keeps : KeepsHeld l.fn.lines.kept l.lines.kept;
   takes : TakesSteps l.fn.lines.kept l.lines.kept l.fn.steps l.steps;
+  ahead : IsAhead l.faces l.flow.main l.lines.kept l.ahead;
   held : ArePagesHeld l.flow l.lines.kept l.pages.items;
 }

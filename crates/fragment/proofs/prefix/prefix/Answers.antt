@@ -1,4 +1,4 @@
-use Rattle.std.proofs.Common.{Bool, pos, ◌≡◌, ◌<◌, ◌≤◌, ◌+◌, ◌==◌, ◌^◌, ℕ, ℤ, true, false, not, List, [], ◌∷◌, ◌++◌, All, map, length, length-append, append-nil, append_assoc, ◌≤ℤ◌, ◌<ℤ◌, ◌⊎◌, ⊎_elim, inl, inr, suc, vec_len, rules, refl, sym, ap, ◌∙◌, subst, arith, to_z, of_z}
+use Rattle.std.proofs.Common.{Bool, pos, ◌≡◌, ◌<◌, ◌≤◌, ◌+◌, ◌==◌, ◌^◌, ℕ, ℤ, true, false, not, List, [], ◌∷◌, ◌++◌, All, map, drop, length, length-append, append-nil, append_assoc, ◌≤ℤ◌, ◌<ℤ◌, ◌⊎◌, ⊎_elim, inl, inr, suc, vec_len, rules, refl, sym, ap, ◌∙◌, subst, arith, to_z, of_z}
 use Rattle.std.specs.Result.{is_ok}
 use Rattle.std.proofs.lemmas.Bool.Decides.{nat_tests}
 use Rattle.std.proofs.lemmas.Grind.{common_steps}
@@ -33,7 +33,9 @@ use Rattle.note_list.specs.declared.carried.Carried.{Carried}
 use Rattle.page_list.specs.Cuts.{row_of, rows_of}
 use Rattle.page_list.specs.Looked.{AreFewLines, most_widows}
 use Rattle.page_list.proofs.FewLemmas.{few_lines, row_widows}
+use Rattle.fragment.specs.Ahead.{AreAhead}
 use Rattle.fragment.specs.Reads.{AreRead, AreReadInside, StepsForPage}
+use Rattle.fragment.proofs.AheadLemmas.{ahead_on, follow_front, reads_are}
 use Rattle.fragment.proofs.FlowLemmas.{LooksOn, look_on, read_few, read_missed, read_forced, read_all, views_free, views_forced}
 use Rattle.fragment.proofs.InsideLemmas.{areas_on, inside_last, inside_on, inside_start}
 use Rattle.fragment.proofs.KeptLemmas.{views_next, views_on}
@@ -64,6 +66,9 @@ small_on g c = subst (All IsSmallSolid) (sym (views_now g c)) (All-push IsSmallS
 
 placed_on : (g : given.Over) (c : Else-is_err g) → All (λ (v : SolidView). Holds c.args.flow.now.main v.placed_at) (map solid_view c.push-in-loop-next.new.self.items)
 placed_on g c = subst (All (λ (v : SolidView). Holds c.args.flow.now.main v.placed_at)) (sym (views_now g c)) (All-push (λ (v : SolidView). Holds c.args.flow.now.main v.placed_at) (map solid_view c.loop-next.solids.items) (solid_view c.in-Some.solid) c.loop-next.invariant.placed (rw c.in-Some.is at c.in-Ok.ensures.placed))
+
+ends_on : (g : given.Over) (c : Else-is_err g) → All (λ (v : SolidView). Holds c.args.flow.now.main v.end) (map solid_view c.push-in-loop-next.new.self.items)
+ends_on g c = subst (All (λ (v : SolidView). Holds c.args.flow.now.main v.end)) (sym (views_now g c)) (All-push (λ (v : SolidView). Holds c.args.flow.now.main v.end) (map solid_view c.loop-next.solids.items) (solid_view c.in-Some.solid) c.loop-next.invariant.ends (rw c.in-Some.is at c.in-Ok.ensures.holds))
 
 rows_on : (g : given.Over) (c : Else-is_err g) → c.push.new.self.items ≡ rows_of c.args.flow.now.main (map solid_view c.push-in-loop-next.new.self.items)
 rows_on g c =
@@ -204,8 +209,8 @@ few g c =
     subst (λ (n : ℕ). n ≤ 2 ^ 26) size (read_few c.args.faces.now c.args.flow.now.main c.args.frame c.args.from.at c.args.from.kept 0 [] (pos 0) c.count-count.ensures.tree c.requires.holds (map solid_view c.loop-next.solids.items) c.loop-next.at c.loop-next.invariant.holds c.loop-next.invariant.goes c.requires.flow.main.bytes)
 
 -- what is held once the solid and its notes are read
-solid_keeps : (g : given.Over) (c : Else-is_err g) → KeepsHeld c.args.lines.now.kept c.next_solid_kept.new.lines.kept
-solid_keeps g c = keeps_twice c.args.lines.now.kept c.loop-next.lines.kept c.next_solid_kept.new.lines.kept c.loop-next.invariant.keeps c.next_solid_kept.ensures.keeps
+solid_keeps : (g : given.Over) (c : Else-is_err g) → KeepsHeld c.args.lines.now.kept c.next_read.new.lines.kept
+solid_keeps g c = keeps_twice c.args.lines.now.kept c.loop-next.lines.kept c.next_read.new.lines.kept c.loop-next.invariant.keeps c.next_read.ensures.keeps
 
 lines_on : (g : given.Over) (c : Else-is_err g) → StepsForPage c.args.flow.now c.args.frame.width c.args.lines.now.kept (map solid_view c.push-in-loop-next.new.self.items) c.args.notes.now.list.solids.items c.take_inside.new.self.list.solids.items c.args.steps.now c.take_inside.new.steps
 lines_on g c known held =
@@ -214,40 +219,40 @@ lines_on g c known held =
     let old : List SolidView = map solid_view c.loop-next.solids.items in
     let s : SolidView = solid_view c.in-Some.solid in
     let wide : SFits w64 width = search rules in
-    let asks : AsksBy s.kind t width s c.loop-next.lines.kept c.next_solid_kept.new.lines.kept c.loop-next.steps c.next_solid_kept.new.steps =
-    subst (λ (w : ℤ). AsksBy s.kind t w s c.loop-next.lines.kept c.next_solid_kept.new.lines.kept c.loop-next.steps c.next_solid_kept.new.steps) (to_z-of_z w64 width wide) (rw c.in-Some.is at c.in-Ok.ensures.asks) in
+    let asks : AsksBy s.kind t width s c.loop-next.lines.kept c.next_read.new.lines.kept c.loop-next.steps c.next_read.new.steps =
+    subst (λ (w : ℤ). AsksBy s.kind t w s c.loop-next.lines.kept c.next_read.new.lines.kept c.loop-next.steps c.next_read.new.steps) (to_z-of_z w64 width wide) (rw c.in-Some.is at c.in-Ok.ensures.asks) in
     let was = c.loop-next.invariant.lines known held in
-    let step = asks_new known t width s c.args.lines.now.kept c.loop-next.lines.kept c.next_solid_kept.new.lines.kept c.loop-next.steps c.next_solid_kept.new.steps held c.loop-next.invariant.keeps asks (rw c.in-Some.is at c.in-Ok.ensures.step) in
-    let noted = c.in_ok-take_inside.ensures.lines known (known_more known c.args.lines.now.kept c.next_solid_kept.new.lines.kept held (solid_keeps g c)) in
+    let step = asks_new known t width s c.args.lines.now.kept c.loop-next.lines.kept c.next_read.new.lines.kept c.loop-next.steps c.next_read.new.steps held c.loop-next.invariant.keeps asks (rw c.in-Some.is at c.in-Ok.ensures.step) in
+    let noted = c.in_ok-take_inside.ensures.lines known (known_more known c.args.lines.now.kept c.next_read.new.lines.kept held (solid_keeps g c)) in
     let next : new_in known t width (map solid_view c.push-in-loop-next.new.self.items) ≡ new_in known t width old + new_of known t width s = ap (new_in known t width) (views_now g c) ∙ sum_by_push (new_of known t width) old s in
     omega (arith, was, step, noted, next)
 
 keeps_on : (g : given.Over) (c : Else-is_err g) → KeepsHeld c.args.lines.now.kept c.take_inside.new.lines.kept
-keeps_on g c = keeps_twice c.args.lines.now.kept c.next_solid_kept.new.lines.kept c.take_inside.new.lines.kept (solid_keeps g c) c.take_inside.ensures.keeps
+keeps_on g c = keeps_twice c.args.lines.now.kept c.next_read.new.lines.kept c.take_inside.new.lines.kept (solid_keeps g c) c.take_inside.ensures.keeps
 
 takes_on : (g : given.Over) (c : Else-is_err g) → TakesSteps c.args.lines.now.kept c.take_inside.new.lines.kept c.args.steps.now c.take_inside.new.steps
 takes_on g c =
     let old = c.args.lines.now.kept in
     let at = c.loop-next.lines.kept in
-    let mid = c.next_solid_kept.new.lines.kept in
-    takes_twice old mid c.take_inside.new.lines.kept c.args.steps.now c.next_solid_kept.new.steps c.take_inside.new.steps (solid_keeps g c) c.take_inside.ensures.keeps
-    (takes_twice old at mid c.args.steps.now c.loop-next.steps c.next_solid_kept.new.steps c.loop-next.invariant.keeps c.next_solid_kept.ensures.keeps c.loop-next.invariant.takes c.in-Ok.ensures.takes)
+    let mid = c.next_read.new.lines.kept in
+    takes_twice old mid c.take_inside.new.lines.kept c.args.steps.now c.next_read.new.steps c.take_inside.new.steps (solid_keeps g c) c.take_inside.ensures.keeps
+    (takes_twice old at mid c.args.steps.now c.loop-next.steps c.next_read.new.steps c.loop-next.invariant.keeps c.next_read.ensures.keeps c.loop-next.invariant.takes c.in-Ok.ensures.takes)
     c.in_ok-take_inside.ensures.takes
 
 held_now : (g : given.Over) (c : Else-is_err g) → All (λ (v : SolidView). IsHeldNow c.args.flow.now.main c.args.frame.width c.take_inside.new.lines.kept v.placed_at) (map solid_view c.push-in-loop-next.new.self.items)
 held_now g c =
     let wide : SFits w64 c.args.frame.width = search rules in
     let t : Tree = c.args.flow.now.main in
-    let mid = c.next_solid_kept.new.lines.kept in
+    let mid = c.next_read.new.lines.kept in
     let now : IsHeldNow t c.args.frame.width mid c.in-Some.solid.placed_at = subst (λ (w : ℤ). IsHeldNow t w mid c.in-Some.solid.placed_at) (to_z-of_z w64 c.args.frame.width wide) (rw c.in-Some.is at c.in-Ok.ensures.now) in
     views_on t c.args.frame.width mid c.take_inside.new.lines.kept (map solid_view c.push-in-loop-next.new.self.items) c.take_inside.ensures.keeps
-    (views_next t c.args.frame.width c.loop-next.lines.kept mid (map solid_view c.loop-next.solids.items) (map solid_view c.push-in-loop-next.new.self.items) (solid_view c.in-Some.solid) c.next_solid_kept.ensures.keeps now (views_now g c) c.loop-next.invariant.held)
+    (views_next t c.args.frame.width c.loop-next.lines.kept mid (map solid_view c.loop-next.solids.items) (map solid_view c.push-in-loop-next.new.self.items) (solid_view c.in-Some.solid) c.next_read.ensures.keeps now (views_now g c) c.loop-next.invariant.held)
 
 noted_on : (g : given.Over) (c : Else-is_err g) → AreHeldNow c.args.flow.now.notes c.args.frame.width c.args.lines.now.kept c.args.notes.now.list.solids.items → AreHeldNow c.args.flow.now.notes c.args.frame.width c.take_inside.new.lines.kept c.take_inside.new.self.list.solids.items
-noted_on g c h = c.in_ok-take_inside.ensures.now (held_more c.args.flow.now.notes c.args.frame.width c.loop-next.lines.kept c.next_solid_kept.new.lines.kept c.loop-next.notes.list.solids.items c.next_solid_kept.ensures.keeps (c.loop-next.invariant.noted h))
+noted_on g c h = c.in_ok-take_inside.ensures.now (held_more c.args.flow.now.notes c.args.frame.width c.loop-next.lines.kept c.next_read.new.lines.kept c.loop-next.notes.list.solids.items c.next_read.ensures.keeps (c.loop-next.invariant.noted h))
 
 pub take_inside-requires-clause-kept : goal.take_inside-requires-clause-kept
-take_inside-requires-clause-kept g c = main_lines c.args.faces.now c.args.flow.now c.loop-next.lines c.next_solid_kept.new.lines c.loop-next.invariant.kept c.next_solid_kept.ensures.kept c.next_solid_kept.ensures.places
+take_inside-requires-clause-kept g c = main_lines c.args.faces.now c.args.flow.now c.loop-next.lines c.next_read.new.lines c.loop-next.invariant.kept c.next_read.ensures.kept c.next_read.ensures.places
 
 pub loop-next-init : goal.loop-next-init
 loop-next-init g c =
@@ -255,7 +260,9 @@ loop-next-init g c =
     let read = c.requires.read.1 in
     record {
       holds = c.requires.holds;
-      widths = c.widths_at.ensures ∙ ap (λ (w : ℤ). widths_at c.args.flow.now.main w c.args.from.at) (let wide : SFits w64 c.args.frame.width = search rules in to_z-of_z w64 c.args.frame.width wide);
+      widths = λ past. c.widths_at.ensures ∙ ap (λ (w : ℤ). widths_at c.args.flow.now.main w c.args.from.at) (let wide : SFits w64 c.args.frame.width = search rules in to_z-of_z w64 c.args.frame.width wide);
+      ahead = subst (λ (xs : List Solid). AreAhead c.args.faces.now c.args.flow.now.main c.args.frame.width c.args.lines.now.kept c.args.from.at (drop (length xs) (map solid_view c.args.ahead.now))) (sym none) c.requires.ahead;
+      ends = rw none (λ k d h. absurd (omega arith));
       goes = λ rest r. rw none r;
       small = rw none (λ k d h. absurd (omega arith));
       placed = rw none (λ k d h. absurd (omega arith));
@@ -355,13 +362,31 @@ loop-next-smaller g c =
     let d = (goal.at.loop-next-smaller g c).Else-is_err in
     solid_falls c.args.faces.now c.args.flow.now.main c.args.frame.width c.loop-next.at (solid_view c.in-Some.solid) c.count-count.ensures.tree (stands c.args.flow.now.main c.loop-next.at c.loop-next.invariant.holds) (solid_is g d)
 
+-- ---- what is read ahead
+index_is : (g : given.Over) (c : Else-is_err g) → c.len.result ≡ length c.loop-next.solids.items
+index_is g c = omega arith
+
+ahead_now : (g : given.Over) (c : Else-is_err g) → length c.push-in-loop-next.new.self.items ≡ length c.loop-next.solids.items + 1 → AreAhead c.args.faces.now c.args.flow.now.main c.args.frame.width c.take_inside.new.lines.kept c.in-Some.solid.end (drop (length c.push-in-loop-next.new.self.items) (map solid_view c.args.ahead.now))
+ahead_now g c size =
+    let t : Tree = c.args.flow.now.main in
+    let wide : SFits w64 c.args.frame.width = search rules in
+    let views : List SolidView = map solid_view c.args.ahead.now in
+    let mid = c.next_read.new.lines.kept in
+    let more : c.len.result + 1 ≡ length c.push-in-loop-next.new.self.items = let i = index_is g c in omega (arith, size, i) in
+    let is : AreAhead c.args.faces.now t c.args.frame.width mid c.in-Some.solid.end (drop (c.len.result + 1) views) =
+    subst (λ (w : ℤ). AreAhead c.args.faces.now t w mid c.in-Some.solid.end (drop (c.len.result + 1) views)) (to_z-of_z w64 c.args.frame.width wide) (rw c.in-Some.is at c.in-Ok.ensures.ahead) in
+    subst (λ (n : ℕ). AreAhead c.args.faces.now t c.args.frame.width c.take_inside.new.lines.kept c.in-Some.solid.end (drop n views)) more
+    (ahead_on c.args.faces.now t c.args.frame.width mid c.take_inside.new.lines.kept c.in-Some.solid.end (drop (c.len.result + 1) views) c.take_inside.ensures.keeps is)
+
 pub loop-next-preserved : goal.loop-next-preserved
 loop-next-preserved g c =
     let d = (goal.at.loop-next-preserved g c).Else-is_err in
     let size : length c.push-in-loop-next.new.self.items ≡ length c.loop-next.solids.items + 1 = ap (λ (l : List Solid). length l) (pushed g d) ∙ length-append c.loop-next.solids.items (c.in-Some.solid ∷ []) in
     record {
       holds = (rw c.in-Some.is at c.in-Ok.ensures.holds);
-      widths = (rw c.in-Some.is at c.in-Ok.ensures.widths) ∙ ap (λ (w : ℤ). widths_at c.args.flow.now.main w c.in-Some.solid.end) (let wide : SFits w64 c.args.frame.width = search rules in to_z-of_z w64 c.args.frame.width wide);
+      widths = λ past. (rw c.in-Some.is at c.in-Ok.ensures.widths) (omega (arith, size, past, index_is g d)) ∙ ap (λ (w : ℤ). widths_at c.args.flow.now.main w c.in-Some.solid.end) (let wide : SFits w64 c.args.frame.width = search rules in to_z-of_z w64 c.args.frame.width wide);
+      ahead = ahead_now g d size;
+      ends = ends_on g d;
       goes = goes_on g d;
       small = small_on g d;
       placed = placed_on g d;
@@ -390,8 +415,8 @@ loop-next-preserved g c =
 pub returns-in_default-next-clause-prefix : goal.returns-in_default-next-clause-prefix
 returns-in_default-next-clause-prefix g c = read_all c.args.faces.now c.args.flow.now.main c.args.frame c.args.from.at c.args.from.kept c.args.notes.now.list.own c.loop-next.notes.areas.items c.args.room.now.carried c.count-count.ensures.tree c.requires.holds (map solid_view c.loop-next.solids.items) c.loop-next.at c.loop-next.invariant.goes (rw c.in_default-next.is at c.in-Ok.ensures.solid)
 
-pub next_solid_kept-requires-clause-widths : goal.next_solid_kept-requires-clause-widths
-next_solid_kept-requires-clause-widths g c = c.loop-next.invariant.widths ∙ ap (λ (w : ℤ). widths_at c.args.flow.now.main w c.loop-next.at) (let wide : SFits w64 c.args.frame.width = search rules in sym (to_z-of_z w64 c.args.frame.width wide))
+pub next_read-requires-clause-widths : goal.next_read-requires-clause-widths
+next_read-requires-clause-widths g c = λ past. c.loop-next.invariant.widths (omega (arith, past)) ∙ ap (λ (w : ℤ). widths_at c.args.flow.now.main w c.loop-next.at) (let wide : SFits w64 c.args.frame.width = search rules in sym (to_z-of_z w64 c.args.frame.width wide))
 
 pub returns-then-ends-clause-keeps : goal.returns-then-ends-clause-keeps
 returns-then-ends-clause-keeps g c = keeps_on g (goal.at.returns-then-ends-clause-keeps g c).Else-is_err
@@ -419,35 +444,35 @@ returns-then-is_enough-clause-noted g c = noted_on g (goal.at.returns-then-is_en
 
 -- no solid is left
 pub returns-in_default-next-clause-kept : goal.returns-in_default-next-clause-kept
-returns-in_default-next-clause-kept g c = main_lines c.args.faces.now c.args.flow.now c.loop-next.lines c.next_solid_kept.new.lines c.loop-next.invariant.kept c.next_solid_kept.ensures.kept c.next_solid_kept.ensures.places
+returns-in_default-next-clause-kept g c = main_lines c.args.faces.now c.args.flow.now c.loop-next.lines c.next_read.new.lines c.loop-next.invariant.kept c.next_read.ensures.kept c.next_read.ensures.places
 
 pub returns-in_default-next-clause-keeps : goal.returns-in_default-next-clause-keeps
-returns-in_default-next-clause-keeps g c = keeps_twice c.args.lines.now.kept c.loop-next.lines.kept c.next_solid_kept.new.lines.kept c.loop-next.invariant.keeps c.next_solid_kept.ensures.keeps
+returns-in_default-next-clause-keeps g c = keeps_twice c.args.lines.now.kept c.loop-next.lines.kept c.next_read.new.lines.kept c.loop-next.invariant.keeps c.next_read.ensures.keeps
 
 pub returns-in_default-next-clause-takes : goal.returns-in_default-next-clause-takes
-returns-in_default-next-clause-takes g c = takes_twice c.args.lines.now.kept c.loop-next.lines.kept c.next_solid_kept.new.lines.kept c.args.steps.now c.loop-next.steps c.next_solid_kept.new.steps c.loop-next.invariant.keeps c.next_solid_kept.ensures.keeps c.loop-next.invariant.takes c.in-Ok.ensures.takes
+returns-in_default-next-clause-takes g c = takes_twice c.args.lines.now.kept c.loop-next.lines.kept c.next_read.new.lines.kept c.args.steps.now c.loop-next.steps c.next_read.new.steps c.loop-next.invariant.keeps c.next_read.ensures.keeps c.loop-next.invariant.takes c.in-Ok.ensures.takes
 
 pub returns-in_default-next-clause-held : goal.returns-in_default-next-clause-held
-returns-in_default-next-clause-held g c = views_on c.args.flow.now.main c.args.frame.width c.loop-next.lines.kept c.next_solid_kept.new.lines.kept (map solid_view c.loop-next.solids.items) c.next_solid_kept.ensures.keeps c.loop-next.invariant.held
+returns-in_default-next-clause-held g c = views_on c.args.flow.now.main c.args.frame.width c.loop-next.lines.kept c.next_read.new.lines.kept (map solid_view c.loop-next.solids.items) c.next_read.ensures.keeps c.loop-next.invariant.held
 
 pub returns-in_default-next-clause-noted : goal.returns-in_default-next-clause-noted
-returns-in_default-next-clause-noted g c h = held_more c.args.flow.now.notes c.args.frame.width c.loop-next.lines.kept c.next_solid_kept.new.lines.kept c.loop-next.notes.list.solids.items c.next_solid_kept.ensures.keeps (c.loop-next.invariant.noted h)
+returns-in_default-next-clause-noted g c h = held_more c.args.flow.now.notes c.args.frame.width c.loop-next.lines.kept c.next_read.new.lines.kept c.loop-next.notes.list.solids.items c.next_read.ensures.keeps (c.loop-next.invariant.noted h)
 
 -- where memory is wanting
 pub returns-in_default-clause-kept : goal.returns-in_default-clause-kept
-returns-in_default-clause-kept g c = main_lines c.args.faces.now c.args.flow.now c.loop-next.lines c.next_solid_kept.new.lines c.loop-next.invariant.kept c.next_solid_kept.ensures.kept c.next_solid_kept.ensures.places
+returns-in_default-clause-kept g c = main_lines c.args.faces.now c.args.flow.now c.loop-next.lines c.next_read.new.lines c.loop-next.invariant.kept c.next_read.ensures.kept c.next_read.ensures.places
 
 pub returns-in_default-clause-keeps : goal.returns-in_default-clause-keeps
-returns-in_default-clause-keeps g c = keeps_twice c.args.lines.now.kept c.loop-next.lines.kept c.next_solid_kept.new.lines.kept c.loop-next.invariant.keeps c.next_solid_kept.ensures.keeps
+returns-in_default-clause-keeps g c = keeps_twice c.args.lines.now.kept c.loop-next.lines.kept c.next_read.new.lines.kept c.loop-next.invariant.keeps c.next_read.ensures.keeps
 
 pub returns-in_err-take_inside-clause-keeps : goal.returns-in_err-take_inside-clause-keeps
-returns-in_err-take_inside-clause-keeps g c = keeps_twice c.args.lines.now.kept c.next_solid_kept.new.lines.kept c.take_inside.new.lines.kept (keeps_twice c.args.lines.now.kept c.loop-next.lines.kept c.next_solid_kept.new.lines.kept c.loop-next.invariant.keeps c.next_solid_kept.ensures.keeps) c.take_inside.ensures.keeps
+returns-in_err-take_inside-clause-keeps g c = keeps_twice c.args.lines.now.kept c.next_read.new.lines.kept c.take_inside.new.lines.kept (keeps_twice c.args.lines.now.kept c.loop-next.lines.kept c.next_read.new.lines.kept c.loop-next.invariant.keeps c.next_read.ensures.keeps) c.take_inside.ensures.keeps
 
 pub returns-in_err-push-clause-keeps : goal.returns-in_err-push-clause-keeps
-returns-in_err-push-clause-keeps g c = keeps_twice c.args.lines.now.kept c.next_solid_kept.new.lines.kept c.take_inside.new.lines.kept (keeps_twice c.args.lines.now.kept c.loop-next.lines.kept c.next_solid_kept.new.lines.kept c.loop-next.invariant.keeps c.next_solid_kept.ensures.keeps) c.take_inside.ensures.keeps
+returns-in_err-push-clause-keeps g c = keeps_twice c.args.lines.now.kept c.next_read.new.lines.kept c.take_inside.new.lines.kept (keeps_twice c.args.lines.now.kept c.loop-next.lines.kept c.next_read.new.lines.kept c.loop-next.invariant.keeps c.next_read.ensures.keeps) c.take_inside.ensures.keeps
 
 pub returns-then-is_err-clause-keeps : goal.returns-then-is_err-clause-keeps
-returns-then-is_err-clause-keeps g c = keeps_twice c.args.lines.now.kept c.next_solid_kept.new.lines.kept c.take_inside.new.lines.kept (keeps_twice c.args.lines.now.kept c.loop-next.lines.kept c.next_solid_kept.new.lines.kept c.loop-next.invariant.keeps c.next_solid_kept.ensures.keeps) c.take_inside.ensures.keeps
+returns-then-is_err-clause-keeps g c = keeps_twice c.args.lines.now.kept c.next_read.new.lines.kept c.take_inside.new.lines.kept (keeps_twice c.args.lines.now.kept c.loop-next.lines.kept c.next_read.new.lines.kept c.loop-next.invariant.keeps c.next_read.ensures.keeps) c.take_inside.ensures.keeps
 
 -- ---- how many lines are read
 pub returns-then-ends-clause-few : goal.returns-then-ends-clause-few
@@ -481,3 +506,37 @@ returns-then-is_enough-clause-short g c = λ h. c.in_ok-take_inside.ensures.shor
 
 pub returns-in_default-next-clause-short : goal.returns-in_default-next-clause-short
 returns-in_default-next-clause-short g c = λ h. c.loop-next.invariant.listed h
+
+-- ---- what is read ahead of the next page
+read_ahead : (g : given.Over) (c : Else-is_err g) → (rest : List SolidView) → IsRemainder c.args.faces.now c.args.flow.now.main c.args.frame.width c.args.from.at (map solid_view c.push-in-loop-next.new.self.items ++ rest) → AreAhead c.args.faces.now c.args.flow.now.main c.args.frame.width c.take_inside.new.lines.kept c.args.from.at (map solid_view c.push-in-loop-next.new.self.items)
+read_ahead g c rest are =
+    let t : Tree = c.args.flow.now.main in
+    let views : List SolidView = map solid_view c.push-in-loop-next.new.self.items in
+    record {
+      follow = follow_front c.args.faces.now t c.args.frame.width c.args.from.at views rest are;
+      are = reads_are t c.args.frame.width c.take_inside.new.lines.kept views (placed_on g c) (ends_on g c) (small_on g c) (held_now g c);
+    }
+
+pub returns-then-is_enough-clause-ahead : goal.returns-then-is_enough-clause-ahead
+returns-then-is_enough-clause-ahead g c = let p = returns-then-is_enough-clause-prefix g c in read_ahead g (goal.at.returns-then-is_enough-clause-ahead g c).Else-is_err p.rest p.are
+
+pub returns-then-ends-clause-ahead : goal.returns-then-ends-clause-ahead
+returns-then-ends-clause-ahead g c = let p = returns-then-ends-clause-prefix g c in read_ahead g (goal.at.returns-then-ends-clause-ahead g c).Else-is_err p.rest p.are
+
+pub returns-in_default-next-clause-ahead : goal.returns-in_default-next-clause-ahead
+returns-in_default-next-clause-ahead g c =
+    let t : Tree = c.args.flow.now.main in
+    let views : List SolidView = map solid_view c.loop-next.solids.items in
+    let p = returns-in_default-next-clause-prefix g c in
+    record {
+      follow = follow_front c.args.faces.now t c.args.frame.width c.args.from.at views p.rest p.are;
+      are = reads_are t c.args.frame.width c.next_read.new.lines.kept views c.loop-next.invariant.placed c.loop-next.invariant.ends c.loop-next.invariant.small (returns-in_default-next-clause-held g c);
+    }
+
+pub next_read-requires-clause-ahead : goal.next_read-requires-clause-ahead
+next_read-requires-clause-ahead g c =
+    let t : Tree = c.args.flow.now.main in
+    let wide : SFits w64 c.args.frame.width = search rules in
+    let size : length c.loop-next.solids.items ≡ c.len.result = omega arith in
+    subst (λ (w : ℤ). AreAhead c.args.faces.now t w c.loop-next.lines.kept c.loop-next.at (drop c.len.result (map solid_view c.args.ahead.now))) (sym (to_z-of_z w64 c.args.frame.width wide))
+    (subst (λ (n : ℕ). AreAhead c.args.faces.now t c.args.frame.width c.loop-next.lines.kept c.loop-next.at (drop n (map solid_view c.args.ahead.now))) size c.loop-next.invariant.ahead)

@@ -1,4 +1,4 @@
-use Rattle.std.proofs.Common.{◌≡◌, ◌≤◌, ◌++◌, [], Some, List, map, length}
+use Rattle.std.proofs.Common.{◌≡◌, ◌≤◌, ◌++◌, [], Some, List, map, drop, length}
 use Rattle.std.specs.List.{All}
 use Rattle.boxes.specs.Tree.{Holds}
 use Rattle.cursor.specs.Asks.{IsHeldNow, KeepsHeld, TakesSteps}
@@ -13,6 +13,7 @@ use Rattle.note_list.specs.Short.{IsShortList}
 use Rattle.note_list.specs.declared.carried.Carried.{Carried}
 use Rattle.page_list.specs.Cuts.{rows_of}
 use Rattle.page_list.specs.Looked.{most_widows}
+use Rattle.fragment.specs.Ahead.{AreAhead}
 use Rattle.fragment.specs.Reads.{AreRead, AreReadInside, StepsForPage, called_by}
 use Rattle.fragment.proofs.FlowLemmas.{LooksOn}
 use Rattle.fragment.proofs.prefix.prefix.Given as goal
@@ -20,10 +21,12 @@ use Rattle.fragment.proofs.prefix.prefix.Given as goal
 abbrev pub invariant-loop-next : goal.invariant-loop-next
 invariant-loop-next g l = record {
   holds : Holds l.flow.main l.at;
-  widths : l.widths.flow ≡ widths_at l.flow.main l.fn.frame.width l.at;
+  widths : length l.ahead ≤ length l.solids.items → l.widths.flow ≡ widths_at l.flow.main l.fn.frame.width l.at;
+  ahead : AreAhead l.faces l.flow.main l.fn.frame.width l.lines.kept l.at (drop (length l.solids.items) (map solid_view l.ahead));
   goes : (rest : List SolidView) → IsRemainder l.faces l.flow.main l.fn.frame.width l.at rest → IsRemainder l.faces l.flow.main l.fn.frame.width l.fn.from.at (map solid_view l.solids.items ++ rest);
   small : All IsSmallSolid (map solid_view l.solids.items);
   placed : All (λ (v : SolidView). Holds l.flow.main v.placed_at) (map solid_view l.solids.items);
+  ends : All (λ (v : SolidView). Holds l.flow.main v.end) (map solid_view l.solids.items);
   own : l.notes.list.own ≡ l.initial.notes.list.own;
   are : (carried : List Carried) → AreRead l.faces l.flow l.fn.frame l.fn.from.at carried [] l.initial.notes → AreReadInside l.faces l.flow l.fn.frame l.fn.from carried (map solid_view l.solids.items) l.notes;
   calls : (s : SolidView) → IsSolid l.faces l.flow.main l.fn.frame.width l.at s → l.notes.called ≤ called_by l.flow.main l.flow.notes s.end;
