@@ -5,7 +5,7 @@ ghost use Rattle.std.specs.Str.{bytes_eq};
 ghost use Rattle.std.specs.List.{position};
 ghost use Rattle.std.specs.String.{string_bytes};
 ghost use Rattle.named_lists.specs.Lists.{of_name};
-ghost use Rattle.counters.specs.At.{AreAllMarks, AreAllNested, AreSmall, IsSmall, KeepAsked, counter_values, marks_by, marks_named, place_in, values_of_marks};
+ghost use Rattle.counters.specs.At.{AreAllMarks, AreAllNested, AreSmall, IsSmall, KeepAsked, counter_values, marks_by, place_in, values_of_marks};
 ghost use Rattle.counters.specs.Document.{place_number};
 ghost use Rattle.counters.specs.Log.{events_at, events_in};
 ghost use Rattle.counters.specs.Scopes.{values_by};
@@ -92,8 +92,10 @@ impl CounterAt {
         let Some(place) = place_of(&self.spots, node, pseudo) else {
             return zero(alloc);
         };
-        if is_asked(&self.asked, name) {
-            return marked_values(alloc, &self.names, &self.lists, name, place);
+        let number = index_of(&self.names, name);
+        let mut likely = number.unwrap_or(0);
+        if is_asked(&self.asked, &mut likely, name) {
+            return marked_values(alloc, &self.lists, number, place);
         }
         logged_values(alloc, &self.rows, name, place)
     }
@@ -122,19 +124,17 @@ fn zero(alloc: Global) -> Result<Items<i64>, NoMem>
     Ok(values)
 }
 
-/// The values at a place by the marks of a counter.
+/// The values at a place by the marks of the counter of a number.
 fn marked_values(
     alloc: Global,
-    names: &IndexSet<String>,
     lists: &[Items<ScopeMark>],
-    name: &str,
+    number: Option<usize>,
     place: u32,
 ) -> Result<Items<i64>, NoMem>
     requires { AreAllMarks lists.now }
-    ensures { IfOk result (λ values. values ≡
-        values_of_marks (marks_named (map (λ k. string_bytes k) names.now.keys) lists.now name.now) place) }
+    ensures { IfOk result (λ values. values ≡ values_of_marks (marks_by lists.now number) place) }
 {
-    match list_of(lists, index_of(names, name)) {
+    match list_of(lists, number) {
         Some(list) => Ok(Items::of(values_at(alloc, list.as_slice(), place)?)),
         None => zero(alloc),
     }

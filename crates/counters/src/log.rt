@@ -1,6 +1,6 @@
 //! What a document does to its counters, written down place by place.
 
-ghost use Rattle.std.specs.Prelude.{◌≡◌, ◌++◌, ◌∷◌, [], IfOk, IfSome, IsTrue, OnOk, map};
+ghost use Rattle.std.specs.Prelude.{◌≡◌, ◌++◌, ◌∷◌, [], true, IfOk, IfSome, IsTrue, OnOk, map};
 ghost use Rattle.std.specs.Str.{bytes_eq};
 ghost use Rattle.std.specs.List.{list_any};
 ghost use Rattle.std.specs.String.{string_bytes};
@@ -39,13 +39,23 @@ pub(crate) struct LogRow {
 /// Lists that are shared. It is asked for one that may be equal, and what it answers is compared.
 type Known<'s> = IndexMap<Vec<Change<'s>>, Rc<ChangeList>>;
 
-/// What is done at places, one after the other; and beside it the names of counters that are asked for. Contracts see
-/// the events.
+/// The numbers among the lists that are known of those that came last: one of resets, one of increments, one of uses.
+#[derive(Clone, Copy)]
+struct LastLists {
+    resets: usize,
+    increments: usize,
+    uses: usize,
+}
+
+/// What is done at places, one after the other; and beside it the names of counters that are asked for. What came last
+/// is compared before anything is looked up, since a look-up hashes all names. Contracts see the events.
 #[derive(Drop)]
 pub(crate) struct Log<'s> {
     rows: Vec<LogRow>,
     known: Known<'s>,
+    last: LastLists,
     asked: IndexSet<String>,
+    last_asked: usize,
 }
 
 impl<'s> Model for Log<'s> {
@@ -105,12 +115,16 @@ fn owned(alloc: Global, changes: &[Change<'_>]) -> Result<ChangeList, NoMem>
     Ok(list)
 }
 
-/// A known list of these changes.
-fn find<'k, 's>(known: &'k Known<'s>, changes: &Vec<Change<'s>>) -> Option<&'k Rc<ChangeList>>
-    ensures { IfSome result (λ list. list.now.value ≡ changes_in changes.now.items) }
+/// The known list of a number, if it is of these changes.
+fn list_at<'k, 's>(
+    known: &'k Known<'s>,
+    number: usize,
+    changes: &[Change<'s>],
+) -> Option<&'k Rc<ChangeList>>
+    ensures { IfSome result (λ list. list.now.value ≡ changes_in changes.now) }
 {
-    let list = known.get(changes)?;
-    if is_same(list.as_ref().as_slice(), changes.as_slice()) {
+    let (_, list) = known.get_index(number)?;
+    if is_same(list.as_ref().as_slice(), changes) {
         Some(list)
     } else {
         None
@@ -144,18 +158,41 @@ fn add<'s>(
     }
 }
 
-/// A list of these changes: a known one, if there is one.
+/// A list of these changes: that of the number, another known one, or a new one, whose number is then kept.
 fn list_of<'s>(
     alloc: Global,
     known: &mut Known<'s>,
+    last: &mut usize,
     changes: Vec<Change<'s>>,
 ) -> Result<Rc<ChangeList>, NoMem>
     ensures { IfOk result (λ list. list.value ≡ changes_in changes.entry.items) }
 {
-    if let Some(list) = find(known, &changes) {
+    if let Some(list) = list_at(known, *last, changes.as_slice()) {
+        return share(list);
+    }
+    *last = known.get_index_of(&changes).unwrap_or(known.len());
+    if let Some(list) = list_at(known, *last, changes.as_slice()) {
         return share(list);
     }
     add(alloc, known, changes)
+}
+
+/// A list of these changes, the first of which is given: the last one of its kind, if that is of these changes.
+fn shared<'s>(
+    alloc: Global,
+    known: &mut Known<'s>,
+    last: &mut LastLists,
+    first: Act,
+    changes: Vec<Change<'s>>,
+) -> Result<Rc<ChangeList>, NoMem>
+    ensures { IfOk result (λ list. list.value ≡ changes_in changes.entry.items) }
+{
+    let last = match first {
+        Act::Reset(_) => &mut last.resets,
+        Act::Add(0) => &mut last.uses,
+        Act::Add(_) => &mut last.increments,
+    };
+    list_of(alloc, known, last, changes)
 }
 
 fn push_row(rows: &mut Vec<LogRow>, row: LogRow) -> Result<(), NoMem>
@@ -167,11 +204,31 @@ fn push_row(rows: &mut Vec<LogRow>, row: LogRow) -> Result<(), NoMem>
     }
 }
 
-/// Whether a counter is among those that are asked for.
-pub(crate) fn is_asked(asked: &IndexSet<String>, name: &str) -> bool
+/// Whether a counter is the one of a number among those that are asked for.
+fn is_at(asked: &IndexSet<String>, number: usize, name: &str) -> bool
+    ensures { IsTrue result → is_asked (map (λ k. string_bytes k) asked.now.keys) name.now ≡ true }
+{
+    match asked.get_index(number) {
+        Some(own) => own.as_str() == name,
+        None => false,
+    }
+}
+
+/// Whether a counter is among those that are asked for. The number of the one that is likely is compared first, and
+/// becomes the number of the one that was found.
+pub(crate) fn is_asked(asked: &IndexSet<String>, likely: &mut usize, name: &str) -> bool
     ensures { result ≡ is_asked (map (λ k. string_bytes k) asked.now.keys) name.now }
 {
-    asked.contains(name)
+    if is_at(asked, *likely, name) {
+        return true;
+    }
+    match asked.get_index_of(name) {
+        Some(number) => {
+            *likely = number;
+            true
+        }
+        None => false,
+    }
 }
 
 impl<'s> Log<'s> {
@@ -182,7 +239,13 @@ impl<'s> Log<'s> {
         Log {
             rows: Vec::new(alloc),
             known: IndexMap::new(alloc),
+            last: LastLists {
+                resets: 0,
+                increments: 0,
+                uses: 0,
+            },
             asked: IndexSet::new(alloc),
+            last_asked: 0,
         }
     }
 
@@ -198,10 +261,11 @@ impl<'s> Log<'s> {
         if changes.is_empty() {
             return Ok(());
         }
+        let first = changes[0].1;
         let row = LogRow {
             at: place.at,
             end: place.end,
-            changes: list_of(alloc, &mut self.known, changes)?,
+            changes: shared(alloc, &mut self.known, &mut self.last, first, changes)?,
         };
         push_row(&mut self.rows, row)
     }
@@ -210,7 +274,7 @@ impl<'s> Log<'s> {
     pub(crate) fn ask(&mut self, alloc: Global, name: &str) -> Result<(), NoMem>
         ensures { self.new ≡ self.old }
     {
-        if is_asked(&self.asked, name) {
+        if is_asked(&self.asked, &mut self.last_asked, name) {
             return Ok(());
         }
         let text = String::from_str(alloc, name)?;
