@@ -3,6 +3,7 @@ pub mod Props
 pub mod Represented
 pub mod Markers
 pub mod Items
+pub mod RunFields
 pub mod Runs
 pub mod Hyphens
 pub mod Leaves

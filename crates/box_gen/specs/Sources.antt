@@ -35,8 +35,8 @@ source_of texts faces points = record {
 
 -- what a flow is made from, and in a note what is in the note
 abbrev pub source_in : FlowInput → Source
-source_in i = record (source_of (text_source i.texts) i.faces.now (points_in (option_map (λ h. h.now) i.hyphenator))) {
-  is_note = λ n. not i.in_note && is_note_in (slice_get i.texts.styles.now n);
+source_in i = record (source_of (text_source i.texts.now) i.faces.now (points_in (option_map (λ h. h.now) i.hyphenator))) {
+  is_note = λ n. not i.in_note && is_note_in (slice_get i.texts.now.styles.now n);
   clones = not i.in_note;
 }
 
@@ -54,8 +54,8 @@ pub record IsRootShown (styles : List NodeStyles) : Type 0 where
 pub record IsInput (i : FlowInput) : Type 0 where
   pub initial : i.known.now.initial.style ≡ initial_style
   pub faces : i.known.now.initial.faces ≡ i.faces.now
-  pub known : KnowsFaces i.texts.styles.now i.faces.now i.known.now
-  pub ranges : AreInRange i.texts.styles.now
+  pub known : KnowsFaces i.texts.now.styles.now i.faces.now i.known.now
+  pub ranges : AreInRange i.texts.now.styles.now
 
 -- the elements that begin somewhere are nodes of a document
 abbrev pub AreWithin : List Node → List Start → Type 0

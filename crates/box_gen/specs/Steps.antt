@@ -12,7 +12,6 @@ use Rattle.style.specs.Nodes.{NodeStyles, style_at}
 use Rattle.box_gen.specs.declared.builder.FlowBuilder.{FlowBuilder}
 use Rattle.box_gen.specs.Flow.{last_items, with_run}
 use Rattle.box_gen.specs.Gather.{Gathered, adds, make}
-use Rattle.box_gen.specs.Items.{run_in}
 use Rattle.box_gen.specs.Runs.{AreGoodTexts}
 use Rattle.box_gen.specs.Sites.{built_in}
 use Rattle.box_gen.specs.Trees.{Source, Role, text, hidden, inline, block, note, role_of}
@@ -24,7 +23,7 @@ styles_of styles ns = map (λ n. style_or_initial (style_at styles n.0 pseudo.El
 
 -- the walk that a builder has come to
 abbrev pub walk_in : List NodeStyles → FlowBuilder → Walk
-walk_in styles b = walk (make (built_in b.site) (run_in b.run.items)) (styles_of styles b.blocks.items)
+walk_in styles b = walk (make (built_in b.site) b.run) (styles_of styles b.blocks.items)
     (option_map (λ n. n.0) b.unshown)
 
 -- a run may be put: a box may open, the markers that wait are those of open boxes, and no size is negative

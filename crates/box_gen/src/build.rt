@@ -74,17 +74,17 @@ fn push_strings_of(
     start: &Start,
     strings: &mut Vec<Assign>,
 ) -> Result<(), NoMem>
-    requires { start.now.node.0 < length input.now.texts.dom.now }
+    requires { start.now.node.0 < length input.now.texts.now.dom.now }
     ensures { OnOk result (strings.new.items ≡ strings.old.items ++
         assigns_at start.now.at ((source_in input.now).assigned start.now.node.0)) }
 {
-    let assigned = assigned_strings(alloc, &input.texts, start.node)?;
+    let assigned = assigned_strings(alloc, input.texts, start.node)?;
     push_assigned(assigned, start.at, strings)
 }
 
 /// The running strings that are assigned where elements begin.
 fn strings_of(alloc: Global, input: &FlowInput, starts: &[Start]) -> Result<Vec<Assign>, NoMem>
-    requires { AreWithin input.now.texts.dom.now starts.now }
+    requires { AreWithin input.now.texts.now.dom.now starts.now }
     ensures { IfOk result (λ v. v.items ≡ spec.strings_of (source_in input.now) starts.now) }
 {
     let mut strings = Vec::new(alloc);
@@ -123,7 +123,7 @@ fn push_resets(counters: &[(Name, i64)], at: Position, resets: &mut Vec<Reset>) 
 /// Adds the resets of the page number at an element.
 fn push_resets_of(input: &FlowInput, start: &Start, resets: &mut Vec<Reset>) -> Result<(), NoMem>
     ensures list { OnOk result (resets.new.items ≡ resets.old.items ++
-        resets_at start.now.at (page_resets (style_at input.now.texts.styles.now start.now.node.0 pseudo.Element))) }
+        resets_at start.now.at (page_resets (style_at input.now.texts.now.styles.now start.now.node.0 pseudo.Element))) }
     ensures small { OnOk result (All IsSmallReset resets.old.items → All IsSmallReset resets.new.items) }
 {
     match input.texts.styles.of(start.node, Pseudo::Element) {
@@ -253,7 +253,7 @@ fn set_at(
     input: &FlowInput,
     starts: &[Start],
 ) -> Result<(Vec<Assign>, Vec<Reset>), NoMem>
-    requires { AreWithin input.now.texts.dom.now starts.now }
+    requires { AreWithin input.now.texts.now.dom.now starts.now }
     ensures strings { IfOk result (λ r. r.0.items ≡ spec.strings_of (source_in input.now) starts.now) }
     ensures resets { IfOk result (λ r. r.1.items ≡ spec.resets_of (source_in input.now) starts.now) }
     ensures small { IfOk result (λ r. All IsSmallReset r.1.items) }
@@ -270,7 +270,7 @@ fn anchors_of(
     places: Vec<Start>,
     bodies: Vec<Site>,
 ) -> Result<Anchors, NoMem>
-    requires within { AreWithin input.now.texts.dom.now places.items }
+    requires within { AreWithin input.now.texts.now.dom.now places.items }
     requires each { length bodies.items ≡ length (calls_of (source_in input.now) places.items) }
     requires few { length bodies.items ≤ most_events }
     ensures notes { IfOk result (λ a. a.notes.items ≡
@@ -297,7 +297,7 @@ fn anchors_of(
 
 /// The flow of what is built.
 fn finish(alloc: Global, input: &FlowInput, walker: Walker) -> Result<Flow, NoMem>
-    requires within { AreWithin input.now.texts.dom.now walker.main.site.starts.items }
+    requires within { AreWithin input.now.texts.now.dom.now walker.main.site.starts.items }
     requires main { built_of (source_in input.now) ≡ built_in walker.main.site }
     requires bodies { map built_in walker.bodies.items ≡ bodies_of (source_in input.now) }
     requires few { length walker.bodies.items ≤ most_events }
@@ -362,7 +362,7 @@ fn flow_in_faces(alloc: Global, given: &Given<'_>, known: &StyleFaces<'_>) -> Re
         bytes_in (flow_of (source_given given.now))) }
 {
     let input = FlowInput {
-        texts: given.texts,
+        texts: &given.texts,
         faces: given.faces,
         known,
         hyphenator: given.hyphenator,

@@ -9,7 +9,6 @@ ghost use Rattle.style.specs.Nodes.{NodeStyles};
 ghost use Rattle.box_gen.specs.Flow as spec;
 ghost use Rattle.box_gen.specs.Flow.{closed, leads_of, opened};
 ghost use Rattle.box_gen.specs.Items as item;
-ghost use Rattle.box_gen.specs.Items.{run_in};
 ghost use Rattle.box_gen.specs.Gather.{adds, begun, ended, make};
 ghost use Rattle.box_gen.specs.Kinds.{HasRange, IsKindOf, IsSetIn, role_in};
 ghost use Rattle.box_gen.specs.Sites.{HasRoom, IsWithinRoom, built_in, leaf_bytes};
@@ -19,12 +18,13 @@ ghost use Rattle.box_gen.specs.Walk as walk;
 ghost use Rattle.box_gen.specs.Walk.{after_step, enter_node, leave_node};
 
 use crate::faced::FacedStyle;
-use crate::inline::{BuildErr, RunItem};
+use crate::inline::BuildErr;
 use crate::input::{FlowInput, NodeKind, kind_of, style_around, style_of};
 use crate::marker::{lead_of, marker_text};
-use crate::pieces::{push_call, push_first, push_item, push_last, push_text};
+use crate::pieces::{push_call, push_first, push_last, push_text};
 use crate::props::props_of;
 use crate::put::{Site, TreeRoom, put_run, start_at};
+use crate::run::InlineRun;
 use crate::text_style::text_style;
 use bk_num::ids::NodeId;
 use bk_num::name::NoMem;
@@ -39,7 +39,7 @@ use std::alloc::Global;
 #[derive(Drop)]
 pub(crate) struct FlowBuilder<'a> {
     pub(crate) site: Site,
-    pub(crate) run: Vec<RunItem<'a>>,
+    pub(crate) run: InlineRun<'a>,
     pub(crate) blocks: Vec<NodeId>,
     pub(crate) unshown: Option<NodeId>,
 }
@@ -72,7 +72,7 @@ pub(crate) fn new_builder<'a>(alloc: Global, room: TreeRoom) -> FlowBuilder<'a>
 {
     FlowBuilder {
         site: new_site(alloc, room),
-        run: Vec::new(alloc),
+        run: InlineRun::new(alloc),
         blocks: Vec::new(alloc),
         unshown: None,
     }
@@ -81,7 +81,7 @@ pub(crate) fn new_builder<'a>(alloc: Global, room: TreeRoom) -> FlowBuilder<'a>
 /// The style of the innermost open block.
 pub(crate) fn innermost<'a>(input: &FlowInput<'a>, blocks: &[NodeId]) -> &'a FacedStyle<'a>
     requires { IsInput input.now }
-    ensures value { result.now.style ≡ walk.innermost (styles_of input.now.texts.styles.now blocks.now) }
+    ensures value { result.now.style ≡ walk.innermost (styles_of input.now.texts.now.styles.now blocks.now) }
     ensures faces { result.now.faces ≡ input.now.faces.now }
     ensures range { IsInRange result.now.style }
 {
@@ -181,31 +181,27 @@ fn enter_inline<'a>(
     input: &FlowInput<'a>,
     node: NodeId,
     faced: &FacedStyle<'_>,
-    run: &mut Vec<RunItem<'a>>,
+    run: &mut InlineRun<'a>,
 ) -> Result<(), NoMem>
     requires input { IsInput input.now }
-    requires node { node.0 < length input.now.texts.dom.now }
+    requires node { node.0 < length input.now.texts.now.dom.now }
     requires faces { faced.now.faces ≡ input.now.faces.now }
-    ensures { OnOk result (run_in run.new.items ≡ (run_in run.old.items ++ item.Start node ∷ []) ++
+    ensures { OnOk result (run.new ≡ (run.old ++ item.Start node ∷ []) ++
         spec.first_items (source_in input.now) faced.now.style node.0) }
 {
-    push_item(run, RunItem::Start(node))?;
+    run.push_start(node)?;
     push_first(input, node, faced, run)
 }
 
 /// Enters a note element: its call stands where it would begin.
-fn enter_note<'a>(
-    input: &FlowInput<'a>,
-    node: NodeId,
-    run: &mut Vec<RunItem<'a>>,
-) -> Result<(), NoMem>
+fn enter_note<'a>(input: &FlowInput<'a>, node: NodeId, run: &mut InlineRun<'a>) -> Result<(), NoMem>
     requires input { IsInput input.now }
-    requires node { node.0 < length input.now.texts.dom.now }
-    ensures { OnOk result (run_in run.new.items ≡
-        (run_in run.old.items ++ item.Start node ∷ []) ++
+    requires node { node.0 < length input.now.texts.now.dom.now }
+    ensures { OnOk result (run.new ≡
+        (run.old ++ item.Start node ∷ []) ++
         spec.generated_items (source_in input.now) node.0 pseudo.Call) }
 {
-    push_item(run, RunItem::Start(node))?;
+    run.push_start(node)?;
     push_call(input, node, run)
 }
 
@@ -218,29 +214,29 @@ fn enter_block<'a>(
     builder: &mut FlowBuilder<'a>,
 ) -> Result<(), BuildErr>
     requires input { IsInput input.now }
-    requires node { node.0 < length input.now.texts.dom.now }
+    requires node { node.0 < length input.now.texts.now.dom.now }
     requires faces { faced.now.faces ≡ input.now.faces.now }
     requires range { IsInRange faced.now.style }
     requires within { IsWithinRoom builder.old.site }
     requires room { HasRoom builder.old.site }
     requires can { CanBegin (source_in input.now)
-        (walk.innermost (styles_of input.now.texts.styles.now builder.old.blocks.items))
-        (make (built_in builder.old.site) (run_in builder.old.run.items)) }
-    ensures gathered { OnOk result (make (built_in builder.new.site) (run_in builder.new.run.items) ≡
+        (walk.innermost (styles_of input.now.texts.now.styles.now builder.old.blocks.items))
+        (make (built_in builder.old.site) builder.old.run) }
+    ensures gathered { OnOk result (make (built_in builder.new.site) builder.new.run ≡
         begun (source_in input.now)
-        (walk.innermost (styles_of input.now.texts.styles.now builder.old.blocks.items)) node.0 faced.now.style
-        (make (built_in builder.old.site) (run_in builder.old.run.items))) }
+        (walk.innermost (styles_of input.now.texts.now.styles.now builder.old.blocks.items)) node.0 faced.now.style
+        (make (built_in builder.old.site) builder.old.run)) }
     ensures blocks { OnOk result (builder.new.blocks.items ≡ builder.old.blocks.items ++ node ∷ []) }
     ensures unshown { OnOk result (builder.new.unshown ≡ builder.old.unshown) }
     ensures within { OnOk result (IsWithinRoom builder.new.site) }
     ensures room { OnOk result (builder.new.site.room ≡ builder.old.site.room) }
     ensures cause { IfErr result (λ e. e ≡ BuildErr.Text → builder.old.site.room.bytes <
         leaf_bytes (begun (source_in input.now)
-        (walk.innermost (styles_of input.now.texts.styles.now builder.old.blocks.items)) node.0 faced.now.style
-        (make (built_in builder.old.site) (run_in builder.old.run.items))).built.tree.leaves) }
+        (walk.innermost (styles_of input.now.texts.now.styles.now builder.old.blocks.items)) node.0 faced.now.style
+        (make (built_in builder.old.site) builder.old.run)).built.tree.leaves) }
 {
     let around = innermost(input, &builder.blocks);
-    let items = std::mem::replace(&mut builder.run, Vec::new(alloc));
+    let items = std::mem::replace(&mut builder.run, InlineRun::new(alloc));
     put_run(
         alloc,
         input.hyphenator,
@@ -270,18 +266,18 @@ pub(crate) fn leave_block<'a>(
     builder: &mut FlowBuilder<'a>,
 ) -> Result<(), BuildErr>
     requires input { IsInput input.now }
-    requires node { node.0 < length input.now.texts.dom.now }
+    requires node { node.0 < length input.now.texts.now.dom.now }
     requires faces { faced.now.faces ≡ input.now.faces.now }
     requires range { IsInRange faced.now.style }
     requires within { IsWithinRoom builder.old.site }
     requires room { HasRoom builder.old.site }
     requires can { CanEnd (source_in input.now) faced.now.style
         (adds (spec.last_items (source_in input.now) node.0)
-        (make (built_in builder.old.site) (run_in builder.old.run.items))) }
-    ensures gathered { OnOk result (make (built_in builder.new.site) (run_in builder.new.run.items) ≡
+        (make (built_in builder.old.site) builder.old.run)) }
+    ensures gathered { OnOk result (make (built_in builder.new.site) builder.new.run ≡
         ended (source_in input.now) faced.now.style
         (adds (spec.last_items (source_in input.now) node.0)
-        (make (built_in builder.old.site) (run_in builder.old.run.items)))) }
+        (make (built_in builder.old.site) builder.old.run))) }
     ensures blocks { OnOk result (builder.new.blocks ≡ builder.old.blocks) }
     ensures unshown { OnOk result (builder.new.unshown ≡ builder.old.unshown) }
     ensures within { OnOk result (IsWithinRoom builder.new.site) }
@@ -289,13 +285,13 @@ pub(crate) fn leave_block<'a>(
     ensures cause { IfErr result (λ e. e ≡ BuildErr.Text → builder.old.site.room.bytes <
         leaf_bytes (ended (source_in input.now) faced.now.style
         (adds (spec.last_items (source_in input.now) node.0)
-        (make (built_in builder.old.site) (run_in builder.old.run.items)))).built.tree.leaves) }
+        (make (built_in builder.old.site) builder.old.run))).built.tree.leaves) }
 {
     let Ok(()) = push_last(input, node, &mut builder.run) else {
         return Err(BuildErr::NoMemory);
     };
     let wrap = !builder.site.tree.takes_leaf();
-    let items = std::mem::replace(&mut builder.run, Vec::new(alloc));
+    let items = std::mem::replace(&mut builder.run, InlineRun::new(alloc));
     put_run(
         alloc,
         input.hyphenator,
@@ -319,19 +315,19 @@ fn enter<'a>(
     builder: &mut FlowBuilder<'a>,
 ) -> Result<(), BuildErr>
     requires input { IsInput input.now }
-    requires node { node.0 < length input.now.texts.dom.now }
+    requires node { node.0 < length input.now.texts.now.dom.now }
     requires kind { IsKindOf input.now node.0 kind }
     requires shown { builder.old.unshown ≡ None }
     requires within { IsWithinRoom builder.old.site }
     requires room { HasRoom builder.old.site }
-    requires can { CanEnterNode (source_in input.now) (role_in kind) (walk_in input.now.texts.styles.now builder.old) }
-    ensures walk { OnOk result (walk_in input.now.texts.styles.now builder.new ≡
-        enter_node (source_in input.now) node.0 (role_in kind.entry) (walk_in input.now.texts.styles.now builder.old)) }
+    requires can { CanEnterNode (source_in input.now) (role_in kind) (walk_in input.now.texts.now.styles.now builder.old) }
+    ensures walk { OnOk result (walk_in input.now.texts.now.styles.now builder.new ≡
+        enter_node (source_in input.now) node.0 (role_in kind.entry) (walk_in input.now.texts.now.styles.now builder.old)) }
     ensures within { OnOk result (IsWithinRoom builder.new.site) }
     ensures room { OnOk result (builder.new.site.room ≡ builder.old.site.room) }
     ensures cause { IfErr result (λ e. e ≡ BuildErr.Text → builder.old.site.room.bytes <
         leaf_bytes (enter_node (source_in input.now) node.0 (role_in kind.entry)
-        (walk_in input.now.texts.styles.now builder.old)).gathered.built.tree.leaves) }
+        (walk_in input.now.texts.now.styles.now builder.old)).gathered.built.tree.leaves) }
 {
     match kind {
         NodeKind::Hidden => builder.unshown = Some(node),
@@ -366,21 +362,21 @@ fn leave<'a>(
     builder: &mut FlowBuilder<'a>,
 ) -> Result<(), BuildErr>
     requires input { IsInput input.now }
-    requires node { node.0 < length input.now.texts.dom.now }
+    requires node { node.0 < length input.now.texts.now.dom.now }
     requires faces { IsSetIn input.now.faces.now kind }
     requires range { HasRange kind }
     requires shown { builder.old.unshown ≡ None }
     requires within { IsWithinRoom builder.old.site }
     requires room { HasRoom builder.old.site }
     requires can { CanLeaveNode (source_in input.now) node.0 (role_in kind)
-        (walk_in input.now.texts.styles.now builder.old) }
-    ensures walk { OnOk result (walk_in input.now.texts.styles.now builder.new ≡
-        leave_node (source_in input.now) node.0 (role_in kind.entry) (walk_in input.now.texts.styles.now builder.old)) }
+        (walk_in input.now.texts.now.styles.now builder.old) }
+    ensures walk { OnOk result (walk_in input.now.texts.now.styles.now builder.new ≡
+        leave_node (source_in input.now) node.0 (role_in kind.entry) (walk_in input.now.texts.now.styles.now builder.old)) }
     ensures within { OnOk result (IsWithinRoom builder.new.site) }
     ensures room { OnOk result (builder.new.site.room ≡ builder.old.site.room) }
     ensures cause { IfErr result (λ e. e ≡ BuildErr.Text → builder.old.site.room.bytes <
         leaf_bytes (leave_node (source_in input.now) node.0 (role_in kind.entry)
-        (walk_in input.now.texts.styles.now builder.old)).gathered.built.tree.leaves) }
+        (walk_in input.now.texts.now.styles.now builder.old)).gathered.built.tree.leaves) }
 {
     match kind {
         NodeKind::Hidden | NodeKind::Text(_) | NodeKind::Note(_) => {}
@@ -405,17 +401,17 @@ pub(crate) fn pass<'a>(
     builder: &mut FlowBuilder<'a>,
 ) -> Result<(), BuildErr>
     requires input { IsInput input.now }
-    requires node { node_of step < length input.now.texts.dom.now }
+    requires node { node_of step < length input.now.texts.now.dom.now }
     requires within { IsWithinRoom builder.old.site }
     requires room { HasRoom builder.old.site }
-    requires can { CanStep (source_in input.now) (walk_in input.now.texts.styles.now builder.old) step }
-    ensures walk { OnOk result (walk_in input.now.texts.styles.now builder.new ≡
-        after_step (source_in input.now) (walk_in input.now.texts.styles.now builder.old) step) }
+    requires can { CanStep (source_in input.now) (walk_in input.now.texts.now.styles.now builder.old) step }
+    ensures walk { OnOk result (walk_in input.now.texts.now.styles.now builder.new ≡
+        after_step (source_in input.now) (walk_in input.now.texts.now.styles.now builder.old) step) }
     ensures within { OnOk result (IsWithinRoom builder.new.site) }
     ensures room { OnOk result (builder.new.site.room ≡ builder.old.site.room) }
     ensures cause { IfErr result (λ e. e ≡ BuildErr.Text → builder.old.site.room.bytes <
         leaf_bytes (after_step (source_in input.now)
-        (walk_in input.now.texts.styles.now builder.old) step).gathered.built.tree.leaves) }
+        (walk_in input.now.texts.now.styles.now builder.old) step).gathered.built.tree.leaves) }
 {
     match (step, builder.unshown) {
         (Step::Enter(node), None) => enter(alloc, input, node, kind_of(input, node), builder),

@@ -20,21 +20,19 @@ pub struct StyledText<'a> {
 /// text is made where its run is put, and let go there.
 #[derive(Clone, Copy)]
 pub struct GeneratedText<'a> {
-    pub texts: Texts<'a>,
+    pub texts: &'a Texts<'a>,
     pub node: NodeId,
     pub pseudo: Pseudo,
     pub space: WhiteSpace,
     pub style: TextStyle,
-    ghost within: { node.0 < length texts.dom.now },
+    ghost within: { node.0 < length texts.now.dom.now },
 }
 
-/// What a run of inline text is made of: texts that stand in the document, texts that are generated, and places at
-/// which inline elements begin.
+/// A text of a run: one that stands in the document, or one that is generated.
 #[derive(Drop)]
-pub enum RunItem<'a> {
-    Text(StyledText<'a>),
+pub enum InlineText<'a> {
+    Own(StyledText<'a>),
     Generated(GeneratedText<'a>),
-    Start(NodeId),
 }
 
 /// An item without the letters of its text.

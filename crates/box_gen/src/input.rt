@@ -22,7 +22,7 @@ use style::values::Display;
 /// faces, what hyphenates its words, and whether what is meant stands in a note.
 #[derive(Clone, Copy)]
 pub(crate) struct FlowInput<'a> {
-    pub(crate) texts: Texts<'a>,
+    pub(crate) texts: &'a Texts<'a>,
     pub(crate) faces: &'a Faces,
     pub(crate) known: &'a StyleFaces<'a>,
     pub(crate) hyphenator: Option<&'a Hyphenator<'a>>,
@@ -79,7 +79,7 @@ pub(crate) fn faced_at<'a>(
     pseudo: Pseudo,
 ) -> Option<&'a FacedStyle<'a>>
     requires { IsInput input.now }
-    ensures value { option_map (λ s. s.now.style) result ≡ style_at input.now.texts.styles.now node.0 pseudo }
+    ensures value { option_map (λ s. s.now.style) result ≡ style_at input.now.texts.now.styles.now node.0 pseudo }
     ensures faces { IfSome result (λ s. s.now.faces ≡ input.now.faces.now) }
 {
     let number = input.known.table.number(node, pseudo)?;
@@ -90,7 +90,7 @@ pub(crate) fn faced_at<'a>(
 fn own_style<'a>(input: &FlowInput<'a>, node: NodeId) -> Option<&'a FacedStyle<'a>>
     requires { IsInput input.now }
     ensures value { option_map (λ s. s.now.style) result ≡
-        style_at input.now.texts.styles.now node.0 pseudo.Element }
+        style_at input.now.texts.now.styles.now node.0 pseudo.Element }
     ensures faces { IfSome result (λ s. s.now.faces ≡ input.now.faces.now) }
     ensures range { IfSome result (λ s. IsInRange s.now.style) }
 {
@@ -103,7 +103,7 @@ fn own_style<'a>(input: &FlowInput<'a>, node: NodeId) -> Option<&'a FacedStyle<'
 /// The style of an element that is shown.
 fn shown_style<'a>(input: &FlowInput<'a>, node: NodeId) -> Option<&'a FacedStyle<'a>>
     requires { IsInput input.now }
-    ensures value { option_map (λ s. s.now.style) result ≡ shown_in input.now.texts.styles.now node.0 }
+    ensures value { option_map (λ s. s.now.style) result ≡ shown_in input.now.texts.now.styles.now node.0 }
     ensures faces { IfSome result (λ s. s.now.faces ≡ input.now.faces.now) }
     ensures range { IfSome result (λ s. IsInRange s.now.style) }
 {
@@ -117,7 +117,7 @@ fn shown_style<'a>(input: &FlowInput<'a>, node: NodeId) -> Option<&'a FacedStyle
 /// What a node is to the flow.
 pub(crate) fn kind_of<'a>(input: &FlowInput<'a>, node: NodeId) -> NodeKind<'a>
     requires input { IsInput input.now }
-    requires node { node.0 < length input.now.texts.dom.now }
+    requires node { node.0 < length input.now.texts.now.dom.now }
     ensures role { role_in result ≡ spec.role_of (source_in input.now) node.0 }
     ensures faces { IsSetIn input.now.faces.now result }
     ensures range { HasRange result }
@@ -155,7 +155,7 @@ pub(crate) fn style_of<'a>(input: &FlowInput<'a>, node: NodeId) -> &'a FacedStyl
 /// The style of the element around a node.
 pub(crate) fn style_around<'a>(input: &FlowInput<'a>, node: NodeId) -> &'a FacedStyle<'a>
     requires input { IsInput input.now }
-    requires node { node.0 < length input.now.texts.dom.now }
+    requires node { node.0 < length input.now.texts.now.dom.now }
     ensures value { result.now.style ≡ style_around (source_in input.now) node.0 }
     ensures faces { result.now.faces ≡ input.now.faces.now }
 {

@@ -1,6 +1,6 @@
 //! The leaves of inline text.
 
-ghost use Rattle.std.specs.Prelude.{◌≡◌, ◌<◌, ◌≤◌, ◌++◌, ◌∷◌, [], List, ℕ, Option, length, option_map, IfOk, IfErr, OnOk};
+ghost use Rattle.std.specs.Prelude.{◌≡◌, ◌<◌, ◌≤◌, ◌++◌, ◌∷◌, [], List, ℕ, Option, length, map, option_map, IfOk, IfErr, OnOk};
 ghost use Rattle.std.specs.List.{All};
 ghost use Rattle.std.specs.Str.{IsCharBoundary};
 ghost use Rattle.inline_text.specs.Joined.{ends_from, laid_texts};
@@ -12,7 +12,7 @@ ghost use Rattle.inline_text.specs.Space.{collapsed};
 ghost use Rattle.soft_hyphens.specs.Words.{Points, points_in};
 ghost use Rattle.box_gen.specs.Faces.{face_of};
 ghost use Rattle.box_gen.specs.Items as item;
-ghost use Rattle.box_gen.specs.Items.{InlineItem, generated_part, item_in, run_in};
+ghost use Rattle.box_gen.specs.Items.{InlineItem, IsTextOf, generated_part, items_in, text_in};
 ghost use Rattle.box_gen.specs.Leaves.{HasRun, IsGoodRun, leaf_by, leaf_style_of};
 ghost use Rattle.box_gen.specs.Runs.{
   AreGoodTexts,
@@ -31,7 +31,8 @@ ghost use Rattle.box_gen.specs.TextStyles.{IsGoodTextStyle};
 
 use crate::faced::FacedStyle;
 use crate::hyphens::hyphenated;
-use crate::inline::{BuildErr, GeneratedText, InlineStart, ItemMark, RunItem};
+use crate::inline::{BuildErr, GeneratedText, InlineStart, InlineText, ItemMark};
+use crate::run::{InlineRun, RunEntry};
 use crate::text_style::{TextStyle, span_by, text_style};
 use bk_num::ids::NodeId;
 use bk_num::items::{Items, Text};
@@ -98,7 +99,7 @@ fn new_pass(alloc: Global, room: usize) -> Result<RunPass, NoMem>
 }
 
 /// Passes a text that is set so.
-fn pass_text(part: &BorrowedPart<'_>, style: TextStyle, pass: &mut RunPass) -> Result<(), NoMem>
+fn pass_part(part: &BorrowedPart<'_>, style: TextStyle, pass: &mut RunPass) -> Result<(), NoMem>
     ensures { (items : List InlineItem) → HasRun pass.old items → OnOk result
         (HasRun pass.new (items ++ item.Text (record { part = part.now; style = style }) ∷ [])) }
 {
@@ -112,10 +113,21 @@ fn pass_generated(alloc: Global, made: &GeneratedText<'_>, pass: &mut RunPass) -
     ensures { (items : List InlineItem) → HasRun pass.old items → OnOk result (HasRun pass.new
         (items ++ item.Text (record { part = generated_part made.now; style = made.now.style }) ∷ [])) }
 {
-    let text = generated_text(alloc, &made.texts, made.node, made.pseudo)?;
+    let text = generated_text(alloc, made.texts, made.node, made.pseudo)?;
     let part = BorrowedPart::new(text.as_str(), made.space);
-    pass_text(&part, made.style, pass)?;
+    pass_part(&part, made.style, pass)?;
     Ok(())
+}
+
+/// Passes a text.
+fn pass_text(alloc: Global, text: &InlineText<'_>, pass: &mut RunPass) -> Result<(), NoMem>
+    ensures { (items : List InlineItem) → HasRun pass.old items →
+        OnOk result (HasRun pass.new (items ++ item.Text (text_in text.now) ∷ [])) }
+{
+    match text {
+        InlineText::Own(text) => pass_part(&text.part, text.style, pass),
+        InlineText::Generated(text) => pass_generated(alloc, text, pass),
+    }
 }
 
 /// Passes the place at which an element begins.
@@ -127,31 +139,40 @@ fn pass_start(node: NodeId, pass: &mut RunPass) -> Result<(), NoMem>
     Ok(())
 }
 
-/// Passes an item.
-fn pass_item(alloc: Global, item: &RunItem<'_>, pass: &mut RunPass) -> Result<(), NoMem>
+/// Passes what comes next in a run.
+fn pass_entry(
+    alloc: Global,
+    entry: &RunEntry,
+    texts: &[InlineText<'_>],
+    pass: &mut RunPass,
+) -> Result<(), NoMem>
+    requires { IsTextOf (length texts.now) entry.now }
     ensures { (items : List InlineItem) → HasRun pass.old items →
-        OnOk result (HasRun pass.new (items ++ item_in item.now ∷ [])) }
+        OnOk result (HasRun pass.new (items ++ items_in (map text_in texts.now) (entry.now ∷ []))) }
 {
-    match item {
-        RunItem::Text(text) => pass_text(&text.part, text.style, pass),
-        RunItem::Generated(text) => pass_generated(alloc, text, pass),
-        RunItem::Start(node) => pass_start(*node, pass),
+    match entry {
+        RunEntry::Text(number) => pass_text(alloc, &texts[*number as usize], pass),
+        RunEntry::Start(node) => pass_start(*node, pass),
     }
 }
 
-/// Passes an item, unless the text so far has more bytes than `most` then: no later item takes any of it away.
+/// Passes what comes next in a run, unless the text so far has more bytes than `most` then: nothing later takes any of
+/// it away.
 fn pass_within(
     alloc: Global,
-    item: &RunItem<'_>,
+    entry: &RunEntry,
+    texts: &[InlineText<'_>],
     most: u32,
     pass: &mut RunPass,
 ) -> Result<(), BuildErr>
+    requires { IsTextOf (length texts.now) entry.now }
     ensures run { (items : List InlineItem) → HasRun pass.old items →
-        OnOk result (HasRun pass.new (items ++ item_in item.now ∷ [])) }
+        OnOk result (HasRun pass.new (items ++ items_in (map text_in texts.now) (entry.now ∷ []))) }
     ensures cause { (points : Option Points) (items more : List InlineItem) → HasRun pass.old items →
-        IfErr result (λ e. e ≡ BuildErr.Text → most < length (text_of points (items ++ item_in item.now ∷ more))) }
+        IfErr result (λ e. e ≡ BuildErr.Text →
+        most < length (text_of points (items ++ items_in (map text_in texts.now) (entry.now ∷ []) ++ more))) }
 {
-    let Ok(()) = pass_item(alloc, item, pass) else {
+    let Ok(()) = pass_entry(alloc, entry, texts, pass) else {
         return Err(BuildErr::NoMemory);
     };
     if pass.collapser.len() > most as usize {
@@ -161,32 +182,48 @@ fn pass_within(
 }
 
 /// How many bytes the texts of a run have together that stand in the document, or the greatest number.
-fn bytes_in(items: &[RunItem<'_>]) -> usize {
+fn bytes_in(texts: &[InlineText<'_>]) -> usize {
     let mut bytes: usize = 0;
-    for item in items {
-        if let RunItem::Text(text) = item {
+    for text in texts {
+        if let InlineText::Own(text) = text {
             bytes = bytes.saturating_add(text.part.text().len());
         }
     }
     bytes
 }
 
-/// The pass over a whole run.
-fn pass_run(alloc: Global, items: &[RunItem<'_>], most: u32) -> Result<RunPass, BuildErr>
-    ensures run { IfOk result (λ pass. HasRun pass (run_in items.now)) }
+/// The pass over all that comes in a run.
+fn pass_entries(
+    alloc: Global,
+    entries: &[RunEntry],
+    texts: &[InlineText<'_>],
+    most: u32,
+) -> Result<RunPass, BuildErr>
+    requires { All (IsTextOf (length texts.now)) entries.now }
+    ensures run { IfOk result (λ pass. HasRun pass (items_in (map text_in texts.now) entries.now)) }
     ensures cause { (points : Option Points) → IfErr result (λ e. e ≡ BuildErr.Text →
-        most < length (text_of points (run_in items.now))) }
+        most < length (text_of points (items_in (map text_in texts.now) entries.now))) }
 {
-    let Ok(mut pass) = new_pass(alloc, bytes_in(items).min(most as usize)) else {
+    let Ok(mut pass) = new_pass(alloc, bytes_in(texts).min(most as usize)) else {
         return Err(BuildErr::NoMemory);
     };
-    for item in items {
-        match pass_within(alloc, item, most, &mut pass) {
+    for next in entries {
+        match pass_within(alloc, next, texts, most, &mut pass) {
             Ok(()) => {}
             Err(e) => return Err(e),
         }
     }
     Ok(pass)
+}
+
+/// The pass over a whole run.
+fn pass_run(alloc: Global, items: &InlineRun<'_>, most: u32) -> Result<RunPass, BuildErr>
+    ensures run { IfOk result (λ pass. HasRun pass items.now) }
+    ensures cause { (points : Option Points) → IfErr result (λ e. e ≡ BuildErr.Text →
+        most < length (text_of points items.now)) }
+{
+    let (entries, texts) = items.parts();
+    pass_entries(alloc, entries, texts, most)
 }
 
 /// The texts of a run that is passed, and the run without its letters.
@@ -202,15 +239,15 @@ fn finished(pass: RunPass) -> Result<(JoinedText, Vec<ItemMark>), NoMem>
 /// The texts of a run with its white space collapsed and its words hyphenated, and the run without its letters.
 fn printed(
     alloc: Global,
-    items: &[RunItem<'_>],
+    items: &InlineRun<'_>,
     most: u32,
     hyphenator: Option<&Hyphenator<'_>>,
 ) -> Result<(JoinedText, Vec<ItemMark>), BuildErr>
     ensures texts { IfOk result (λ r. r.0 ≡
-        laid_texts (printed_in (points_in (option_map (λ h. h.now) hyphenator.entry)) (run_in items.now))) }
-    ensures marks { IfOk result (λ r. r.1.items ≡ marks_in (run_in items.now)) }
+        laid_texts (printed_in (points_in (option_map (λ h. h.now) hyphenator.entry)) items.now)) }
+    ensures marks { IfOk result (λ r. r.1.items ≡ marks_in items.now) }
     ensures cause { (points : Option Points) → IfErr result (λ e. e ≡ BuildErr.Text →
-        most < length (text_of points (run_in items.now))) }
+        most < length (text_of points items.now)) }
 {
     let pass = match pass_run(alloc, items, most) {
         Ok(pass) => pass,
@@ -311,22 +348,22 @@ fn marked_run(alloc: Global, marks: &[ItemMark], joined: JoinedText) -> Result<R
 #[tactic(auto, unfolding(crate::specs::Runs::text_of, crate::specs::Runs::spans_of, crate::specs::Runs::starts_of))]
 pub fn run_text(
     alloc: Global,
-    items: &[RunItem<'_>],
+    items: &InlineRun<'_>,
     most: u32,
     hyphenator: Option<&Hyphenator<'_>>,
 ) -> Result<RunText, BuildErr>
     requires { most ≤ most_text_bytes }
     ensures text { IfOk result (λ run. run.text ≡
-        text_of (points_in (option_map (λ h. h.now) hyphenator.entry)) (run_in items.now)) }
+        text_of (points_in (option_map (λ h. h.now) hyphenator.entry)) items.now) }
     ensures spans { IfOk result (λ run. run.spans ≡
-        spans_of (points_in (option_map (λ h. h.now) hyphenator.entry)) (run_in items.now)) }
+        spans_of (points_in (option_map (λ h. h.now) hyphenator.entry)) items.now) }
     ensures starts { IfOk result (λ run. run.starts ≡
-        starts_of (points_in (option_map (λ h. h.now) hyphenator.entry)) (run_in items.now)) }
+        starts_of (points_in (option_map (λ h. h.now) hyphenator.entry)) items.now) }
     ensures good { IfOk result (λ run. IsGoodRun run) }
-    ensures sizes { AreGoodTexts (run_in items.now) → IfOk result (λ run. All IsGoodSpan run.spans) }
+    ensures sizes { AreGoodTexts items.now → IfOk result (λ run. All IsGoodSpan run.spans) }
     ensures most { IfOk result (λ run. length run.text ≤ most) }
     ensures cause { IfErr result (λ e. e ≡ BuildErr.Text →
-        most < length (text_of (points_in (option_map (λ h. h.now) hyphenator.entry)) (run_in items.now))) }
+        most < length (text_of (points_in (option_map (λ h. h.now) hyphenator.entry)) items.now)) }
 {
     let (texts, marks) = match printed(alloc, items, most, hyphenator) {
         Ok(said) => said,

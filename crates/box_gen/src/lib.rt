@@ -15,6 +15,7 @@ mod pieces;
 pub mod props;
 mod put;
 pub mod represented;
+pub mod run;
 mod style_faces;
 pub mod text_style;
 pub mod words;

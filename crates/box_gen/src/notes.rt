@@ -44,6 +44,7 @@ use crate::input::{FlowInput, NodeKind, kind_of, within_note};
 use crate::pieces::push_note_first;
 use crate::props::props_of;
 use crate::put::{Site, TreeRoom, start_at};
+use crate::run::InlineRun;
 use bk_num::ids::NodeId;
 use bk_num::limits::{MOST_EVENTS, MOST_TEXT_BYTES};
 use bk_num::name::NoMem;
@@ -96,20 +97,20 @@ fn note_builder<'a>(
     room: TreeRoom,
 ) -> Result<FlowBuilder<'a>, NoMem>
     requires input { IsInput input.now }
-    requires node { node.0 < length input.now.texts.dom.now }
-    requires own { style_at input.now.texts.styles.now node.0 pseudo.Element ≡ Some faced.now.style }
+    requires node { node.0 < length input.now.texts.now.dom.now }
+    requires own { style_at input.now.texts.now.styles.now node.0 pseudo.Element ≡ Some faced.now.style }
     requires faces { faced.now.faces ≡ input.now.faces.now }
     requires range { IsInRange faced.now.style }
     requires bytes { room.bytes ≤ most_text_bytes }
     requires events { room.events ≤ most_events }
     requires some { 0 < room.events }
-    ensures walk { IfOk result (λ b. walk_in input.now.texts.styles.now b ≡
+    ensures walk { IfOk result (λ b. walk_in input.now.texts.now.styles.now b ≡
         note_begun (source_in input.now) node.0 faced.now.style) }
     ensures within { IfOk result (λ b. IsWithinRoom b.site) }
     ensures room { IfOk result (λ b. b.site.room ≡ room) }
 {
     let site = note_site(alloc, node, faced.style(), room)?;
-    let mut run = Vec::new(alloc);
+    let mut run = InlineRun::new(alloc);
     push_note_first(input, node, faced, &mut run)?;
     let mut blocks = Vec::new(alloc);
     blocks.push(node)?;
@@ -130,13 +131,13 @@ fn begin_note<'a>(
     main: &Site,
 ) -> Result<FlowBuilder<'a>, BuildErr>
     requires input { IsInput input.now }
-    requires node { node.0 < length input.now.texts.dom.now }
-    requires own { style_at input.now.texts.styles.now node.0 pseudo.Element ≡ Some faced.now.style }
+    requires node { node.0 < length input.now.texts.now.dom.now }
+    requires own { style_at input.now.texts.now.styles.now node.0 pseudo.Element ≡ Some faced.now.style }
     requires faces { faced.now.faces ≡ input.now.faces.now }
     requires range { IsInRange faced.now.style }
     requires within { IsWithinRoom main.now }
     requires room { length main.now.tree.events < main.now.room.events }
-    ensures walk { IfOk result (λ b. walk_in input.now.texts.styles.now b ≡
+    ensures walk { IfOk result (λ b. walk_in input.now.texts.now.styles.now b ≡
         note_begun (in_note (source_in input.now)) node.0 faced.now.style) }
     ensures within { IfOk result (λ b. IsWithinRoom b.site) }
     ensures bytes { IfOk result (λ b. b.site.room.bytes + main.now.bytes ≡ main.now.room.bytes) }
@@ -158,20 +159,20 @@ fn pass_outside<'a>(
     main: &mut FlowBuilder<'a>,
 ) -> Result<Option<FlowBuilder<'a>>, BuildErr>
     requires input { IsInput input.now }
-    requires node { node_of step < length input.now.texts.dom.now }
+    requires node { node_of step < length input.now.texts.now.dom.now }
     requires within { IsWithinRoom main.old.site }
     requires room { HasRoom main.old.site }
-    requires can { CanStep (source_in input.now) (walk_in input.now.texts.styles.now main.old) step }
-    ensures walk { OnOk result (walk_in input.now.texts.styles.now main.new ≡
-        after_step (source_in input.now) (walk_in input.now.texts.styles.now main.old) step) }
-    ensures body { IfOk result (λ b. body_in input.now.texts.styles.now b ≡
+    requires can { CanStep (source_in input.now) (walk_in input.now.texts.now.styles.now main.old) step }
+    ensures walk { OnOk result (walk_in input.now.texts.now.styles.now main.new ≡
+        after_step (source_in input.now) (walk_in input.now.texts.now.styles.now main.old) step) }
+    ensures body { IfOk result (λ b. body_in input.now.texts.now.styles.now b ≡
         outside (source_in input.now) (over_in main.old) step) }
     ensures within { OnOk result (IsWithinRoom main.new.site) }
     ensures room { OnOk result (main.new.site.room ≡ main.old.site.room) }
     ensures sound { IfOk result (λ b. ForSome b (IsBody main.new)) }
     ensures cause { IfErr result (λ e. e ≡ BuildErr.Text → main.old.site.room.bytes <
         leaf_bytes (after_step (source_in input.now)
-        (walk_in input.now.texts.styles.now main.old) step).gathered.built.tree.leaves) }
+        (walk_in input.now.texts.now.styles.now main.old) step).gathered.built.tree.leaves) }
 {
     let over = main.unshown;
     pass(alloc, input, step, main)?;
@@ -202,20 +203,20 @@ fn end_note<'a>(
     body: FlowBuilder<'a>,
 ) -> Result<Site, BuildErr>
     requires input { IsInput input.now }
-    requires node { node.0 < length input.now.texts.dom.now }
+    requires node { node.0 < length input.now.texts.now.dom.now }
     requires within { IsWithinRoom body.site }
     requires room { HasRoom body.site }
     requires can { CanEnd (in_note (source_in input.now))
-        (walk.innermost (walk_in input.now.texts.styles.now body).blocks)
+        (walk.innermost (walk_in input.now.texts.now.styles.now body).blocks)
         (adds (last_items (in_note (source_in input.now)) node.0)
-        (walk_in input.now.texts.styles.now body).gathered) }
+        (walk_in input.now.texts.now.styles.now body).gathered) }
     ensures built { IfOk result (λ site. built_in site ≡
-        note_ended (in_note (source_in input.now)) node.0 (walk_in input.now.texts.styles.now body.entry)) }
+        note_ended (in_note (source_in input.now)) node.0 (walk_in input.now.texts.now.styles.now body.entry)) }
     ensures within { IfOk result (λ site. IsWithinRoom site) }
     ensures room { IfOk result (λ site. site.room ≡ body.entry.site.room) }
     ensures cause { IfErr result (λ e. e ≡ BuildErr.Text → body.entry.site.room.bytes <
         leaf_bytes (note_ended (in_note (source_in input.now)) node.0
-        (walk_in input.now.texts.styles.now body.entry)).tree.leaves) }
+        (walk_in input.now.texts.now.styles.now body.entry)).tree.leaves) }
 {
     let mut body = body;
     let faced = innermost(input, &body.blocks);
@@ -262,21 +263,21 @@ fn end_inside<'a>(
     bodies: &mut Vec<Site>,
 ) -> Result<(), BuildErr>
     requires input { IsInput input.now }
-    requires node { node_of step < length input.now.texts.dom.now }
+    requires node { node_of step < length input.now.texts.now.dom.now }
     requires shared { AreShared main.old.site bodies.old.items }
     requires body { IsBody main.old body }
     requires room { HasRoom body.site }
-    requires can { CanInNote (in_note (source_in input.now)) (walk_in input.now.texts.styles.now body) step true }
-    ensures main { OnOk result (walk_in input.now.texts.styles.now main.new ≡
-        walk.walk (walk_in input.now.texts.styles.now main.old).gathered
-        (walk_in input.now.texts.styles.now main.old).blocks None) }
+    requires can { CanInNote (in_note (source_in input.now)) (walk_in input.now.texts.now.styles.now body) step true }
+    ensures main { OnOk result (walk_in input.now.texts.now.styles.now main.new ≡
+        walk.walk (walk_in input.now.texts.now.styles.now main.old).gathered
+        (walk_in input.now.texts.now.styles.now main.old).blocks None) }
     ensures bodies { OnOk result (map built_in bodies.new.items ≡ map built_in bodies.old.items ++
         note_ended (in_note (source_in input.now)) (node_of step)
-        (walk_in input.now.texts.styles.now body.entry) ∷ []) }
+        (walk_in input.now.texts.now.styles.now body.entry) ∷ []) }
     ensures shared { OnOk result (AreShared main.new.site bodies.new.items) }
     ensures cause { IfErr result (λ e. e ≡ BuildErr.Text → body.entry.site.room.bytes <
         leaf_bytes (note_ended (in_note (source_in input.now)) (node_of step)
-        (walk_in input.now.texts.styles.now body.entry)).tree.leaves) }
+        (walk_in input.now.texts.now.styles.now body.entry)).tree.leaves) }
 {
     let site = end_note(alloc, input, node_in(step), body)?;
     let Ok(()) = keep_body(site, main, bodies) else {
@@ -293,17 +294,17 @@ fn pass_body<'a>(
     body: &mut FlowBuilder<'a>,
 ) -> Result<(), BuildErr>
     requires input { IsInput input.now }
-    requires node { node_of step < length input.now.texts.dom.now }
+    requires node { node_of step < length input.now.texts.now.dom.now }
     requires within { IsWithinRoom body.old.site }
     requires room { HasRoom body.old.site }
-    requires can { CanInNote (in_note (source_in input.now)) (walk_in input.now.texts.styles.now body.old) step false }
-    ensures walk { OnOk result (walk_in input.now.texts.styles.now body.new ≡
-        after_step (in_note (source_in input.now)) (walk_in input.now.texts.styles.now body.old) step) }
+    requires can { CanInNote (in_note (source_in input.now)) (walk_in input.now.texts.now.styles.now body.old) step false }
+    ensures walk { OnOk result (walk_in input.now.texts.now.styles.now body.new ≡
+        after_step (in_note (source_in input.now)) (walk_in input.now.texts.now.styles.now body.old) step) }
     ensures within { OnOk result (IsWithinRoom body.new.site) }
     ensures room { OnOk result (body.new.site.room ≡ body.old.site.room) }
     ensures cause { IfErr result (λ e. e ≡ BuildErr.Text → body.old.site.room.bytes <
         leaf_bytes (after_step (in_note (source_in input.now))
-        (walk_in input.now.texts.styles.now body.old) step).gathered.built.tree.leaves) }
+        (walk_in input.now.texts.now.styles.now body.old) step).gathered.built.tree.leaves) }
 {
     pass(alloc, &within_note(input), step, body)
 }
@@ -318,23 +319,23 @@ fn pass_inside<'a>(
     bodies: &mut Vec<Site>,
 ) -> Result<Option<FlowBuilder<'a>>, BuildErr>
     requires input { IsInput input.now }
-    requires node { node_of step < length input.now.texts.dom.now }
+    requires node { node_of step < length input.now.texts.now.dom.now }
     requires shared { AreShared main.old.site bodies.old.items }
     requires body { IsBody main.old body }
     requires room { HasRoom body.site }
     requires can { CanNotes (source_in input.now) (over_in main.old)
-        (Some (walk_in input.now.texts.styles.now body)) step }
-    ensures main { OnOk result (walk_in input.now.texts.styles.now main.new ≡
-        after_step (source_in input.now) (walk_in input.now.texts.styles.now main.old) step) }
-    ensures notes { IfOk result (λ b. noted (body_in input.now.texts.styles.now b) (map built_in bodies.new.items) ≡
-        notes_after (source_in input.now) (over_in main.old) (Some (walk_in input.now.texts.styles.now body.entry))
+        (Some (walk_in input.now.texts.now.styles.now body)) step }
+    ensures main { OnOk result (walk_in input.now.texts.now.styles.now main.new ≡
+        after_step (source_in input.now) (walk_in input.now.texts.now.styles.now main.old) step) }
+    ensures notes { IfOk result (λ b. noted (body_in input.now.texts.now.styles.now b) (map built_in bodies.new.items) ≡
+        notes_after (source_in input.now) (over_in main.old) (Some (walk_in input.now.texts.now.styles.now body.entry))
         (map built_in bodies.old.items)
         step) }
     ensures shared { OnOk result (AreShared main.new.site bodies.new.items) }
     ensures sound { IfOk result (λ b. ForSome b (IsBody main.new)) }
     ensures cause { IfErr result (λ e. e ≡ BuildErr.Text → body.entry.site.room.bytes <
         body_bytes_after (source_in input.now) (over_in main.old)
-        (walk_in input.now.texts.styles.now body.entry) step) }
+        (walk_in input.now.texts.now.styles.now body.entry) step) }
 {
     if is_end(step, main.unshown) {
         end_inside(alloc, input, step, body, main, bodies)?;
@@ -353,17 +354,17 @@ fn pass_all<'a>(
     walker: &mut Walker<'a>,
 ) -> Result<(), BuildErr>
     requires input { IsInput input.now }
-    requires node { node_of step < length input.now.texts.dom.now }
+    requires node { node_of step < length input.now.texts.now.dom.now }
     requires sound { AreSoundWalks walker.old }
-    requires can { CanStep (source_in input.now) (walk_in input.now.texts.styles.now walker.old.main) step }
+    requires can { CanStep (source_in input.now) (walk_in input.now.texts.now.styles.now walker.old.main) step }
     requires notes { CanNotes (source_in input.now) (over_in walker.old.main)
-        (body_in input.now.texts.styles.now walker.old.body) step }
-    requires room { all_events (walks_in input.now.texts.styles.now walker.old) + 10 < most_events }
-    ensures walks { OnOk result (walks_in input.now.texts.styles.now walker.new ≡
-        after_both (source_in input.now) (walks_in input.now.texts.styles.now walker.old) step) }
+        (body_in input.now.texts.now.styles.now walker.old.body) step }
+    requires room { all_events (walks_in input.now.texts.now.styles.now walker.old) + 10 < most_events }
+    ensures walks { OnOk result (walks_in input.now.texts.now.styles.now walker.new ≡
+        after_both (source_in input.now) (walks_in input.now.texts.now.styles.now walker.old) step) }
     ensures sound { OnOk result (AreSoundWalks walker.new) }
     ensures cause { IfErr result (λ e. e ≡ BuildErr.Text → most_text_bytes <
-        all_bytes (after_both (source_in input.now) (walks_in input.now.texts.styles.now walker.old) step)) }
+        all_bytes (after_both (source_in input.now) (walks_in input.now.texts.now.styles.now walker.old) step)) }
 {
     let Walker { main, body, bodies } = walker;
     match body.take() {

@@ -8,7 +8,6 @@ ghost use Rattle.boxes.specs.Tree.{HaveOwners, takes_box, takes_leaf, with_box, 
 ghost use Rattle.box_gen.specs.Faces.{face_of};
 ghost use Rattle.box_gen.specs.Flow as spec;
 ghost use Rattle.box_gen.specs.Flow.{put, shut, starts_by};
-ghost use Rattle.box_gen.specs.Items.{run_in};
 ghost use Rattle.box_gen.specs.Leaves.{IsGoodRun, leaf_style_of};
 ghost use Rattle.box_gen.specs.Props as props;
 ghost use Rattle.box_gen.specs.Runs.{AreGoodTexts};
@@ -17,9 +16,10 @@ ghost use Rattle.box_gen.specs.Sources.{IsInRange};
 ghost use Rattle.soft_hyphens.specs.Words.{points_in};
 
 use crate::faced::FacedStyle;
-use crate::inline::{BuildErr, InlineStart, RunItem};
+use crate::inline::{BuildErr, InlineStart};
 use crate::leaf::{RunText, leaf_of, leaf_style, run_text};
 use crate::props::anonymous_props;
+use crate::run::InlineRun;
 use bk_num::ids::NodeId;
 use bk_num::items::Items;
 use bk_num::name::NoMem;
@@ -210,22 +210,22 @@ pub(crate) fn put_run<'a>(
     faced: &FacedStyle<'_>,
     wrap: bool,
     site: &mut Site,
-    items: Vec<RunItem<'a>>,
+    items: InlineRun<'a>,
 ) -> Result<(), BuildErr>
     requires range { IsInRange faced.now.style }
-    requires texts { AreGoodTexts (run_in items.items) }
+    requires texts { AreGoodTexts items }
     requires takes { TakesRun wrap site.old }
     requires count { IsCounted site.old }
     ensures built { OnOk result (built_in site.new ≡
         put (points_in (option_map (λ h. h.now) hyphenator.entry))
         (leaf_style_of faced.now.style (face_of faced.now.faces faced.now.style))
-        (props.anonymous_props faced.now.style) wrap (built_in site.old) (run_in items.entry.items)) }
+        (props.anonymous_props faced.now.style) wrap (built_in site.old) items.entry) }
     ensures count { OnOk result (IsCounted site.new) }
     ensures room { OnOk result (site.new.room ≡ site.old.room) }
     ensures cause { IfErr result (λ e. e ≡ BuildErr.Text → site.old.room.bytes < leaf_bytes
         (put (points_in (option_map (λ h. h.now) hyphenator.entry))
         (leaf_style_of faced.now.style (face_of faced.now.faces faced.now.style))
-        (props.anonymous_props faced.now.style) wrap (built_in site.old) (run_in items.entry.items)).tree.leaves) }
+        (props.anonymous_props faced.now.style) wrap (built_in site.old) items.entry).tree.leaves) }
 {
     match run_text(alloc, &items, site.room.bytes - site.bytes, hyphenator) {
         Err(e) => Err(e),

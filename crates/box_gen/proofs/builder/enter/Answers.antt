@@ -3,7 +3,6 @@ use Rattle.std.specs.Prelude.{option_map}
 use Rattle.bk_num.specs.declared.ids.NodeId.{NodeId}
 use Rattle.style.specs.declared.style.Style.{Style}
 use Rattle.box_gen.specs.Gather.{Gathered, begun, make}
-use Rattle.box_gen.specs.Items.{run_in}
 use Rattle.box_gen.specs.Kinds.{role_in}
 use Rattle.box_gen.specs.Sites.{built_in}
 use Rattle.box_gen.specs.Sources.{source_in}
@@ -17,11 +16,11 @@ use Rattle.box_gen.proofs.builder.enter.Goals as goal
 pub returns-in_ok-enter_block-in-Block-clause-walk : goal.returns-in_ok-enter_block-in-Block-clause-walk
 returns-in_ok-enter_block-in-Block-clause-walk c =
     let src = source_in c.args.input.now in
-    let styles = c.args.input.now.texts.styles.now in
+    let styles = c.args.input.now.texts.now.styles.now in
     let old = c.args.builder.now in
     let new = c.enter_block.new.builder in
     let u : Style = c.in-Block.faced.now.style in
-    let g : Gathered = begun src (innermost (styles_of styles old.blocks.items)) c.args.node.0 u (make (built_in old.site) (run_in old.run.items)) in
+    let g : Gathered = begun src (innermost (styles_of styles old.blocks.items)) c.args.node.0 u (make (built_in old.site) old.run) in
     let own = own-of src c.args.node.0 u (inr (sym c.requires.kind.role ∙ ap role_in c.in-Block.is)) in
     ap (λ (x : Gathered). walk x (styles_of styles new.blocks.items) (option_map (λ (n : NodeId). n.0) new.unshown)) c.in_ok-enter_block-in-Block.ensures.gathered
     ∙ ap (λ (l : List Style). walk g l (option_map (λ (n : NodeId). n.0) new.unshown)) (ap (λ (l : List NodeId). styles_of styles l) c.in_ok-enter_block-in-Block.ensures.blocks ∙ styles-push styles old.blocks.items c.args.node u own)

@@ -3,7 +3,7 @@ use Rattle.std.proofs.lemmas.Result.{err_from_is_err_and}
 use Rattle.boxes.specs.declared.place.Event.TheVariants.{Opens}
 use Rattle.metrics.specs.Face.{FontFace}
 use Rattle.style.specs.declared.style.Style.{Style}
-use Rattle.box_gen.specs.Items.{InlineItem, run_in}
+use Rattle.box_gen.specs.Items.{InlineItem}
 use Rattle.bk_num.specs.declared.ids.NodeId.{NodeId}
 use Rattle.box_gen.specs.Faces.{face_of}
 use Rattle.box_gen.specs.Flow.{Built, put, with_run}
@@ -22,7 +22,7 @@ returns-clause-within c =
     let site = c.put_run.new.site in
     let s : Style = c.innermost-around.result.now.style in
     let before : Built = built_in c.args.builder.now.site in
-    let items : List InlineItem = run_in c.replace-items.result.items in
+    let items : List InlineItem = c.replace-items.result in
     let is : built_in site ≡ with_run src s true before items = c.in_ok-put_run.ensures.built
     ∙ ap (λ (faces : List FontFace). put src.points (leaf_style_of s (face_of faces s)) (anonymous_props s) true before items) c.innermost-around.ensures.faces in
     let run = events-run src s true before items in
@@ -38,6 +38,6 @@ returns-in_err-put_run-clause-cause c =
     let s : Style = c.innermost-around.result.now.style in
     let p = err_from_is_err_and c.from_residual.result c.from_residual.ensures.1 in
     rw (p.1, p.2) (λ e.
-    subst (λ (u : Style). old.site.room.bytes < leaf_bytes (with_run src u true (built_in old.site) (run_in old.run.items)).tree.leaves) (c.innermost-around.ensures.value ∙ ap (λ (l : List NodeId). innermost (styles_of c.args.input.now.texts.styles.now l)) c.deref.ensures.value)
-    (subst (λ (faces : List FontFace). old.site.room.bytes < leaf_bytes (put src.points (leaf_style_of s (face_of faces s)) (anonymous_props s) true (built_in old.site) (run_in old.run.items)).tree.leaves) c.innermost-around.ensures.faces
-    (subst (λ (l : List InlineItem). old.site.room.bytes < leaf_bytes (put src.points (leaf_style_of s (face_of c.innermost-around.result.now.faces s)) (anonymous_props s) true (built_in old.site) l).tree.leaves) (ap (λ v. run_in v.items) c.replace-items.ensures.value) (c.in_err-put_run.ensures.cause e))))
+    subst (λ (u : Style). old.site.room.bytes < leaf_bytes (with_run src u true (built_in old.site) old.run).tree.leaves) (c.innermost-around.ensures.value ∙ ap (λ (l : List NodeId). innermost (styles_of c.args.input.now.texts.now.styles.now l)) c.deref.ensures.value)
+    (subst (λ (faces : List FontFace). old.site.room.bytes < leaf_bytes (put src.points (leaf_style_of s (face_of faces s)) (anonymous_props s) true (built_in old.site) old.run).tree.leaves) c.innermost-around.ensures.faces
+    (subst (λ (l : List InlineItem). old.site.room.bytes < leaf_bytes (put src.points (leaf_style_of s (face_of c.innermost-around.result.now.faces s)) (anonymous_props s) true (built_in old.site) l).tree.leaves) (c.replace-items.ensures.value) (c.in_err-put_run.ensures.cause e))))

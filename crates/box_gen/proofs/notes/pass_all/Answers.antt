@@ -18,17 +18,17 @@ pub pass_inside-requires-clause-body : goal.pass_inside-requires-clause-body
 pass_inside-requires-clause-body c = c.requires.sound.body c.in-Some.inside (sym c.in-Some.ensures.value)
 
 pub pass_outside-requires-clause-room : goal.pass_outside-requires-clause-room
-pass_outside-requires-clause-room c = main-room c.args.input.now.texts.styles.now c.args.walker.now c.requires.sound c.requires.room
+pass_outside-requires-clause-room c = main-room c.args.input.now.texts.now.styles.now c.args.walker.now c.requires.sound c.requires.room
 
 pub pass_inside-requires-clause-room : goal.pass_inside-requires-clause-room
 pass_inside-requires-clause-room c =
     let b : FlowBuilder = c.in-Some.inside in
-    body-room c.args.input.now.texts.styles.now c.args.walker.now b (sym c.in-Some.ensures.value) (c.requires.sound.body b (sym c.in-Some.ensures.value)) c.requires.sound c.requires.room
+    body-room c.args.input.now.texts.now.styles.now c.args.walker.now b (sym c.in-Some.ensures.value) (c.requires.sound.body b (sym c.in-Some.ensures.value)) c.requires.sound c.requires.room
 
 pub returns-in_err-body-in-Some-clause-cause : goal.returns-in_err-body-in-Some-clause-cause
 returns-in_err-body-in-Some-clause-cause c =
     let src = source_in c.args.input.now in
-    let styles = c.args.input.now.texts.styles.now in
+    let styles = c.args.input.now.texts.now.styles.now in
     let w : Walker = c.args.walker.now in
     let b : FlowBuilder = c.in-Some.inside in
     let body : IsBody w.main b = c.requires.sound.body b (sym c.in-Some.ensures.value) in

@@ -18,8 +18,8 @@ use Rattle.box_gen.proofs.Walkable.{CanAll, CanWalk}
 pub loop-step-init : goal.loop-step-init
 loop-step-init c =
     let src = source_in c.args.input.now in
-    let styles = c.args.input.now.texts.styles.now in
-    let steps : c.new-steps.result.steps ≡ steps_of c.args.input.now.texts.dom.now = c.new-steps.ensures.steps in
+    let styles = c.args.input.now.texts.now.styles.now in
+    let steps : c.new-steps.result.steps ≡ steps_of c.args.input.now.texts.now.dom.now = c.new-steps.ensures.steps in
     let start : walks_in styles c.new_walker-walker.result ≡ walks_start = c.new_walker-walker.ensures.walks styles in
     record {
       nodes = c.new-steps.ensures.nodes;
@@ -33,8 +33,8 @@ loop-step-init c =
 pub loop-step-preserved : goal.loop-step-preserved
 loop-step-preserved c =
     let src = source_in c.args.input.now in
-    let old : Walks = walks_in c.args.input.now.texts.styles.now c.loop-step.walker in
-    let new : Walks = walks_in c.args.input.now.texts.styles.now c.pass_all.new.walker in
+    let old : Walks = walks_in c.args.input.now.texts.now.styles.now c.loop-step.walker in
+    let new : Walks = walks_in c.args.input.now.texts.now.styles.now c.pass_all.new.walker in
     let rest : List Step = c.next.new.self.steps in
     let is : new ≡ after_both src old c.in-Some.step = c.in-Ok.ensures.walks in
     record {
@@ -47,12 +47,12 @@ loop-step-preserved c =
     }
 
 pub pass_all-requires-clause-room : goal.pass_all-requires-clause-room
-pass_all-requires-clause-room c = left-few (walks_in c.args.input.now.texts.styles.now c.loop-step.walker) c.loop-step.steps.steps c.loop-step.invariant.few
+pass_all-requires-clause-room c = left-few (walks_in c.args.input.now.texts.now.styles.now c.loop-step.walker) c.loop-step.steps.steps c.loop-step.invariant.few
 
 pub returns-in-Err-clause-cause : goal.returns-in-Err-clause-cause
 returns-in-Err-clause-cause c = λ e.
     let src = source_in c.args.input.now in
-    let old : Walks = walks_in c.args.input.now.texts.styles.now c.loop-step.walker in
+    let old : Walks = walks_in c.args.input.now.texts.now.styles.now c.loop-step.walker in
     let v : Walks = after_both src old c.in-Some.step in
     let rest : List Step = c.next.new.self.steps in
     let goes : after_all src v rest ≡ all_walked src = sym (ap (after_all src old) c.in-Some.ensures.some) ∙ c.loop-step.invariant.goes in
@@ -65,13 +65,13 @@ returns-in-Err-clause-cause c = λ e.
 pub returns-clause-main : goal.returns-clause-main
 returns-clause-main c =
     let src = source_in c.args.input.now in
-    let old : Walks = walks_in c.args.input.now.texts.styles.now c.loop-step.walker in
+    let old : Walks = walks_in c.args.input.now.texts.now.styles.now c.loop-step.walker in
     let end : old ≡ all_walked src = sym (ap (after_all src old) c.in_default.ensures.none.0) ∙ c.loop-step.invariant.goes in
     built-is src c.requires.input.ranges c.len.ensures.tree ∙ sym (ap (λ (v : Walks). v.main.gathered.built) (end ∙ all-is src c.len.ensures.tree))
 
 pub returns-clause-bodies : goal.returns-clause-bodies
 returns-clause-bodies c =
     let src = source_in c.args.input.now in
-    let old : Walks = walks_in c.args.input.now.texts.styles.now c.loop-step.walker in
+    let old : Walks = walks_in c.args.input.now.texts.now.styles.now c.loop-step.walker in
     let end : old ≡ all_walked src = sym (ap (after_all src old) c.in_default.ensures.none.0) ∙ c.loop-step.invariant.goes in
     ap (λ (v : Walks). v.notes.bodies) (end ∙ all-is src c.len.ensures.tree)

@@ -9,11 +9,11 @@ use Rattle.box_gen.proofs.Walkable.{CanAll, CanWalk}
 
 abbrev pub invariant-loop-step : goal.invariant-loop-step
 invariant-loop-step l = record {
-  nodes : l.steps.nodes ≡ l.input.texts.dom.now;
-  can : CanWalk (source_in l.input) (walk_in l.input.texts.styles.now l.walker.main) l.steps.steps;
-  notes : CanAll (source_in l.input) (noted None (bodies_of (source_in l.input))) (walks_in l.input.texts.styles.now l.walker) l.steps.steps;
-  goes : after_all (source_in l.input) (walks_in l.input.texts.styles.now l.walker) l.steps.steps ≡ all_walked (source_in l.input);
-  few : all_events (walks_in l.input.texts.styles.now l.walker) + 8 * length l.steps.steps ≤ 6400000;
+  nodes : l.steps.nodes ≡ l.input.texts.now.dom.now;
+  can : CanWalk (source_in l.input) (walk_in l.input.texts.now.styles.now l.walker.main) l.steps.steps;
+  notes : CanAll (source_in l.input) (noted None (bodies_of (source_in l.input))) (walks_in l.input.texts.now.styles.now l.walker) l.steps.steps;
+  goes : after_all (source_in l.input) (walks_in l.input.texts.now.styles.now l.walker) l.steps.steps ≡ all_walked (source_in l.input);
+  few : all_events (walks_in l.input.texts.now.styles.now l.walker) + 8 * length l.steps.steps ≤ 6400000;
   sound : AreSoundWalks l.walker;
 }
 

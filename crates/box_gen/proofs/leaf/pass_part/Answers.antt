@@ -4,7 +4,7 @@ use Rattle.box_gen.specs.declared.inline.ItemMark.TheVariants.{Text}
 use Rattle.box_gen.specs.Items as item
 use Rattle.box_gen.specs.Runs.{parts_in}
 use Rattle.box_gen.proofs.ItemLemmas.{run-more}
-use Rattle.box_gen.proofs.leaf.pass_text.Goals as goal
+use Rattle.box_gen.proofs.leaf.pass_part.Goals as goal
 
 pub returns : goal.returns
 returns c = λ items h.
