@@ -108,7 +108,13 @@ fn solid_at<'a, 't>(ahead: &'a [Solid<'t>], index: usize) -> &'a Solid<'t>
 }
 
 /// The widths become those at a place, where none of the solids is left that are read ahead.
-fn settle_widths(tree: &BoxTree, at: Position, width: i64, left: usize, widths: &mut Widths)
+pub(crate) fn settle_widths(
+    tree: &BoxTree,
+    at: Position,
+    width: i64,
+    left: usize,
+    widths: &mut Widths,
+)
     requires holds { Holds tree.now at }
     requires depth { depth_of tree.now.events ≤ most_open }
     requires low { pos 0 ≤ℤ width }

@@ -17,7 +17,7 @@ ghost use Rattle.note_list.specs.Short.{IsShortList};
 ghost use Rattle.page_list.specs.Cuts.{rows_of};
 ghost use Rattle.page_list.specs.Looked.{AreFewLines};
 
-use crate::ahead::next_read;
+use crate::ahead::{next_read, settle_widths};
 use crate::page_notes::PageNotes;
 use crate::page_widths::PageWidths;
 use crate::rows::{PageSolids, row_of};
@@ -31,7 +31,6 @@ use cuts::look::Look;
 use cuts::row::PageRoom;
 use metrics::Faces;
 use page_list::cut::CutFrom;
-use seams::seam::widths_at;
 use std::alloc::Global;
 use std::sync::ledger::Ledger;
 
@@ -103,7 +102,7 @@ pub(crate) fn prefix<'t, L: Ledger>(
     let mut solids = Vec::new(alloc);
     let mut rows = Vec::new(alloc);
     let mut look = Look::start();
-    widths_at(tree, from.at, frame.width, &mut widths.flow);
+    settle_widths(tree, from.at, frame.width, ahead.len(), &mut widths.flow);
     let mut at = from.at;
     loop {
         let Ok(next) = next_read(

@@ -260,7 +260,7 @@ loop-next-init g c =
     let read = c.requires.read.1 in
     record {
       holds = c.requires.holds;
-      widths = λ past. c.widths_at.ensures ∙ ap (λ (w : ℤ). widths_at c.args.flow.now.main w c.args.from.at) (let wide : SFits w64 c.args.frame.width = search rules in to_z-of_z w64 c.args.frame.width wide);
+      widths = λ past. c.settle_widths.ensures (let zero : length c.new-solids.result.items ≡ 0 = ap length none in omega (arith, past, zero)) ∙ ap (λ (w : ℤ). widths_at c.args.flow.now.main w c.args.from.at) (let wide : SFits w64 c.args.frame.width = search rules in to_z-of_z w64 c.args.frame.width wide);
       ahead = subst (λ (xs : List Solid). AreAhead c.args.faces.now c.args.flow.now.main c.args.frame.width c.args.lines.now.kept c.args.from.at (drop (length xs) (map solid_view c.args.ahead.now))) (sym none) c.requires.ahead;
       ends = rw none (λ k d h. absurd (omega arith));
       goes = λ rest r. rw none r;
