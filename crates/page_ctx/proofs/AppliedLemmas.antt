@@ -1,5 +1,5 @@
--- rules one after the other, by their selectors that take a name
-use Rattle.std.proofs.Common.{◌≡◌, ◌<◌, ℕ, suc, ◌+◌, ◌==◌, Bool, true, false, ◌&&◌, cond, List, [], ◌∷◌, ◌++◌, append-nil, append_assoc, Option, None, Some, option_map, option_to_list, map, refl, sym, ◌∙◌, ap, subst, arith}
+-- rules one after the other, by their selectors that ask for a name or for none
+use Rattle.std.proofs.Common.{◌≡◌, ◌<◌, ℕ, ◌+◌, ◌==◌, Bool, true, false, ◌&&◌, cond, List, [], ◌∷◌, ◌++◌, append-nil, append_assoc, Option, None, Some, option_map, option_to_list, map, refl, sym, ◌∙◌, ap, arith}
 use Rattle.std.specs.Prelude.{filter, fold}
 use Rattle.std.specs.List.{cons_option}
 use Rattle.std.proofs.lemmas.Bool.{eq-eqb}
@@ -10,10 +10,11 @@ use Rattle.css_page.specs.declared.rules.PageRule.{PageRule}
 use Rattle.css_page.specs.declared.selectors.PageSelector.{PageSelector}
 use Rattle.page_ctx.specs.declared.classes.PageClasses.{PageClasses}
 use Rattle.page_ctx.specs.declared.weight.PageWeight.{PageWeight}
-use Rattle.page_ctx.specs.Selectors.{takes_name, takes_classes}
-use Rattle.page_ctx.specs.Index.{RuleSelectorOf, of_rule, selectors_from, own_selectors, may_take}
-use Rattle.page_ctx.specs.Weights.{is_above, greater, greatest, specificity, with_selector}
-use Rattle.page_ctx.specs.Winners.{AppliedPageRuleOf, NumberedRule, applied, applied_by, applied_to, numbered_by, weight_at, other_than, rule_with}
+use Rattle.page_ctx.specs.Selectors.{asks, takes_classes}
+use Rattle.page_ctx.specs.Index.{RuleSelectorOf, of_rule, selectors_from, own_selectors}
+use Rattle.page_ctx.specs.Weights.{is_above, greater, specificity}
+use Rattle.page_ctx.specs.Winners.{AppliedPageRuleOf, NumberedRule, applied_by, numbered_by, weight_at, other_than, rule_with}
+use Rattle.page_ctx.specs.Groups.{all_own, greatest_own, with_own}
 
 -- the rules that are done, and the one that selectors come of
 pub record Going : Type 0 where
@@ -73,36 +74,40 @@ one-taken n r g b (Some w) s =
     by true = refl
     by false = refl
 
-of-rule : (name : List ℕ) (c : PageClasses) (n : ℕ) (r : PageRule) (g : Going) → IsBefore n g.last → (best : Option PageWeight) (ss : List PageSelector)
-    → fold (with_one c) (at n r g best) (filter (may_take name) (map (of_rule n r) ss)) ≡ at n r g (fold (with_selector name c) best ss)
-of-rule name c n r g b best [] = refl
-of-rule name c n r g b best (s ∷ ss) = named (λ o. of-rule name c n r g b o ss) (takes_name s.name name)
+-- a selector asks for this name, or for none
+abbrev own : Option (List ℕ) → RuleSelectorOf → Bool
+own asked e = asks asked e.selector.name
+
+of-rule : (asked : Option (List ℕ)) (c : PageClasses) (n : ℕ) (r : PageRule) (g : Going) → IsBefore n g.last → (best : Option PageWeight) (ss : List PageSelector)
+    → fold (with_one c) (at n r g best) (filter (own asked) (map (of_rule n r) ss)) ≡ at n r g (fold (with_own asked c) best ss)
+of-rule asked c n r g b best [] = refl
+of-rule asked c n r g b best (s ∷ ss) = taken (λ o. of-rule asked c n r g b o ss) (asks asked s.name)
   where
     More : Type 0
-    More = (o : Option PageWeight) → fold (with_one c) (at n r g o) (filter (may_take name) (map (of_rule n r) ss)) ≡ at n r g (fold (with_selector name c) o ss)
+    More = (o : Option PageWeight) → fold (with_one c) (at n r g o) (filter (own asked) (map (of_rule n r) ss)) ≡ at n r g (fold (with_own asked c) o ss)
 
-    classed : More → (t : Bool) → fold (with_one c) (cond t (with_taken (at n r g best) (of_rule n r s)) (at n r g best)) (filter (may_take name) (map (of_rule n r) ss)) ≡ at n r g (fold (with_selector name c) (cond t (greater best (specificity s)) best) ss)
-    classed more true = ap (λ z. fold (with_one c) z (filter (may_take name) (map (of_rule n r) ss))) (one-taken n r g b best s) ∙ more (greater best (specificity s))
+    classed : More → (t : Bool) → fold (with_one c) (cond t (with_taken (at n r g best) (of_rule n r s)) (at n r g best)) (filter (own asked) (map (of_rule n r) ss)) ≡ at n r g (fold (with_own asked c) (cond t (greater best (specificity s)) best) ss)
+    classed more true = ap (λ z. fold (with_one c) z (filter (own asked) (map (of_rule n r) ss))) (one-taken n r g b best s) ∙ more (greater best (specificity s))
     classed more false = more best
 
-    named : More → (t : Bool) → fold (with_one c) (at n r g best) (cond t (of_rule n r s ∷ filter (may_take name) (map (of_rule n r) ss)) (filter (may_take name) (map (of_rule n r) ss))) ≡ at n r g (fold (with_selector name c) (cond (t && takes_classes s c) (greater best (specificity s)) best) ss)
-    named more true = classed more (takes_classes s c)
-    named more false = more best
+    taken : More → (t : Bool) → fold (with_one c) (at n r g best) (cond t (of_rule n r s ∷ filter (own asked) (map (of_rule n r) ss)) (filter (own asked) (map (of_rule n r) ss))) ≡ at n r g (fold (with_own asked c) (cond (t && takes_classes s c) (greater best (specificity s)) best) ss)
+    taken more true = classed more (takes_classes s c)
+    taken more false = more best
 
-of-rules : (name : List ℕ) (c : PageClasses) (n : ℕ) (g : Going) → IsBefore n g.last → (rules : List PageRule)
-    → all_rules (fold (with_one c) g (filter (may_take name) (selectors_from n rules))) ≡ all_rules g ++ applied_to name c rules
-of-rules name c n g b [] = sym (append-nil (all_rules g))
-of-rules name c n g b (r ∷ rules) =
-    ap (λ z. all_rules (fold (with_one c) g z)) (filter-append (may_take name) (map (of_rule n r) r.selectors) (selectors_from (n + 1) rules))
-    ∙ ap all_rules (fold-append (with_one c) g (filter (may_take name) (map (of_rule n r) r.selectors)) (filter (may_take name) (selectors_from (n + 1) rules)))
-    ∙ ap (λ z. all_rules (fold (with_one c) z (filter (may_take name) (selectors_from (n + 1) rules)))) (of-rule name c n r g b None r.selectors)
-    ∙ by (λ h e. of-rules name c (n + 1) h e rules) (greatest name c r.selectors)
+of-rules : (asked : Option (List ℕ)) (c : PageClasses) (n : ℕ) (g : Going) → IsBefore n g.last → (rules : List PageRule)
+    → all_rules (fold (with_one c) g (filter (own asked) (selectors_from n rules))) ≡ all_rules g ++ all_own asked c rules
+of-rules asked c n g b [] = sym (append-nil (all_rules g))
+of-rules asked c n g b (r ∷ rules) =
+    ap (λ z. all_rules (fold (with_one c) g z)) (filter-append (own asked) (map (of_rule n r) r.selectors) (selectors_from (n + 1) rules))
+    ∙ ap all_rules (fold-append (with_one c) g (filter (own asked) (map (of_rule n r) r.selectors)) (filter (own asked) (selectors_from (n + 1) rules)))
+    ∙ ap (λ z. all_rules (fold (with_one c) z (filter (own asked) (selectors_from (n + 1) rules)))) (of-rule asked c n r g b None r.selectors)
+    ∙ by (λ h e. of-rules asked c (n + 1) h e rules) (greatest_own asked c r.selectors)
   where
-    by : ((h : Going) → IsBefore (n + 1) h.last → all_rules (fold (with_one c) h (filter (may_take name) (selectors_from (n + 1) rules))) ≡ all_rules h ++ applied_to name c rules)
-        → (o : Option PageWeight) → all_rules (fold (with_one c) (at n r g o) (filter (may_take name) (selectors_from (n + 1) rules))) ≡ all_rules g ++ cons_option (option_map (applied_by r) o) (applied_to name c rules)
+    by : ((h : Going) → IsBefore (n + 1) h.last → all_rules (fold (with_one c) h (filter (own asked) (selectors_from (n + 1) rules))) ≡ all_rules h ++ all_own asked c rules)
+        → (o : Option PageWeight) → all_rules (fold (with_one c) (at n r g o) (filter (own asked) (selectors_from (n + 1) rules))) ≡ all_rules g ++ cons_option (option_map (applied_by r) o) (all_own asked c rules)
     by more None = more g (later n g.last b)
-    by more (Some w) = more (going (all_rules g) (Some (numbered_by n r w))) (omega arith) ∙ append_assoc (all_rules g) (applied_by r w ∷ []) (applied_to name c rules)
+    by more (Some w) = more (going (all_rules g) (Some (numbered_by n r w))) (omega arith) ∙ append_assoc (all_rules g) (applied_by r w ∷ []) (all_own asked c rules)
 
--- the rules that are for a page, by their selectors that take its name
-pub are-applied : (name : List ℕ) (c : PageClasses) (rules : List PageRule) (own : List RuleSelectorOf) → own ≡ own_selectors rules name → all_rules (fold (with_one c) (going [] None) own) ≡ applied_to name c rules
-are-applied name c rules own e = ap (λ z. all_rules (fold (with_one c) (going [] None) z)) e ∙ of-rules name c 0 (going [] None) tt rules
+-- the rules that have selectors that ask for a name, or for none, by these
+pub are-applied : (asked : Option (List ℕ)) (c : PageClasses) (rules : List PageRule) (all : List RuleSelectorOf) → all ≡ own_selectors rules asked → all_rules (fold (with_one c) (going [] None) all) ≡ all_own asked c rules
+are-applied asked c rules all e = ap (λ z. all_rules (fold (with_one c) (going [] None) z)) e ∙ of-rules asked c 0 (going [] None) tt rules

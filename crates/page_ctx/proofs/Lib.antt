@@ -7,3 +7,5 @@ pub mod AskedLemmas
 pub mod FilledLemmas
 pub mod IndexLemmas
 pub mod AppliedLemmas
+pub mod GroupLemmas
+pub mod KeptLemmas

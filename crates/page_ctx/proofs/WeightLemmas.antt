@@ -26,7 +26,7 @@ same-made a b e =
     (ap (λ l. slice_index l 3) e)
 
 -- two weights neither of which is above the other are one
-same-weight : (a b : PageWeight) → is_above a b ≡ false → is_above b a ≡ false → a ≡ b
+pub same-weight : (a b : PageWeight) → is_above a b ≡ false → is_above b a ≡ false → a ≡ b
 same-weight a b h g = same-made a b (same-ranks (ranks_of a) (ranks_of b) h g)
 
 -- ---- a selector more

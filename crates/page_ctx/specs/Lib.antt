@@ -2,6 +2,7 @@ pub mod Selectors
 pub mod Index
 pub mod Weights
 pub mod Winners
+pub mod Groups
 pub mod Settings
 pub mod Cells
 pub mod Bounds

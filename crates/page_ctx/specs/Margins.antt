@@ -121,9 +121,13 @@ style_set s own ds content = record {
 abbrev pub style_by : PageSettingOf → List Declared → Alignment → Option MarginStyleOf
 style_by page ds own = option_map (style_set (setting_by page ds) own ds) (content_by (value_of property.Content ds))
 
--- the style of the box of a number
+-- the style of the box of a number by what is declared for each box
+abbrev pub style_among : PageSettingOf → (ℕ → List Declared) → ℕ → Option MarginStyleOf
+style_among page declared place = option_and_then (style_by page (declared place)) (slice_get alignments place)
+
+-- the style of the box of a number by the rules that are for a page
 abbrev pub style_below : PageSettingOf → List AppliedPageRuleOf → ℕ → Option MarginStyleOf
-style_below page rules place = option_and_then (style_by page (box_declared place rules)) (slice_get alignments place)
+style_below page rules place = style_among page (λ k. box_declared k rules) place
 
 -- by the rules that are for a page
 abbrev pub style_applied : List AppliedPageRuleOf → ℕ → Option MarginStyleOf

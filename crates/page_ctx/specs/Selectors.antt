@@ -28,6 +28,21 @@ abbrev pub takes_name : Option (List ℕ) → List ℕ → Bool
 takes_name None name = true
 takes_name (Some asked) name = bytes_eq asked name
 
+-- a selector asks for a name
+abbrev pub is_for : List ℕ → Option (List ℕ) → Bool
+is_for name None = false
+is_for name (Some asked) = bytes_eq asked name
+
+-- a selector asks for no name
+abbrev pub is_for_each : Option (List ℕ) → Bool
+is_for_each None = true
+is_for_each (Some asked) = false
+
+-- a selector asks for a name, or, without one, for none
+abbrev pub asks : Option (List ℕ) → Option (List ℕ) → Bool
+asks None o = is_for_each o
+asks (Some name) o = is_for name o
+
 -- a page has each pseudo-class of a selector
 abbrev pub takes_classes : PageSelector → PageClasses → Bool
 takes_classes s c =

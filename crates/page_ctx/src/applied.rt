@@ -3,6 +3,7 @@
 ghost use Rattle.std.specs.Prelude.{◌≡◌, ◌++◌, map, option_map, option_to_list, IfOk, OnOk};
 ghost use Rattle.std.specs.List.{flat_map};
 ghost use Rattle.page_ctx.specs.Index.{AreOwn, selector_in};
+ghost use Rattle.page_ctx.specs.Groups.{all_own};
 ghost use Rattle.page_ctx.specs.Winners as spec;
 
 use crate::classes::{PageClasses, takes_classes};
@@ -72,20 +73,20 @@ fn push_applied<'s>(
     Ok(())
 }
 
-/// The rules that are for the pages of a name with these pseudo-classes, in their order, by the selectors that take the
-/// name. It takes time in proportion to these.
+/// The rules that have selectors for pages with these pseudo-classes among those that ask for a name, or for none, in
+/// their order. It takes time in proportion to these selectors.
 pub fn applied_to<'s>(
     alloc: Global,
     classes: PageClasses,
-    own: &OwnSelectors<'s, '_>,
+    own: OwnSelectors<'s, '_>,
 ) -> Result<Vec<AppliedPageRule<'s>>, NoMem>
-    requires { AreOwn own.now }
+    requires { AreOwn own }
     ensures { IfOk result (λ v. map spec.applied_in v.items ≡
-        spec.applied_to own.now.name.now classes own.now.rules.now) }
+        all_own (option_map (λ n. n.now) own.entry.asked) classes own.entry.rules.now) }
 {
     let mut found = Vec::new(alloc);
     let mut last = None;
-    for entry in &own.selectors {
+    for entry in own.selectors {
         if takes_classes(entry.selector, classes) {
             push_applied(&mut found, other_than(last, entry.number))?;
             last = rule_with(last, entry);
@@ -129,18 +130,18 @@ fn push_decls<'s>(
     Ok(())
 }
 
-/// What the rules that are for a page declare for it, in the order of the sheets.
-pub fn page_declared<'s>(
-    alloc: Global,
+/// Appends what rules declare for their pages, in the order of the sheets.
+pub fn push_page<'s>(
+    declared: &mut Vec<PageCandidate<'s>>,
     rules: &[AppliedPageRule<'s>],
-) -> Result<Vec<PageCandidate<'s>>, NoMem>
-    ensures { IfOk result (λ v. map spec.candidate_in v.items ≡ spec.page_declared (map spec.applied_in rules.now)) }
+) -> Result<(), NoMem>
+    ensures { OnOk result (map spec.candidate_in declared.new.items ≡ map spec.candidate_in declared.old.items ++
+        spec.page_declared (map spec.applied_in rules.now)) }
 {
-    let mut declared = Vec::new(alloc);
     for applied in rules {
-        push_decls(&mut declared, applied.weight, applied.rule.decls.as_slice())?;
+        push_decls(declared, applied.weight, applied.rule.decls.as_slice())?;
     }
-    Ok(declared)
+    Ok(())
 }
 
 /// Appends what one block of a rule declares for the margin box of a number.
@@ -175,23 +176,66 @@ fn push_blocks<'s>(
     Ok(())
 }
 
-/// What the rules that are for a page declare for the margin box of a number, in the order of the sheets.
-pub fn box_declared<'s>(
-    alloc: Global,
+/// Appends what rules declare for the margin box of a number, in the order of the sheets.
+pub fn push_box<'s>(
+    declared: &mut Vec<PageCandidate<'s>>,
     place: u32,
     rules: &[AppliedPageRule<'s>],
-) -> Result<Vec<PageCandidate<'s>>, NoMem>
-    ensures { IfOk result (λ v. map spec.candidate_in v.items ≡
+) -> Result<(), NoMem>
+    ensures { OnOk result (map spec.candidate_in declared.new.items ≡ map spec.candidate_in declared.old.items ++
         spec.box_declared place (map spec.applied_in rules.now)) }
 {
-    let mut declared = Vec::new(alloc);
     for applied in rules {
         push_blocks(
-            &mut declared,
+            declared,
             applied.weight,
             place,
             applied.rule.boxes.as_slice(),
         )?;
     }
+    Ok(())
+}
+
+/// Appends declarations.
+fn push_all<'s>(
+    declared: &mut Vec<PageCandidate<'s>>,
+    kept: &[PageCandidate<'s>],
+) -> Result<(), NoMem>
+    ensures { OnOk result (declared.new.items ≡ declared.old.items ++ kept.now) }
+{
+    for candidate in kept {
+        declared.push(*candidate)?;
+    }
+    Ok(())
+}
+
+/// What is kept for a page, and what rules declare for it, in the order of the sheets.
+pub fn page_declared<'s>(
+    alloc: Global,
+    kept: &[PageCandidate<'s>],
+    rules: &[AppliedPageRule<'s>],
+) -> Result<Vec<PageCandidate<'s>>, NoMem>
+    ensures { IfOk result (λ v. map spec.candidate_in v.items ≡
+        map spec.candidate_in kept.now ++ spec.page_declared (map spec.applied_in rules.now)) }
+{
+    let mut declared = Vec::new(alloc);
+    push_all(&mut declared, kept)?;
+    push_page(&mut declared, rules)?;
+    Ok(declared)
+}
+
+/// What is kept for the margin box of a number, and what rules declare for it, in the order of the sheets.
+pub fn box_declared<'s>(
+    alloc: Global,
+    kept: &[PageCandidate<'s>],
+    place: u32,
+    rules: &[AppliedPageRule<'s>],
+) -> Result<Vec<PageCandidate<'s>>, NoMem>
+    ensures { IfOk result (λ v. map spec.candidate_in v.items ≡
+        map spec.candidate_in kept.now ++ spec.box_declared place (map spec.applied_in rules.now)) }
+{
+    let mut declared = Vec::new(alloc);
+    push_all(&mut declared, kept)?;
+    push_box(&mut declared, place, rules)?;
     Ok(declared)
 }

@@ -1,6 +1,6 @@
 //! The selectors of page rules, by the names that they ask for.
 
-ghost use Rattle.std.specs.Prelude.{◌≡◌, ◌++◌, ◌∷◌, [], filter, map, IfOk, OnOk};
+ghost use Rattle.std.specs.Prelude.{◌≡◌, ◌++◌, ◌∷◌, [], None, Some, map, option_map, IfOk, OnOk};
 ghost use Rattle.named_lists.specs.Lists.{with_items};
 ghost use Rattle.page_ctx.specs.Index as spec;
 
@@ -11,10 +11,9 @@ use css_page::selectors::PageSelector;
 use named_lists::lists::NamedLists;
 use std::alloc::Global;
 
-/// A selector with its rule, the rule's number, and its own place among the selectors of all rules.
+/// A selector with its rule and the rule's number.
 #[derive(Clone, Copy)]
 pub struct RuleSelector<'s> {
-    pub place: usize,
     pub number: usize,
     pub rule: &'s PageRule,
     pub selector: &'s PageSelector,
@@ -28,12 +27,12 @@ pub struct SelectorIndex<'s> {
     pub every: Items<RuleSelector<'s>>,
 }
 
-/// The selectors of rules that take a name, whatever their pseudo-classes, in the order of the sheets.
-#[derive(Drop)]
+/// The selectors of rules that ask for a name, or, without one, for none, in the order of the sheets.
+#[derive(Clone, Copy)]
 pub struct OwnSelectors<'s, 'n> {
     pub rules: &'s [PageRule],
-    pub name: &'n str,
-    pub selectors: Vec<RuleSelector<'s>>,
+    pub asked: Option<&'n str>,
+    pub selectors: &'n [RuleSelector<'s>],
 }
 
 /// Appends the selectors of a rule.
@@ -42,15 +41,11 @@ fn push_selectors<'s>(
     number: usize,
     rule: &'s PageRule,
 ) -> Result<(), NoMem>
-    requires { spec.ArePlaced all.old.items }
-    ensures selectors { OnOk result (map spec.selector_in all.new.items ≡ map spec.selector_in all.old.items ++
+    ensures { OnOk result (map spec.selector_in all.new.items ≡ map spec.selector_in all.old.items ++
         map (spec.of_rule number rule.entry.now) rule.entry.now.selectors) }
-    ensures placed { OnOk result (spec.ArePlaced all.new.items) }
 {
     for selector in rule.selectors.as_slice() {
-        let place = all.len();
         all.push(RuleSelector {
-            place,
             number,
             rule,
             selector,
@@ -61,7 +56,7 @@ fn push_selectors<'s>(
 
 /// The selectors of all rules, in order.
 fn all_selectors<'s>(alloc: Global, rules: &'s [PageRule]) -> Result<Vec<RuleSelector<'s>>, NoMem>
-    ensures { IfOk result (λ v. spec.AreSelectors rules.entry.now v.items) }
+    ensures { IfOk result (λ v. map spec.selector_in v.items ≡ spec.selectors_from 0 rules.entry.now) }
 {
     let mut all = Vec::new(alloc);
     for (number, rule) in rules.iter().enumerate() {
@@ -118,58 +113,32 @@ pub(crate) fn index_of<'s>(alloc: Global, rules: &'s [PageRule]) -> Result<Selec
     Ok(index)
 }
 
-/// Appends selectors.
-fn push_all<'s>(
-    found: &mut Vec<RuleSelector<'s>>,
-    selectors: &[RuleSelector<'s>],
-) -> Result<(), NoMem>
-    ensures { OnOk result (found.new.items ≡ found.old.items ++ selectors.now) }
-{
-    for selector in selectors {
-        found.push(*selector)?;
-    }
-    Ok(())
-}
-
-/// Two lists in the order of places as one.
-fn merged<'s>(
-    alloc: Global,
-    one: &[RuleSelector<'s>],
-    other: &[RuleSelector<'s>],
-) -> Result<Vec<RuleSelector<'s>>, NoMem>
-    ensures { IfOk result (λ v. v.items ≡ spec.merged one.now other.now) }
-{
-    let mut found = Vec::new(alloc);
-    let (mut i, mut k) = (0, 0);
-    while i < one.len() && k < other.len() {
-        if one[i].place < other[k].place {
-            found.push(one[i])?;
-            i += 1;
-        } else {
-            found.push(other[k])?;
-            k += 1;
+impl<'s> SelectorIndex<'s> {
+    /// The selectors that ask for a name. It takes no memory.
+    pub(crate) fn named<'n>(&'n self, name: &'n str) -> OwnSelectors<'s, 'n>
+        requires { spec.IsIndex self.now }
+        ensures rules { result.rules.now ≡ self.now.rules.now }
+        ensures asked { option_map (λ n. n.now) result.asked ≡ Some name.now }
+        ensures own { spec.AreOwn result }
+    {
+        OwnSelectors {
+            rules: self.rules,
+            asked: Some(name),
+            selectors: self.named.of(name),
         }
     }
-    push_all(&mut found, &one[i..])?;
-    push_all(&mut found, &other[k..])?;
-    Ok(found)
-}
 
-/// The selectors that take a name. It takes time in proportion to them.
-pub(crate) fn own_selectors<'s, 'n>(
-    alloc: Global,
-    index: &SelectorIndex<'s>,
-    name: &'n str,
-) -> Result<OwnSelectors<'s, 'n>, NoMem>
-    requires { spec.IsIndex index.now }
-    ensures rules { IfOk result (λ own. own.rules.now ≡ index.now.rules.now) }
-    ensures name { IfOk result (λ own. own.name.now ≡ name.entry.now) }
-    ensures own { IfOk result (λ own. spec.AreOwn own) }
-{
-    let selectors = merged(alloc, index.named.of(name), index.every.as_slice())?;
-    Ok(OwnSelectors {
-        rules: index.rules,
-        name,
-        selectors,
-    })
+    /// Those that ask for none. It takes no memory.
+    pub(crate) fn unnamed(&self) -> OwnSelectors<'s, '_>
+        requires { spec.IsIndex self.now }
+        ensures rules { result.rules.now ≡ self.now.rules.now }
+        ensures asked { option_map (λ n. n.now) result.asked ≡ None }
+        ensures own { spec.AreOwn result }
+    {
+        OwnSelectors {
+            rules: self.rules,
+            asked: None,
+            selectors: self.every.as_slice(),
+        }
+    }
 }

@@ -5,6 +5,7 @@ pub mod applied;
 mod asked;
 pub mod cells;
 pub mod classes;
+mod groups;
 mod index;
 pub mod laws;
 pub mod margin_style;

@@ -5,9 +5,11 @@ ghost use Rattle.style.specs.Styles.{initial_style};
 ghost use Rattle.boxes.specs.Table.{row_of};
 ghost use Rattle.page_ctx.specs.Winners.{applied_in, candidate_in};
 ghost use Rattle.page_ctx.specs.Settings.{setting_in};
+ghost use Rattle.page_ctx.specs.Groups.{declared_at};
 ghost use Rattle.page_ctx.specs.Margins as spec;
 
 use crate::applied::{AppliedPageRule, box_declared};
+use crate::groups::kept_at;
 pub use crate::margin_style::MarginStyle;
 use crate::margin_style::{Alignment, MarginBox, PageSetting};
 use crate::property::PageProperty;
@@ -132,44 +134,47 @@ fn push_box<'s>(
     }
 }
 
-/// The same by the rules that are for a page.
+/// The same by what is kept for each box, and by rules.
 fn push_place<'s>(
     alloc: Global,
     boxes: &mut Items<MarginBox<'s>>,
     page: &PageSetting<'s>,
     initial: &'s [Name],
+    kept: &[Items<PageCandidate<'s>>],
     rules: &[AppliedPageRule<'s>],
     place: u32,
 ) -> Result<(), NoMem>
     requires { initial.now ≡ initial_style.font_family }
-    ensures { OnOk result (map spec.box_in boxes.new ≡ map spec.box_in boxes.old ++ option_to_list
-        (spec.box_at (spec.style_below (setting_in page.now) (map applied_in rules.now)) place)) }
+    ensures { OnOk result (map spec.box_in boxes.new ≡ map spec.box_in boxes.old ++ option_to_list (spec.box_at
+        (spec.style_among (setting_in page.now)
+        (declared_at (map (map candidate_in) kept.now) (map applied_in rules.now))) place)) }
 {
     match alignment_of(place) {
         Some(own) => {
-            let declared = box_declared(alloc, place, rules)?;
+            let declared = box_declared(alloc, kept_at(kept, place), place, rules)?;
             push_box(boxes, page, initial, &declared, place, own)
         }
         None => Ok(()),
     }
 }
 
-/// The margin boxes that have content, in the order of their numbers, by the rules that are for a page. `initial` are
-/// the initial families.
+/// The margin boxes that have content, in the order of their numbers, by what is kept for each box, and by rules.
+/// `initial` are the initial families.
 #[tactic(auto, unfolding(crate::specs::Margins::boxes_by))]
 pub(crate) fn boxes_by<'s>(
     alloc: Global,
     page: &PageSetting<'s>,
     initial: &'s [Name],
+    kept: &[Items<PageCandidate<'s>>],
     rules: &[AppliedPageRule<'s>],
 ) -> Result<Items<MarginBox<'s>>, NoMem>
     requires { initial.now ≡ initial_style.font_family }
-    ensures { IfOk result (λ boxes. map spec.box_in boxes ≡
-        spec.boxes_by (spec.style_below (setting_in page.now) (map applied_in rules.now))) }
+    ensures { IfOk result (λ boxes. map spec.box_in boxes ≡ spec.boxes_by (spec.style_among (setting_in page.now)
+        (declared_at (map (map candidate_in) kept.now) (map applied_in rules.now)))) }
 {
     let mut boxes = Items::new(alloc);
     for place in 0..MARGIN_BOXES as u32 {
-        push_place(alloc, &mut boxes, page, initial, rules, place)?;
+        push_place(alloc, &mut boxes, page, initial, kept, rules, place)?;
     }
     Ok(boxes)
 }

@@ -9,7 +9,7 @@ ghost use Rattle.boxes.specs.Table.{cell_in, cell_of, row_of};
 ghost use Rattle.page_seq.specs.Frames.{IsGoodTable};
 ghost use Rattle.bk_num.specs.Names.{with_name};
 ghost use Rattle.page_ctx.specs.Bounds.{AreGoodCells, HasGoodRows, IsGoodCell};
-ghost use Rattle.page_ctx.specs.Index.{AreOwn, IsIndex};
+ghost use Rattle.page_ctx.specs.Groups.{AreGrouped, AreWinners};
 ghost use Rattle.page_ctx.specs.Selectors.{all_asked};
 ghost use Rattle.page_ctx.specs.Margins.{AreMarginStyles, boxes_by, boxes_of_name, cells_in, filled, margin_style};
 ghost use Rattle.page_ctx.specs.Tables as spec;
@@ -18,12 +18,15 @@ use crate::applied::{applied_to, page_declared};
 use crate::asked::{asked_names, is_asked};
 use crate::cells::cell_by;
 use crate::classes::PageClasses;
-use crate::index::{OwnSelectors, SelectorIndex, index_of, own_selectors};
+use crate::groups::{
+    A_BLANK_LEFT_PAGE, A_BLANK_RIGHT_PAGE, A_LEFT_PAGE, A_RIGHT_PAGE, BLANK_PAGE_1, GroupedRules,
+    PAGE_1, PageWinners, group_rules,
+};
 use crate::margins::{BoxCells, MarginStyles, boxes_by};
 use crate::settings::page_setting;
 use bk_num::ids::NameId;
 use bk_num::items::Items;
-use bk_num::name::{Name, NoMem};
+use bk_num::name::NoMem;
 use boxes::frames::PageKind;
 use boxes::table::{PageCell, PageRow, PageTable};
 use css_page::rules::PageRule;
@@ -33,86 +36,71 @@ use style::lists::Families;
 use style::names::Names;
 
 /// Appends the margin boxes that have content on the pages of a name that have these pseudo-classes, and answers their
-/// page box.
+/// page box. `kept` is kept for such pages.
 fn add_page<'s>(
     alloc: Global,
     boxes: &mut BoxCells<'s>,
-    own: &OwnSelectors<'s, '_>,
-    initial: &'s [Name],
+    rules: &GroupedRules<'s>,
     classes: PageClasses,
+    kept: &PageWinners<'s>,
+    name: &str,
 ) -> Result<PageCell, NoMem>
-    requires own { AreOwn own.now }
-    requires initial { initial.now ≡ initial_style.font_family }
-    ensures cell { IfOk result (λ cell. cell ≡ spec.page_cell own.now.rules.now own.now.name.now classes) }
+    requires rules { AreGrouped rules.now }
+    requires kept { AreWinners rules.now.index.rules.now classes kept.now }
+    ensures cell { IfOk result (λ cell. cell ≡ spec.page_cell rules.now.index.rules.now name.now classes) }
     ensures boxes { IfOk result (λ cell. cells_in boxes.new ≡
-        cells_in boxes.old ++ boxes_by (margin_style own.now.rules.now own.now.name.now classes) ∷ []) }
+        cells_in boxes.old ++ boxes_by (margin_style rules.now.index.rules.now name.now classes) ∷ []) }
     ensures good { IfOk result (λ cell. IsGoodCell cell) }
 {
-    let applied = applied_to(alloc, classes, own)?;
-    let declared = page_declared(alloc, &applied)?;
-    let setting = page_setting(initial, &declared);
+    let applied = applied_to(alloc, classes, rules.index.named(name))?;
+    let declared = page_declared(alloc, kept.page.as_slice(), &applied)?;
+    let setting = page_setting(rules.initial, &declared);
     let cell = cell_by(setting.size, &declared);
-    boxes.push(boxes_by(alloc, &setting, initial, &applied)?)?;
+    boxes.push(boxes_by(
+        alloc,
+        &setting,
+        rules.initial,
+        kept.boxes.as_slice(),
+        &applied,
+    )?)?;
     Ok(cell)
 }
-
-const PAGE_1: PageClasses = PageClasses {
-    first: true,
-    left: false,
-    blank: false,
-};
-
-const A_LEFT_PAGE: PageClasses = PageClasses {
-    first: false,
-    left: true,
-    blank: false,
-};
-
-const A_RIGHT_PAGE: PageClasses = PageClasses {
-    first: false,
-    left: false,
-    blank: false,
-};
-
-const BLANK_PAGE_1: PageClasses = PageClasses {
-    first: true,
-    left: false,
-    blank: true,
-};
-
-const A_BLANK_LEFT_PAGE: PageClasses = PageClasses {
-    first: false,
-    left: true,
-    blank: true,
-};
-
-const A_BLANK_RIGHT_PAGE: PageClasses = PageClasses {
-    first: false,
-    left: false,
-    blank: true,
-};
 
 /// Appends the margin boxes of the pages of a name, and answers their page boxes: page 1, another left page, another
 /// right page, and the same three blank.
 fn add_name<'s>(
     alloc: Global,
     boxes: &mut BoxCells<'s>,
-    own: &OwnSelectors<'s, '_>,
-    initial: &'s [Name],
+    rules: &GroupedRules<'s>,
+    name: &str,
 ) -> Result<PageRow, NoMem>
-    requires own { AreOwn own.now }
-    requires initial { initial.now ≡ initial_style.font_family }
-    ensures row { IfOk result (λ row. row ≡ spec.row_by own.now.rules.now own.now.name.now) }
+    requires { AreGrouped rules.now }
+    ensures row { IfOk result (λ row. row ≡ spec.row_by rules.now.index.rules.now name.now) }
     ensures boxes { IfOk result (λ row. cells_in boxes.new ≡
-        cells_in boxes.old ++ boxes_of_name own.now.rules.now own.now.name.now) }
+        cells_in boxes.old ++ boxes_of_name rules.now.index.rules.now name.now) }
     ensures good { IfOk result (λ row. AreGoodCells row) }
 {
-    let first = add_page(alloc, boxes, own, initial, PAGE_1)?;
-    let left = add_page(alloc, boxes, own, initial, A_LEFT_PAGE)?;
-    let right = add_page(alloc, boxes, own, initial, A_RIGHT_PAGE)?;
-    let blank_first = add_page(alloc, boxes, own, initial, BLANK_PAGE_1)?;
-    let blank_left = add_page(alloc, boxes, own, initial, A_BLANK_LEFT_PAGE)?;
-    let blank_right = add_page(alloc, boxes, own, initial, A_BLANK_RIGHT_PAGE)?;
+    let kept = &rules.kept;
+    let first = add_page(alloc, boxes, rules, PAGE_1, &kept.first, name)?;
+    let left = add_page(alloc, boxes, rules, A_LEFT_PAGE, &kept.left, name)?;
+    let right = add_page(alloc, boxes, rules, A_RIGHT_PAGE, &kept.right, name)?;
+    let blank_first = add_page(alloc, boxes, rules, BLANK_PAGE_1, &kept.blank_first, name)?;
+    let blank_left = add_page(
+        alloc,
+        boxes,
+        rules,
+        A_BLANK_LEFT_PAGE,
+        &kept.blank_left,
+        name,
+    )?;
+    let blank_right = add_page(
+        alloc,
+        boxes,
+        rules,
+        A_BLANK_RIGHT_PAGE,
+        &kept.blank_right,
+        name,
+    )?;
     Ok(PageRow {
         cells: [first, left, right, blank_first, blank_left, blank_right],
     })
@@ -140,23 +128,20 @@ struct Rows<'s> {
 fn push_row<'s>(
     alloc: Global,
     rows: &mut Rows<'s>,
-    index: &SelectorIndex<'s>,
-    initial: &'s [Name],
+    rules: &GroupedRules<'s>,
     name: &str,
 ) -> Result<PageRow, NoMem>
-    requires index { IsIndex index.now }
-    requires initial { initial.now ≡ initial_style.font_family }
-    ensures row { IfOk result (λ row. row ≡ spec.row_by index.now.rules.now name.now) }
+    requires rules { AreGrouped rules.now }
+    ensures row { IfOk result (λ row. row ≡ spec.row_by rules.now.index.rules.now name.now) }
     ensures table { IfOk result (λ row. rows.new.table ≡
-        rows.old.table ++ spec.row_by index.now.rules.now name.now ∷ []) }
+        rows.old.table ++ spec.row_by rules.now.index.rules.now name.now ∷ []) }
     ensures boxes { IfOk result (λ row. map cells_in rows.new.boxes ≡
-        map cells_in rows.old.boxes ++ boxes_of_name index.now.rules.now name.now ∷ []) }
+        map cells_in rows.old.boxes ++ boxes_of_name rules.now.index.rules.now name.now ∷ []) }
     ensures good { All AreGoodCells rows.old.table → IfOk result (λ row. All AreGoodCells rows.new.table) }
     ensures good_row { IfOk result (λ row. AreGoodCells row) }
 {
-    let own = own_selectors(alloc, index, name)?;
     let mut boxes = Items::new(alloc);
-    let row = add_name(alloc, &mut boxes, &own, initial)?;
+    let row = add_name(alloc, &mut boxes, rules, name)?;
     rows.boxes.push(boxes)?;
     rows.table.push(row)?;
     Ok(row)
@@ -166,21 +151,20 @@ fn push_row<'s>(
 fn push_own<'s>(
     alloc: Global,
     rows: &mut Rows<'s>,
-    index: &SelectorIndex<'s>,
-    initial: &'s [Name],
+    rules: &GroupedRules<'s>,
     name: &str,
 ) -> Result<(), NoMem>
-    requires index { IsIndex index.now }
-    requires initial { initial.now ≡ initial_style.font_family }
-    requires first { slice_get (map cells_in rows.old.boxes) 0 ≡ Some (boxes_of_name index.now.rules.now []) }
-    ensures table { OnOk result (rows.new.table ≡ rows.old.table ++ spec.row_by index.now.rules.now name.now ∷ []) }
+    requires rules { AreGrouped rules.now }
+    requires first { slice_get (map cells_in rows.old.boxes) 0 ≡ Some (boxes_of_name rules.now.index.rules.now []) }
+    ensures table { OnOk result (rows.new.table ≡
+        rows.old.table ++ spec.row_by rules.now.index.rules.now name.now ∷ []) }
     ensures boxes { OnOk result (filled (map cells_in rows.new.boxes) ≡
-        filled (map cells_in rows.old.boxes) ++ boxes_of_name index.now.rules.now name.now ∷ []) }
+        filled (map cells_in rows.old.boxes) ++ boxes_of_name rules.now.index.rules.now name.now ∷ []) }
     ensures first { OnOk result (slice_get (map cells_in rows.new.boxes) 0 ≡
-        Some (boxes_of_name index.now.rules.now [])) }
+        Some (boxes_of_name rules.now.index.rules.now [])) }
     ensures good { All AreGoodCells rows.old.table → OnOk result (All AreGoodCells rows.new.table) }
 {
-    push_row(alloc, rows, index, initial, name)?;
+    push_row(alloc, rows, rules, name)?;
     Ok(())
 }
 
@@ -206,27 +190,27 @@ fn has_rules(asked: &IndexSet<String>, name: &str) -> bool
 fn push_name<'s>(
     alloc: Global,
     rows: &mut Rows<'s>,
-    index: &SelectorIndex<'s>,
-    initial: &'s [Name],
+    rules: &GroupedRules<'s>,
     asked: &IndexSet<String>,
     row: PageRow,
     name: &str,
 ) -> Result<(), NoMem>
-    requires index { IsIndex index.now }
-    requires initial { initial.now ≡ initial_style.font_family }
-    requires asked { map (λ k. string_bytes k) asked.now.keys ≡ fold with_name [] (all_asked index.now.rules.now) }
-    requires row { row ≡ spec.row_by index.now.rules.now [] }
+    requires rules { AreGrouped rules.now }
+    requires asked { map (λ k. string_bytes k) asked.now.keys ≡
+        fold with_name [] (all_asked rules.now.index.rules.now) }
+    requires row { row ≡ spec.row_by rules.now.index.rules.now [] }
     requires good { AreGoodCells row }
-    requires first { slice_get (map cells_in rows.old.boxes) 0 ≡ Some (boxes_of_name index.now.rules.now []) }
-    ensures table { OnOk result (rows.new.table ≡ rows.old.table ++ spec.row_by index.now.rules.now name.now ∷ []) }
+    requires first { slice_get (map cells_in rows.old.boxes) 0 ≡ Some (boxes_of_name rules.now.index.rules.now []) }
+    ensures table { OnOk result (rows.new.table ≡
+        rows.old.table ++ spec.row_by rules.now.index.rules.now name.now ∷ []) }
     ensures boxes { OnOk result (filled (map cells_in rows.new.boxes) ≡
-        filled (map cells_in rows.old.boxes) ++ boxes_of_name index.now.rules.now name.now ∷ []) }
+        filled (map cells_in rows.old.boxes) ++ boxes_of_name rules.now.index.rules.now name.now ∷ []) }
     ensures first { OnOk result (slice_get (map cells_in rows.new.boxes) 0 ≡
-        Some (boxes_of_name index.now.rules.now [])) }
+        Some (boxes_of_name rules.now.index.rules.now [])) }
     ensures good { All AreGoodCells rows.old.table → OnOk result (All AreGoodCells rows.new.table) }
 {
     if has_rules(asked, name) {
-        return push_own(alloc, rows, index, initial, name);
+        return push_own(alloc, rows, rules, name);
     }
     push_same(alloc, rows, row)
 }
@@ -234,27 +218,26 @@ fn push_name<'s>(
 /// Number 0 is no name.
 fn rows_by<'s>(
     alloc: Global,
-    index: &SelectorIndex<'s>,
-    initial: &'s [Name],
+    rules: &GroupedRules<'s>,
     asked: &IndexSet<String>,
     names: &Names,
 ) -> Result<Rows<'s>, NoMem>
-    requires index { IsIndex index.now }
-    requires initial { initial.now ≡ initial_style.font_family }
-    requires asked { map (λ k. string_bytes k) asked.now.keys ≡ fold with_name [] (all_asked index.now.rules.now) }
+    requires rules { AreGrouped rules.now }
+    requires asked { map (λ k. string_bytes k) asked.now.keys ≡
+        fold with_name [] (all_asked rules.now.index.rules.now) }
     ensures table { IfOk result (λ rows. rows.table ≡
-        map (spec.row_by index.now.rules.now) (spec.texts_of names.now)) }
+        map (spec.row_by rules.now.index.rules.now) (spec.texts_of names.now)) }
     ensures boxes { IfOk result (λ rows. filled (map cells_in rows.boxes) ≡
-        map (boxes_of_name index.now.rules.now) (spec.texts_of names.now)) }
+        map (boxes_of_name rules.now.index.rules.now) (spec.texts_of names.now)) }
     ensures good { IfOk result (λ rows. All AreGoodCells rows.table) }
 {
     let table = Items::new(alloc);
     let boxes = Items::new(alloc);
     let mut rows = Rows { table, boxes };
-    let row = push_row(alloc, &mut rows, index, initial, "")?;
+    let row = push_row(alloc, &mut rows, rules, "")?;
     for number in 1..names.len() {
         let name = text_at(names, number);
-        push_name(alloc, &mut rows, index, initial, asked, row, name)?;
+        push_name(alloc, &mut rows, rules, asked, row, name)?;
     }
     Ok(rows)
 }
@@ -280,8 +263,8 @@ impl PageStyles<'_> {
 
 /// The table of pages and the styles of margin boxes by rules in the order of the sheets: what the winning declarations
 /// give for each index, name and kind. `initial` are the initial families. It takes time in proportion to the names, to
-/// the page selectors, and, for each name that selectors ask for, to the selectors that take it and to the declarations of
-/// their rules.
+/// the page selectors, and to the declarations of the rules, those of a rule once for each name that its selectors ask
+/// for.
 pub fn resolve<'s>(
     alloc: Global,
     rules: &'s [PageRule],
@@ -294,8 +277,8 @@ pub fn resolve<'s>(
     ensures boxes { IfOk result (λ styles. AreMarginStyles rules.entry.now names.now styles.boxes) }
 {
     let asked = asked_names(alloc, rules)?;
-    let index = index_of(alloc, rules)?;
-    let rows = rows_by(alloc, &index, initial.as_slice(), &asked, names)?;
+    let grouped = group_rules(alloc, rules, initial.as_slice())?;
+    let rows = rows_by(alloc, &grouped, &asked, names)?;
     Ok(PageStyles {
         table: PageTable { rows: rows.table },
         boxes: MarginStyles::of_names(rows.boxes),

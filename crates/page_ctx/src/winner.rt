@@ -51,7 +51,10 @@ fn with_declared<'s>(
 }
 
 /// The winning declaration of a property.
-fn winner<'s>(property: PageProperty, declared: &[PageCandidate<'s>]) -> Option<PageCandidate<'s>>
+pub(crate) fn winner<'s>(
+    property: PageProperty,
+    declared: &[PageCandidate<'s>],
+) -> Option<PageCandidate<'s>>
     ensures { option_map spec.candidate_in result ≡ spec.winner property (map spec.candidate_in declared.now) }
 {
     let mut best = None;

@@ -13,12 +13,12 @@ use Rattle.page_ctx.proofs.resolve.push_name.Goals as goal
 pub returns-clause-table : goal.returns-clause-table
 returns-clause-table c =
     let out = neither _ _ (sym c.has_rules.ensures ∙ c.if-has_rules.false) in
-    on-ok c.push_same.result (λ e. e ∙ ap (λ r. c.args.rows.now.table ++ r ∷ []) (c.requires.row ∙ unasked-row c.args.index.now.rules.now (map (λ k. string_bytes k) c.args.asked.now.keys) c.args.name.now c.requires.asked out.0 out.1)) c.push_same.ensures.table
+    on-ok c.push_same.result (λ e. e ∙ ap (λ r. c.args.rows.now.table ++ r ∷ []) (c.requires.row ∙ unasked-row c.args.rules.now.index.rules.now (map (λ k. string_bytes k) c.args.asked.now.keys) c.args.name.now c.requires.asked out.0 out.1)) c.push_same.ensures.table
 
 pub returns-clause-boxes : goal.returns-clause-boxes
 returns-clause-boxes c =
     let out = neither _ _ (sym c.has_rules.ensures ∙ c.if-has_rules.false) in
-    on-ok c.push_same.result (λ e. ap filled e ∙ filled-more (map cells_in c.args.rows.now.boxes) (boxes_of_name c.args.index.now.rules.now []) [] (boxes_of_name c.args.index.now.rules.now c.args.name.now) c.requires.first (unasked-boxes c.args.index.now.rules.now (map (λ k. string_bytes k) c.args.asked.now.keys) c.args.name.now c.requires.asked out.0 out.1)) c.push_same.ensures.boxes
+    on-ok c.push_same.result (λ e. ap filled e ∙ filled-more (map cells_in c.args.rows.now.boxes) (boxes_of_name c.args.rules.now.index.rules.now []) [] (boxes_of_name c.args.rules.now.index.rules.now c.args.name.now) c.requires.first (unasked-boxes c.args.rules.now.index.rules.now (map (λ k. string_bytes k) c.args.asked.now.keys) c.args.name.now c.requires.asked out.0 out.1)) c.push_same.ensures.boxes
 
 pub returns-clause-first : goal.returns-clause-first
 returns-clause-first c = on-ok c.push_same.result (λ e. ap (λ z. slice_get z 0) e ∙ get-keep (map cells_in c.args.rows.now.boxes) _ 0 _ c.requires.first) c.push_same.ensures.boxes

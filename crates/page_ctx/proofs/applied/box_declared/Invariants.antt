@@ -1,6 +1,0 @@
-use Rattle.std.proofs.Common.{◌≡◌, ◌++◌, map, drop}
-use Rattle.page_ctx.specs.Winners.{applied_in, candidate_in, box_declared}
-use Rattle.page_ctx.proofs.applied.box_declared.Given as goal
-
-abbrev pub invariant-loop-applied : goal.invariant-loop-applied
-invariant-loop-applied l = map candidate_in l.declared.items ++ box_declared l.place (map applied_in (drop l.applied-index l.rules)) ≡ box_declared l.place (map applied_in l.rules)
