@@ -1,5 +1,5 @@
 -- How much of a page is read.
-use Rattle.std.proofs.Common.{◌≡◌, ℕ, zero, suc, ◌+◌, ◌-◌, ◌<◌, ◌≤◌, ◌⊎◌, inl, inr, ℤ, ◌≤ℤ◌, ◌<ℤ◌, List, [], ◌∷◌, ◌++◌, Option, Some, None, Bool, true, false, length, get_or, slice_get, take, arith, refl, sym, ◌∙◌, ap, subst, length-append}
+use Rattle.std.proofs.Common.{◌≡◌, ℕ, zero, suc, ◌+◌, ◌-◌, ◌<◌, ◌≤◌, ◌⊎◌, inl, inr, ℤ, ◌≤ℤ◌, ◌<ℤ◌, List, [], ◌∷◌, ◌++◌, Option, Some, None, Bool, true, false, length, get_or, slice_get, take, arith, refl, sym, ◌∙◌, ap, subst, length-append, append-nil, append_assoc}
 use Rattle.std.proofs.lemmas.Bool.{cases_lt}
 use Rattle.std.proofs.lemmas.Int.{ints, clamps}
 use Rattle.std.proofs.lemmas.Option.{slice_get_within}
@@ -56,6 +56,14 @@ short_missed kept height widest rows r left left' less s =
     let a = s.1 in
     let b = s.2 in
     (s.0, omega (arith, n, a), omega (arith, n, b), quiet_push kept height rows r s.0 (omega (arith, a)) s.3)
+
+-- and so do lines that are passed at once
+pub short_passed : (kept : Bool) (height : ℤ) (widest : ℕ) (rows more : List SolidRow) (left left' : ℕ) → length more + left' ≡ left → short_by kept height widest rows (Some left) → short_by kept height widest (rows ++ more) (Some left')
+short_passed kept height widest rows [] left left' count s =
+    subst (λ (rs : List SolidRow). short_by kept height widest rs (Some left')) (sym (append-nil rows)) (subst (λ (n : ℕ). short_by kept height widest rows (Some n)) (let e : left ≡ left' = omega (arith, count) in e) s)
+short_passed kept height widest rows (r ∷ more) left left' count s =
+    subst (λ (rs : List SolidRow). short_by kept height widest rs (Some left')) (append_assoc rows (r ∷ []) more)
+    (short_passed kept height widest (rows ++ r ∷ []) more (length more + left') left' refl (short_missed kept height widest rows r left (length more + left') (omega (arith, count)) s))
 
 pub short_miss : (kept : Bool) (height : ℤ) (widest : ℕ) (rows : List SolidRow) (r : SolidRow) (least : ℕ) → least ≤ widest → short_by kept height widest rows None → short_by kept height widest (rows ++ r ∷ []) (Some (least - 1))
 short_miss kept height widest rows r least few s = let n = len rows r in (length rows, omega (arith, n), omega (arith, n), quiet_push kept height rows r (length rows) (omega arith) s)

@@ -1,10 +1,10 @@
 //! How far a page's cut reads.
 
-ghost use Rattle.std.specs.Prelude.{◌≡◌, ℕ, ℤ, Bool, List, Some, true, false, ◌+◌, ◌<◌, ◌≤◌, length, ◌∷◌, ◌++◌, [], ◌≤ℤ◌, ◌<ℤ◌, ◌+ℤ◌};
+ghost use Rattle.std.specs.Prelude.{◌≡◌, ℕ, ℤ, Bool, List, Some, is_some, true, false, ◌+◌, ◌<◌, ◌≤◌, length, ◌∷◌, ◌++◌, [], ◌≤ℤ◌, ◌<ℤ◌, ◌+ℤ◌};
 ghost use Rattle.bk_num.specs.Limits.{most_entries};
 ghost use Rattle.cuts.specs.Areas.{AreTold, IsArea};
 ghost use Rattle.cuts.specs.Cuts.{NoteLists};
-ghost use Rattle.cuts.specs.Prefixes.{HasMissed, HasPlaced, HasRead, IsLook, is_break};
+ghost use Rattle.cuts.specs.Prefixes.{AreJoined, HasMissed, HasPlaced, HasRead, IsLook, IsStacked, is_break};
 ghost use Rattle.cuts.specs.Rows.{IsSmallRow, is_joined, rows_extent};
 ghost use Rattle.cuts.specs.Seen.{HasSeen};
 ghost use Rattle.cuts.specs.Short.{IsShort};
@@ -78,14 +78,22 @@ impl Look {
         self.left == Some(0)
     }
 
-    /// Whether the solids read so far end inside a frame of a height.
-    pub fn is_inside(&self, height: i64) -> bool
-        ensures inside { result ≡ true → (kept : Bool) (rows : List SolidRow) → HasPlaced kept rows self.now →
-            rows_extent kept rows (length rows) ≤ℤ height }
-        ensures below { result ≡ false → (kept : Bool) (rows : List SolidRow) → HasPlaced kept rows self.now →
-            height <ℤ rows_extent kept rows (length rows) }
+    /// Whether the reach that is kept ends within a height.
+    fn ends_within(&self, height: i64) -> bool
+        ensures within { result ≡ true → self.now.reach.extent ≤ℤ height }
+        ensures past { result ≡ false → height <ℤ self.now.reach.extent }
     {
         self.reach.extent <= height
+    }
+
+    /// Whether the solids read so far end inside a frame of a height.
+    pub fn is_inside(&self, height: i64) -> bool
+        ensures inside { result ≡ true → (kept : Bool) (rows : List SolidRow) → IsStacked kept height rows self.now →
+            rows_extent kept rows (length rows) ≤ℤ height }
+        ensures below { result ≡ false → (kept : Bool) (rows : List SolidRow) → IsStacked kept height rows self.now →
+            height <ℤ rows_extent kept rows (length rows) }
+    {
+        self.ends_within(height)
     }
 
     /// Whether the seam before the next solid may be a break point that fits.
@@ -127,12 +135,13 @@ impl Look {
         requires carried { IsArea room.now.carried }
         ensures some { self.new.some ≡ self.old.some }
         ensures reach { self.new.reach ≡ self.old.reach }
+        ensures missed { is_some self.old.left ≡ true → is_some self.new.left ≡ true }
         ensures seen { (rows : List SolidRow) (list : NoteLists) (c : ℕ) →
             (0 < length rows → rows_extent room.now.kept rows (length rows) ≤ℤ room.now.height →
             AreTold room.now.height list c (length rows) area room.now.carried) →
             IsLook room.now.kept room.now.height list c rows self.old →
             HasSeen room.now.kept room.now.height list c rows row.now self.old self.new }
-        ensures short { (rows : List SolidRow) (widest : ℕ) → HasPlaced room.now.kept rows self.old →
+        ensures short { (rows : List SolidRow) (widest : ℕ) → IsStacked room.now.kept room.now.height rows self.old →
             row.now.widows ≤ widest → ¬ (self.old.left ≡ Some 0) →
             IsShort room.now.kept room.now.height widest rows self.old →
             IsShort room.now.kept room.now.height widest (rows ++ row.now ∷ []) self.new }
@@ -163,16 +172,44 @@ impl Look {
             IsLook room.now.kept room.now.height list c rows self.old →
             IsLook room.now.kept room.now.height list c (rows ++ row.now ∷ []) self.new }
         ensures read { (n : ℕ) → HasRead n self.old → HasRead (n + 1) self.new }
-        ensures short { (rows : List SolidRow) (widest : ℕ) → HasPlaced room.now.kept rows self.old →
+        ensures short { (rows : List SolidRow) (widest : ℕ) → IsStacked room.now.kept room.now.height rows self.old →
             row.now.widows ≤ widest → ¬ (self.old.left ≡ Some 0) →
             IsShort room.now.kept room.now.height widest rows self.old →
             IsShort room.now.kept room.now.height widest (rows ++ row.now ∷ []) self.new }
         ensures placed { (rows : List SolidRow) → HasPlaced room.now.kept rows self.old →
             HasPlaced room.now.kept (rows ++ row.now ∷ []) self.new }
+        ensures stacked { (rows : List SolidRow) → IsStacked room.now.kept room.now.height rows self.old →
+            IsStacked room.now.kept room.now.height (rows ++ row.now ∷ []) self.new }
     {
         self.see(row, area, room);
         let gap = gap_above(&row.seam, !self.some, room.kept);
         self.reach.place(gap, row.height);
         self.some = true;
+    }
+
+    /// How many of some lines that go on with their leaf are passed at once: as many as are still to be read behind a
+    /// point without room, where the solids end below a frame of a height.
+    pub fn pass(&mut self, lines: usize, height: i64) -> usize
+        ensures few { result ≤ lines }
+        ensures below { 0 < result → (kept : Bool) (rows : List SolidRow) → IsStacked kept height rows self.old →
+            height <ℤ rows_extent kept rows (length rows) }
+        ensures look { (kept : Bool) (frame : ℤ) (list : NoteLists) (c : ℕ) (rows more : List SolidRow) →
+            length more ≡ result → AreJoined more → IsLook kept frame list c rows self.old →
+            IsLook kept frame list c (rows ++ more) self.new }
+        ensures short { (kept : Bool) (frame : ℤ) (widest : ℕ) (rows more : List SolidRow) → length more ≡ result →
+            IsShort kept frame widest rows self.old → IsShort kept frame widest (rows ++ more) self.new }
+        ensures stacked { (kept : Bool) (rows more : List SolidRow) → length more ≡ result →
+            IsStacked kept height rows self.old → IsStacked kept height (rows ++ more) self.new }
+        ensures read { (n : ℕ) → HasRead n self.old → HasRead n self.new }
+    {
+        let Some(left) = self.left else {
+            return 0;
+        };
+        if self.ends_within(height) {
+            return 0;
+        }
+        let passed = lines.min(left as usize);
+        self.left = Some(left - passed as u32);
+        passed
     }
 }

@@ -66,6 +66,35 @@ module _ (faces : List FontFace) (flow : Flow) (frame : Frame) (from : CutFrom) 
           let low = inside_within in
           omega (arith, all, low)
 
+      -- more solids behind one that ends below the frame
+      pub inside_past : (more : List SolidView) → frame.height <ℤ rows_extent from.kept (rows views) (length views) → AreReadInside faces flow frame from carried (views ++ more) p
+      inside_past more over =
+          let low = inside_within in
+          let limit = free_limit in
+          let most = limit_within (rows views) in
+          let size : length (rows views) ≡ length views = length-map views (row_of flow.main) in
+          let inner : r.count < length views = by (cases_lt r.count (length views)) in
+          let next : rows (views ++ more) ≡ rows views ++ rows more = map-append (row_of flow.main) views more in
+          let grows : limit_of (rows views) ≤ limit_of (rows (views ++ more)) = subst (λ (rs : List SolidRow). limit_of (rows views) ≤ limit_of rs) (sym next) (limit-grows (rows views) (rows more)) in
+          let within = r.within in
+          let extent : (j : ℕ) → j ≤ length views → rows_extent from.kept (rows (views ++ more)) j ≡ rows_extent from.kept (rows views) j =
+          λ j h. ap (λ (rs : List SolidRow). rows_extent from.kept rs j) next ∙ extent-append from.kept (rows views) (rows more) j (omega (arith, h, size)) in
+          record {
+            count = r.count;
+            within = omega (arith, within, grows);
+            read = subst (λ (xs : List SolidView). AreRead faces flow frame from.at carried (ends_of xs) p) (sym (take-append-le r.count views more low)) r.read;
+            inside = subst (λ (z : ℤ). z ≤ℤ frame.height) (sym (extent r.count low)) r.inside;
+            below = λ h. subst (λ (z : ℤ). frame.height <ℤ z) (sym (extent (suc r.count) (omega (arith, inner)))) (r.below (omega (arith, inner, limit)));
+          }
+        where
+          by : (r.count < length views) ⊎ (length views ≤ r.count) → r.count < length views
+          by (inl h) = h
+          by (inr h) =
+              let low = inside_within in
+              let same : r.count ≡ length views = omega (arith, h, low) in
+              let inside : rows_extent from.kept (rows views) (length views) ≤ℤ frame.height = subst (λ (n : ℕ). rows_extent from.kept (rows views) n ≤ℤ frame.height) same r.inside in
+              absurd (omega (arith, ints, inside, over))
+
       -- an area that is told later leaves the others as they are
       inside_kept : (area : ℤ) (j : ℕ) → j ≤ length views → rows_extent from.kept (rows views) (length views) ≤ℤ frame.height → area_after (p.areas.items ++ area ∷ []) j ≡ area_after p.areas.items j
       inside_kept area j low inside =

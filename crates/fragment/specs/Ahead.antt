@@ -1,5 +1,5 @@
--- The solids that are read behind a page's cut, with which the next page begins.
-use Rattle.std.specs.Prelude.{◌≡◌, ℤ, List, map}
+-- The solids that are read, from page to page.
+use Rattle.std.specs.Prelude.{◌≡◌, ℕ, zero, suc, ℤ, ◌≤◌, ◌<◌, List, [], ◌∷◌, Some, true, length, map, take, drop, slice_get}
 use Rattle.std.specs.List.{All}
 use Rattle.metrics.specs.Face.{FontFace}
 use Rattle.boxes.specs.Steps.{IsRun}
@@ -8,12 +8,22 @@ use Rattle.boxes.specs.declared.place.Position.{Position}
 use Rattle.cursor.specs.Asks.{IsHeldNow}
 use Rattle.cursor.specs.Fields.{solid_view}
 use Rattle.cursor.specs.Remainder.{IsSmallSolid, IsSolid, SolidView}
+use Rattle.cuts.specs.Rows.{is_joined}
+use Rattle.cuts.specs.declared.row.SolidRow.{SolidRow}
 use Rattle.line_fill.specs.declared.kept.KeptLeaf.{KeptLeaf}
+use Rattle.page_list.specs.Cuts.{rows_of}
 use Rattle.fragment.specs.declared.ahead.Ahead.{Ahead}
+use Rattle.fragment.specs.declared.ahead.JoinedLines.{JoinedLines}
 
 -- solids one after the other, from a place on, in a frame of a width
 abbrev pub Follow : List FontFace → Tree → ℤ → Position → List SolidView → Type 0
 Follow faces t width = IsRun (λ at s to. IsSolid faces t width at s × (to ≡ s.end)) (λ at. at ≡ at)
+
+-- where the first ones of some solids end, which begin at a place
+abbrev pub end_of : Position → List SolidView → ℕ → Position
+end_of from solids zero = from
+end_of from [] (suc count) = from
+end_of from (s ∷ solids) (suc count) = end_of s.end solids count
 
 -- a solid begins and ends at places of its tree, and where it is a line it is held as asked for in this pass
 pub record IsReadSolid (t : Tree) (width : ℤ) (kept : List KeptLeaf) (s : SolidView) : Type 0 where
@@ -28,6 +38,28 @@ pub record AreAhead (faces : List FontFace) (t : Tree) (width : ℤ) (kept : Lis
   pub follow : Follow faces t width from solids
   pub are : All (IsReadSolid t width kept) solids
 
--- what is read for a page are such solids, from some place on
+-- the solids that are read from the first one of a page on
+abbrev pub page_of : Ahead → List SolidView
+page_of a = drop a.first (map solid_view a.solids.items)
+
+-- the first ones of these
+abbrev pub page_views : Ahead → ℕ → List SolidView
+page_views a count = take count (page_of a)
+
+-- some of the rows are known to be of lines that go on with their leaf
+pub record AreJoinedWithin (joined : JoinedLines) (rows : List SolidRow) : Type 0 where
+  pub within : joined.to ≤ length rows
+  pub are : (k : ℕ) (r : SolidRow) → joined.from ≤ k → k < joined.to → slice_get rows k ≡ Some r → is_joined r ≡ true
+
+-- those that are read from the place on where a page begins, in a frame of a width, each with its row
+pub record IsPageAhead (faces : List FontFace) (t : Tree) (width : ℤ) (kept : List KeptLeaf) (from : Position)
+    (a : Ahead) : Type 0 where
+  pub wide : a.width ≡ width
+  pub within : a.first ≤ length a.solids.items
+  pub are : AreAhead faces t width kept from (page_of a)
+  pub rows : a.rows.items ≡ rows_of t (map solid_view a.solids.items)
+  pub joined : AreJoinedWithin a.joined a.rows.items
+
+-- those that are read for some page
 abbrev pub IsAhead : List FontFace → Tree → List KeptLeaf → Ahead → Type 0
-IsAhead faces t kept a = (from : Position) × AreAhead faces t a.width kept from (map solid_view a.solids.items)
+IsAhead faces t kept a = (from : Position) × IsPageAhead faces t a.width kept from a

@@ -8,10 +8,12 @@ use Rattle.boxes.specs.declared.flow.Flow.{Flow}
 use Rattle.boxes.specs.declared.frames.Frame.{Frame}
 use Rattle.cursor.specs.Fields.{solid_view}
 use Rattle.cursor.specs.KeptLines.{KeptLinesView}
-use Rattle.cursor.specs.Remainder.{IsSmallSolid, SolidView}
+use Rattle.cursor.specs.Remainder.{IsSmallSolid}
 use Rattle.cuts.specs.Areas.{IsArea}
 use Rattle.cuts.specs.Rows.{AreForcedBetween}
 use Rattle.cuts.specs.declared.row.PageRoom.{PageRoom}
+use Rattle.cuts.specs.declared.row.SolidRow.{SolidRow}
+use Rattle.cursor.specs.declared.solid.Solid.{Solid}
 use Rattle.metrics.specs.Face.{FontFace}
 use Rattle.note_list.specs.Conditions.{CanBePaged, IsAtSolid, IsHeld, NotesAscend}
 use Rattle.note_list.specs.Kept.{AreFlowLines}
@@ -19,19 +21,19 @@ use Rattle.note_list.specs.Reads.{EndInNotes, IsReady}
 use Rattle.note_list.specs.declared.carried.Carried.{Carried}
 use Rattle.page_list.specs.Cuts.{rows_of}
 use Rattle.page_list.specs.declared.cut.CutFrom.{CutFrom}
-use Rattle.fragment.specs.Ahead.{AreAhead}
+use Rattle.fragment.specs.Ahead.{IsPageAhead}
 use Rattle.fragment.specs.Reads.{AreRead}
 use Rattle.fragment.specs.declared.page_notes.PageNotes.{PageNotes}
-use Rattle.fragment.specs.declared.rows.PageSolids.{PageSolids}
+use Rattle.fragment.specs.declared.ahead.Ahead.{Ahead}
 
 -- one or more solids that are read of a page of a tree, each with its row, whose forced seams stand between blocks
-pub record ArePageSolids (t : Tree) (read : PageSolids) : Type 0 where
-  pub some : 0 < length read.solids.items
-  pub few : length read.solids.items ≤ most_entries
-  pub placed : All (λ s. Holds t s.placed_at) read.solids.items
-  pub small : All (λ s. IsSmallSolid (solid_view s)) read.solids.items
-  pub between : AreForcedBetween (rows_of t (map solid_view read.solids.items))
-  pub rows_are : read.rows.items ≡ rows_of t (map solid_view read.solids.items)
+pub record ArePageSolids (t : Tree) (solids : List Solid) (rows : List SolidRow) : Type 0 where
+  pub some : 0 < length solids
+  pub few : length solids ≤ most_entries
+  pub placed : All (λ s. Holds t s.placed_at) solids
+  pub small : All (λ s. IsSmallSolid (solid_view s)) solids
+  pub between : AreForcedBetween (rows_of t (map solid_view solids))
+  pub rows_are : rows ≡ rows_of t (map solid_view solids)
 
 -- the notes of a page are read, and what is carried to it is of notes below the first that is called on it, in order,
 -- and goes on at solids
@@ -50,7 +52,7 @@ pub record CanCut (flow : Flow) (parts : List Carried) (from : ℕ) (notes : Pag
 -- a page of a frame begins at a place of a flow, whose lines are kept, with this room, the notes that are carried to it
 -- are read, and so are some of its first solids
 pub record CanRead (faces : List FontFace) (f : Flow) (from : CutFrom) (page : Frame) (room : PageRoom)
-    (notes : PageNotes) (solids : List SolidView) (lines : KeptLinesView) : Type 0
+    (notes : PageNotes) (ahead : Ahead) (lines : KeptLinesView) : Type 0
   where
     pub flow : CanBePaged faces f
     pub holds : Holds f.main from.at
@@ -59,5 +61,5 @@ pub record CanRead (faces : List FontFace) (f : Flow) (from : CutFrom) (page : F
     pub height : room.height ≡ page.height
     pub carried : IsArea room.carried
     pub lines_are : AreFlowLines faces f lines
-    pub ahead : AreAhead faces f.main page.width lines.kept from.at solids
+    pub ahead_is : IsPageAhead faces f.main page.width lines.kept from.at ahead
     pub read : (parts : List Carried) × AreRead faces f page from.at parts [] notes

@@ -1,6 +1,6 @@
 //! The cut of a page by the solids that are read.
 
-ghost use Rattle.std.specs.Prelude.{◌≡◌, ℕ, pos, ◌<◌, ◌≤◌, ◌^◌, ◌≤ℤ◌, ◌+ℤ◌, ◌-ℤ◌, ◌⊎◌, length, All, map, take, slice_get, IfOk, []};
+ghost use Rattle.std.specs.Prelude.{◌≡◌, ℕ, pos, ◌<◌, ◌≤◌, ◌^◌, ◌≤ℤ◌, ◌+ℤ◌, ◌-ℤ◌, ◌⊎◌, length, All, drop, map, take, slice_get, IfOk, []};
 ghost use Rattle.bk_num.specs.Limits.{most_entries};
 ghost use Rattle.bk_num.specs.Numbers.{IsWithin};
 ghost use Rattle.boxes.specs.Clones.{IsRoom};
@@ -9,6 +9,7 @@ ghost use Rattle.cursor.specs.Fields.{solid_view};
 ghost use Rattle.cursor.specs.Remainder.{IsSmallSolid};
 ghost use Rattle.cuts.specs.Areas.{AreAreas, AreTold, IsArea, area_after, cut_number};
 ghost use Rattle.cuts.specs.Cuts.{NoteLists, IsPageCut};
+ghost use Rattle.cuts.specs.Prefixes.{AreJoined};
 ghost use Rattle.note_list.specs.Calls.{called_before};
 ghost use Rattle.note_list.specs.Conditions.{AreCarried, IsAtSolid};
 ghost use Rattle.note_list.specs.Places.{IsFront, IsNear};
@@ -20,7 +21,7 @@ ghost use Rattle.page_list.specs.Pages.{AreNear};
 ghost use Rattle.page_seq.specs.Places.{NeverFall};
 
 use crate::page_notes::PageNotes;
-use crate::rows::{PageSolids, forced_after, place_after};
+use crate::rows::{forced_after, place_after};
 use crate::tops::{PlacedSolids, place_all};
 use bk_num::items::Items;
 use bk_num::name::NoMem;
@@ -29,7 +30,7 @@ use boxes::place::Position;
 use boxes::tree::BoxTree;
 use cursor::solid::Solid;
 use cuts::cut::{CutLevel, RowCut, cut_noted, tail_at};
-use cuts::row::PageRoom;
+use cuts::row::{PageRoom, SolidRow};
 use note_list::calls::called_before;
 use note_list::carried::CarriedNotes;
 use note_list::list::NoteRoom;
@@ -38,21 +39,29 @@ use seams::level::Dropped;
 use std::alloc::Global;
 
 /// After how many of the solids that are read a page is cut, and at which level.
-fn cut_rows(tree: &BoxTree, read: &PageSolids<'_>, areas: &[i64], room: &PageRoom) -> RowCut
-    requires solids { ArePageSolids tree.now read.now }
+fn cut_rows(
+    tree: &BoxTree,
+    solids: &[Solid<'_>],
+    rows: &[SolidRow],
+    joined: usize,
+    areas: &[i64],
+    room: &PageRoom,
+) -> RowCut
+    requires solids { ArePageSolids tree.now solids.now rows.now }
+    requires joined { AreJoined (drop joined rows.now) }
     requires areas { All IsArea areas.now }
     requires carried { IsArea room.now.carried }
     ensures best { (list : NoteLists) (c : ℕ) →
-        AreAreas room.now.kept (rows_of tree.now (map solid_view read.now.solids.items)) room.now.height list c areas.now
+        AreAreas room.now.kept (rows_of tree.now (map solid_view solids.now)) room.now.height list c areas.now
         room.now.carried →
-        IsPageCut room.now.kept (rows_of tree.now (map solid_view read.now.solids.items)) room.now.height list c
+        IsPageCut room.now.kept (rows_of tree.now (map solid_view solids.now)) room.now.height list c
         (cut_number result.level) result.count }
     ensures some { 0 < result.count }
-    ensures within { result.count ≤ length read.now.solids.items }
+    ensures within { result.count ≤ length solids.now }
 {
     // that the tree is one that can be built
     let _count = tree.count();
-    cut_noted(read.rows.as_slice(), areas, room)
+    cut_noted(rows, joined, areas, room)
 }
 
 /// The first solids of a page with their tops.
@@ -87,36 +96,39 @@ fn room_below(height: i64, foot: i64, tail: i64) -> i64
     height - (foot + tail)
 }
 
-/// The cut of a page by one or more solids. `called` notes are called before it.
+/// The cut of a page by one or more solids, which from the number `joined` on are lines that go on with the leaf of the
+/// solid before them. `called` notes are called before it.
 pub(crate) fn cut_solids(
     alloc: Global,
     flow: &Flow,
-    read: &PageSolids<'_>,
+    solids: &[Solid<'_>],
+    rows: &[SolidRow],
+    joined: usize,
     carried: CarriedNotes,
     called: u32,
     notes: &PageNotes,
     room: &PageRoom,
 ) -> Result<Cut, NoMem>
-    requires solids { ArePageSolids flow.now.main read.now }
+    requires solids { ArePageSolids flow.now.main solids.now rows.now }
+    requires joined { AreJoined (drop joined rows.now) }
     requires cut { CanCut flow.now carried called notes.now room.now }
     requires area { IsArea room.now.carried }
     requires called { (j : ℕ) → 0 < j → called ≤ called_before flow.now.main flow.now.notes
-        (place_after flow.now.main (slice_get (map solid_view read.now.solids.items) j)) }
+        (place_after flow.now.main (slice_get (map solid_view solids.now) j)) }
     requires calls { NeverFall (map (λ n. n.call) flow.now.notes) }
     ensures cut { IfOk result (CutsAt flow.now room.now.kept room.now.height carried called
-        (λ list. AreAreas room.now.kept (rows_of flow.now.main (map solid_view read.now.solids.items)) room.now.height
+        (λ list. AreAreas room.now.kept (rows_of flow.now.main (map solid_view solids.now)) room.now.height
         list notes.now.list.own notes.now.areas.items room.now.carried)
-        notes.now.list (map solid_view read.now.solids.items)) }
+        notes.now.list (map solid_view solids.now)) }
     ensures holds { IfOk result (λ cut. Holds flow.now.main cut.to) }
     ensures carried { IfOk result (λ cut. AreCarried flow.now cut.to cut.carried) }
     ensures stands { IfOk result (λ cut. All (IsAtSolid flow.now.notes) cut.carried) }
     ensures front { IfOk result (λ cut. IsFront notes.now.list.solids.items cut.notes) }
     ensures near { IfOk result (λ cut. AreNear cut.solids cut.notes) }
 {
-    let cut = cut_rows(&flow.main, read, notes.areas.as_slice(), room);
-    let solids = read.solids.as_slice();
+    let areas = notes.areas.as_slice();
+    let cut = cut_rows(&flow.main, solids, rows, joined, areas, room);
     let placed = place_first(alloc, solids, cut.count, room.kept)?;
-    let rows = read.rows.as_slice();
     let tail = tail_at(rows, cut.count);
     let to = place_after(&flow.main, solids, cut.count);
     let left = NoteRoom {

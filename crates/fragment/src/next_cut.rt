@@ -14,7 +14,7 @@ ghost use Rattle.page_list.specs.Inside.{AreInside};
 ghost use Rattle.page_list.specs.Looked.{LooksAtFlow};
 ghost use Rattle.page_list.specs.Pages.{AreNear};
 
-use crate::ahead::{Ahead, solids_from};
+use crate::ahead::Ahead;
 use crate::cut_solids::{cut_end, cut_solids};
 use crate::laws::no_later_point_fits;
 use crate::page_notes::PageNotes;
@@ -32,8 +32,8 @@ use page_list::cut::{Cut, CutFrom};
 use std::alloc::Global;
 use std::sync::ledger::Ledger;
 
-/// The cut of a page, what is carried to which goes on at solids. Any boxes may be open at first. It takes no more steps
-/// than such a page may look at lines that aren't held. What was read ahead isn't sought again.
+/// The cut of a page, what is carried to which goes on at solids. Any boxes may be open at first. It takes no more
+/// steps than such a page may look at lines that aren't held. What was read ahead isn't sought again.
 pub(crate) fn cut_page<'t, L: Ledger>(
     alloc: Global,
     flow: &'t Flow,
@@ -84,27 +84,22 @@ pub(crate) fn cut_page<'t, L: Ledger>(
         height: frame.height,
         carried: notes.list.own_area(),
     };
-    let first = ahead.first_at(from.at, frame.width);
-    let read = prefix(
-        alloc,
-        flow,
-        faces,
-        from,
-        frame,
-        &room,
-        &mut notes,
-        solids_from(ahead.solids.as_slice(), first),
-        widths,
-        lines,
-        steps,
+    ahead.begin(from.at, frame.width);
+    let count = prefix(
+        flow, faces, from, frame, &room, &mut notes, ahead, widths, lines, steps,
     )?;
-    if read.solids.is_empty() {
+    if count == 0 {
         notes.take(flow, faces, from.at, frame, &mut widths.notes, lines, steps)?;
         return cut_end(alloc, flow, carried, called, &notes, &room);
     }
-    let cut = cut_solids(alloc, flow, &read, carried, called, &notes, &room);
-    ahead.keep(read, frame.width);
-    cut
+    let solids = ahead.page(count);
+    let rows = ahead.page_rows(count);
+    let joined = ahead.joined_from(count);
+    let cut = cut_solids(
+        alloc, flow, solids, rows, joined, carried, called, &notes, &room,
+    )?;
+    ahead.end(cut.solids.as_slice().len());
+    Ok(cut)
 }
 
 /// The cut of the next page of a flow, by kept lines: it is that of `next_cut`. A line takes a step only where it isn't

@@ -25,13 +25,6 @@ pub(crate) fn row_of(tree: &BoxTree, solid: &Solid<'_>) -> SolidRow
     }
 }
 
-/// The solids of a page that are read, each with what a cut reads of it.
-#[derive(Drop)]
-pub(crate) struct PageSolids<'t> {
-    pub solids: Vec<Solid<'t>>,
-    pub rows: Vec<SolidRow>,
-}
-
 /// Where a page that is cut after some solids leaves off.
 pub(crate) fn place_after(tree: &BoxTree, solids: &[Solid<'_>], count: usize) -> Position
     ensures { result ≡ place_after tree.now (slice_get (map solid_view solids.now) count) }

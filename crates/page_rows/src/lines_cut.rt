@@ -91,7 +91,7 @@ fn cut(areas: &[i64; 6], room: &PageRoom) -> (u8, usize)
     requires carried { IsArea room.now.carried }
 {
     let rows = leaf();
-    let cut = cut_noted(&rows, areas, room);
+    let cut = cut_noted(&rows, 6, areas, room);
     (cut.level.number(), cut.count)
 }
 

@@ -5,7 +5,6 @@ use Rattle.std.proofs.lemmas.List.Elements.{All-map}
 use mir.Val.{SFits}
 use mir.Syntax.{w64}
 use Rattle.boxes.specs.Tree.{Tree, Holds}
-use Rattle.cursor.specs.declared.solid.Solid.{Solid}
 use Rattle.cursor.specs.Fields.{solid_view}
 use Rattle.cursor.specs.Remainder.{SolidView}
 use Rattle.cuts.specs.Areas.{AreAreas, cut_number}
@@ -25,19 +24,19 @@ use Rattle.fragment.proofs.cut_solids.cut_solids.Goals as goal
 use Rattle.fragment.proofs.cut_solids.cut_solids.Goals.{After-place_after-to}
 
 abbrev views : After-place_after-to → List SolidView
-views c = map solid_view c.args.read.now.solids.items
+views c = map solid_view c.args.solids.now
 
 -- where the page leaves off
 leaves : (c : After-place_after-to) → c.place_after-to.result ≡ place_after c.args.flow.now.main (slice_get (views c) c.cut_rows-cut.result.count)
-leaves c = c.place_after-to.ensures ∙ ap (λ (xs : List Solid). place_after c.args.flow.now.main (slice_get (map solid_view xs) c.cut_rows-cut.result.count)) c.as_slice-solids.ensures.value
+leaves c = c.place_after-to.ensures
 
 left_holds : (c : After-place_after-to) → Holds c.args.flow.now.main c.place_after-to.result
 left_holds c =
     subst (Holds c.args.flow.now.main) (sym (leaves c))
-    (holds_after c.args.flow.now.main (views c) (All-map (λ (v : SolidView). Holds c.args.flow.now.main v.placed_at) solid_view c.args.read.now.solids.items c.requires.solids.placed) c.cut_rows-cut.result.count)
+    (holds_after c.args.flow.now.main (views c) (All-map (λ (v : SolidView). Holds c.args.flow.now.main v.placed_at) solid_view c.args.solids.now c.requires.solids.placed) c.cut_rows-cut.result.count)
 
 pub tail_at-tail-requires : goal.tail_at-tail-requires
-tail_at-tail-requires c = subst (All IsSmallRow) (sym (c.as_slice-rows.ensures.value ∙ c.requires.solids.rows_are)) (small_rows c.args.flow.now.main c.args.read.now.solids.items c.requires.solids.small)
+tail_at-tail-requires c = subst (All IsSmallRow) (sym c.requires.solids.rows_are) (small_rows c.args.flow.now.main c.args.solids.now c.requires.solids.small)
 
 pub called_before-requires-clause-holds : goal.called_before-requires-clause-holds
 called_before-requires-clause-holds c = left_holds (goal.at.called_before-requires-clause-holds c).After-place_after-to
@@ -92,12 +91,12 @@ returns-clause-cut c =
     let height : ℤ = c.args.room.now.height in
     let vs : List SolidView = views d in
     let count : ℕ = c.cut_rows-cut.result.count in
-    let size : length vs ≡ length c.args.read.now.solids.items = length-map c.args.read.now.solids.items solid_view in
+    let size : length vs ≡ length c.args.solids.now = length-map c.args.solids.now solid_view in
     let rows_size : length (rows_of t vs) ≡ length vs = length-map vs (row_of t) in
     let some : 0 < length (rows_of t vs) = let h = c.requires.solids.some in omega arith in
     let low : count ≤ length vs = let h = c.cut_rows-cut.ensures.within in omega arith in
     let solids_is : c.in_ok-placed.placed.items.items ≡ placed_from (first_gap kept vs) (take count vs) =
-    c.in_ok-placed.ensures.solids ∙ ap (λ (xs : List Solid). placed_from (first_gap kept (map solid_view xs)) (take count (map solid_view xs))) c.as_slice-solids.ensures.value in
+    c.in_ok-placed.ensures.solids in
     let foot : c.in_ok-placed.placed.foot ≡ rows_extent kept (rows_of t vs) count =
     c.in_ok-placed.ensures.foot ∙ ap (foot_from (pos 0)) solids_is ∙ foot_is t kept vs count c.cut_rows-cut.ensures.some low in
     let tall : SFits w64 height = search rules in
@@ -106,20 +105,20 @@ returns-clause-cut c =
     let deep : SFits w64 c.in_ok-placed.placed.foot = search rules in
     let low_tail : SFits w64 c.tail_at-tail.result = search rules in
     let tail : to_z w64 (of_z w64 c.tail_at-tail.result) ≡ tail_after (rows_of t vs) count =
-    to_z-of_z w64 c.tail_at-tail.result low_tail ∙ c.tail_at-tail.ensures.tail ∙ ap (λ (rs : List SolidRow). tail_after rs count) (c.as_slice-rows.ensures.value ∙ c.requires.solids.rows_are) in
+    to_z-of_z w64 c.tail_at-tail.result low_tail ∙ c.tail_at-tail.ensures.tail ∙ ap (λ (rs : List SolidRow). tail_after rs count) c.requires.solids.rows_are in
     let fits : SFits w64 c.room_below.result = search rules in
     let room : to_z w64 (of_z w64 c.room_below.result) ≡ height -ℤ rows_reach kept (rows_of t vs) count =
     to_z-of_z w64 c.room_below.result fits ∙ c.room_below.ensures.room ∙ ap (λ (z : ℤ). z -ℤ (to_z w64 (of_z w64 c.in_ok-placed.placed.foot) +ℤ to_z w64 (of_z w64 c.tail_at-tail.result))) (to_z-of_z w64 height tall) ∙ ap (λ (z : ℤ). height -ℤ (z +ℤ to_z w64 (of_z w64 c.tail_at-tail.result))) (to_z-of_z w64 c.in_ok-placed.placed.foot deep ∙ foot) ∙ ap (λ (z : ℤ). height -ℤ (rows_extent kept (rows_of t vs) count +ℤ z)) tail in
-    let cut : ℕ → Cut = λ n. record { to = c.place_after-to.result; ended = nat_eq count (length c.as_slice-solids.result.now); forced = c.forced_after.result; level = n; solids = c.of.result; notes = c.in_ok-noted.noted.notes; carried = c.in_ok-noted.noted.left } in
+    let cut : ℕ → Cut = λ n. record { to = c.place_after-to.result; ended = nat_eq count (length c.args.solids.now); forced = c.forced_after.result; level = n; solids = c.of.result; notes = c.in_ok-noted.noted.notes; carried = c.in_ok-noted.noted.left } in
     let level : c.number.result ≡ cut_number c.cut_rows-cut.result.level = c.number.ensures in
     record {
       count = count;
       within = low;
       best = λ list told. best_of kept (rows_of t vs) height list c.args.notes.now.list.own c.number.result count some
-          (subst (λ (n : ℕ). IsPageCut kept (rows_of t vs) height list c.args.notes.now.list.own n count) (sym level) (c.cut_rows-cut.ensures.best list c.args.notes.now.list.own (subst (λ (zs : List ℤ). AreAreas kept (rows_of t vs) height list c.args.notes.now.list.own zs c.args.room.now.carried) (sym c.as_slice.ensures.value) told)));
+          (subst (λ (n : ℕ). IsPageCut kept (rows_of t vs) height list c.args.notes.now.list.own n count) (sym level) (c.cut_rows-cut.ensures.best list c.args.notes.now.list.own (subst (λ (zs : List ℤ). AreAreas kept (rows_of t vs) height list c.args.notes.now.list.own zs c.args.room.now.carried) (sym c.as_slice-areas.ensures.value) told)));
       to_is = leaves d;
-      ended_is = ap (λ (xs : List Solid). nat_eq count (length xs)) c.as_slice-solids.ensures.value ∙ ap (λ (n : ℕ). nat_eq count n) (sym size);
-      forced_is = c.forced_after.ensures ∙ ap (λ (xs : List Solid). forced_after (slice_get (map solid_view xs) count)) c.as_slice-solids.ensures.value;
+      ended_is = ap (λ (n : ℕ). nat_eq count n) (sym size);
+      forced_is = c.forced_after.ensures;
       solids_is = c.of.ensures ∙ solids_is;
       places = subst (λ (n : ℕ). PlacesNotes c.args.flow.now c.args.carried c.args.called (called_before t c.args.flow.now.notes c.place_after-to.result) height (height -ℤ rows_reach kept (rows_of t vs) count) c.args.notes.now.list (cut n)) (sym level)
           (subst (λ (z : ℤ). PlacesNotes c.args.flow.now c.args.carried c.args.called (called_before t c.args.flow.now.notes c.place_after-to.result) height z c.args.notes.now.list (cut (cut_number c.cut_rows-cut.result.level))) room

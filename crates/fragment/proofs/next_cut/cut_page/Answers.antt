@@ -1,11 +1,10 @@
-use Rattle.std.proofs.Common.{◌≡◌, ◌<◌, zero, suc, take, drop, ◌++◌, ◌∷◌, [], ℕ, ℤ, true, false, None, List, All, length, map, rules, refl, sym, ap, ◌∙◌, subst, arith, to_z, of_z, Result, Ok, Err, IfOk}
-use Rattle.std.proofs.lemmas.Bool.Decides.{nat_tests}
+use Rattle.std.proofs.Common.{◌≡◌, ◌<◌, zero, suc, drop, take, ◌+◌, ◌≤◌, ◌++◌, ◌∷◌, [], ℕ, ℤ, true, false, None, List, All, length, map, slice_get, rules, refl, sym, ap, ◌∙◌, subst, arith, to_z, of_z, Result, Ok, Err, IfOk}
 use Rattle.std.proofs.lemmas.Int.{ints, to_z-of_z}
-use Rattle.std.proofs.lemmas.List.{length-map}
-use Rattle.std.proofs.lemmas.List.Elements.{All-nil}
+use Rattle.std.proofs.lemmas.List.{length-map, length-take-le}
+use Rattle.std.proofs.lemmas.List.Elements.{All-nil, All-take}
 use mir.Val.{SFits}
 use mir.Syntax.{w64}
-use Rattle.boxes.specs.Tree.{Holds}
+use Rattle.boxes.specs.Tree.{Holds, Tree}
 use Rattle.boxes.specs.declared.flow.Flow.{Flow}
 use Rattle.boxes.specs.declared.frames.Frame.{Frame}
 use Rattle.boxes.specs.declared.place.Position.{Position}
@@ -26,13 +25,16 @@ use Rattle.note_list.proofs.KnownLemmas.{known_more}
 use Rattle.note_list.specs.Calls.{called_before}
 use Rattle.note_list.specs.Known.{StepsForNotes, new_in}
 use Rattle.note_list.specs.Lists.{note_rows}
-use Rattle.fragment.specs.Ahead.{AreAhead}
+use Rattle.fragment.specs.Ahead.{IsPageAhead, IsReadSolid, page_of, page_views}
 use Rattle.fragment.specs.CutsAt.{CutsAt}
 use Rattle.fragment.specs.Reads.{AreRead, AreReadInside, IsPagePrefix, StepsForPage, called_by, called_in}
-use Rattle.page_list.specs.Cuts.{rows_of}
+use Rattle.cuts.specs.Prefixes.{AreJoined}
+use Rattle.cuts.specs.Rows.{AreForcedBetween}
+use Rattle.cuts.specs.declared.row.SolidRow.{SolidRow}
+use Rattle.page_list.specs.Cuts.{first_gap, place_after, placed_from, rows_of}
 use Rattle.page_list.specs.declared.cut.CutFrom.{CutFrom}
 use Rattle.page_list.proofs.InsideLemmas.{flow_inside}
-use Rattle.fragment.proofs.AheadLemmas.{ahead_on, first_ahead, some_ahead, stays_ahead}
+use Rattle.fragment.proofs.AheadLemmas.{page_on, page_rows_are, page_size, page_views_are, rows_size, stays_ahead}
 use Rattle.fragment.proofs.CutLemmas.{called_low, end_cut, flow_cut, none_left, room_is}
 use Rattle.fragment.proofs.FlowLemmas.{prefix_between, prefix_few}
 use Rattle.fragment.proofs.KeptLemmas.{cut_held}
@@ -41,45 +43,45 @@ use Rattle.fragment.proofs.PlaceLemmas.{before_most, by_all}
 use Rattle.fragment.proofs.SolidLemmas.{all_views, if_ok}
 use Rattle.fragment.proofs.next_cut.cut_page.Given as given
 use Rattle.fragment.proofs.next_cut.cut_page.Goals as goal
-use Rattle.fragment.proofs.next_cut.cut_page.Goals.{After-first_at-first, After-is_empty}
+use Rattle.fragment.proofs.next_cut.cut_page.Goals.{In_ok-count, In_ok-cut}
 
 -- the notes that are read with the solids
-read : (g : given.Over) (c : After-is_empty g) → AreReadInside c.args.faces.now c.args.flow.now c.args.frame c.args.from c.args.carried (map solid_view c.in_ok-read.read.solids.items) c.prefix.new.notes
-read g c = c.in_ok-read.ensures.read c.args.carried c.in_ok-notes.ensures.read
+read : (g : given.Over) (c : In_ok-count g) → AreReadInside c.args.faces.now c.args.flow.now c.args.frame c.args.from c.args.carried (page_views c.prefix.new.ahead c.in_ok-count.count) c.prefix.new.notes
+read g c = c.in_ok-count.ensures.read c.args.carried c.in_ok-notes.ensures.read
 
-abbrev room : (g : given.Over) (c : After-is_empty g) → ℤ
+abbrev room : (g : given.Over) (c : In_ok-count g) → ℤ
 room g c = to_z w64 (of_z w64 c.own_area.result)
 
-tells : (g : given.Over) (c : After-is_empty g) → IsPagePrefix c.args.faces.now c.args.flow.now.main c.args.frame c.args.from.at c.args.from.kept c.prefix.new.notes.list.own c.prefix.new.notes.areas.items (room g c) (map solid_view c.in_ok-read.read.solids.items)
-tells g c = subst (λ (n : ℕ). IsPagePrefix c.args.faces.now c.args.flow.now.main c.args.frame c.args.from.at c.args.from.kept n c.prefix.new.notes.areas.items (room g c) (map solid_view c.in_ok-read.read.solids.items)) (sym c.in_ok-read.ensures.own) c.in_ok-read.ensures.prefix
+tells : (g : given.Over) (c : In_ok-count g) → IsPagePrefix c.args.faces.now c.args.flow.now.main c.args.frame c.args.from.at c.args.from.kept c.prefix.new.notes.list.own c.prefix.new.notes.areas.items (room g c) (page_views c.prefix.new.ahead c.in_ok-count.count)
+tells g c = subst (λ (n : ℕ). IsPagePrefix c.args.faces.now c.args.flow.now.main c.args.frame c.args.from.at c.args.from.kept n c.prefix.new.notes.areas.items (room g c) (page_views c.prefix.new.ahead c.in_ok-count.count)) (sym c.in_ok-count.ensures.own) c.in_ok-count.ensures.prefix
 
-room_was : (g : given.Over) (c : After-is_empty g) → room g c ≡ area_of (note_rows (read g c).read.own) c.prefix.new.notes.list.own
+room_was : (g : given.Over) (c : In_ok-count g) → room g c ≡ area_of (note_rows (read g c).read.own) c.prefix.new.notes.list.own
 room_was g c =
     let fits : SFits w64 c.own_area.result = search rules in
-    room_is c.args.faces.now c.args.flow.now c.args.frame c.args.from.at c.args.carried [] (map (λ (s : SolidView). s.end) (take (read g c).count (map solid_view c.in_ok-read.read.solids.items))) c.in_ok-notes.notes c.prefix.new.notes (room g c) c.in_ok-notes.ensures.read (read g c).read c.in_ok-read.ensures.own
+    room_is c.args.faces.now c.args.flow.now c.args.frame c.args.from.at c.args.carried [] (map (λ (s : SolidView). s.end) (take (read g c).count (page_views c.prefix.new.ahead c.in_ok-count.count))) c.in_ok-notes.notes c.prefix.new.notes (room g c) c.in_ok-notes.ensures.read (read g c).read c.in_ok-count.ensures.own
     (λ height list is. to_z-of_z w64 c.own_area.result fits ∙ c.own_area.ensures.area height list is)
 
 -- ---- where no solid is left
-none_of : (xs : List Solid) → length xs ≡ 0 → map solid_view xs ≡ []
-none_of [] e = refl
-none_of (x ∷ xs) e = absurd (omega arith)
-
 pub take-requires-clause-ready : goal.take-requires-clause-ready
-take-requires-clause-ready g c = (read g (goal.at.take-requires-clause-ready g c).After-is_empty).read.ready
+take-requires-clause-ready g c = (read g (goal.at.take-requires-clause-ready g c).In_ok-count).read.ready
 
 pub take-requires-clause-ends : goal.take-requires-clause-ends
-take-requires-clause-ends g c = (read g (goal.at.take-requires-clause-ends g c).After-is_empty).read.held
+take-requires-clause-ends g c = (read g (goal.at.take-requires-clause-ends g c).In_ok-count).read.held
 
 -- nothing is read where nothing is left
-empty : (g : given.Over) (c : After-is_empty g) → c.is_empty.result ≡ true → map solid_view c.in_ok-read.read.solids.items ≡ []
-empty g c e = none_of c.in_ok-read.read.solids.items (let v = c.is_empty.ensures in grind (arith, nat_tests))
+empty : (g : given.Over) (c : In_ok-count g) → c.in_ok-count.count ≡ 0 → page_views c.prefix.new.ahead c.in_ok-count.count ≡ []
+empty g c e = ap (page_views c.prefix.new.ahead) e ∙ none_first (page_of c.prefix.new.ahead)
+  where
+    none_first : (vs : List SolidView) → take 0 vs ≡ []
+    none_first [] = refl
+    none_first (v ∷ vs) = refl
 
-ended : (g : given.Over) (c : After-is_empty g) → c.is_empty.result ≡ true → solid_after c.args.flow.now.main c.args.from.at.event ≡ None
+ended : (g : given.Over) (c : In_ok-count g) → c.in_ok-count.count ≡ 0 → solid_after c.args.flow.now.main c.args.from.at.event ≡ None
 ended g c e =
     none_left c.args.faces.now c.args.flow.now.main c.args.frame c.args.from.at c.args.from.kept c.prefix.new.notes.list.own c.prefix.new.notes.areas.items (room g c)
     (subst (IsPagePrefix c.args.faces.now c.args.flow.now.main c.args.frame c.args.from.at c.args.from.kept c.prefix.new.notes.list.own c.prefix.new.notes.areas.items (room g c)) (empty g c e) (tells g c))
 
-all_called : (g : given.Over) (c : After-is_empty g) → c.is_empty.result ≡ true → called_by c.args.flow.now.main c.args.flow.now.notes c.args.from.at ≡ length c.args.flow.now.notes
+all_called : (g : given.Over) (c : In_ok-count g) → c.in_ok-count.count ≡ 0 → called_by c.args.flow.now.main c.args.flow.now.notes c.args.from.at ≡ length c.args.flow.now.notes
 all_called g c e = by_all c.args.flow.now.main c.args.flow.now.notes c.args.from.at (ended g c e)
 
 none_taken : (vs : List SolidView) (n : ℕ) → vs ≡ [] → take n vs ≡ []
@@ -95,20 +97,20 @@ all_read faces flow frame from carried solids p q e more r =
 
 pub take-requires-clause-called : goal.take-requires-clause-called
 take-requires-clause-called g c =
-    let d = (goal.at.take-requires-clause-called g c).After-is_empty in
-    let all = all_called g d c.if-is_empty.true in
+    let d = (goal.at.take-requires-clause-called g c).In_ok-count in
+    let all = all_called g d c.if-count-eq0.true in
     let here : c.prefix.new.notes.called ≡ called_before c.args.flow.now.main c.args.flow.now.notes c.args.from.at =
-    (read g d).read.called ∙ ap (λ (vs : List SolidView). called_in c.args.flow.now c.args.from.at (map (λ (s : SolidView). s.end) vs) (length (map (λ (s : SolidView). s.end) vs))) (none_taken (map solid_view c.in_ok-read.read.solids.items) (read g d).count (empty g d c.if-is_empty.true)) in
+    (read g d).read.called ∙ ap (λ (vs : List SolidView). called_in c.args.flow.now c.args.from.at (map (λ (s : SolidView). s.end) vs) (length (map (λ (s : SolidView). s.end) vs))) (none_taken (page_views c.prefix.new.ahead c.in_ok-count.count) (read g d).count (empty g d c.if-count-eq0.true)) in
     let most = before_most c.args.flow.now.main c.args.flow.now.notes c.args.from.at in
     omega arith
 
 pub cut_end-requires-clause-all : goal.cut_end-requires-clause-all
-cut_end-requires-clause-all g c = c.in_ok-take.ensures.called ∙ all_called g (goal.at.cut_end-requires-clause-all g c).After-is_empty c.if-is_empty.true
+cut_end-requires-clause-all g c = c.in_ok-take.ensures.called ∙ all_called g (goal.at.cut_end-requires-clause-all g c).In_ok-count c.if-count-eq0.true
 
 pub cut_end-requires-clause-cut : goal.cut_end-requires-clause-cut
 cut_end-requires-clause-cut g c =
-    let d = (goal.at.cut_end-requires-clause-cut g c).After-is_empty in
-    let all = all_read c.args.faces.now c.args.flow.now c.args.frame c.args.from c.args.carried (map solid_view c.in_ok-read.read.solids.items) c.prefix.new.notes c.take.new.self (empty g d c.if-is_empty.true) c.in_ok-take.ensures.read (read g d) in
+    let d = (goal.at.cut_end-requires-clause-cut g c).In_ok-count in
+    let all = all_read c.args.faces.now c.args.flow.now c.args.frame c.args.from c.args.carried (page_views c.prefix.new.ahead c.in_ok-count.count) c.prefix.new.notes c.take.new.self (empty g d c.if-count-eq0.true) c.in_ok-take.ensures.read (read g d) in
     let low = c.requires.frame.height_low in
     let high = c.requires.frame.height_high in
     record {
@@ -130,47 +132,80 @@ cut_end-requires-clause-called g c =
     let most = before_most c.args.flow.now.main c.args.flow.now.notes c.args.from.at in
     omega arith
 
-pub returns-then-is_empty-clause-cut : goal.returns-then-is_empty-clause-cut
-returns-then-is_empty-clause-cut g c =
-    let d = (goal.at.returns-then-is_empty-clause-cut g c).After-is_empty in
+pub returns-then-count-eq0-clause-cut : goal.returns-then-count-eq0-clause-cut
+returns-then-count-eq0-clause-cut g c =
+    let d = (goal.at.returns-then-count-eq0-clause-cut g c).In_ok-count in
     let fits : SFits w64 c.own_area.result = search rules in
     let tall : SFits w64 c.args.frame.height = search rules in
-    let all = all_read c.args.faces.now c.args.flow.now c.args.frame c.args.from c.args.carried (map solid_view c.in_ok-read.read.solids.items) c.prefix.new.notes c.take.new.self (empty g d c.if-is_empty.true) c.in_ok-take.ensures.read (read g d) in
+    let all = all_read c.args.faces.now c.args.flow.now c.args.frame c.args.from c.args.carried (page_views c.prefix.new.ahead c.in_ok-count.count) c.prefix.new.notes c.take.new.self (empty g d c.if-count-eq0.true) c.in_ok-take.ensures.read (read g d) in
     let was : room g d ≡ area_of (note_rows all.own) c.take.new.self.list.own =
-    room_is c.args.faces.now c.args.flow.now c.args.frame c.args.from.at c.args.carried [] (c.args.from.at ∷ []) c.in_ok-notes.notes c.take.new.self (room g d) c.in_ok-notes.ensures.read all (c.in_ok-take.ensures.own ∙ c.in_ok-read.ensures.own)
+    room_is c.args.faces.now c.args.flow.now c.args.frame c.args.from.at c.args.carried [] (c.args.from.at ∷ []) c.in_ok-notes.notes c.take.new.self (room g d) c.in_ok-notes.ensures.read all (c.in_ok-take.ensures.own ∙ c.in_ok-count.ensures.own)
     (λ height list is. to_z-of_z w64 c.own_area.result fits ∙ c.own_area.ensures.area height list is) in
     let first : c.in_ok-notes.notes.called ≡ called_before c.args.flow.now.main c.args.flow.now.notes c.args.from.at = c.in_ok-notes.ensures.read.called in
     if_ok _ _ c.cut_end.result
-    (λ cut is. end_cut c.args.faces.now c.args.flow.now c.args.frame c.args.from c.args.carried c.requires.flow c.requires.holds c.requires.carried (ended g d c.if-is_empty.true) c.take.new.self (room g d) all was cut
+    (λ cut is. end_cut c.args.faces.now c.args.flow.now c.args.frame c.args.from c.args.carried c.requires.flow c.requires.holds c.requires.carried (ended g d c.if-count-eq0.true) c.take.new.self (room g d) all was cut
     (subst (λ (n : ℕ). CutsAt c.args.flow.now c.args.from.kept c.args.frame.height c.args.carried n (λ list. AreTold c.args.frame.height list c.take.new.self.list.own 0 (area_after c.take.new.self.areas.items (length c.take.new.self.areas.items)) (room g d)) c.take.new.self.list [] cut) first
     (subst (λ (z : ℤ). CutsAt c.args.flow.now c.args.from.kept z c.args.carried c.in_ok-notes.notes.called (λ list. AreTold z list c.take.new.self.list.own 0 (area_after c.take.new.self.areas.items (length c.take.new.self.areas.items)) (room g d)) c.take.new.self.list [] cut) (to_z-of_z w64 c.args.frame.height tall) is))) c.cut_end.ensures.cut
 
-pub returns-then-is_empty-clause-inside : goal.returns-then-is_empty-clause-inside
-returns-then-is_empty-clause-inside g c = if_ok _ _ c.cut_end.result (λ cut is. flow_inside c.args.faces.now c.args.flow.now c.args.frame c.args.from c.args.carried cut c.requires.flow.main.is c.requires.frame.width_low is) (returns-then-is_empty-clause-cut g c)
+pub returns-then-count-eq0-clause-inside : goal.returns-then-count-eq0-clause-inside
+returns-then-count-eq0-clause-inside g c = if_ok _ _ c.cut_end.result (λ cut is. flow_inside c.args.faces.now c.args.flow.now c.args.frame c.args.from c.args.carried cut c.requires.flow.main.is c.requires.frame.width_low is) (returns-then-count-eq0-clause-cut g c)
 
 -- ---- where some are read
-some_read : (g : given.Over) (c : After-is_empty g) → c.is_empty.result ≡ false → 0 < length (map solid_view c.in_ok-read.read.solids.items)
-some_read g c e = rw length-map (let v = c.is_empty.ensures in grind (arith, nat_tests))
+views_size : (g : given.Over) (c : In_ok-count g) → length (page_views c.prefix.new.ahead c.in_ok-count.count) ≡ c.in_ok-count.count
+views_size g c = length-take-le c.in_ok-count.count (page_of c.prefix.new.ahead) c.in_ok-count.ensures.within
 
-pub cut_solids-cut-requires-clause-solids : goal.cut_solids-cut-requires-clause-solids
-cut_solids-cut-requires-clause-solids g c =
-    let d = (goal.at.cut_solids-cut-requires-clause-solids g c).After-is_empty in
-    let items : List Solid = c.in_ok-read.read.solids.items in
-    let size : length (map solid_view items) ≡ length items = rw length-map refl in
-    let some = some_read g d c.if-is_empty.false in
-    let few = prefix_few c.args.faces.now c.args.flow.now.main c.args.frame c.args.from.at c.args.from.kept c.prefix.new.notes.list.own c.prefix.new.notes.areas.items (room g d) c.requires.flow.main.is c.requires.holds (map solid_view items) (tells g d) c.requires.flow.main.bytes in
+some_read : (g : given.Over) (c : In_ok-count g) → (c.in_ok-count.count ≡ 0 → ⊥) → 0 < length (page_views c.prefix.new.ahead c.in_ok-count.count)
+some_read g c f = by c.in_ok-count.count (views_size g c) f
+  where
+    by : (n : ℕ) → length (page_views c.prefix.new.ahead c.in_ok-count.count) ≡ n → (n ≡ 0 → ⊥) → 0 < length (page_views c.prefix.new.ahead c.in_ok-count.count)
+    by zero size f = absurd (f refl)
+    by (suc n) size f = omega (arith, size)
+
+-- what is read of each
+reads_are : (g : given.Over) (c : In_ok-count g) → All (IsReadSolid c.args.flow.now.main c.args.frame.width c.prefix.new.lines.kept) (page_views c.prefix.new.ahead c.in_ok-count.count)
+reads_are g c = All-take (IsReadSolid c.args.flow.now.main c.args.frame.width c.prefix.new.lines.kept) c.in_ok-count.count (page_of c.prefix.new.ahead) c.in_ok-count.ensures.ahead.are.are
+
+page_fits : (g : given.Over) (c : In_ok-count g) → c.prefix.new.ahead.first + c.in_ok-count.count ≤ length c.prefix.new.ahead.solids.items
+page_fits g c =
+    let size = page_size c.prefix.new.ahead in
+    let low = c.in_ok-count.ensures.within in
+    let within = c.in_ok-count.ensures.ahead.within in
+    omega (arith, size, low, within)
+
+pub page-solids-requires : goal.page-solids-requires
+page-solids-requires g c = page_fits g (goal.at.page-solids-requires g c).In_ok-count
+
+pub page_rows-rows-requires : goal.page_rows-rows-requires
+page_rows-rows-requires g c =
+    let d = (goal.at.page_rows-rows-requires g c).In_ok-count in
+    let size = rows_size c.args.faces.now c.args.flow.now.main c.args.frame.width c.prefix.new.lines.kept c.args.from.at c.prefix.new.ahead c.in_ok-count.ensures.ahead in
+    let fits = page_fits g d in
+    omega (arith, size, fits)
+
+pub cut_solids-requires-clause-solids : goal.cut_solids-requires-clause-solids
+cut_solids-requires-clause-solids g c =
+    let d = (goal.at.cut_solids-requires-clause-solids g c).In_ok-count in
+    let t : Tree = c.args.flow.now.main in
+    let views : List SolidView = page_views c.prefix.new.ahead c.in_ok-count.count in
+    let items : List Solid = c.page-solids.result.now in
+    let same : map solid_view items ≡ views = ap (λ (xs : List Solid). map solid_view xs) c.page-solids.ensures ∙ page_views_are c.prefix.new.ahead c.in_ok-count.count in
+    let size : length (map solid_view items) ≡ length items = length-map items solid_view in
+    let all : length (map solid_view items) ≡ length views = ap (λ (vs : List SolidView). length vs) same in
+    let some = some_read g d c.if-count-eq0.false in
+    let few = prefix_few c.args.faces.now t c.args.frame c.args.from.at c.args.from.kept c.prefix.new.notes.list.own c.prefix.new.notes.areas.items (room g d) c.requires.flow.main.is c.requires.holds views (tells g d) c.requires.flow.main.bytes in
+    let are = reads_are g d in
     record {
-      some = omega arith;
-      few = omega arith;
-      placed = all_views (λ v. Holds c.args.flow.now.main v.placed_at) items c.in_ok-read.ensures.placed;
-      small = all_views IsSmallSolid items c.in_ok-read.ensures.small;
-      between = prefix_between c.args.faces.now c.args.flow.now.main c.args.frame c.args.from.at c.args.from.kept c.prefix.new.notes.list.own c.prefix.new.notes.areas.items (room g d) c.requires.flow.main.is c.requires.holds (map solid_view items) (tells g d);
-      rows_are = c.in_ok-read.ensures.rows;
+      some = omega (arith, some, size, all);
+      few = omega (arith, few, size, all);
+      placed = all_views (λ v. Holds t v.placed_at) items (subst (All (λ (v : SolidView). Holds t v.placed_at)) (sym same) (λ k x h. (are k x h).placed));
+      small = all_views IsSmallSolid items (subst (All IsSmallSolid) (sym same) (λ k x h. (are k x h).small));
+      between = subst (λ (vs : List SolidView). AreForcedBetween (rows_of t vs)) (sym same) (prefix_between c.args.faces.now t c.args.frame c.args.from.at c.args.from.kept c.prefix.new.notes.list.own c.prefix.new.notes.areas.items (room g d) c.requires.flow.main.is c.requires.holds views (tells g d));
+      rows_are = c.page_rows-rows.ensures ∙ page_rows_are c.args.faces.now t c.args.frame.width c.prefix.new.lines.kept c.args.from.at c.prefix.new.ahead c.in_ok-count.ensures.ahead c.in_ok-count.count ∙ ap (rows_of t) (sym same);
     }
 
-pub cut_solids-cut-requires-clause-cut : goal.cut_solids-cut-requires-clause-cut
-cut_solids-cut-requires-clause-cut g c =
-    let all = (read g (goal.at.cut_solids-cut-requires-clause-cut g c).After-is_empty).read in
+pub cut_solids-requires-clause-cut : goal.cut_solids-requires-clause-cut
+cut_solids-requires-clause-cut g c =
+    let all = (read g (goal.at.cut_solids-requires-clause-cut g c).In_ok-count).read in
     let low = c.requires.frame.height_low in
     let high = c.requires.frame.height_high in
     record {
@@ -186,19 +221,18 @@ cut_solids-cut-requires-clause-cut g c =
       high = omega (arith, ints);
     }
 
-pub cut_solids-cut-requires-clause-called : goal.cut_solids-cut-requires-clause-called
-cut_solids-cut-requires-clause-called g c j some =
-    let d = (goal.at.cut_solids-cut-requires-clause-called g c).After-is_empty in
-    let first : c.in_ok-notes.notes.called ≡ called_before c.args.flow.now.main c.args.flow.now.notes c.args.from.at = c.in_ok-notes.ensures.read.called in
-    let low = called_low c.args.faces.now c.args.flow.now c.args.frame c.args.from c.args.carried c.requires.flow c.requires.holds c.requires.carried (map solid_view c.in_ok-read.read.solids.items) c.prefix.new.notes (room g d) (tells g d) (read g d) (room_was g d) j some in omega arith
+pub cut_solids-requires-clause-called : goal.cut_solids-requires-clause-called
+cut_solids-requires-clause-called g c j some =
+    let d = (goal.at.cut_solids-requires-clause-called g c).In_ok-count in
+    let t : Tree = c.args.flow.now.main in
+    let views : List SolidView = page_views c.prefix.new.ahead c.in_ok-count.count in
+    let same : map solid_view c.page-solids.result.now ≡ views = ap (λ (xs : List Solid). map solid_view xs) c.page-solids.ensures ∙ page_views_are c.prefix.new.ahead c.in_ok-count.count in
+    let first : c.in_ok-notes.notes.called ≡ called_before t c.args.flow.now.notes c.args.from.at = c.in_ok-notes.ensures.read.called in
+    let low = called_low c.args.faces.now c.args.flow.now c.args.frame c.args.from c.args.carried c.requires.flow c.requires.holds c.requires.carried views c.prefix.new.notes (room g d) (tells g d) (read g d) (room_was g d) j some in
+    subst (λ (vs : List SolidView). c.in_ok-notes.notes.called ≤ called_before t c.args.flow.now.notes (place_after t (slice_get vs j))) (sym same) (omega (arith, first, low))
 
--- the page begins with what is read ahead
-first_read : (g : given.Over) (c : After-first_at-first g) → AreAhead c.args.faces.now c.args.flow.now.main c.args.frame.width c.start.new.lines.kept c.args.from.at (map solid_view (drop c.first_at-first.result c.args.ahead.now.solids.items))
-first_read g c =
-    let wide : SFits w64 c.args.frame.width = search rules in
-    ahead_on c.args.faces.now c.args.flow.now.main c.args.frame.width c.args.lines.now.kept c.start.new.lines.kept c.args.from.at (map solid_view (drop c.first_at-first.result c.args.ahead.now.solids.items)) c.start.ensures.keeps
-    (first_ahead c.args.faces.now c.args.flow.now.main c.args.frame.width c.args.lines.now.kept c.args.from.at c.args.ahead.now c.first_at-first.result c.requires.ahead
-    (λ s is. let there = c.first_at-first.ensures.at s is in (there.0, there.1 ∙ to_z-of_z w64 c.args.frame.width wide)))
+pub begin-requires : goal.begin-requires
+begin-requires g c = rows_size c.args.faces.now c.args.flow.now.main c.args.ahead.now.width c.args.lines.now.kept c.requires.ahead.0 c.args.ahead.now c.requires.ahead.1
 
 pub prefix-requires : goal.prefix-requires
 prefix-requires g c =
@@ -215,39 +249,44 @@ prefix-requires g c =
       height = to_z-of_z w64 c.args.frame.height tall;
       carried = record { low = omega (arith, ints); high = omega (arith, ints) };
       lines_are = c.start.ensures.kept;
-      ahead = subst (λ (xs : List Solid). AreAhead c.args.faces.now c.args.flow.now.main c.args.frame.width c.start.new.lines.kept c.args.from.at (map solid_view xs)) (sym (c.solids_from.ensures ∙ ap (drop c.first_at-first.result) c.as_slice.ensures.value)) (first_read g (goal.at.prefix-requires g c).After-first_at-first);
+      ahead_is = subst (λ (w : ℤ). IsPageAhead c.args.faces.now c.args.flow.now.main w c.start.new.lines.kept c.args.from.at c.begin.new.self) (let wide : SFits w64 c.args.frame.width = search rules in to_z-of_z w64 c.args.frame.width wide)
+          (c.begin.ensures c.args.faces.now c.args.flow.now.main c.start.new.lines.kept (stays_ahead c.args.faces.now c.args.flow.now.main c.args.lines.now.kept c.start.new.lines.kept c.args.ahead.now c.start.ensures.keeps c.requires.ahead));
       read = (c.args.carried, c.in_ok-notes.ensures.read);
     }
 
+-- the cut, by the page's solids
+views_are : (g : given.Over) (c : In_ok-cut g) → map solid_view c.page-solids.result.now ≡ page_views c.prefix.new.ahead c.in_ok-count.count
+views_are g c = ap (λ (xs : List Solid). map solid_view xs) c.page-solids.ensures ∙ page_views_are c.prefix.new.ahead c.in_ok-count.count
+
 pub returns-clause-cut : goal.returns-clause-cut
 returns-clause-cut g c =
-    let d = (goal.at.returns-clause-cut g c).After-is_empty in
+    let d = (goal.at.returns-clause-cut g c).In_ok-count in
     let tall : SFits w64 c.args.frame.height = search rules in
-    let views : List SolidView = map solid_view c.in_ok-read.read.solids.items in
+    let views : List SolidView = page_views c.prefix.new.ahead c.in_ok-count.count in
     let first : c.in_ok-notes.notes.called ≡ called_before c.args.flow.now.main c.args.flow.now.notes c.args.from.at = c.in_ok-notes.ensures.read.called in
     let own = c.prefix.new.notes.list.own in
     let areas = c.prefix.new.notes.areas.items in
-    let rows = rows_of c.args.flow.now.main views in
-    if_ok _ _ c.cut_solids-cut.result
-    (λ cut is. flow_cut c.args.faces.now c.args.flow.now c.args.frame c.args.from c.args.carried c.requires.flow c.requires.holds c.requires.carried views c.prefix.new.notes (room g d) (tells g d) (read g d) (room_was g d) c.requires.frame.width_low cut (some_read g d c.if-is_empty.false)
-    (subst (λ (n : ℕ). CutsAt c.args.flow.now c.args.from.kept c.args.frame.height c.args.carried n (λ list. AreAreas c.args.from.kept rows c.args.frame.height list own areas (room g d)) c.prefix.new.notes.list views cut) first
-    (subst (λ (z : ℤ). CutsAt c.args.flow.now c.args.from.kept z c.args.carried c.in_ok-notes.notes.called (λ list. AreAreas c.args.from.kept rows z list own areas (room g d)) c.prefix.new.notes.list views cut) (to_z-of_z w64 c.args.frame.height tall) is))) c.cut_solids-cut.ensures.cut
+    let t : Tree = c.args.flow.now.main in
+    flow_cut c.args.faces.now c.args.flow.now c.args.frame c.args.from c.args.carried c.requires.flow c.requires.holds c.requires.carried views c.prefix.new.notes (room g d) (tells g d) (read g d) (room_was g d) c.requires.frame.width_low c.in_ok-cut.cut (some_read g d c.if-count-eq0.false)
+    (subst (λ (n : ℕ). CutsAt c.args.flow.now c.args.from.kept c.args.frame.height c.args.carried n (λ list. AreAreas c.args.from.kept (rows_of t views) c.args.frame.height list own areas (room g d)) c.prefix.new.notes.list views c.in_ok-cut.cut) first
+    (subst (λ (z : ℤ). CutsAt c.args.flow.now c.args.from.kept z c.args.carried c.in_ok-notes.notes.called (λ list. AreAreas c.args.from.kept (rows_of t views) z list own areas (room g d)) c.prefix.new.notes.list views c.in_ok-cut.cut) (to_z-of_z w64 c.args.frame.height tall)
+    (subst (λ (vs : List SolidView). CutsAt c.args.flow.now c.args.from.kept (to_z w64 (of_z w64 c.args.frame.height)) c.args.carried c.in_ok-notes.notes.called (λ list. AreAreas c.args.from.kept (rows_of t vs) (to_z w64 (of_z w64 c.args.frame.height)) list own areas (room g d)) c.prefix.new.notes.list vs c.in_ok-cut.cut) (views_are g (goal.at.returns-clause-cut g c).In_ok-cut) c.in_ok-cut.ensures.cut)))
 
 pub returns-clause-inside : goal.returns-clause-inside
-returns-clause-inside g c = if_ok _ _ c.cut_solids-cut.result (λ cut is. flow_inside c.args.faces.now c.args.flow.now c.args.frame c.args.from c.args.carried cut c.requires.flow.main.is c.requires.frame.width_low is) (returns-clause-cut g c)
+returns-clause-inside g c = flow_inside c.args.faces.now c.args.flow.now c.args.frame c.args.from c.args.carried c.in_ok-cut.cut c.requires.flow.main.is c.requires.frame.width_low (returns-clause-cut g c)
 
 -- what is held once the page is read
-read_keeps : (g : given.Over) (c : After-is_empty g) → KeepsHeld c.args.lines.now.kept c.prefix.new.lines.kept
+read_keeps : (g : given.Over) (c : In_ok-count g) → KeepsHeld c.args.lines.now.kept c.prefix.new.lines.kept
 read_keeps g c = keeps_twice c.args.lines.now.kept c.start.new.lines.kept c.prefix.new.lines.kept c.start.ensures.keeps c.prefix.ensures.keeps
 
-read_takes : (g : given.Over) (c : After-is_empty g) → TakesSteps c.args.lines.now.kept c.prefix.new.lines.kept c.args.steps.now c.prefix.new.steps
-read_takes g c = takes_twice c.args.lines.now.kept c.start.new.lines.kept c.prefix.new.lines.kept c.args.steps.now c.start.new.steps c.prefix.new.steps c.start.ensures.keeps c.prefix.ensures.keeps c.in_ok-notes.ensures.takes c.in_ok-read.ensures.takes
+read_takes : (g : given.Over) (c : In_ok-count g) → TakesSteps c.args.lines.now.kept c.prefix.new.lines.kept c.args.steps.now c.prefix.new.steps
+read_takes g c = takes_twice c.args.lines.now.kept c.start.new.lines.kept c.prefix.new.lines.kept c.args.steps.now c.start.new.steps c.prefix.new.steps c.start.ensures.keeps c.prefix.ensures.keeps c.in_ok-notes.ensures.takes c.in_ok-count.ensures.takes
 
 pub returns-clause-keeps : goal.returns-clause-keeps
-returns-clause-keeps g c = read_keeps g (goal.at.returns-clause-keeps g c).After-is_empty
+returns-clause-keeps g c = read_keeps g (goal.at.returns-clause-keeps g c).In_ok-count
 
 pub returns-clause-takes : goal.returns-clause-takes
-returns-clause-takes g c = if_ok _ _ c.cut_solids-cut.result (λ cut near. read_takes g (goal.at.returns-clause-takes g c).After-is_empty) c.cut_solids-cut.ensures.near
+returns-clause-takes g c = read_takes g (goal.at.returns-clause-takes g c).In_ok-count
 
 both : {A E : Type 0} (P Q : A → Type 0) (r : Result A E) → IfOk r P → IfOk r Q → IfOk r (λ x. P x × Q x)
 both P Q (Ok x) p q = (p, q)
@@ -255,77 +294,80 @@ both P Q (Err e) p q = tt
 
 pub returns-clause-now : goal.returns-clause-now
 returns-clause-now g c =
-    let views : List SolidView = map solid_view c.in_ok-read.read.solids.items in
-    if_ok _ _ c.cut_solids-cut.result
-    (λ cut is. cut_held c.args.flow.now c.args.frame.width c.prefix.new.lines.kept _ views is.0.count c.prefix.new.notes.list.solids.items cut.solids cut.notes c.in_ok-read.ensures.held is.0.solids_is (c.in_ok-read.ensures.noted c.in_ok-notes.ensures.now) is.1)
-    (both _ _ c.cut_solids-cut.result c.cut_solids-cut.ensures.cut c.cut_solids-cut.ensures.front)
+    let views : List SolidView = page_views c.prefix.new.ahead c.in_ok-count.count in
+    let are = reads_are g (goal.at.returns-clause-now g c).In_ok-count in
+    let same = views_are g (goal.at.returns-clause-now g c).In_ok-cut in
+    let is = c.in_ok-cut.ensures.cut in
+    cut_held c.args.flow.now c.args.frame.width c.prefix.new.lines.kept (first_gap c.args.from.kept views) views is.count c.prefix.new.notes.list.solids.items c.in_ok-cut.cut.solids c.in_ok-cut.cut.notes (λ k x h. (are k x h).held)
+    (is.solids_is ∙ ap (λ (vs : List SolidView). placed_from (first_gap c.args.from.kept vs) (take is.count vs)) same) (c.in_ok-count.ensures.noted c.in_ok-notes.ensures.now) c.in_ok-cut.ensures.front
 
-pub returns-then-is_empty-clause-keeps : goal.returns-then-is_empty-clause-keeps
-returns-then-is_empty-clause-keeps g c =
-    keeps_twice c.args.lines.now.kept c.prefix.new.lines.kept c.take.new.lines.kept (read_keeps g (goal.at.returns-then-is_empty-clause-keeps g c).After-is_empty) c.take.ensures.keeps
+pub returns-in_err-cut-clause-keeps : goal.returns-in_err-cut-clause-keeps
+returns-in_err-cut-clause-keeps g c = keeps_twice c.args.lines.now.kept c.start.new.lines.kept c.prefix.new.lines.kept c.start.ensures.keeps c.prefix.ensures.keeps
 
-pub returns-then-is_empty-clause-takes : goal.returns-then-is_empty-clause-takes
-returns-then-is_empty-clause-takes g c =
-    let d = (goal.at.returns-then-is_empty-clause-takes g c).After-is_empty in
+pub returns-then-count-eq0-clause-keeps : goal.returns-then-count-eq0-clause-keeps
+returns-then-count-eq0-clause-keeps g c =
+    keeps_twice c.args.lines.now.kept c.prefix.new.lines.kept c.take.new.lines.kept (read_keeps g (goal.at.returns-then-count-eq0-clause-keeps g c).In_ok-count) c.take.ensures.keeps
+
+pub returns-then-count-eq0-clause-takes : goal.returns-then-count-eq0-clause-takes
+returns-then-count-eq0-clause-takes g c =
+    let d = (goal.at.returns-then-count-eq0-clause-takes g c).In_ok-count in
     if_ok _ _ c.cut_end.result
     (λ cut near. takes_twice c.args.lines.now.kept c.prefix.new.lines.kept c.take.new.lines.kept c.args.steps.now c.prefix.new.steps c.take.new.steps (read_keeps g d) c.take.ensures.keeps (read_takes g d) c.in_ok-take.ensures.takes)
     c.cut_end.ensures.near
 
-pub returns-then-is_empty-clause-now : goal.returns-then-is_empty-clause-now
-returns-then-is_empty-clause-now g c =
+pub returns-then-count-eq0-clause-now : goal.returns-then-count-eq0-clause-now
+returns-then-count-eq0-clause-now g c =
     if_ok _ _ c.cut_end.result
-    (λ cut is. cut_held c.args.flow.now c.args.frame.width c.take.new.lines.kept _ [] is.0.count c.take.new.self.list.solids.items cut.solids cut.notes (All-nil (λ (v : SolidView). IsHeldNow c.args.flow.now.main c.args.frame.width c.take.new.lines.kept v.placed_at)) is.0.solids_is (c.in_ok-take.ensures.now (c.in_ok-read.ensures.noted c.in_ok-notes.ensures.now)) is.1)
+    (λ cut is. cut_held c.args.flow.now c.args.frame.width c.take.new.lines.kept _ [] is.0.count c.take.new.self.list.solids.items cut.solids cut.notes (All-nil (λ (v : SolidView). IsHeldNow c.args.flow.now.main c.args.frame.width c.take.new.lines.kept v.placed_at)) is.0.solids_is (c.in_ok-take.ensures.now (c.in_ok-count.ensures.noted c.in_ok-notes.ensures.now)) is.1)
     (both _ _ c.cut_end.result c.cut_end.ensures.cut c.cut_end.ensures.front)
 
 -- where memory is wanting
-pub returns-in_err-read-clause-keeps : goal.returns-in_err-read-clause-keeps
-returns-in_err-read-clause-keeps g c = keeps_twice c.args.lines.now.kept c.start.new.lines.kept c.prefix.new.lines.kept c.start.ensures.keeps c.prefix.ensures.keeps
+pub returns-in_err-count-clause-keeps : goal.returns-in_err-count-clause-keeps
+returns-in_err-count-clause-keeps g c = keeps_twice c.args.lines.now.kept c.start.new.lines.kept c.prefix.new.lines.kept c.start.ensures.keeps c.prefix.ensures.keeps
 
 pub returns-in_err-take-clause-keeps : goal.returns-in_err-take-clause-keeps
 returns-in_err-take-clause-keeps g c = keeps_twice c.args.lines.now.kept c.prefix.new.lines.kept c.take.new.lines.kept (keeps_twice c.args.lines.now.kept c.start.new.lines.kept c.prefix.new.lines.kept c.start.ensures.keeps c.prefix.ensures.keeps) c.take.ensures.keeps
 
 -- ---- how many lines are looked at
-read_steps : (g : given.Over) (c : After-is_empty g) → StepsForPage c.args.flow.now c.args.frame.width c.args.lines.now.kept (map solid_view c.in_ok-read.read.solids.items) [] c.prefix.new.notes.list.solids.items c.args.steps.now c.prefix.new.steps
+read_steps : (g : given.Over) (c : In_ok-count g) → StepsForPage c.args.flow.now c.args.frame.width c.args.lines.now.kept (page_views c.prefix.new.ahead c.in_ok-count.count) [] c.prefix.new.notes.list.solids.items c.args.steps.now c.prefix.new.steps
 read_steps g c known held =
     let start = c.in_ok-notes.ensures.lines known held in
-    let more = c.in_ok-read.ensures.lines known (known_more known c.args.lines.now.kept c.start.new.lines.kept held c.start.ensures.keeps) in
+    let more = c.in_ok-count.ensures.lines known (known_more known c.args.lines.now.kept c.start.new.lines.kept held c.start.ensures.keeps) in
     omega (arith, start, more)
 
 pub returns-clause-lines : goal.returns-clause-lines
 returns-clause-lines g c =
-    let d = (goal.at.returns-clause-lines g c).After-is_empty in
-    if_ok _ _ c.cut_solids-cut.result
-    (λ cut near. looks_at c.args.faces.now c.args.flow.now c.args.frame c.args.from c.args.carried c.requires.flow c.requires.holds c.requires.carried c.requires.frame.height_low (map solid_view c.in_ok-read.read.solids.items) c.prefix.new.notes (room g d) (tells g d) (read g d) (room_was g d)
-    c.args.lines.now.kept c.args.steps.now c.prefix.new.steps c.in_ok-read.ensures.few (c.in_ok-read.ensures.short c.in_ok-notes.ensures.short) (read_steps g d))
-    c.cut_solids-cut.ensures.near
+    let d = (goal.at.returns-clause-lines g c).In_ok-count in
+    looks_at c.args.faces.now c.args.flow.now c.args.frame c.args.from c.args.carried c.requires.flow c.requires.holds c.requires.carried c.requires.frame.height_low (page_views c.prefix.new.ahead c.in_ok-count.count) c.prefix.new.notes (room g d) (tells g d) (read g d) (room_was g d)
+    c.args.lines.now.kept c.args.steps.now c.prefix.new.steps c.in_ok-count.ensures.few (c.in_ok-count.ensures.short c.in_ok-notes.ensures.short) (read_steps g d)
 
-end_steps : (g : given.Over) (c : After-is_empty g) (list : List NotedSolid) (steps : ℕ) → c.is_empty.result ≡ true → StepsForNotes c.args.flow.now.notes c.args.frame.width c.prefix.new.lines.kept c.prefix.new.notes.list.solids.items list c.prefix.new.steps steps →
+end_steps : (g : given.Over) (c : In_ok-count g) (list : List NotedSolid) (steps : ℕ) → c.in_ok-count.count ≡ 0 → StepsForNotes c.args.flow.now.notes c.args.frame.width c.prefix.new.lines.kept c.prefix.new.notes.list.solids.items list c.prefix.new.steps steps →
     StepsForPage c.args.flow.now c.args.frame.width c.args.lines.now.kept [] [] list c.args.steps.now steps
 end_steps g c list steps none last known held =
     let read = read_steps g c known held in
     let more = last known (known_more known c.args.lines.now.kept c.prefix.new.lines.kept held (read_keeps g c)) in
-    let no : new_in known c.args.flow.now.main c.args.frame.width (map solid_view c.in_ok-read.read.solids.items) ≡ 0 = ap (new_in known c.args.flow.now.main c.args.frame.width) (empty g c none) in
+    let no : new_in known c.args.flow.now.main c.args.frame.width (page_views c.prefix.new.ahead c.in_ok-count.count) ≡ 0 = ap (new_in known c.args.flow.now.main c.args.frame.width) (empty g c none) in
     omega (arith, read, more, no)
 
-pub returns-then-is_empty-clause-lines : goal.returns-then-is_empty-clause-lines
-returns-then-is_empty-clause-lines g c =
-    let d = (goal.at.returns-then-is_empty-clause-lines g c).After-is_empty in
-    let all = all_read c.args.faces.now c.args.flow.now c.args.frame c.args.from c.args.carried (map solid_view c.in_ok-read.read.solids.items) c.prefix.new.notes c.take.new.self (empty g d c.if-is_empty.true) c.in_ok-take.ensures.read (read g d) in
+pub returns-then-count-eq0-clause-lines : goal.returns-then-count-eq0-clause-lines
+returns-then-count-eq0-clause-lines g c =
+    let d = (goal.at.returns-then-count-eq0-clause-lines g c).In_ok-count in
+    let all = all_read c.args.faces.now c.args.flow.now c.args.frame c.args.from c.args.carried (page_views c.prefix.new.ahead c.in_ok-count.count) c.prefix.new.notes c.take.new.self (empty g d c.if-count-eq0.true) c.in_ok-take.ensures.read (read g d) in
     if_ok _ _ c.cut_end.result
-    (λ cut near. looks_end c.args.faces.now c.args.flow.now c.args.frame c.args.from c.args.carried c.requires.flow c.requires.holds c.requires.carried c.requires.frame.height_low (ended g d c.if-is_empty.true) c.take.new.self all
-    c.args.lines.now.kept c.args.steps.now c.take.new.steps (c.in_ok-take.ensures.short (c.in_ok-read.ensures.short c.in_ok-notes.ensures.short)) (end_steps g d c.take.new.self.list.solids.items c.take.new.steps c.if-is_empty.true c.in_ok-take.ensures.lines))
+    (λ cut near. looks_end c.args.faces.now c.args.flow.now c.args.frame c.args.from c.args.carried c.requires.flow c.requires.holds c.requires.carried c.requires.frame.height_low (ended g d c.if-count-eq0.true) c.take.new.self all
+    c.args.lines.now.kept c.args.steps.now c.take.new.steps (c.in_ok-take.ensures.short (c.in_ok-count.ensures.short c.in_ok-notes.ensures.short)) (end_steps g d c.take.new.self.list.solids.items c.take.new.steps c.if-count-eq0.true c.in_ok-take.ensures.lines))
     c.cut_end.ensures.near
 
 -- ---- what is read ahead of the next page
 pub returns-clause-ahead : goal.returns-clause-ahead
-returns-clause-ahead g c =
-    let wide : SFits w64 c.args.frame.width = search rules in
-    if_ok _ _ c.cut_solids-cut.result
-    (λ cut near. some_ahead c.args.faces.now c.args.flow.now.main c.args.frame.width c.prefix.new.lines.kept c.args.from.at c.in_ok-read.read.solids.items c.keep.new.self c.keep.ensures.solids (c.keep.ensures.width ∙ to_z-of_z w64 c.args.frame.width wide) c.in_ok-read.ensures.ahead)
-    c.cut_solids-cut.ensures.near
+returns-clause-ahead g c = c.end.ensures c.args.faces.now c.args.flow.now.main c.args.frame.width c.prefix.new.lines.kept c.args.from.at c.in_ok-count.ensures.ahead
 
-pub returns-then-is_empty-clause-ahead : goal.returns-then-is_empty-clause-ahead
-returns-then-is_empty-clause-ahead g c =
+pub returns-then-count-eq0-clause-ahead : goal.returns-then-count-eq0-clause-ahead
+returns-then-count-eq0-clause-ahead g c =
+    let is = c.in_ok-count.ensures.ahead in
     if_ok _ _ c.cut_end.result
-    (λ cut near. stays_ahead c.args.faces.now c.args.flow.now.main c.args.lines.now.kept c.take.new.lines.kept c.args.ahead.now (returns-then-is_empty-clause-keeps g c) c.requires.ahead)
+    (λ cut near. (c.args.from.at, subst (λ (w : ℤ). IsPageAhead c.args.faces.now c.args.flow.now.main w c.take.new.lines.kept c.args.from.at c.prefix.new.ahead) (sym is.wide) (page_on c.args.faces.now c.args.flow.now.main c.args.frame.width c.prefix.new.lines.kept c.take.new.lines.kept c.args.from.at c.prefix.new.ahead c.take.ensures.keeps is)))
     c.cut_end.ensures.near
+
+pub cut_solids-requires-clause-joined : goal.cut_solids-requires-clause-joined
+cut_solids-requires-clause-joined g c = subst (λ (rs : List SolidRow). AreJoined (drop c.joined_from-joined.result rs)) (sym c.page_rows-rows.ensures) c.joined_from-joined.ensures

@@ -1,5 +1,4 @@
 use Rattle.note_list.specs.Calls.{called_before}
-use Rattle.fragment.proofs.AheadLemmas.{none_ahead}
 use Rattle.fragment.proofs.SettledLemmas.{settled_cut, settled_looks}
 use Rattle.fragment.proofs.SolidLemmas.{if_ok}
 use Rattle.fragment.proofs.next_cut.next_cut_kept.Goals as goal
@@ -12,7 +11,7 @@ cut_page-requires-clause-carried g c = record {
 }
 
 pub cut_page-requires-clause-ahead : goal.cut_page-requires-clause-ahead
-cut_page-requires-clause-ahead g c = none_ahead c.args.faces.now c.args.flow.now.main c.args.lines.now.kept c.none-ahead.result c.none-ahead.ensures
+cut_page-requires-clause-ahead g c = c.none-ahead.ensures c.args.faces.now c.args.flow.now.main c.args.lines.now.kept
 
 pub returns-clause-cut : goal.returns-clause-cut
 returns-clause-cut g c =

@@ -17,7 +17,6 @@ use Rattle.page_list.specs.LookedPages.IsLookedNext.{flows as looked_flow}
 use Rattle.note_list.specs.Calls.{start_place}
 use Rattle.fragment.specs.Runs.{Leads}
 use Rattle.std.proofs.lemmas.List.Elements.{All-nil}
-use Rattle.fragment.proofs.AheadLemmas.{none_ahead}
 use Rattle.fragment.proofs.RunLemmas.{leaves_some, not_done, state_at, run_step, run_added, adds_size, adds_grow, page_is, forced_some, frame_cut, none_carried, start_holds, next_state, ended_at}
 use Rattle.cursor.proofs.AskLemmas.{keeps_all, keeps_twice}
 use Rattle.cursor.proofs.StepLemmas.{takes_none, takes_twice}
@@ -45,7 +44,7 @@ loop-turn-init g c = rw c.new-pages.ensures.items (rw c.new-carried.ensures (rec
   kept = c.requires.kept;
   keeps = keeps_all c.args.lines.now.kept;
   takes = takes_none c.args.lines.now.kept c.args.lines.now.kept c.args.steps.now;
-  ahead = none_ahead c.args.faces.now c.args.flow.now.main c.args.lines.now.kept c.none-ahead.result c.none-ahead.ensures;
+  ahead = c.none-ahead.ensures c.args.faces.now c.args.flow.now.main c.args.lines.now.kept;
   held = All-nil (λ (q : Page). IsPageHeld c.args.flow.now q.frame.width c.args.lines.now.kept q.solids q.notes);
 }))
 

@@ -1,28 +1,24 @@
-use Rattle.std.proofs.Common.{Bool, pos, ◌≡◌, ◌<◌, ◌≤◌, ◌+◌, ◌==◌, ◌^◌, ℕ, ℤ, true, false, not, List, [], ◌∷◌, ◌++◌, All, map, drop, length, length-append, append-nil, append_assoc, ◌≤ℤ◌, ◌<ℤ◌, ◌⊎◌, ⊎_elim, inl, inr, suc, vec_len, rules, refl, sym, ap, ◌∙◌, subst, arith, to_z, of_z}
-use Rattle.std.specs.Result.{is_ok}
+use Rattle.std.proofs.Common.{Bool, pos, ◌≡◌, ◌<◌, ◌≤◌, ◌+◌, ◌==◌, ◌^◌, ℕ, ℤ, true, false, List, [], ◌∷◌, ◌++◌, Option, is_some, MatchOption, map, take, length, length-append, append-nil, ◌≤ℤ◌, ◌<ℤ◌, ◌⊎◌, ⊎_elim, inl, inr, suc, rules, refl, sym, ap, ◌∙◌, subst, arith, to_z, of_z}
 use Rattle.std.proofs.lemmas.Bool.Decides.{nat_tests}
-use Rattle.std.proofs.lemmas.Grind.{common_steps}
 use Rattle.std.proofs.lemmas.Int.{to_z-of_z}
-use Rattle.std.proofs.lemmas.List.{length-map, map-append}
-use Rattle.std.proofs.lemmas.List.Elements.{All-push}
-use Rattle.std.proofs.lemmas.List.Sums.{sum_by_push}
+use Rattle.std.proofs.lemmas.List.{length-map, length-take-le, map-append}
+use Rattle.std.proofs.lemmas.List.Sums.{sum_by-append, sum_by_push}
 use mir.Val.{SFits}
 use mir.Syntax.{w64}
 use Rattle.boxes.specs.Tree.{Tree, Holds}
+use Rattle.boxes.specs.declared.place.Position.{Position}
 use Rattle.cursor.proofs.AskLemmas.{keeps_all, keeps_twice}
 use Rattle.cursor.proofs.StepLemmas.{takes_none, takes_twice}
-use Rattle.cursor.specs.Asks.{AsksBy, IsHeldNow, KeepsHeld, TakesSteps}
-use Rattle.cursor.specs.declared.solid.Solid.{Solid}
-use Rattle.cursor.specs.Fields.{solid_view}
-use Rattle.cursor.specs.Remainder.{SolidView, IsSolid, IsRemainder, IsSmallSolid}
-use Rattle.cursor.proofs.RemLemmas.{solid_falls, solid_within, stands}
+use Rattle.cursor.specs.Asks.{AsksBy, AsksNext, KeepsHeld, TakesSteps}
+use Rattle.cursor.specs.Remainder.{SolidView, IsRemainder, steps_of}
+use Rattle.cursor.proofs.RemLemmas.{left_from, solid_falls, stands}
 use Rattle.seams.specs.Widths.{widths_at}
 use Rattle.bk_num.specs.Limits.{most_entries}
 use Rattle.cuts.specs.declared.row.SolidRow.{SolidRow}
 use Rattle.cuts.specs.Areas.{AreTold, area_after}
 use Rattle.cuts.specs.Cuts.{NoteLists}
-use Rattle.cuts.specs.Rows.{IsSmallRow, rows_extent}
-use Rattle.cuts.specs.Prefixes.{AreFree, HasForced, HasPlaced, HasRead, IsLook}
+use Rattle.cuts.specs.Rows.{AreForcedBetween, IsSmallRow, rows_extent}
+use Rattle.cuts.specs.Prefixes.{AreFree, HasForced, HasPlaced, IsLook, IsStacked}
 use Rattle.cuts.specs.Short.{IsShort}
 use Rattle.cuts.proofs.ReachLemmas.{reached_low}
 use Rattle.note_list.proofs.KnownLemmas.{asks_new, known_more}
@@ -33,510 +29,584 @@ use Rattle.note_list.specs.declared.carried.Carried.{Carried}
 use Rattle.page_list.specs.Cuts.{row_of, rows_of}
 use Rattle.page_list.specs.Looked.{AreFewLines, most_widows}
 use Rattle.page_list.proofs.FewLemmas.{few_lines, row_widows}
-use Rattle.fragment.specs.Ahead.{AreAhead}
-use Rattle.fragment.specs.Reads.{AreRead, AreReadInside, StepsForPage}
-use Rattle.fragment.proofs.AheadLemmas.{ahead_on, follow_front, reads_are}
-use Rattle.fragment.proofs.FlowLemmas.{LooksOn, look_on, read_few, read_missed, read_forced, read_all, views_free, views_forced}
-use Rattle.fragment.proofs.InsideLemmas.{areas_on, inside_last, inside_on, inside_start}
-use Rattle.fragment.proofs.KeptLemmas.{views_next, views_on}
+use Rattle.fragment.specs.declared.ahead.Ahead.{Ahead}
+use Rattle.fragment.specs.Ahead.{IsPageAhead, end_of, page_of, page_views}
+use Rattle.fragment.specs.Reads.{AreRead, AreReadInside, IsPagePrefix, StepsForPage, called_by}
+use Rattle.fragment.proofs.AheadLemmas.{IsPassed, IsStep, step_is, calls_along, ends_hold, falls_along, goes_from, page_on, page_row, page_size, passed_is, rows_size}
+use Rattle.fragment.proofs.FlowLemmas.{LooksOn, between, free_past, look_on, look_past, read_few, read_missed, read_forced, read_all, rows_append, views_free, views_forced}
+use Rattle.fragment.proofs.InsideLemmas.{areas_on, inside_last, inside_on, inside_past, inside_start}
 use Rattle.fragment.proofs.PlaceLemmas.{called_grows, called_on}
+use Rattle.cursor.proofs.RemLemmas.{remainder_exists}
 use Rattle.fragment.proofs.prefix.prefix.Given as given
 use Rattle.fragment.proofs.prefix.prefix.Goals as goal
-use Rattle.fragment.proofs.prefix.prefix.Goals.{After-row_of-row, Else-is_err}
+use Rattle.fragment.proofs.prefix.prefix.Goals.{After-pass-count, After-row, In_ok-take_inside, Then-ended}
 
--- what each path knows once a solid is kept
-solid_is : (g : given.Over) (c : Else-is_err g) → IsSolid c.args.faces.now c.args.flow.now.main c.args.frame.width c.loop-next.at (solid_view c.in-Some.solid)
-solid_is g c =
-    let wide : SFits w64 c.args.frame.width = search rules in
-    subst (λ (w : ℤ). IsSolid c.args.faces.now c.args.flow.now.main w c.loop-next.at (solid_view c.in-Some.solid)) (to_z-of_z w64 c.args.frame.width wide) (rw c.in-Some.is at c.in-Ok.ensures.solid)
+-- ---- what each path knows once a solid is read
+ahead_read : (g : given.Over) (c : After-row g) → IsPageAhead c.args.faces.now c.args.flow.now.main c.args.frame.width c.read.new.lines.kept c.args.from.at c.read.new.self
+ahead_read g c = subst (λ (w : ℤ). IsPageAhead c.args.faces.now c.args.flow.now.main w c.read.new.lines.kept c.args.from.at c.read.new.self) c.loop-ended.invariant.ahead.wide c.in-Ok.ensures.ahead
 
-pushed : (g : given.Over) (c : Else-is_err g) → c.push-in-loop-next.new.self.items ≡ c.loop-next.solids.items ++ c.in-Some.solid ∷ []
-pushed g c = let ok : is_ok c.push-in-loop-next.result ≡ true = c.is_err.ensures.negation ∙ ap not c.if-is_err.false in c.push-in-loop-next.ensures.items ∙ rw ok refl
+first_step : (g : given.Over) (c : After-row g) → IsStep c.args.faces.now c.args.flow.now.main c.args.frame.width c.read.new.lines.kept c.args.from.at c.loop-ended.ahead c.read.new.self c.loop-ended.count
+first_step g c = step_is c.args.faces.now c.args.flow.now.main c.args.frame.width c.read.new.lines.kept c.args.from.at c.loop-ended.ahead c.read.new.self c.loop-ended.count c.in-Ok.ensures.more.0 (ahead_read g c).are c.in-Ok.ensures.more.1 c.loop-ended.invariant.within (c.in-Ok.ensures.there c.if-ended.false)
 
-views_now : (g : given.Over) (c : Else-is_err g) → map solid_view c.push-in-loop-next.new.self.items ≡ map solid_view c.loop-next.solids.items ++ solid_view c.in-Some.solid ∷ []
-views_now g c = ap (λ (l : List Solid). map solid_view l) (pushed g c) ∙ map-append solid_view c.loop-next.solids.items (c.in-Some.solid ∷ [])
+first_row : (g : given.Over) (c : After-row g) → c.row.result.now ≡ row_of c.args.flow.now.main (first_step g c).solid
+first_row g c = page_row c.args.faces.now c.args.flow.now.main c.args.frame.width c.read.new.lines.kept c.args.from.at c.read.new.self (ahead_read g c) c.loop-ended.count (first_step g c).solid c.row.result.now (first_step g c).at c.row.ensures
 
-goes_on : (g : given.Over) (c : Else-is_err g) → (rest : List SolidView) → IsRemainder c.args.faces.now c.args.flow.now.main c.args.frame.width c.in-Some.solid.end rest → IsRemainder c.args.faces.now c.args.flow.now.main c.args.frame.width c.args.from.at (map solid_view c.push-in-loop-next.new.self.items ++ rest)
-goes_on g c rest r =
-    let joined : map solid_view c.loop-next.solids.items ++ solid_view c.in-Some.solid ∷ rest ≡ map solid_view c.push-in-loop-next.new.self.items ++ rest = sym (ap (λ (l : List SolidView). l ++ rest) (views_now g c) ∙ append_assoc (map solid_view c.loop-next.solids.items) (solid_view c.in-Some.solid ∷ []) rest) in
-    subst (λ (l : List SolidView). IsRemainder c.args.faces.now c.args.flow.now.main c.args.frame.width c.args.from.at l) joined (c.loop-next.invariant.goes (solid_view c.in-Some.solid ∷ rest) (c.in-Some.solid.end, (solid_is g c, refl), r))
-
-small_on : (g : given.Over) (c : Else-is_err g) → All IsSmallSolid (map solid_view c.push-in-loop-next.new.self.items)
-small_on g c = subst (All IsSmallSolid) (sym (views_now g c)) (All-push IsSmallSolid (map solid_view c.loop-next.solids.items) (solid_view c.in-Some.solid) c.loop-next.invariant.small (rw c.in-Some.is at c.in-Ok.ensures.small))
-
-placed_on : (g : given.Over) (c : Else-is_err g) → All (λ (v : SolidView). Holds c.args.flow.now.main v.placed_at) (map solid_view c.push-in-loop-next.new.self.items)
-placed_on g c = subst (All (λ (v : SolidView). Holds c.args.flow.now.main v.placed_at)) (sym (views_now g c)) (All-push (λ (v : SolidView). Holds c.args.flow.now.main v.placed_at) (map solid_view c.loop-next.solids.items) (solid_view c.in-Some.solid) c.loop-next.invariant.placed (rw c.in-Some.is at c.in-Ok.ensures.placed))
-
-ends_on : (g : given.Over) (c : Else-is_err g) → All (λ (v : SolidView). Holds c.args.flow.now.main v.end) (map solid_view c.push-in-loop-next.new.self.items)
-ends_on g c = subst (All (λ (v : SolidView). Holds c.args.flow.now.main v.end)) (sym (views_now g c)) (All-push (λ (v : SolidView). Holds c.args.flow.now.main v.end) (map solid_view c.loop-next.solids.items) (solid_view c.in-Some.solid) c.loop-next.invariant.ends (rw c.in-Some.is at c.in-Ok.ensures.holds))
-
-rows_on : (g : given.Over) (c : Else-is_err g) → c.push.new.self.items ≡ rows_of c.args.flow.now.main (map solid_view c.push-in-loop-next.new.self.items)
-rows_on g c =
+few : (g : given.Over) (c : After-row g) → c.loop-ended.count ≤ 2 ^ 26
+few g c =
     let t : Tree = c.args.flow.now.main in
-    let old : List SolidView = map solid_view c.loop-next.solids.items in
-    let now : c.push.new.self.items ≡ c.loop-next.rows.items ++ c.row_of-row.result ∷ [] = grind (arith, common_steps) in
-    now ∙ ap (λ (rs : List SolidRow). rs ++ c.row_of-row.result ∷ []) c.loop-next.invariant.rows
-    ∙ ap (λ (r : SolidRow). rows_of t old ++ r ∷ []) c.row_of-row.ensures
-    ∙ sym (map-append (row_of t) old (solid_view c.in-Some.solid ∷ [])) ∙ ap (rows_of t) (sym (views_now g c))
+    let xs : List SolidView = page_of c.loop-ended.ahead in
+    let is = c.loop-ended.invariant.ahead.are in
+    let low = c.loop-ended.invariant.within in
+    let size : length (take c.loop-ended.count xs) ≡ c.loop-ended.count = length-take-le c.loop-ended.count xs low in
+    subst (λ (n : ℕ). n ≤ 2 ^ 26) size
+    (read_few c.args.faces.now t c.args.frame c.args.from.at c.args.from.kept 0 [] (pos 0) c.count-count.ensures.tree c.requires.holds (take c.loop-ended.count xs) (end_of c.args.from.at xs c.loop-ended.count)
+    (ends_hold c.args.faces.now t c.args.frame.width c.loop-ended.lines.kept c.args.from.at xs c.loop-ended.count c.requires.holds is low)
+    (λ rest r. goes_from c.args.faces.now t c.args.frame.width c.loop-ended.lines.kept c.args.from.at xs c.loop-ended.count rest is low r) c.requires.flow.main.bytes)
+
+first_read : (g : given.Over) (c : After-row g) → AreReadInside c.args.faces.now c.args.flow.now c.args.frame c.args.from c.requires.read.0 (page_views c.loop-ended.ahead c.loop-ended.count) c.loop-ended.notes
+first_read g c = c.loop-ended.invariant.are c.requires.read.0 c.requires.read.1
+
+-- ---- and once its notes are
+ahead_now : (g : given.Over) (c : In_ok-take_inside g) → IsPageAhead c.args.faces.now c.args.flow.now.main c.args.frame.width c.take_inside.new.lines.kept c.args.from.at c.read.new.self
+ahead_now g c =
+    page_on c.args.faces.now c.args.flow.now.main c.args.frame.width c.read.new.lines.kept c.take_inside.new.lines.kept c.args.from.at c.read.new.self c.take_inside.ensures.keeps
+    (subst (λ (w : ℤ). IsPageAhead c.args.faces.now c.args.flow.now.main w c.read.new.lines.kept c.args.from.at c.read.new.self) c.loop-ended.invariant.ahead.wide c.in-Ok.ensures.ahead)
+
+step : (g : given.Over) (c : In_ok-take_inside g) → IsStep c.args.faces.now c.args.flow.now.main c.args.frame.width c.take_inside.new.lines.kept c.args.from.at c.loop-ended.ahead c.read.new.self c.loop-ended.count
+step g c = step_is c.args.faces.now c.args.flow.now.main c.args.frame.width c.take_inside.new.lines.kept c.args.from.at c.loop-ended.ahead c.read.new.self c.loop-ended.count c.in-Ok.ensures.more.0 (ahead_now g c).are c.in-Ok.ensures.more.1 c.loop-ended.invariant.within (c.in-Ok.ensures.there c.if-ended.false)
+
+row_is : (g : given.Over) (c : In_ok-take_inside g) → c.row.result.now ≡ row_of c.args.flow.now.main (step g c).solid
+row_is g c = page_row c.args.faces.now c.args.flow.now.main c.args.frame.width c.take_inside.new.lines.kept c.args.from.at c.read.new.self (ahead_now g c) c.loop-ended.count (step g c).solid c.row.result.now (step g c).at c.row.ensures
+
+views_now : (g : given.Over) (c : In_ok-take_inside g) → page_views c.read.new.self (c.loop-ended.count + 1) ≡ page_views c.loop-ended.ahead c.loop-ended.count ++ (step g c).solid ∷ []
+views_now g c = (step g c).now
+
+old_size : (g : given.Over) (c : In_ok-take_inside g) → length (page_views c.loop-ended.ahead c.loop-ended.count) ≡ c.loop-ended.count
+old_size g c = length-take-le c.loop-ended.count (page_of c.loop-ended.ahead) c.loop-ended.invariant.within
+
+now_within : (g : given.Over) (c : In_ok-take_inside g) → c.loop-ended.count + 1 ≤ length (page_of c.read.new.self)
+now_within g c = let there = c.in-Ok.ensures.there c.if-ended.false in omega (arith, there)
+
+end_now : (g : given.Over) (c : In_ok-take_inside g) → c.end_of-end.result ≡ (step g c).solid.end
+end_now g c = c.end_of-end.ensures ∙ (step g c).ends
+
+-- the solids after the first ones are left from there on
+goes_on : (g : given.Over) (c : In_ok-take_inside g) (k : ℕ) → k ≤ length (page_of c.read.new.self) → (rest : List SolidView) → IsRemainder c.args.faces.now c.args.flow.now.main c.args.frame.width (end_of c.args.from.at (page_of c.read.new.self) k) rest → IsRemainder c.args.faces.now c.args.flow.now.main c.args.frame.width c.args.from.at (page_views c.read.new.self k ++ rest)
+goes_on g c k low rest r = goes_from c.args.faces.now c.args.flow.now.main c.args.frame.width c.take_inside.new.lines.kept c.args.from.at (page_of c.read.new.self) k rest (ahead_now g c).are low r
+
+holds_on : (g : given.Over) (c : In_ok-take_inside g) (k : ℕ) → k ≤ length (page_of c.read.new.self) → Holds c.args.flow.now.main (end_of c.args.from.at (page_of c.read.new.self) k)
+holds_on g c k low = ends_hold c.args.faces.now c.args.flow.now.main c.args.frame.width c.take_inside.new.lines.kept c.args.from.at (page_of c.read.new.self) k c.requires.holds (ahead_now g c).are low
 
 some_read : (n : ℕ) → 0 < n → (n == 0) ≡ false
 some_read n h = grind (arith, nat_tests)
 
--- the notes that are read
-first_read : (g : given.Over) (c : After-row_of-row g) → AreReadInside c.args.faces.now c.args.flow.now c.args.frame c.args.from c.requires.read.0 (map solid_view c.loop-next.solids.items) c.loop-next.notes
-first_read g c = c.loop-next.invariant.are c.requires.read.0 c.requires.read.1
+none_again : (n : ℕ) → (n == 0) ≡ false → 0 < n
+none_again n h = grind (arith, nat_tests)
 
 -- how far the solids reach, this one included
-views_next_rows : (g : given.Over) (c : Else-is_err g) → rows_of c.args.flow.now.main (map solid_view c.loop-next.solids.items) ++ c.row_of-row.result ∷ [] ≡ rows_of c.args.flow.now.main (map solid_view c.loop-next.solids.items ++ solid_view c.in-Some.solid ∷ [])
+views_next_rows : (g : given.Over) (c : In_ok-take_inside g) → rows_of c.args.flow.now.main (page_views c.loop-ended.ahead c.loop-ended.count) ++ c.row.result.now ∷ [] ≡ rows_of c.args.flow.now.main (page_views c.loop-ended.ahead c.loop-ended.count ++ (step g c).solid ∷ [])
 views_next_rows g c =
     let t : Tree = c.args.flow.now.main in
-    let old : List SolidView = map solid_view c.loop-next.solids.items in
-    ap (λ (r : SolidRow). rows_of t old ++ r ∷ []) c.row_of-row.ensures ∙ sym (map-append (row_of t) old (solid_view c.in-Some.solid ∷ []))
+    let old : List SolidView = page_views c.loop-ended.ahead c.loop-ended.count in
+    ap (λ (r : SolidRow). rows_of t old ++ r ∷ []) (row_is g c) ∙ sym (map-append (row_of t) old ((step g c).solid ∷ []))
 
-stacked_on : (g : given.Over) (c : Else-is_err g) → HasPlaced c.args.from.kept (rows_of c.args.flow.now.main (map solid_view c.loop-next.solids.items ++ solid_view c.in-Some.solid ∷ [])) c.take.new.self
+height_is : (g : given.Over) (c : In_ok-take_inside g) → to_z w64 (of_z w64 c.args.room.now.height) ≡ c.args.frame.height
+height_is g c = let tall : SFits w64 c.args.room.now.height = search rules in to_z-of_z w64 c.args.room.now.height tall ∙ c.requires.height
+
+stacked_on : (g : given.Over) (c : In_ok-take_inside g) → IsStacked c.args.from.kept c.args.frame.height (rows_of c.args.flow.now.main (page_views c.loop-ended.ahead c.loop-ended.count ++ (step g c).solid ∷ [])) c.take.new.self
 stacked_on g c =
-    let rows : List SolidRow = rows_of c.args.flow.now.main (map solid_view c.loop-next.solids.items) in
-    let was : HasPlaced c.args.room.now.kept rows c.loop-next.look = subst (λ (k : Bool). HasPlaced k rows c.loop-next.look) (sym c.requires.kept) c.loop-next.invariant.stacked in
-    subst (λ (rs : List SolidRow). HasPlaced c.args.from.kept rs c.take.new.self) (views_next_rows g c)
-    (subst (λ (k : Bool). HasPlaced k (rows ++ c.row_of-row.result ∷ []) c.take.new.self) c.requires.kept (c.take.ensures.placed rows was))
+    let rows : List SolidRow = rows_of c.args.flow.now.main (page_views c.loop-ended.ahead c.loop-ended.count) in
+    let took : (z : ℤ) (k : Bool) → c.args.room.now.height ≡ z → c.args.room.now.kept ≡ k → IsStacked k z rows c.loop-ended.look → IsStacked k z (rows ++ c.row.result.now ∷ []) c.take.new.self =
+    λ z k same is. subst (λ (x : ℤ). IsStacked k x rows c.loop-ended.look → IsStacked k x (rows ++ c.row.result.now ∷ []) c.take.new.self) same
+    (subst (λ (b : Bool). IsStacked b c.args.room.now.height rows c.loop-ended.look → IsStacked b c.args.room.now.height (rows ++ c.row.result.now ∷ []) c.take.new.self) is (c.take.ensures.stacked rows)) in
+    subst (λ (rs : List SolidRow). IsStacked c.args.from.kept c.args.frame.height rs c.take.new.self) (views_next_rows g c)
+    (took c.args.frame.height c.args.from.kept c.requires.height c.requires.kept c.loop-ended.invariant.stacked)
 
 rows_count : (t : Tree) (old : List SolidView) (s : SolidView) → length (rows_of t (old ++ s ∷ [])) ≡ suc (length old)
 rows_count t old s = let n = length-append old (s ∷ []) in length-map (old ++ s ∷ []) (row_of t) ∙ (let m : length (old ++ s ∷ []) ≡ suc (length old) = omega (arith, n) in m)
 
-height_is : (g : given.Over) (c : Else-is_err g) → to_z w64 (of_z w64 c.args.room.now.height) ≡ c.args.frame.height
-height_is g c = let tall : SFits w64 c.args.room.now.height = search rules in to_z-of_z w64 c.args.room.now.height tall ∙ c.requires.height
-
--- whether solids were read before this one
-is_first : (g : given.Over) (c : Else-is_err g) → c.is_empty-is_first.result ≡ (length c.loop-next.solids.items == 0)
-is_first g c = let kept : vec_len c.loop-next.solids ≡ length c.loop-next.solids.items = omega arith in c.is_empty-is_first.ensures ∙ ap (λ (n : ℕ). n == 0) kept
-
-frees_next : (g : given.Over) (c : Else-is_err g) → c.ends_page-ends.result ≡ false → AreFree (rows_of c.args.flow.now.main (map solid_view c.loop-next.solids.items ++ solid_view c.in-Some.solid ∷ []))
+frees_next : (g : given.Over) (c : In_ok-take_inside g) → c.ends_page-ends.result ≡ false → AreFree (rows_of c.args.flow.now.main (page_views c.loop-ended.ahead c.loop-ended.count ++ (step g c).solid ∷ []))
 frees_next g c on =
-    let old : List SolidView = map solid_view c.loop-next.solids.items in
-    let size : length old ≡ length c.loop-next.solids.items = rw length-map refl in
-    views_free c.args.flow.now.main old (solid_view c.in-Some.solid) c.loop-next.invariant.free (λ h. c.ends_page-ends.ensures.free on (is_first g c ∙ some_read (length c.loop-next.solids.items) (omega arith)))
+    let size = old_size g c in
+    views_free c.args.flow.now.main (page_views c.loop-ended.ahead c.loop-ended.count) (step g c).solid c.loop-ended.invariant.free
+    (λ h. ap (λ (r : SolidRow). r.seam.forced) (sym (row_is g c)) ∙ c.ends_page-ends.ensures.free on (some_read c.loop-ended.count (omega (arith, h, size))))
 
-frees : (g : given.Over) (c : Else-is_err g) → c.ends_page-ends.result ≡ false → AreFree (rows_of c.args.flow.now.main (map solid_view c.push-in-loop-next.new.self.items))
+frees : (g : given.Over) (c : In_ok-take_inside g) → c.ends_page-ends.result ≡ false → AreFree (rows_of c.args.flow.now.main (page_views c.read.new.self (c.loop-ended.count + 1)))
 frees g c on = subst (λ (vs : List SolidView). AreFree (rows_of c.args.flow.now.main vs)) (sym (views_now g c)) (frees_next g c on)
 
-none_again : (n : ℕ) → (n == 0) ≡ false → 0 < n
-none_again n h = grind (arith, nat_tests)
-
-forced_next : (g : given.Over) (c : Else-is_err g) → c.ends_page-ends.result ≡ true → HasForced (rows_of c.args.flow.now.main (map solid_view c.loop-next.solids.items ++ solid_view c.in-Some.solid ∷ []))
+forced_next : (g : given.Over) (c : In_ok-take_inside g) → c.ends_page-ends.result ≡ true → HasForced (rows_of c.args.flow.now.main (page_views c.loop-ended.ahead c.loop-ended.count ++ (step g c).solid ∷ []))
 forced_next g c e =
-    let old : List SolidView = map solid_view c.loop-next.solids.items in
-    let size : length old ≡ length c.loop-next.solids.items = rw length-map refl in
+    let size = old_size g c in
     let ends = c.ends_page-ends.ensures.forced e in
-    let before : 0 < length c.loop-next.solids.items = none_again (length c.loop-next.solids.items) (sym (is_first g c) ∙ ends.0) in
-    views_forced c.args.flow.now.main old (solid_view c.in-Some.solid) (omega (arith, size, before)) ends.1
+    let before = none_again c.loop-ended.count ends.0 in
+    views_forced c.args.flow.now.main (page_views c.loop-ended.ahead c.loop-ended.count) (step g c).solid (omega (arith, size, before)) (ap (λ (r : SolidRow). is_some r.seam.forced) (sym (row_is g c)) ∙ ends.1)
 
-abbrev extent_next : (g : given.Over) → Else-is_err g → ℤ
-extent_next g c = rows_extent c.args.from.kept (rows_of c.args.flow.now.main (map solid_view c.loop-next.solids.items ++ solid_view c.in-Some.solid ∷ [])) (suc (length (map solid_view c.loop-next.solids.items)))
+stacked_z : (g : given.Over) (c : In_ok-take_inside g) → IsStacked c.args.from.kept (to_z w64 (of_z w64 c.args.room.now.height)) (rows_of c.args.flow.now.main (page_views c.loop-ended.ahead c.loop-ended.count ++ (step g c).solid ∷ [])) c.take.new.self
+stacked_z g c = subst (λ (z : ℤ). IsStacked c.args.from.kept z (rows_of c.args.flow.now.main (page_views c.loop-ended.ahead c.loop-ended.count ++ (step g c).solid ∷ [])) c.take.new.self) (sym (height_is g c)) (stacked_on g c)
 
-inside_yes : (g : given.Over) (c : Else-is_err g) → c.reads_notes-inside.result ≡ true → AreFree (rows_of c.args.flow.now.main (map solid_view c.loop-next.solids.items ++ solid_view c.in-Some.solid ∷ [])) × (extent_next g c ≤ℤ c.args.frame.height)
+reads_end : (g : given.Over) (c : In_ok-take_inside g) → c.reads_notes-inside.result ≡ true → (at : Position) (parts : List Carried) (ends : List Position) → AreRead c.args.faces.now c.args.flow.now c.args.frame at parts ends c.loop-ended.notes → AreRead c.args.faces.now c.args.flow.now c.args.frame at parts (ends ++ (step g c).solid.end ∷ []) c.take_inside.new.self
+reads_end g c inside at parts ends r = subst (λ (p : Position). AreRead c.args.faces.now c.args.flow.now c.args.frame at parts (ends ++ p ∷ []) c.take_inside.new.self) (end_now g c) (c.in_ok-take_inside.ensures.read inside at parts ends r)
+
+abbrev extent_next : (g : given.Over) → In_ok-take_inside g → ℤ
+extent_next g c = rows_extent c.args.from.kept (rows_of c.args.flow.now.main (page_views c.loop-ended.ahead c.loop-ended.count ++ (step g c).solid ∷ [])) (suc (length (page_views c.loop-ended.ahead c.loop-ended.count)))
+
+inside_yes : (g : given.Over) (c : In_ok-take_inside g) → c.reads_notes-inside.result ≡ true → AreFree (rows_of c.args.flow.now.main (page_views c.loop-ended.ahead c.loop-ended.count ++ (step g c).solid ∷ [])) × (extent_next g c ≤ℤ c.args.frame.height)
 inside_yes g c e =
     let kept : Bool = c.args.from.kept in
-    let old : List SolidView = map solid_view c.loop-next.solids.items in
-    let rows : List SolidRow = rows_of c.args.flow.now.main (old ++ solid_view c.in-Some.solid ∷ []) in
+    let old : List SolidView = page_views c.loop-ended.ahead c.loop-ended.count in
+    let rows : List SolidRow = rows_of c.args.flow.now.main (old ++ (step g c).solid ∷ []) in
     let h = c.reads_notes-inside.ensures.inside e in (
       frees_next g c h.0,
-      subst (λ (n : ℕ). rows_extent kept rows n ≤ℤ c.args.frame.height) (rows_count c.args.flow.now.main old (solid_view c.in-Some.solid))
-          (subst (λ (z : ℤ). rows_extent kept rows (length rows) ≤ℤ z) (height_is g c) (h.1 kept rows (stacked_on g c))),
+      subst (λ (n : ℕ). rows_extent kept rows n ≤ℤ c.args.frame.height) (rows_count c.args.flow.now.main old ((step g c).solid))
+          (subst (λ (z : ℤ). rows_extent kept rows (length rows) ≤ℤ z) (height_is g c) (h.1 kept rows (stacked_z g c))),
     )
 
-inside_no : (g : given.Over) (c : Else-is_err g) → c.reads_notes-inside.result ≡ false → HasForced (rows_of c.args.flow.now.main (map solid_view c.loop-next.solids.items ++ solid_view c.in-Some.solid ∷ [])) ⊎ (c.args.frame.height <ℤ extent_next g c)
+inside_no : (g : given.Over) (c : In_ok-take_inside g) → c.reads_notes-inside.result ≡ false → HasForced (rows_of c.args.flow.now.main (page_views c.loop-ended.ahead c.loop-ended.count ++ (step g c).solid ∷ [])) ⊎ (c.args.frame.height <ℤ extent_next g c)
 inside_no g c e =
     let kept : Bool = c.args.from.kept in
-    let old : List SolidView = map solid_view c.loop-next.solids.items in
-    let rows : List SolidRow = rows_of c.args.flow.now.main (old ++ solid_view c.in-Some.solid ∷ []) in
+    let old : List SolidView = page_views c.loop-ended.ahead c.loop-ended.count in
+    let rows : List SolidRow = rows_of c.args.flow.now.main (old ++ (step g c).solid ∷ []) in
     ⊎_elim
     (λ (ends : c.ends_page-ends.result ≡ true). inl (forced_next g c ends))
-    (λ (over : (k : Bool) (rs : List SolidRow) → HasPlaced k rs c.take.new.self → to_z w64 (of_z w64 c.args.room.now.height) <ℤ rows_extent k rs (length rs)). inr
-    (subst (λ (n : ℕ). c.args.frame.height <ℤ rows_extent kept rows n) (rows_count c.args.flow.now.main old (solid_view c.in-Some.solid))
-    (subst (λ (z : ℤ). z <ℤ rows_extent kept rows (length rows)) (height_is g c) (over kept rows (stacked_on g c)))))
+    (λ (over : (k : Bool) (rs : List SolidRow) → IsStacked k (to_z w64 (of_z w64 c.args.room.now.height)) rs c.take.new.self → to_z w64 (of_z w64 c.args.room.now.height) <ℤ rows_extent k rs (length rs)). inr
+    (subst (λ (n : ℕ). c.args.frame.height <ℤ rows_extent kept rows n) (rows_count c.args.flow.now.main old ((step g c).solid))
+    (subst (λ (z : ℤ). z <ℤ rows_extent kept rows (length rows)) (height_is g c) (over kept rows (stacked_z g c)))))
     (c.reads_notes-inside.ensures.past e)
 
-reads : (g : given.Over) (c : Else-is_err g) → (carried : List Carried) → AreRead c.args.faces.now c.args.flow.now c.args.frame c.args.from.at carried [] c.args.notes.now →
-    AreReadInside c.args.faces.now c.args.flow.now c.args.frame c.args.from carried (map solid_view c.push-in-loop-next.new.self.items) c.take_inside.new.self
+reads : (g : given.Over) (c : In_ok-take_inside g) → (carried : List Carried) → AreRead c.args.faces.now c.args.flow.now c.args.frame c.args.from.at carried [] c.args.notes.now →
+    AreReadInside c.args.faces.now c.args.flow.now c.args.frame c.args.from carried (page_views c.read.new.self (c.loop-ended.count + 1)) c.take_inside.new.self
 reads g c carried r =
     subst (λ (vs : List SolidView). AreReadInside c.args.faces.now c.args.flow.now c.args.frame c.args.from carried vs c.take_inside.new.self) (sym (views_now g c))
-    (inside_on c.args.faces.now c.args.flow.now c.args.frame c.args.from carried (map solid_view c.loop-next.solids.items) c.loop-next.notes (c.loop-next.invariant.are carried r) c.loop-next.invariant.free (solid_view c.in-Some.solid) c.take_inside.new.self c.reads_notes-inside.result (inside_yes g c) (inside_no g c) c.in_ok-take_inside.ensures.read c.in_ok-take_inside.ensures.same)
+    (inside_on c.args.faces.now c.args.flow.now c.args.frame c.args.from carried (page_views c.loop-ended.ahead c.loop-ended.count) c.loop-ended.notes (c.loop-ended.invariant.are carried r) c.loop-ended.invariant.free ((step g c).solid) c.take_inside.new.self c.reads_notes-inside.result (inside_yes g c) (inside_no g c) (reads_end g c) c.in_ok-take_inside.ensures.same)
 
-owns : (g : given.Over) (c : Else-is_err g) → c.take_inside.new.self.list.own ≡ c.args.notes.now.list.own
-owns g c = c.in_ok-take_inside.ensures.own ∙ c.loop-next.invariant.own
+owns : (g : given.Over) (c : In_ok-take_inside g) → c.take_inside.new.self.list.own ≡ c.args.notes.now.list.own
+owns g c = c.in_ok-take_inside.ensures.own ∙ c.loop-ended.invariant.own
 
-looks : (g : given.Over) (c : Else-is_err g) → LooksOn c.args.from.kept c.args.frame.height c.args.notes.now.list.own c.take_inside.new.self.areas.items c.args.room.now.carried c.args.flow.now.main (map solid_view c.push-in-loop-next.new.self.items) c.take.new.self
+looks : (g : given.Over) (c : In_ok-take_inside g) → LooksOn c.args.from.kept c.args.frame.height c.args.notes.now.list.own c.take_inside.new.self.areas.items c.args.room.now.carried c.args.flow.now.main (page_views c.read.new.self (c.loop-ended.count + 1)) c.take.new.self
 looks g c =
     let t : Tree = c.args.flow.now.main in
     let kept : Bool = c.args.from.kept in
     let own : ℕ = c.args.notes.now.list.own in
     let carried : ℤ = c.args.room.now.carried in
-    let old : List SolidView = map solid_view c.loop-next.solids.items in
-    let read = c.loop-next.invariant.are c.requires.read.0 c.requires.read.1 in
+    let old : List SolidView = page_views c.loop-ended.ahead c.loop-ended.count in
+    let read = c.loop-ended.invariant.are c.requires.read.0 c.requires.read.1 in
     let fits : SFits w64 c.area.result = search rules in
     let area : ℤ = to_z w64 (of_z w64 c.area.result) in
-    let area_is : area ≡ area_after c.loop-next.notes.areas.items (length c.loop-next.notes.areas.items) = to_z-of_z w64 c.area.result fits ∙ c.area.ensures.area in
-    let took : (rows : List SolidRow) (list : NoteLists) (n : ℕ) → (0 < length rows → rows_extent kept rows (length rows) ≤ℤ c.args.frame.height → AreTold c.args.frame.height list n (length rows) area carried) → IsLook kept c.args.frame.height list n rows c.loop-next.look → IsLook kept c.args.frame.height list n (rows ++ c.row_of-row.result ∷ []) c.take.new.self =
-    subst (λ (z : ℤ). (rows : List SolidRow) (list : NoteLists) (n : ℕ) → (0 < length rows → rows_extent kept rows (length rows) ≤ℤ z → AreTold z list n (length rows) area carried) → IsLook kept z list n rows c.loop-next.look → IsLook kept z list n (rows ++ c.row_of-row.result ∷ []) c.take.new.self) c.requires.height
-    (subst (λ (k : Bool). (rows : List SolidRow) (list : NoteLists) (n : ℕ) → (0 < length rows → rows_extent k rows (length rows) ≤ℤ c.args.room.now.height → AreTold c.args.room.now.height list n (length rows) area carried) → IsLook k c.args.room.now.height list n rows c.loop-next.look → IsLook k c.args.room.now.height list n (rows ++ c.row_of-row.result ∷ []) c.take.new.self) c.requires.kept c.take.ensures.look) in
-    let same = areas_on c.args.faces.now c.args.flow.now c.args.frame c.args.from c.requires.read.0 old c.loop-next.notes read c.loop-next.invariant.free (solid_view c.in-Some.solid) c.take_inside.new.self c.reads_notes-inside.result (inside_yes g c) c.in_ok-take_inside.ensures.areas c.in_ok-take_inside.ensures.same in
-    let more : LooksOn kept c.args.frame.height own c.take_inside.new.self.areas.items carried t (old ++ solid_view c.in-Some.solid ∷ []) c.take.new.self =
-    look_on t kept c.args.frame.height own c.loop-next.notes.areas.items c.take_inside.new.self.areas.items area carried old (solid_view c.in-Some.solid) c.loop-next.look c.take.new.self c.row_of-row.result c.row_of-row.ensures c.loop-next.invariant.free same (λ inside. area_is ∙ inside_last c.args.faces.now c.args.flow.now c.args.frame c.args.from c.requires.read.0 old c.loop-next.notes read c.loop-next.invariant.free inside) took c.loop-next.invariant.look in
+    let area_is : area ≡ area_after c.loop-ended.notes.areas.items (length c.loop-ended.notes.areas.items) = to_z-of_z w64 c.area.result fits ∙ c.area.ensures.area in
+    let took : (rows : List SolidRow) (list : NoteLists) (n : ℕ) → (0 < length rows → rows_extent kept rows (length rows) ≤ℤ c.args.frame.height → AreTold c.args.frame.height list n (length rows) area carried) → IsLook kept c.args.frame.height list n rows c.loop-ended.look → IsLook kept c.args.frame.height list n (rows ++ c.row.result.now ∷ []) c.take.new.self =
+    subst (λ (z : ℤ). (rows : List SolidRow) (list : NoteLists) (n : ℕ) → (0 < length rows → rows_extent kept rows (length rows) ≤ℤ z → AreTold z list n (length rows) area carried) → IsLook kept z list n rows c.loop-ended.look → IsLook kept z list n (rows ++ c.row.result.now ∷ []) c.take.new.self) c.requires.height
+    (subst (λ (k : Bool). (rows : List SolidRow) (list : NoteLists) (n : ℕ) → (0 < length rows → rows_extent k rows (length rows) ≤ℤ c.args.room.now.height → AreTold c.args.room.now.height list n (length rows) area carried) → IsLook k c.args.room.now.height list n rows c.loop-ended.look → IsLook k c.args.room.now.height list n (rows ++ c.row.result.now ∷ []) c.take.new.self) c.requires.kept c.take.ensures.look) in
+    let same = areas_on c.args.faces.now c.args.flow.now c.args.frame c.args.from c.requires.read.0 old c.loop-ended.notes read c.loop-ended.invariant.free ((step g c).solid) c.take_inside.new.self c.reads_notes-inside.result (inside_yes g c) c.in_ok-take_inside.ensures.areas c.in_ok-take_inside.ensures.same in
+    let more : LooksOn kept c.args.frame.height own c.take_inside.new.self.areas.items carried t (old ++ (step g c).solid ∷ []) c.take.new.self =
+    look_on t kept c.args.frame.height own c.loop-ended.notes.areas.items c.take_inside.new.self.areas.items area carried old ((step g c).solid) c.loop-ended.look c.take.new.self c.row.result.now (row_is g c) c.loop-ended.invariant.free same (λ inside. area_is ∙ inside_last c.args.faces.now c.args.flow.now c.args.frame c.args.from c.requires.read.0 old c.loop-ended.notes read c.loop-ended.invariant.free inside) took c.loop-ended.invariant.look in
     subst (λ (vs : List SolidView). LooksOn kept c.args.frame.height own c.take_inside.new.self.areas.items carried t vs c.take.new.self) (sym (views_now g c)) more
 
 -- no more is read than may be
-shorts : (g : given.Over) (c : Else-is_err g) → IsShort c.args.from.kept c.args.frame.height (most_widows c.args.flow.now.main) (rows_of c.args.flow.now.main (map solid_view c.push-in-loop-next.new.self.items)) c.take.new.self
+shorts : (g : given.Over) (c : In_ok-take_inside g) → IsShort c.args.from.kept c.args.frame.height (most_widows c.args.flow.now.main) (rows_of c.args.flow.now.main (page_views c.read.new.self (c.loop-ended.count + 1))) c.take.new.self
 shorts g c =
     let t : Tree = c.args.flow.now.main in
     let widest : ℕ = most_widows t in
-    let old : List SolidView = map solid_view c.loop-next.solids.items in
+    let old : List SolidView = page_views c.loop-ended.ahead c.loop-ended.count in
     let rows : List SolidRow = rows_of t old in
-    let few : c.row_of-row.result.widows ≤ widest = subst (λ (q : SolidRow). q.widows ≤ widest) (sym c.row_of-row.ensures) (row_widows t (solid_view c.in-Some.solid)) in
-    let took : (z : ℤ) (k : Bool) → c.args.room.now.height ≡ z → c.args.room.now.kept ≡ k → HasPlaced k rows c.loop-next.look → IsShort k z widest rows c.loop-next.look → IsShort k z widest (rows ++ c.row_of-row.result ∷ []) c.take.new.self =
-    λ z k same is. subst (λ (x : ℤ). HasPlaced k rows c.loop-next.look → IsShort k x widest rows c.loop-next.look → IsShort k x widest (rows ++ c.row_of-row.result ∷ []) c.take.new.self) same
-    (subst (λ (b : Bool). HasPlaced b rows c.loop-next.look → IsShort b c.args.room.now.height widest rows c.loop-next.look → IsShort b c.args.room.now.height widest (rows ++ c.row_of-row.result ∷ []) c.take.new.self) is (λ p q. c.take.ensures.short rows widest p few c.loop-next.invariant.more q)) in
+    let few : c.row.result.now.widows ≤ widest = subst (λ (q : SolidRow). q.widows ≤ widest) (sym (row_is g c)) (row_widows t ((step g c).solid)) in
+    let took : (z : ℤ) (k : Bool) → c.args.room.now.height ≡ z → c.args.room.now.kept ≡ k → IsStacked k z rows c.loop-ended.look → IsShort k z widest rows c.loop-ended.look → IsShort k z widest (rows ++ c.row.result.now ∷ []) c.take.new.self =
+    λ z k same is. subst (λ (x : ℤ). IsStacked k x rows c.loop-ended.look → IsShort k x widest rows c.loop-ended.look → IsShort k x widest (rows ++ c.row.result.now ∷ []) c.take.new.self) same
+    (subst (λ (b : Bool). IsStacked b c.args.room.now.height rows c.loop-ended.look → IsShort b c.args.room.now.height widest rows c.loop-ended.look → IsShort b c.args.room.now.height widest (rows ++ c.row.result.now ∷ []) c.take.new.self) is (λ p q. c.take.ensures.short rows widest p few c.loop-ended.invariant.more q)) in
     subst (λ (vs : List SolidView). IsShort c.args.from.kept c.args.frame.height widest (rows_of t vs) c.take.new.self) (sym (views_now g c))
     (subst (λ (rs : List SolidRow). IsShort c.args.from.kept c.args.frame.height widest rs c.take.new.self) (views_next_rows g c)
-    (took c.args.frame.height c.args.from.kept c.requires.height c.requires.kept c.loop-next.invariant.stacked c.loop-next.invariant.short))
-
-few_on : (g : given.Over) (c : Else-is_err g) → AreFewLines c.args.faces.now c.args.flow.now.main c.args.frame c.args.from (map solid_view c.push-in-loop-next.new.self.items)
-few_on g c =
-    few_lines c.args.faces.now c.args.flow.now.main c.args.frame c.args.from c.count-count.ensures.tree c.requires.holds (map solid_view c.push-in-loop-next.new.self.items) (map solid_view c.loop-next.solids.items) (solid_view c.in-Some.solid ∷ []) c.take.new.self (views_now g c) (omega arith) c.loop-next.invariant.free (shorts g c)
-
-few : (g : given.Over) (c : After-row_of-row g) → length c.loop-next.solids.items ≤ 2 ^ 26
-few g c =
-    let size : length (map solid_view c.loop-next.solids.items) ≡ length c.loop-next.solids.items = rw length-map refl in
-    subst (λ (n : ℕ). n ≤ 2 ^ 26) size (read_few c.args.faces.now c.args.flow.now.main c.args.frame c.args.from.at c.args.from.kept 0 [] (pos 0) c.count-count.ensures.tree c.requires.holds (map solid_view c.loop-next.solids.items) c.loop-next.at c.loop-next.invariant.holds c.loop-next.invariant.goes c.requires.flow.main.bytes)
+    (took c.args.frame.height c.args.from.kept c.requires.height c.requires.kept c.loop-ended.invariant.stacked c.loop-ended.invariant.short))
 
 -- what is held once the solid and its notes are read
-solid_keeps : (g : given.Over) (c : Else-is_err g) → KeepsHeld c.args.lines.now.kept c.next_read.new.lines.kept
-solid_keeps g c = keeps_twice c.args.lines.now.kept c.loop-next.lines.kept c.next_read.new.lines.kept c.loop-next.invariant.keeps c.next_read.ensures.keeps
+solid_keeps : (g : given.Over) (c : In_ok-take_inside g) → KeepsHeld c.args.lines.now.kept c.read.new.lines.kept
+solid_keeps g c = keeps_twice c.args.lines.now.kept c.loop-ended.lines.kept c.read.new.lines.kept c.loop-ended.invariant.keeps c.read.ensures.keeps
 
-lines_on : (g : given.Over) (c : Else-is_err g) → StepsForPage c.args.flow.now c.args.frame.width c.args.lines.now.kept (map solid_view c.push-in-loop-next.new.self.items) c.args.notes.now.list.solids.items c.take_inside.new.self.list.solids.items c.args.steps.now c.take_inside.new.steps
+lines_on : (g : given.Over) (c : In_ok-take_inside g) → StepsForPage c.args.flow.now c.args.frame.width c.args.lines.now.kept (page_views c.read.new.self (c.loop-ended.count + 1)) c.args.notes.now.list.solids.items c.take_inside.new.self.list.solids.items c.args.steps.now c.take_inside.new.steps
 lines_on g c known held =
     let t : Tree = c.args.flow.now.main in
     let width : ℤ = c.args.frame.width in
-    let old : List SolidView = map solid_view c.loop-next.solids.items in
-    let s : SolidView = solid_view c.in-Some.solid in
-    let wide : SFits w64 width = search rules in
-    let asks : AsksBy s.kind t width s c.loop-next.lines.kept c.next_read.new.lines.kept c.loop-next.steps c.next_read.new.steps =
-    subst (λ (w : ℤ). AsksBy s.kind t w s c.loop-next.lines.kept c.next_read.new.lines.kept c.loop-next.steps c.next_read.new.steps) (to_z-of_z w64 width wide) (rw c.in-Some.is at c.in-Ok.ensures.asks) in
-    let was = c.loop-next.invariant.lines known held in
-    let step = asks_new known t width s c.args.lines.now.kept c.loop-next.lines.kept c.next_read.new.lines.kept c.loop-next.steps c.next_read.new.steps held c.loop-next.invariant.keeps asks (rw c.in-Some.is at c.in-Ok.ensures.step) in
-    let noted = c.in_ok-take_inside.ensures.lines known (known_more known c.args.lines.now.kept c.next_read.new.lines.kept held (solid_keeps g c)) in
-    let next : new_in known t width (map solid_view c.push-in-loop-next.new.self.items) ≡ new_in known t width old + new_of known t width s = ap (new_in known t width) (views_now g c) ∙ sum_by_push (new_of known t width) old s in
+    let old : List SolidView = page_views c.loop-ended.ahead c.loop-ended.count in
+    let s : SolidView = (step g c).solid in
+    let asks : AsksBy s.kind t width s c.loop-ended.lines.kept c.read.new.lines.kept c.loop-ended.steps c.read.new.steps =
+    subst (λ (w : ℤ). AsksBy s.kind t w s c.loop-ended.lines.kept c.read.new.lines.kept c.loop-ended.steps c.read.new.steps) c.loop-ended.invariant.ahead.wide
+    (subst (λ (o : Option SolidView). AsksNext t c.loop-ended.ahead.width o c.loop-ended.lines.kept c.read.new.lines.kept c.loop-ended.steps c.read.new.steps) (step g c).at c.in-Ok.ensures.asks) in
+    let taken : c.read.new.steps ≤ c.loop-ended.steps + steps_of s = subst (λ (o : Option SolidView). MatchOption o (c.read.new.steps ≡ c.loop-ended.steps) (λ x. c.read.new.steps ≤ c.loop-ended.steps + steps_of x)) (step g c).at c.in-Ok.ensures.step in
+    let was = c.loop-ended.invariant.lines known held in
+    let step = asks_new known t width s c.args.lines.now.kept c.loop-ended.lines.kept c.read.new.lines.kept c.loop-ended.steps c.read.new.steps held c.loop-ended.invariant.keeps asks taken in
+    let noted = c.in_ok-take_inside.ensures.lines known (known_more known c.args.lines.now.kept c.read.new.lines.kept held (solid_keeps g c)) in
+    let next : new_in known t width (page_views c.read.new.self (c.loop-ended.count + 1)) ≡ new_in known t width old + new_of known t width s = ap (new_in known t width) (views_now g c) ∙ sum_by_push (new_of known t width) old s in
     omega (arith, was, step, noted, next)
 
-keeps_on : (g : given.Over) (c : Else-is_err g) → KeepsHeld c.args.lines.now.kept c.take_inside.new.lines.kept
-keeps_on g c = keeps_twice c.args.lines.now.kept c.next_read.new.lines.kept c.take_inside.new.lines.kept (solid_keeps g c) c.take_inside.ensures.keeps
+keeps_on : (g : given.Over) (c : In_ok-take_inside g) → KeepsHeld c.args.lines.now.kept c.take_inside.new.lines.kept
+keeps_on g c = keeps_twice c.args.lines.now.kept c.read.new.lines.kept c.take_inside.new.lines.kept (solid_keeps g c) c.take_inside.ensures.keeps
 
-takes_on : (g : given.Over) (c : Else-is_err g) → TakesSteps c.args.lines.now.kept c.take_inside.new.lines.kept c.args.steps.now c.take_inside.new.steps
+takes_on : (g : given.Over) (c : In_ok-take_inside g) → TakesSteps c.args.lines.now.kept c.take_inside.new.lines.kept c.args.steps.now c.take_inside.new.steps
 takes_on g c =
     let old = c.args.lines.now.kept in
-    let at = c.loop-next.lines.kept in
-    let mid = c.next_read.new.lines.kept in
-    takes_twice old mid c.take_inside.new.lines.kept c.args.steps.now c.next_read.new.steps c.take_inside.new.steps (solid_keeps g c) c.take_inside.ensures.keeps
-    (takes_twice old at mid c.args.steps.now c.loop-next.steps c.next_read.new.steps c.loop-next.invariant.keeps c.next_read.ensures.keeps c.loop-next.invariant.takes c.in-Ok.ensures.takes)
+    let at = c.loop-ended.lines.kept in
+    let mid = c.read.new.lines.kept in
+    takes_twice old mid c.take_inside.new.lines.kept c.args.steps.now c.read.new.steps c.take_inside.new.steps (solid_keeps g c) c.take_inside.ensures.keeps
+    (takes_twice old at mid c.args.steps.now c.loop-ended.steps c.read.new.steps c.loop-ended.invariant.keeps c.read.ensures.keeps c.loop-ended.invariant.takes c.in-Ok.ensures.takes)
     c.in_ok-take_inside.ensures.takes
 
-held_now : (g : given.Over) (c : Else-is_err g) → All (λ (v : SolidView). IsHeldNow c.args.flow.now.main c.args.frame.width c.take_inside.new.lines.kept v.placed_at) (map solid_view c.push-in-loop-next.new.self.items)
-held_now g c =
-    let wide : SFits w64 c.args.frame.width = search rules in
+noted_on : (g : given.Over) (c : In_ok-take_inside g) → AreHeldNow c.args.flow.now.notes c.args.frame.width c.args.lines.now.kept c.args.notes.now.list.solids.items → AreHeldNow c.args.flow.now.notes c.args.frame.width c.take_inside.new.lines.kept c.take_inside.new.self.list.solids.items
+noted_on g c h = c.in_ok-take_inside.ensures.now (held_more c.args.flow.now.notes c.args.frame.width c.loop-ended.lines.kept c.read.new.lines.kept c.loop-ended.notes.list.solids.items c.read.ensures.keeps (c.loop-ended.invariant.noted h))
+
+-- ---- lines that are passed
+passed : (g : given.Over) (c : After-pass-count g) → IsPassed c.args.flow.now.main c.read.new.self (c.loop-ended.count + 1) c.pass-count.result
+passed g c =
+    passed_is c.args.faces.now c.args.flow.now.main c.args.frame.width c.take_inside.new.lines.kept c.args.from.at c.read.new.self (ahead_pass g c) (c.loop-ended.count + 1) c.joined_at.result c.pass-count.result c.joined_at.ensures.within c.pass-count.ensures.few c.joined_at.ensures.joined
+  where
+    ahead_pass : (g : given.Over) (c : After-pass-count g) → IsPageAhead c.args.faces.now c.args.flow.now.main c.args.frame.width c.take_inside.new.lines.kept c.args.from.at c.read.new.self
+    ahead_pass g c =
+        page_on c.args.faces.now c.args.flow.now.main c.args.frame.width c.read.new.lines.kept c.take_inside.new.lines.kept c.args.from.at c.read.new.self c.take_inside.ensures.keeps
+        (subst (λ (w : ℤ). IsPageAhead c.args.faces.now c.args.flow.now.main w c.read.new.lines.kept c.args.from.at c.read.new.self) c.loop-ended.invariant.ahead.wide c.in-Ok.ensures.ahead)
+
+rows_passed : (g : given.Over) (c : After-pass-count g) → rows_of c.args.flow.now.main (page_views c.read.new.self (c.loop-ended.count + 1 + c.pass-count.result)) ≡ rows_of c.args.flow.now.main (page_views c.read.new.self (c.loop-ended.count + 1)) ++ rows_of c.args.flow.now.main (passed g c).more
+rows_passed g c = ap (rows_of c.args.flow.now.main) (passed g c).split ∙ rows_append c.args.flow.now.main (page_views c.read.new.self (c.loop-ended.count + 1)) (passed g c).more
+
+more_size : (g : given.Over) (c : After-pass-count g) → length (rows_of c.args.flow.now.main (passed g c).more) ≡ c.pass-count.result
+more_size g c = length-map (passed g c).more (row_of c.args.flow.now.main) ∙ (passed g c).size
+
+looks_past : (g : given.Over) (c : After-pass-count g) → LooksOn c.args.from.kept c.args.frame.height c.args.notes.now.list.own c.take_inside.new.self.areas.items c.args.room.now.carried c.args.flow.now.main (page_views c.read.new.self (c.loop-ended.count + 1)) c.take.new.self → LooksOn c.args.from.kept c.args.frame.height c.args.notes.now.list.own c.take_inside.new.self.areas.items c.args.room.now.carried c.args.flow.now.main (page_views c.read.new.self (c.loop-ended.count + 1 + c.pass-count.result)) c.pass-count.new.self
+looks_past g c look =
     let t : Tree = c.args.flow.now.main in
-    let mid = c.next_read.new.lines.kept in
-    let now : IsHeldNow t c.args.frame.width mid c.in-Some.solid.placed_at = subst (λ (w : ℤ). IsHeldNow t w mid c.in-Some.solid.placed_at) (to_z-of_z w64 c.args.frame.width wide) (rw c.in-Some.is at c.in-Ok.ensures.now) in
-    views_on t c.args.frame.width mid c.take_inside.new.lines.kept (map solid_view c.push-in-loop-next.new.self.items) c.take_inside.ensures.keeps
-    (views_next t c.args.frame.width c.loop-next.lines.kept mid (map solid_view c.loop-next.solids.items) (map solid_view c.push-in-loop-next.new.self.items) (solid_view c.in-Some.solid) c.next_read.ensures.keeps now (views_now g c) c.loop-next.invariant.held)
+    let old : List SolidView = page_views c.read.new.self (c.loop-ended.count + 1) in
+    let p = passed g c in
+    subst (λ (vs : List SolidView). LooksOn c.args.from.kept c.args.frame.height c.args.notes.now.list.own c.take_inside.new.self.areas.items c.args.room.now.carried t vs c.pass-count.new.self) (sym p.split)
+    (look_past t c.args.from.kept c.args.frame.height c.args.notes.now.list.own c.take_inside.new.self.areas.items c.args.room.now.carried old p.more c.take.new.self c.pass-count.new.self
+    (λ list is. c.pass-count.ensures.look c.args.from.kept c.args.frame.height list c.args.notes.now.list.own (rows_of t old) (rows_of t p.more) (more_size g c) p.joined is) look)
 
-noted_on : (g : given.Over) (c : Else-is_err g) → AreHeldNow c.args.flow.now.notes c.args.frame.width c.args.lines.now.kept c.args.notes.now.list.solids.items → AreHeldNow c.args.flow.now.notes c.args.frame.width c.take_inside.new.lines.kept c.take_inside.new.self.list.solids.items
-noted_on g c h = c.in_ok-take_inside.ensures.now (held_more c.args.flow.now.notes c.args.frame.width c.loop-next.lines.kept c.next_read.new.lines.kept c.loop-next.notes.list.solids.items c.next_read.ensures.keeps (c.loop-next.invariant.noted h))
+short_past : (g : given.Over) (c : After-pass-count g) → IsShort c.args.from.kept c.args.frame.height (most_widows c.args.flow.now.main) (rows_of c.args.flow.now.main (page_views c.read.new.self (c.loop-ended.count + 1))) c.take.new.self → IsShort c.args.from.kept c.args.frame.height (most_widows c.args.flow.now.main) (rows_of c.args.flow.now.main (page_views c.read.new.self (c.loop-ended.count + 1 + c.pass-count.result))) c.pass-count.new.self
+short_past g c short =
+    let t : Tree = c.args.flow.now.main in
+    subst (λ (rs : List SolidRow). IsShort c.args.from.kept c.args.frame.height (most_widows t) rs c.pass-count.new.self) (sym (rows_passed g c))
+    (c.pass-count.ensures.short c.args.from.kept c.args.frame.height (most_widows t) (rows_of t (page_views c.read.new.self (c.loop-ended.count + 1))) (rows_of t (passed g c).more) (more_size g c) short)
 
-pub take_inside-requires-clause-kept : goal.take_inside-requires-clause-kept
-take_inside-requires-clause-kept g c = main_lines c.args.faces.now c.args.flow.now c.loop-next.lines c.next_read.new.lines c.loop-next.invariant.kept c.next_read.ensures.kept c.next_read.ensures.places
+stacked_past : (g : given.Over) (c : After-pass-count g) → IsStacked c.args.from.kept (to_z w64 (of_z w64 c.args.room.now.height)) (rows_of c.args.flow.now.main (page_views c.read.new.self (c.loop-ended.count + 1))) c.take.new.self → IsStacked c.args.from.kept (to_z w64 (of_z w64 c.args.room.now.height)) (rows_of c.args.flow.now.main (page_views c.read.new.self (c.loop-ended.count + 1 + c.pass-count.result))) c.pass-count.new.self
+stacked_past g c stacked =
+    let t : Tree = c.args.flow.now.main in
+    subst (λ (rs : List SolidRow). IsStacked c.args.from.kept (to_z w64 (of_z w64 c.args.room.now.height)) rs c.pass-count.new.self) (sym (rows_passed g c))
+    (c.pass-count.ensures.stacked c.args.from.kept (rows_of t (page_views c.read.new.self (c.loop-ended.count + 1))) (rows_of t (passed g c).more) (more_size g c) stacked)
 
-pub loop-next-init : goal.loop-next-init
-loop-next-init g c =
-    let none = c.new-solids.ensures.items in
-    let read = c.requires.read.1 in
-    record {
-      holds = c.requires.holds;
-      widths = λ past. c.settle_widths.ensures (let zero : length c.new-solids.result.items ≡ 0 = ap length none in omega (arith, past, zero)) ∙ ap (λ (w : ℤ). widths_at c.args.flow.now.main w c.args.from.at) (let wide : SFits w64 c.args.frame.width = search rules in to_z-of_z w64 c.args.frame.width wide);
-      ahead = subst (λ (xs : List Solid). AreAhead c.args.faces.now c.args.flow.now.main c.args.frame.width c.args.lines.now.kept c.args.from.at (drop (length xs) (map solid_view c.args.ahead.now))) (sym none) c.requires.ahead;
-      ends = rw none (λ k d h. absurd (omega arith));
-      goes = λ rest r. rw none r;
-      small = rw none (λ k d h. absurd (omega arith));
-      placed = rw none (λ k d h. absurd (omega arith));
-      own = refl;
-      are = λ carried r. subst (λ (xs : List Solid). AreReadInside c.args.faces.now c.args.flow.now c.args.frame c.args.from carried (map solid_view xs) c.args.notes.now) (sym none) (inside_start c.args.faces.now c.args.flow.now c.args.frame c.args.from carried c.args.notes.now c.requires.frame.height_low r);
-      stacked = subst (λ (xs : List Solid). HasPlaced c.args.from.kept (rows_of c.args.flow.now.main (map solid_view xs)) c.start-look.result) (sym none) (c.start-look.ensures.placed c.args.from.kept);
-      short = subst (λ (xs : List Solid). IsShort c.args.from.kept c.args.frame.height (most_widows c.args.flow.now.main) (rows_of c.args.flow.now.main (map solid_view xs)) c.start-look.result) (sym none) (c.start-look.ensures.short c.args.from.kept c.args.frame.height (most_widows c.args.flow.now.main));
-      more = c.start-look.ensures.more;
-      listed = λ h. h;
-      lines = λ known held. omega arith;
-      calls = λ s is. let low = called_grows c.args.faces.now c.args.flow.now.main c.args.frame.width c.args.from.at s c.count-count.ensures.tree (stands c.args.flow.now.main c.args.from.at c.requires.holds) is c.args.flow.now.notes in let here = read.called in omega arith;
-      rows = c.new-rows.ensures.items ∙ ap (λ (xs : List Solid). rows_of c.args.flow.now.main (map solid_view xs)) (sym none);
-      look = λ list told. subst (λ (xs : List Solid). IsLook c.args.from.kept c.args.frame.height list c.args.notes.now.list.own (rows_of c.args.flow.now.main (map solid_view xs)) c.start-look.result) (sym none) (c.start-look.ensures.look c.args.from.kept c.args.frame.height list c.args.notes.now.list.own);
-      free = subst (λ (xs : List Solid). AreFree (rows_of c.args.flow.now.main (map solid_view xs))) (sym none) (λ k r e. absurd (cc));
-      read = subst (λ (xs : List Solid). HasRead (length xs) c.start-look.result) (sym none) c.start-look.ensures.read;
-      kept = c.requires.lines_are;
-      keeps = keeps_all c.args.lines.now.kept;
-      takes = takes_none c.args.lines.now.kept c.args.lines.now.kept c.args.steps.now;
-      held = rw none (λ k d h. absurd (omega arith));
-      noted = λ h. h;
-    }
+lines_past : (g : given.Over) (c : After-pass-count g) → StepsForPage c.args.flow.now c.args.frame.width c.args.lines.now.kept (page_views c.read.new.self (c.loop-ended.count + 1)) c.args.notes.now.list.solids.items c.take_inside.new.self.list.solids.items c.args.steps.now c.take_inside.new.steps → StepsForPage c.args.flow.now c.args.frame.width c.args.lines.now.kept (page_views c.read.new.self (c.loop-ended.count + 1 + c.pass-count.result)) c.args.notes.now.list.solids.items c.take_inside.new.self.list.solids.items c.args.steps.now c.take_inside.new.steps
+lines_past g c lines known held =
+    let t : Tree = c.args.flow.now.main in
+    let was = lines known held in
+    let more : new_in known t c.args.frame.width (page_views c.read.new.self (c.loop-ended.count + 1 + c.pass-count.result)) ≡ new_in known t c.args.frame.width (page_views c.read.new.self (c.loop-ended.count + 1)) + new_in known t c.args.frame.width (passed g c).more = ap (new_in known t c.args.frame.width) (passed g c).split ∙ sum_by-append (new_of known t c.args.frame.width) (page_views c.read.new.self (c.loop-ended.count + 1)) (passed g c).more in
+    omega (arith, was, more)
+
+-- where nothing is passed all stays; else the solids end below the frame
+reads_past : (g : given.Over) (c : After-pass-count g) (carried : List Carried) → AreFree (rows_of c.args.flow.now.main (page_views c.read.new.self (c.loop-ended.count + 1))) → IsStacked c.args.from.kept (to_z w64 (of_z w64 c.args.room.now.height)) (rows_of c.args.flow.now.main (page_views c.read.new.self (c.loop-ended.count + 1))) c.take.new.self →
+    AreReadInside c.args.faces.now c.args.flow.now c.args.frame c.args.from carried (page_views c.read.new.self (c.loop-ended.count + 1)) c.take_inside.new.self → AreReadInside c.args.faces.now c.args.flow.now c.args.frame c.args.from carried (page_views c.read.new.self (c.loop-ended.count + 1 + c.pass-count.result)) c.take_inside.new.self
+reads_past g c carried free stacked r =
+    subst (λ (vs : List SolidView). AreReadInside c.args.faces.now c.args.flow.now c.args.frame c.args.from carried vs c.take_inside.new.self) (sym (passed g c).split) (by (passed g c).more (passed g c).size)
+  where
+    old : List SolidView
+    old = page_views c.read.new.self (c.loop-ended.count + 1)
+
+    by : (more : List SolidView) → length more ≡ c.pass-count.result → AreReadInside c.args.faces.now c.args.flow.now c.args.frame c.args.from carried (old ++ more) c.take_inside.new.self
+    by [] size = subst (λ (vs : List SolidView). AreReadInside c.args.faces.now c.args.flow.now c.args.frame c.args.from carried vs c.take_inside.new.self) (sym (append-nil old)) r
+    by (v ∷ vs) size =
+        let tall : SFits w64 c.args.room.now.height = search rules in
+        let height : to_z w64 (of_z w64 c.args.room.now.height) ≡ c.args.frame.height = to_z-of_z w64 c.args.room.now.height tall ∙ c.requires.height in
+        let over = c.pass-count.ensures.below (omega (arith, size)) c.args.from.kept (rows_of c.args.flow.now.main old) stacked in
+        let rows : length (rows_of c.args.flow.now.main old) ≡ length old = length-map old (row_of c.args.flow.now.main) in
+        inside_past c.args.faces.now c.args.flow.now c.args.frame c.args.from carried old c.take_inside.new.self r free (v ∷ vs)
+        (subst (λ (n : ℕ). c.args.frame.height <ℤ rows_extent c.args.from.kept (rows_of c.args.flow.now.main old) n) rows (subst (λ (z : ℤ). z <ℤ rows_extent c.args.from.kept (rows_of c.args.flow.now.main old) (length (rows_of c.args.flow.now.main old))) height over))
+
+-- ---- requires
+pub settle-requires-clause-holds : goal.settle-requires-clause-holds
+settle-requires-clause-holds g c = ends_hold c.args.faces.now c.args.flow.now.main c.args.frame.width c.args.lines.now.kept c.args.from.at (page_of c.args.ahead.now) (length (page_of c.args.ahead.now)) c.requires.holds c.requires.ahead_is.are (omega arith)
 
 pub area-requires : goal.area-requires
-area-requires g c = (first_read g (goal.at.area-requires g c).After-row_of-row).read.small
+area-requires g c = (first_read g (goal.at.area-requires g c).After-row).read.small
 
 pub take_inside-requires-clause-ready : goal.take_inside-requires-clause-ready
-take_inside-requires-clause-ready g c = (first_read g (goal.at.take_inside-requires-clause-ready g c).After-row_of-row).read.ready
+take_inside-requires-clause-ready g c = (first_read g (goal.at.take_inside-requires-clause-ready g c).After-row).read.ready
 
 pub take_inside-requires-clause-ends : goal.take_inside-requires-clause-ends
-take_inside-requires-clause-ends g c = (first_read g (goal.at.take_inside-requires-clause-ends g c).After-row_of-row).read.held
+take_inside-requires-clause-ends g c = (first_read g (goal.at.take_inside-requires-clause-ends g c).After-row).read.held
+
+pub take_inside-requires-clause-kept : goal.take_inside-requires-clause-kept
+take_inside-requires-clause-kept g c = main_lines c.args.faces.now c.args.flow.now c.loop-ended.lines c.read.new.lines c.loop-ended.invariant.kept c.read.ensures.kept c.read.ensures.places
+
+pub take_inside-requires-clause-holds : goal.take_inside-requires-clause-holds
+take_inside-requires-clause-holds g c =
+    let s = first_step g (goal.at.take_inside-requires-clause-holds g c).After-row in
+    subst (Holds c.args.flow.now.main) (sym (c.end_of-end.ensures ∙ s.ends)) s.read.ends
 
 pub take_inside-requires-clause-called : goal.take_inside-requires-clause-called
 take_inside-requires-clause-called g c =
-    let wide : SFits w64 c.args.frame.width = search rules in
-    c.loop-next.invariant.calls (solid_view c.in-Some.solid) (subst (λ (w : ℤ). IsSolid c.args.faces.now c.args.flow.now.main w c.loop-next.at (solid_view c.in-Some.solid)) (to_z-of_z w64 c.args.frame.width wide) (rw c.in-Some.is at c.in-Ok.ensures.solid))
-
-pub row_of-row-requires : goal.row_of-row-requires
-row_of-row-requires g c = let low = solid_within c.args.flow.now.main c.loop-next.at.event c.in-Some.solid.placed_at.event (rw c.in-Some.is at c.in-Ok.ensures.solid).found in omega arith
+    let s = first_step g (goal.at.take_inside-requires-clause-called g c).After-row in
+    subst (λ (p : Position). c.loop-ended.notes.called ≤ called_by c.args.flow.now.main c.args.flow.now.notes p) (sym (c.end_of-end.ensures ∙ s.ends)) (c.loop-ended.invariant.calls s.solid s.is)
 
 pub take-requires-clause-read : goal.take-requires-clause-read
 take-requires-clause-read g c =
-    let n = few g (goal.at.take-requires-clause-read g c).After-row_of-row in
-    (reached_low (length c.loop-next.solids.items) most_entries c.loop-next.look.reach n c.loop-next.invariant.read.0, c.loop-next.invariant.read.1)
+    let n = few g (goal.at.take-requires-clause-read g c).After-row in
+    (reached_low c.loop-ended.count most_entries c.loop-ended.look.reach n c.loop-ended.invariant.read.0, c.loop-ended.invariant.read.1)
 
 pub take-requires-clause-small : goal.take-requires-clause-small
 take-requires-clause-small g c =
-    let s = (rw c.in-Some.is at c.in-Ok.ensures.small) in
-    subst IsSmallRow (sym c.row_of-row.ensures) (record { kept = s.kept; whole = s.whole; head = s.head; tail = s.tail; height = s.height; some = s.some })
+    let d = (goal.at.take-requires-clause-small g c).After-row in
+    let s = (first_step g d).read.small in
+    subst IsSmallRow (sym (first_row g d)) (record { kept = s.kept; whole = s.whole; head = s.head; tail = s.tail; height = s.height; some = s.some })
 
-pub returns-then-is_enough-clause-prefix : goal.returns-then-is_enough-clause-prefix
-returns-then-is_enough-clause-prefix g c =
-    let d = (goal.at.returns-then-is_enough-clause-prefix g c).Else-is_err in
-    let views : List SolidView = map solid_view c.push-in-loop-next.new.self.items in
-    let some : 0 < length views = rw (views_now g d, length-append) (omega arith) in
-    read_missed c.args.faces.now c.args.flow.now.main c.args.frame c.args.from.at c.args.from.kept c.args.notes.now.list.own c.take_inside.new.self.areas.items c.args.room.now.carried c.count-count.ensures.tree c.requires.holds c.requires.frame.width_low views c.in-Some.solid.end (rw c.in-Some.is at c.in-Ok.ensures.holds) (goes_on g d) some (frees g d c.if-ends.false)
-    (λ list told. c.is_enough.ensures.enough c.if-is_enough.true c.args.from.kept c.args.frame.height list c.args.notes.now.list.own (rows_of c.args.flow.now.main views) (looks g d list told))
-
-pub returns-then-is_enough-clause-read : goal.returns-then-is_enough-clause-read
-returns-then-is_enough-clause-read g c = reads g (goal.at.returns-then-is_enough-clause-read g c).Else-is_err
-
-pub returns-then-is_enough-clause-small : goal.returns-then-is_enough-clause-small
-returns-then-is_enough-clause-small g c = small_on g (goal.at.returns-then-is_enough-clause-small g c).Else-is_err
-
-pub returns-then-is_enough-clause-placed : goal.returns-then-is_enough-clause-placed
-returns-then-is_enough-clause-placed g c = placed_on g (goal.at.returns-then-is_enough-clause-placed g c).Else-is_err
-
-pub returns-then-is_enough-clause-rows : goal.returns-then-is_enough-clause-rows
-returns-then-is_enough-clause-rows g c = rows_on g (goal.at.returns-then-is_enough-clause-rows g c).Else-is_err
-
-pub returns-then-ends-clause-rows : goal.returns-then-ends-clause-rows
-returns-then-ends-clause-rows g c = rows_on g (goal.at.returns-then-ends-clause-rows g c).Else-is_err
-
-pub returns-then-ends-clause-prefix : goal.returns-then-ends-clause-prefix
-returns-then-ends-clause-prefix g c =
-    let d = (goal.at.returns-then-ends-clause-prefix g c).Else-is_err in
-    let t : Tree = c.args.flow.now.main in
-    let old : List SolidView = map solid_view c.loop-next.solids.items in
-    let views : List SolidView = map solid_view c.push-in-loop-next.new.self.items in
-    let size : length old ≡ length c.loop-next.solids.items = rw length-map refl in
-    let ends = c.ends_page-ends.ensures.forced c.if-ends.true in
-    let before : 0 < length c.loop-next.solids.items = none_again (length c.loop-next.solids.items) (sym (is_first g d) ∙ ends.0) in
-    let some : 0 < length views = rw (views_now g d, length-append) (omega arith) in
-    let forced : HasForced (rows_of t views) = subst (λ (vs : List SolidView). HasForced (rows_of t vs)) (sym (views_now g d)) (views_forced t old (solid_view c.in-Some.solid) (omega arith) ends.1) in
-    read_forced c.args.faces.now t c.args.frame c.args.from.at c.args.from.kept c.args.notes.now.list.own c.take_inside.new.self.areas.items c.args.room.now.carried c.count-count.ensures.tree c.requires.holds views c.in-Some.solid.end (rw c.in-Some.is at c.in-Ok.ensures.holds) (goes_on g d) some forced
-
-pub returns-then-ends-clause-read : goal.returns-then-ends-clause-read
-returns-then-ends-clause-read g c = reads g (goal.at.returns-then-ends-clause-read g c).Else-is_err
-
-pub returns-then-ends-clause-small : goal.returns-then-ends-clause-small
-returns-then-ends-clause-small g c = small_on g (goal.at.returns-then-ends-clause-small g c).Else-is_err
-
-pub returns-then-ends-clause-placed : goal.returns-then-ends-clause-placed
-returns-then-ends-clause-placed g c = placed_on g (goal.at.returns-then-ends-clause-placed g c).Else-is_err
-
-pub loop-next-smaller : goal.loop-next-smaller
-loop-next-smaller g c =
-    let d = (goal.at.loop-next-smaller g c).Else-is_err in
-    solid_falls c.args.faces.now c.args.flow.now.main c.args.frame.width c.loop-next.at (solid_view c.in-Some.solid) c.count-count.ensures.tree (stands c.args.flow.now.main c.loop-next.at c.loop-next.invariant.holds) (solid_is g d)
-
--- ---- what is read ahead
-index_is : (g : given.Over) (c : Else-is_err g) → c.len.result ≡ length c.loop-next.solids.items
-index_is g c = omega arith
-
-ahead_now : (g : given.Over) (c : Else-is_err g) → length c.push-in-loop-next.new.self.items ≡ length c.loop-next.solids.items + 1 → AreAhead c.args.faces.now c.args.flow.now.main c.args.frame.width c.take_inside.new.lines.kept c.in-Some.solid.end (drop (length c.push-in-loop-next.new.self.items) (map solid_view c.args.ahead.now))
-ahead_now g c size =
-    let t : Tree = c.args.flow.now.main in
-    let wide : SFits w64 c.args.frame.width = search rules in
-    let views : List SolidView = map solid_view c.args.ahead.now in
-    let mid = c.next_read.new.lines.kept in
-    let more : c.len.result + 1 ≡ length c.push-in-loop-next.new.self.items = let i = index_is g c in omega (arith, size, i) in
-    let is : AreAhead c.args.faces.now t c.args.frame.width mid c.in-Some.solid.end (drop (c.len.result + 1) views) =
-    subst (λ (w : ℤ). AreAhead c.args.faces.now t w mid c.in-Some.solid.end (drop (c.len.result + 1) views)) (to_z-of_z w64 c.args.frame.width wide) (rw c.in-Some.is at c.in-Ok.ensures.ahead) in
-    subst (λ (n : ℕ). AreAhead c.args.faces.now t c.args.frame.width c.take_inside.new.lines.kept c.in-Some.solid.end (drop n views)) more
-    (ahead_on c.args.faces.now t c.args.frame.width mid c.take_inside.new.lines.kept c.in-Some.solid.end (drop (c.len.result + 1) views) c.take_inside.ensures.keeps is)
-
-pub loop-next-preserved : goal.loop-next-preserved
-loop-next-preserved g c =
-    let d = (goal.at.loop-next-preserved g c).Else-is_err in
-    let size : length c.push-in-loop-next.new.self.items ≡ length c.loop-next.solids.items + 1 = ap (λ (l : List Solid). length l) (pushed g d) ∙ length-append c.loop-next.solids.items (c.in-Some.solid ∷ []) in
+pub loop-ended-init : goal.loop-ended-init
+loop-ended-init g c =
+    let read = c.requires.read.1 in
     record {
-      holds = (rw c.in-Some.is at c.in-Ok.ensures.holds);
-      widths = λ past. (rw c.in-Some.is at c.in-Ok.ensures.widths) (omega (arith, size, past, index_is g d)) ∙ ap (λ (w : ℤ). widths_at c.args.flow.now.main w c.in-Some.solid.end) (let wide : SFits w64 c.args.frame.width = search rules in to_z-of_z w64 c.args.frame.width wide);
-      ahead = ahead_now g d size;
-      ends = ends_on g d;
-      goes = goes_on g d;
-      small = small_on g d;
-      placed = placed_on g d;
+      ahead = c.requires.ahead_is;
+      within = omega arith;
+      widths = c.settle.ensures ∙ ap (λ (w : ℤ). widths_at c.args.flow.now.main w (end_of c.args.from.at (page_of c.args.ahead.now) (length (page_of c.args.ahead.now)))) c.requires.ahead_is.wide;
+      own = refl;
+      are = λ carried r. subst (λ (vs : List SolidView). AreReadInside c.args.faces.now c.args.flow.now c.args.frame c.args.from carried vs c.args.notes.now) (sym (none_first (page_of c.args.ahead.now))) (inside_start c.args.faces.now c.args.flow.now c.args.frame c.args.from carried c.args.notes.now c.requires.frame.height_low r);
+      calls = λ s is. let low = called_grows c.args.faces.now c.args.flow.now.main c.args.frame.width c.args.from.at s c.count-count.ensures.tree (stands c.args.flow.now.main c.args.from.at c.requires.holds) is c.args.flow.now.notes in let here = read.called in omega arith;
+      look = λ list told. subst (λ (vs : List SolidView). IsLook c.args.from.kept c.args.frame.height list c.args.notes.now.list.own (rows_of c.args.flow.now.main vs) c.start-look.result) (sym (none_first (page_of c.args.ahead.now))) (c.start-look.ensures.look c.args.from.kept c.args.frame.height list c.args.notes.now.list.own);
+      stacked = inl (subst (λ (vs : List SolidView). HasPlaced c.args.from.kept (rows_of c.args.flow.now.main vs) c.start-look.result) (sym (none_first (page_of c.args.ahead.now))) (c.start-look.ensures.placed c.args.from.kept));
+      short = subst (λ (vs : List SolidView). IsShort c.args.from.kept c.args.frame.height (most_widows c.args.flow.now.main) (rows_of c.args.flow.now.main vs) c.start-look.result) (sym (none_first (page_of c.args.ahead.now))) (c.start-look.ensures.short c.args.from.kept c.args.frame.height (most_widows c.args.flow.now.main));
+      more = c.start-look.ensures.more;
+      listed = λ h. h;
+      lines = λ known held. omega arith;
+      free = subst (λ (vs : List SolidView). AreFree (rows_of c.args.flow.now.main vs)) (sym (none_first (page_of c.args.ahead.now))) (λ k r e. absurd (cc));
+      read = c.start-look.ensures.read;
+      kept = c.requires.lines_are;
+      keeps = keeps_all c.args.lines.now.kept;
+      takes = takes_none c.args.lines.now.kept c.args.lines.now.kept c.args.steps.now;
+      noted = λ h. h;
+    }
+  where
+    none_first : (vs : List SolidView) → take 0 vs ≡ []
+    none_first [] = refl
+    none_first (v ∷ vs) = refl
+
+free_more : (g : given.Over) (c : In_ok-take_inside g) (m : ℕ) → c.ends_page-ends.result ≡ false → IsPassed c.args.flow.now.main c.read.new.self (c.loop-ended.count + 1) m → AreFree (rows_of c.args.flow.now.main (page_views c.read.new.self (c.loop-ended.count + 1 + m)))
+free_more g c m on p =
+    let t : Tree = c.args.flow.now.main in
+    let rest = remainder_exists c.args.faces.now t c.args.frame.width (end_of c.args.from.at (page_of c.read.new.self) (c.loop-ended.count + 1 + m)) c.count-count.ensures.tree (holds_on g c (c.loop-ended.count + 1 + m) p.within) in
+    subst (λ (vs : List SolidView). AreFree (rows_of t vs)) (sym p.split)
+    (free_past t (page_views c.read.new.self (c.loop-ended.count + 1)) p.more
+    (subst (λ (vs : List SolidView). AreForcedBetween (rows_of t vs)) p.split (between c.args.faces.now t c.args.frame c.args.from.at c.args.from.kept 0 [] (pos 0) c.count-count.ensures.tree c.requires.holds (page_views c.read.new.self (c.loop-ended.count + 1 + m)) rest.0 (goes_on g c (c.loop-ended.count + 1 + m) p.within rest.0 rest.1))) p.joined (frees g c on))
+
+-- ---- behind what is passed
+pub loop-ended-smaller : goal.loop-ended-smaller
+loop-ended-smaller g c =
+    let d = (goal.at.loop-ended-smaller g c).In_ok-take_inside in
+    let p = passed g (goal.at.loop-ended-smaller g c).After-pass-count in
+    let t : Tree = c.args.flow.now.main in
+    let s = step g d in
+    let was = c.loop-ended.invariant.ahead.are in
+    let first = solid_falls c.args.faces.now t c.args.frame.width (end_of c.args.from.at (page_of c.loop-ended.ahead) c.loop-ended.count) s.solid c.count-count.ensures.tree (stands t (end_of c.args.from.at (page_of c.loop-ended.ahead) c.loop-ended.count) (ends_hold c.args.faces.now t c.args.frame.width c.loop-ended.lines.kept c.args.from.at (page_of c.loop-ended.ahead) c.loop-ended.count c.requires.holds was c.loop-ended.invariant.within)) s.is in
+    let next : left_from t (end_of c.args.from.at (page_of c.read.new.self) (c.loop-ended.count + 1)) ≡ left_from t s.solid.end = ap (left_from t) s.ends in
+    let on = falls_along c.args.faces.now t c.args.frame.width c.take_inside.new.lines.kept c.args.from.at (page_of c.read.new.self) (c.loop-ended.count + 1) (c.loop-ended.count + 1 + c.pass-count.result) c.count-count.ensures.tree c.requires.holds (ahead_now g d).are (omega arith) p.within in
+    omega (arith, first, next, on)
+
+pub loop-ended-preserved : goal.loop-ended-preserved
+loop-ended-preserved g c =
+    let d = (goal.at.loop-ended-preserved g c).In_ok-take_inside in
+    let e = (goal.at.loop-ended-preserved g c).After-pass-count in
+    let p = passed g e in
+    let t : Tree = c.args.flow.now.main in
+    let stacked = subst (λ (vs : List SolidView). IsStacked c.args.from.kept (to_z w64 (of_z w64 c.args.room.now.height)) (rows_of t vs) c.take.new.self) (sym (views_now g d)) (stacked_z g d) in
+    record {
+      ahead = ahead_now g d;
+      within = p.within;
+      widths = c.in-Ok.ensures.widths ∙ ap (λ (w : ℤ). widths_at t w (end_of c.args.from.at (page_of c.read.new.self) (length (page_of c.read.new.self)))) c.loop-ended.invariant.ahead.wide;
       own = owns g d;
-      are = reads g d;
+      are = λ carried r. reads_past g e carried (frees g d c.if-ends.false) stacked (reads g d carried r);
       calls = λ s is.
-          let low = called_on c.args.faces.now c.args.flow.now.main c.args.frame.width c.in-Some.solid.end s c.count-count.ensures.tree (stands c.args.flow.now.main c.in-Some.solid.end (rw c.in-Some.is at c.in-Ok.ensures.holds)) is c.args.flow.now.notes in
           let here = c.in_ok-take_inside.ensures.called in
-          omega arith;
-      free = frees g d (c.if-ends.false);
-      rows = rows_on g d;
-      look = looks g d;
-      stacked = subst (λ (vs : List SolidView). HasPlaced c.args.from.kept (rows_of c.args.flow.now.main vs) c.take.new.self) (sym (views_now g d)) (stacked_on g d);
-      short = shorts g d;
+          let end = end_now g d in
+          let at : c.take_inside.new.self.called ≤ called_by t c.args.flow.now.notes (end_of c.args.from.at (page_of c.read.new.self) (c.loop-ended.count + 1)) = subst (λ (q : Position). c.take_inside.new.self.called ≤ called_by t c.args.flow.now.notes q) c.end_of-end.ensures here in
+          let along = calls_along c.args.faces.now t c.args.frame.width c.take_inside.new.lines.kept c.args.from.at (page_of c.read.new.self) (c.loop-ended.count + 1) (c.loop-ended.count + 1 + c.pass-count.result) c.take_inside.new.self.called c.args.flow.now.notes c.count-count.ensures.tree c.requires.holds (ahead_now g d).are (omega arith) p.within at in
+          let last = called_on c.args.faces.now t c.args.frame.width (end_of c.args.from.at (page_of c.read.new.self) (c.loop-ended.count + 1 + c.pass-count.result)) s c.count-count.ensures.tree (stands t (end_of c.args.from.at (page_of c.read.new.self) (c.loop-ended.count + 1 + c.pass-count.result)) (holds_on g d (c.loop-ended.count + 1 + c.pass-count.result) p.within)) is c.args.flow.now.notes in
+          omega (arith, along, last);
+      look = looks_past g e (looks g d);
+      stacked = subst (λ (z : ℤ). IsStacked c.args.from.kept z (rows_of t (page_views c.read.new.self (c.loop-ended.count + 1 + c.pass-count.result))) c.pass-count.new.self) (height_is g d) (stacked_past g e stacked);
+      short = short_past g e (shorts g d);
       more = c.is_enough.ensures.more c.if-is_enough.false;
-      listed = λ h. c.in_ok-take_inside.ensures.short (c.loop-next.invariant.listed h);
-      lines = lines_on g d;
-      read = rw size (c.take.ensures.read (length c.loop-next.solids.items) c.loop-next.invariant.read);
+      listed = λ h. c.in_ok-take_inside.ensures.short (c.loop-ended.invariant.listed h);
+      lines = lines_past g e (lines_on g d);
+      free = free_more g d c.pass-count.result c.if-ends.false p;
+      read =
+          let now = c.pass-count.ensures.read (c.loop-ended.count + 1) (c.take.ensures.read c.loop-ended.count c.loop-ended.invariant.read) in
+          (reached_low (c.loop-ended.count + 1) (c.loop-ended.count + 1 + c.pass-count.result) c.pass-count.new.self.reach (omega arith) now.0, now.1);
       kept = c.take_inside.ensures.kept;
       keeps = keeps_on g d;
       takes = takes_on g d;
-      held = held_now g d;
       noted = noted_on g d;
     }
 
-pub returns-in_default-next-clause-prefix : goal.returns-in_default-next-clause-prefix
-returns-in_default-next-clause-prefix g c = read_all c.args.faces.now c.args.flow.now.main c.args.frame c.args.from.at c.args.from.kept c.args.notes.now.list.own c.loop-next.notes.areas.items c.args.room.now.carried c.count-count.ensures.tree c.requires.holds (map solid_view c.loop-next.solids.items) c.loop-next.at c.loop-next.invariant.goes (rw c.in_default-next.is at c.in-Ok.ensures.solid)
+-- ---- the flow ends
+same_end : (g : given.Over) (c : Then-ended g) → c.read.new.self ≡ c.loop-ended.ahead
+same_end g c = (c.in-Ok.ensures.none c.if-ended.true).0
 
-pub next_read-requires-clause-widths : goal.next_read-requires-clause-widths
-next_read-requires-clause-widths g c = λ past. c.loop-next.invariant.widths (omega (arith, past)) ∙ ap (λ (w : ℤ). widths_at c.args.flow.now.main w c.loop-next.at) (let wide : SFits w64 c.args.frame.width = search rules in sym (to_z-of_z w64 c.args.frame.width wide))
+pub returns-then-ended-clause-ahead : goal.returns-then-ended-clause-ahead
+returns-then-ended-clause-ahead g c = subst (λ (w : ℤ). IsPageAhead c.args.faces.now c.args.flow.now.main w c.read.new.lines.kept c.args.from.at c.read.new.self) c.loop-ended.invariant.ahead.wide c.in-Ok.ensures.ahead
+
+pub returns-then-ended-clause-within : goal.returns-then-ended-clause-within
+returns-then-ended-clause-within g c = subst (λ (a : Ahead). c.loop-ended.count ≤ length (page_of a)) (sym (same_end g (goal.at.returns-then-ended-clause-within g c).Then-ended)) c.loop-ended.invariant.within
+
+pub returns-then-ended-clause-read : goal.returns-then-ended-clause-read
+returns-then-ended-clause-read g c = λ carried r. subst (λ (a : Ahead). AreReadInside c.args.faces.now c.args.flow.now c.args.frame c.args.from carried (page_views a c.loop-ended.count) c.loop-ended.notes) (sym (same_end g (goal.at.returns-then-ended-clause-read g c).Then-ended)) (c.loop-ended.invariant.are carried r)
+
+pub returns-then-ended-clause-prefix : goal.returns-then-ended-clause-prefix
+returns-then-ended-clause-prefix g c =
+    let t : Tree = c.args.flow.now.main in
+    let xs : List SolidView = page_of c.loop-ended.ahead in
+    let end = c.in-Ok.ensures.none c.if-ended.true in
+    subst (λ (a : Ahead). IsPagePrefix c.args.faces.now t c.args.frame c.args.from.at c.args.from.kept c.args.notes.now.list.own c.loop-ended.notes.areas.items c.args.room.now.carried (page_views a c.loop-ended.count)) (sym end.0)
+    (read_all c.args.faces.now t c.args.frame c.args.from.at c.args.from.kept c.args.notes.now.list.own c.loop-ended.notes.areas.items c.args.room.now.carried c.count-count.ensures.tree c.requires.holds (take c.loop-ended.count xs) (end_of c.args.from.at xs c.loop-ended.count)
+    (λ rest r. goes_from c.args.faces.now t c.args.frame.width c.loop-ended.lines.kept c.args.from.at xs c.loop-ended.count rest c.loop-ended.invariant.ahead.are c.loop-ended.invariant.within r) end.1)
+
+pub returns-then-ended-clause-few : goal.returns-then-ended-clause-few
+returns-then-ended-clause-few g c =
+    let views : List SolidView = page_views c.loop-ended.ahead c.loop-ended.count in
+    subst (λ (a : Ahead). AreFewLines c.args.faces.now c.args.flow.now.main c.args.frame c.args.from (page_views a c.loop-ended.count)) (sym (same_end g (goal.at.returns-then-ended-clause-few g c).Then-ended))
+    (few_lines c.args.faces.now c.args.flow.now.main c.args.frame c.args.from c.count-count.ensures.tree c.requires.holds views views [] c.loop-ended.look (sym (append-nil views)) (omega arith) c.loop-ended.invariant.free c.loop-ended.invariant.short)
+
+pub returns-then-ended-clause-short : goal.returns-then-ended-clause-short
+returns-then-ended-clause-short g c = λ h. c.loop-ended.invariant.listed h
+
+pub returns-then-ended-clause-own : goal.returns-then-ended-clause-own
+returns-then-ended-clause-own g c = c.loop-ended.invariant.own
+
+pub returns-then-ended-clause-lines : goal.returns-then-ended-clause-lines
+returns-then-ended-clause-lines g c = λ known held.
+    let was = c.loop-ended.invariant.lines known held in
+    let same : new_in known c.args.flow.now.main c.args.frame.width (page_views c.read.new.self c.loop-ended.count) ≡ new_in known c.args.flow.now.main c.args.frame.width (page_views c.loop-ended.ahead c.loop-ended.count) = ap (λ (a : Ahead). new_in known c.args.flow.now.main c.args.frame.width (page_views a c.loop-ended.count)) (same_end g (goal.at.returns-then-ended-clause-lines g c).Then-ended) in
+    let step = c.in-Ok.ensures.last c.if-ended.true in
+    omega (arith, was, step, same)
+
+pub returns-then-ended-clause-kept : goal.returns-then-ended-clause-kept
+returns-then-ended-clause-kept g c = main_lines c.args.faces.now c.args.flow.now c.loop-ended.lines c.read.new.lines c.loop-ended.invariant.kept c.read.ensures.kept c.read.ensures.places
+
+pub returns-then-ended-clause-keeps : goal.returns-then-ended-clause-keeps
+returns-then-ended-clause-keeps g c = keeps_twice c.args.lines.now.kept c.loop-ended.lines.kept c.read.new.lines.kept c.loop-ended.invariant.keeps c.read.ensures.keeps
+
+pub returns-then-ended-clause-takes : goal.returns-then-ended-clause-takes
+returns-then-ended-clause-takes g c = takes_twice c.args.lines.now.kept c.loop-ended.lines.kept c.read.new.lines.kept c.args.steps.now c.loop-ended.steps c.read.new.steps c.loop-ended.invariant.keeps c.read.ensures.keeps c.loop-ended.invariant.takes c.in-Ok.ensures.takes
+
+pub returns-then-ended-clause-noted : goal.returns-then-ended-clause-noted
+returns-then-ended-clause-noted g c h = held_more c.args.flow.now.notes c.args.frame.width c.loop-ended.lines.kept c.read.new.lines.kept c.loop-ended.notes.list.solids.items c.read.ensures.keeps (c.loop-ended.invariant.noted h)
+
+-- ---- a forced seam ends the page
+pub returns-then-ends-clause-ahead : goal.returns-then-ends-clause-ahead
+returns-then-ends-clause-ahead g c = ahead_now g (goal.at.returns-then-ends-clause-ahead g c).In_ok-take_inside
 
 pub returns-then-ends-clause-keeps : goal.returns-then-ends-clause-keeps
-returns-then-ends-clause-keeps g c = keeps_on g (goal.at.returns-then-ends-clause-keeps g c).Else-is_err
+returns-then-ends-clause-keeps g c = keeps_on g (goal.at.returns-then-ends-clause-keeps g c).In_ok-take_inside
 
 pub returns-then-ends-clause-takes : goal.returns-then-ends-clause-takes
-returns-then-ends-clause-takes g c = takes_on g (goal.at.returns-then-ends-clause-takes g c).Else-is_err
-
-pub returns-then-ends-clause-held : goal.returns-then-ends-clause-held
-returns-then-ends-clause-held g c = held_now g (goal.at.returns-then-ends-clause-held g c).Else-is_err
+returns-then-ends-clause-takes g c = takes_on g (goal.at.returns-then-ends-clause-takes g c).In_ok-take_inside
 
 pub returns-then-ends-clause-noted : goal.returns-then-ends-clause-noted
-returns-then-ends-clause-noted g c = noted_on g (goal.at.returns-then-ends-clause-noted g c).Else-is_err
+returns-then-ends-clause-noted g c = noted_on g (goal.at.returns-then-ends-clause-noted g c).In_ok-take_inside
 
-pub returns-then-is_enough-clause-keeps : goal.returns-then-is_enough-clause-keeps
-returns-then-is_enough-clause-keeps g c = keeps_on g (goal.at.returns-then-is_enough-clause-keeps g c).Else-is_err
-
-pub returns-then-is_enough-clause-takes : goal.returns-then-is_enough-clause-takes
-returns-then-is_enough-clause-takes g c = takes_on g (goal.at.returns-then-is_enough-clause-takes g c).Else-is_err
-
-pub returns-then-is_enough-clause-held : goal.returns-then-is_enough-clause-held
-returns-then-is_enough-clause-held g c = held_now g (goal.at.returns-then-is_enough-clause-held g c).Else-is_err
-
-pub returns-then-is_enough-clause-noted : goal.returns-then-is_enough-clause-noted
-returns-then-is_enough-clause-noted g c = noted_on g (goal.at.returns-then-is_enough-clause-noted g c).Else-is_err
-
--- no solid is left
-pub returns-in_default-next-clause-kept : goal.returns-in_default-next-clause-kept
-returns-in_default-next-clause-kept g c = main_lines c.args.faces.now c.args.flow.now c.loop-next.lines c.next_read.new.lines c.loop-next.invariant.kept c.next_read.ensures.kept c.next_read.ensures.places
-
-pub returns-in_default-next-clause-keeps : goal.returns-in_default-next-clause-keeps
-returns-in_default-next-clause-keeps g c = keeps_twice c.args.lines.now.kept c.loop-next.lines.kept c.next_read.new.lines.kept c.loop-next.invariant.keeps c.next_read.ensures.keeps
-
-pub returns-in_default-next-clause-takes : goal.returns-in_default-next-clause-takes
-returns-in_default-next-clause-takes g c = takes_twice c.args.lines.now.kept c.loop-next.lines.kept c.next_read.new.lines.kept c.args.steps.now c.loop-next.steps c.next_read.new.steps c.loop-next.invariant.keeps c.next_read.ensures.keeps c.loop-next.invariant.takes c.in-Ok.ensures.takes
-
-pub returns-in_default-next-clause-held : goal.returns-in_default-next-clause-held
-returns-in_default-next-clause-held g c = views_on c.args.flow.now.main c.args.frame.width c.loop-next.lines.kept c.next_read.new.lines.kept (map solid_view c.loop-next.solids.items) c.next_read.ensures.keeps c.loop-next.invariant.held
-
-pub returns-in_default-next-clause-noted : goal.returns-in_default-next-clause-noted
-returns-in_default-next-clause-noted g c h = held_more c.args.flow.now.notes c.args.frame.width c.loop-next.lines.kept c.next_read.new.lines.kept c.loop-next.notes.list.solids.items c.next_read.ensures.keeps (c.loop-next.invariant.noted h)
-
--- where memory is wanting
-pub returns-in_default-clause-kept : goal.returns-in_default-clause-kept
-returns-in_default-clause-kept g c = main_lines c.args.faces.now c.args.flow.now c.loop-next.lines c.next_read.new.lines c.loop-next.invariant.kept c.next_read.ensures.kept c.next_read.ensures.places
-
-pub returns-in_default-clause-keeps : goal.returns-in_default-clause-keeps
-returns-in_default-clause-keeps g c = keeps_twice c.args.lines.now.kept c.loop-next.lines.kept c.next_read.new.lines.kept c.loop-next.invariant.keeps c.next_read.ensures.keeps
-
-pub returns-in_err-take_inside-clause-keeps : goal.returns-in_err-take_inside-clause-keeps
-returns-in_err-take_inside-clause-keeps g c = keeps_twice c.args.lines.now.kept c.next_read.new.lines.kept c.take_inside.new.lines.kept (keeps_twice c.args.lines.now.kept c.loop-next.lines.kept c.next_read.new.lines.kept c.loop-next.invariant.keeps c.next_read.ensures.keeps) c.take_inside.ensures.keeps
-
-pub returns-in_err-push-clause-keeps : goal.returns-in_err-push-clause-keeps
-returns-in_err-push-clause-keeps g c = keeps_twice c.args.lines.now.kept c.next_read.new.lines.kept c.take_inside.new.lines.kept (keeps_twice c.args.lines.now.kept c.loop-next.lines.kept c.next_read.new.lines.kept c.loop-next.invariant.keeps c.next_read.ensures.keeps) c.take_inside.ensures.keeps
-
-pub returns-then-is_err-clause-keeps : goal.returns-then-is_err-clause-keeps
-returns-then-is_err-clause-keeps g c = keeps_twice c.args.lines.now.kept c.next_read.new.lines.kept c.take_inside.new.lines.kept (keeps_twice c.args.lines.now.kept c.loop-next.lines.kept c.next_read.new.lines.kept c.loop-next.invariant.keeps c.next_read.ensures.keeps) c.take_inside.ensures.keeps
-
--- ---- how many lines are read
-pub returns-then-ends-clause-few : goal.returns-then-ends-clause-few
-returns-then-ends-clause-few g c = few_on g (goal.at.returns-then-ends-clause-few g c).Else-is_err
-
-pub returns-then-is_enough-clause-few : goal.returns-then-is_enough-clause-few
-returns-then-is_enough-clause-few g c = few_on g (goal.at.returns-then-is_enough-clause-few g c).Else-is_err
-
-pub returns-in_default-next-clause-few : goal.returns-in_default-next-clause-few
-returns-in_default-next-clause-few g c =
-    let views : List SolidView = map solid_view c.loop-next.solids.items in
-    few_lines c.args.faces.now c.args.flow.now.main c.args.frame c.args.from c.count-count.ensures.tree c.requires.holds views views [] c.loop-next.look (sym (append-nil views)) (omega arith) c.loop-next.invariant.free c.loop-next.invariant.short
-
-pub returns-then-ends-clause-lines : goal.returns-then-ends-clause-lines
-returns-then-ends-clause-lines g c = lines_on g (goal.at.returns-then-ends-clause-lines g c).Else-is_err
-
-pub returns-then-is_enough-clause-lines : goal.returns-then-is_enough-clause-lines
-returns-then-is_enough-clause-lines g c = lines_on g (goal.at.returns-then-is_enough-clause-lines g c).Else-is_err
-
-pub returns-in_default-next-clause-lines : goal.returns-in_default-next-clause-lines
-returns-in_default-next-clause-lines g c = λ known held.
-    let was = c.loop-next.invariant.lines known held in
-    let step = rw c.in_default-next.is at c.in-Ok.ensures.step in
-    omega (arith, was, step)
+pub returns-then-ends-clause-own : goal.returns-then-ends-clause-own
+returns-then-ends-clause-own g c = owns g (goal.at.returns-then-ends-clause-own g c).In_ok-take_inside
 
 pub returns-then-ends-clause-short : goal.returns-then-ends-clause-short
-returns-then-ends-clause-short g c = λ h. c.in_ok-take_inside.ensures.short (c.loop-next.invariant.listed h)
+returns-then-ends-clause-short g c = λ h. c.in_ok-take_inside.ensures.short (c.loop-ended.invariant.listed h)
+
+pub returns-then-ends-clause-within : goal.returns-then-ends-clause-within
+returns-then-ends-clause-within g c = now_within g (goal.at.returns-then-ends-clause-within g c).In_ok-take_inside
+
+pub returns-then-ends-clause-read : goal.returns-then-ends-clause-read
+returns-then-ends-clause-read g c = reads g (goal.at.returns-then-ends-clause-read g c).In_ok-take_inside
+
+pub returns-then-ends-clause-lines : goal.returns-then-ends-clause-lines
+returns-then-ends-clause-lines g c = lines_on g (goal.at.returns-then-ends-clause-lines g c).In_ok-take_inside
+
+pub returns-then-ends-clause-few : goal.returns-then-ends-clause-few
+returns-then-ends-clause-few g c =
+    let d = (goal.at.returns-then-ends-clause-few g c).In_ok-take_inside in
+    few_lines c.args.faces.now c.args.flow.now.main c.args.frame c.args.from c.count-count.ensures.tree c.requires.holds (page_views c.read.new.self (c.loop-ended.count + 1)) (page_views c.loop-ended.ahead c.loop-ended.count) ((step g d).solid ∷ []) c.take.new.self (views_now g d) (omega arith) c.loop-ended.invariant.free (shorts g d)
+
+pub returns-then-ends-clause-prefix : goal.returns-then-ends-clause-prefix
+returns-then-ends-clause-prefix g c =
+    let d = (goal.at.returns-then-ends-clause-prefix g c).In_ok-take_inside in
+    let t : Tree = c.args.flow.now.main in
+    let views : List SolidView = page_views c.read.new.self (c.loop-ended.count + 1) in
+    let some : 0 < length views = rw (views_now g d, length-append) (omega arith) in
+    read_forced c.args.faces.now t c.args.frame c.args.from.at c.args.from.kept c.args.notes.now.list.own c.take_inside.new.self.areas.items c.args.room.now.carried c.count-count.ensures.tree c.requires.holds views (end_of c.args.from.at (page_of c.read.new.self) (c.loop-ended.count + 1)) (holds_on g d (c.loop-ended.count + 1) (now_within g d)) (goes_on g d (c.loop-ended.count + 1) (now_within g d)) some
+    (subst (λ (vs : List SolidView). HasForced (rows_of t vs)) (sym (views_now g d)) (forced_next g d c.if-ends.true))
+
+-- ---- enough is read
+pub returns-then-is_enough-clause-ahead : goal.returns-then-is_enough-clause-ahead
+returns-then-is_enough-clause-ahead g c = ahead_now g (goal.at.returns-then-is_enough-clause-ahead g c).In_ok-take_inside
+
+pub returns-then-is_enough-clause-keeps : goal.returns-then-is_enough-clause-keeps
+returns-then-is_enough-clause-keeps g c = keeps_on g (goal.at.returns-then-is_enough-clause-keeps g c).In_ok-take_inside
+
+pub returns-then-is_enough-clause-takes : goal.returns-then-is_enough-clause-takes
+returns-then-is_enough-clause-takes g c = takes_on g (goal.at.returns-then-is_enough-clause-takes g c).In_ok-take_inside
+
+pub returns-then-is_enough-clause-noted : goal.returns-then-is_enough-clause-noted
+returns-then-is_enough-clause-noted g c = noted_on g (goal.at.returns-then-is_enough-clause-noted g c).In_ok-take_inside
+
+pub returns-then-is_enough-clause-own : goal.returns-then-is_enough-clause-own
+returns-then-is_enough-clause-own g c = owns g (goal.at.returns-then-is_enough-clause-own g c).In_ok-take_inside
 
 pub returns-then-is_enough-clause-short : goal.returns-then-is_enough-clause-short
-returns-then-is_enough-clause-short g c = λ h. c.in_ok-take_inside.ensures.short (c.loop-next.invariant.listed h)
+returns-then-is_enough-clause-short g c = λ h. c.in_ok-take_inside.ensures.short (c.loop-ended.invariant.listed h)
 
-pub returns-in_default-next-clause-short : goal.returns-in_default-next-clause-short
-returns-in_default-next-clause-short g c = λ h. c.loop-next.invariant.listed h
+pub returns-then-is_enough-clause-within : goal.returns-then-is_enough-clause-within
+returns-then-is_enough-clause-within g c = (passed g (goal.at.returns-then-is_enough-clause-within g c).After-pass-count).within
 
--- ---- what is read ahead of the next page
-read_ahead : (g : given.Over) (c : Else-is_err g) → (rest : List SolidView) → IsRemainder c.args.faces.now c.args.flow.now.main c.args.frame.width c.args.from.at (map solid_view c.push-in-loop-next.new.self.items ++ rest) → AreAhead c.args.faces.now c.args.flow.now.main c.args.frame.width c.take_inside.new.lines.kept c.args.from.at (map solid_view c.push-in-loop-next.new.self.items)
-read_ahead g c rest are =
+pub returns-then-is_enough-clause-read : goal.returns-then-is_enough-clause-read
+returns-then-is_enough-clause-read g c = λ carried r.
+    let d = (goal.at.returns-then-is_enough-clause-read g c).In_ok-take_inside in
+    reads_past g (goal.at.returns-then-is_enough-clause-read g c).After-pass-count carried (frees g d c.if-ends.false) (subst (λ (vs : List SolidView). IsStacked c.args.from.kept (to_z w64 (of_z w64 c.args.room.now.height)) (rows_of c.args.flow.now.main vs) c.take.new.self) (sym (views_now g d)) (stacked_z g d)) (reads g d carried r)
+
+pub returns-then-is_enough-clause-lines : goal.returns-then-is_enough-clause-lines
+returns-then-is_enough-clause-lines g c = lines_past g (goal.at.returns-then-is_enough-clause-lines g c).After-pass-count (lines_on g (goal.at.returns-then-is_enough-clause-lines g c).In_ok-take_inside)
+
+pub returns-then-is_enough-clause-few : goal.returns-then-is_enough-clause-few
+returns-then-is_enough-clause-few g c =
+    let d = (goal.at.returns-then-is_enough-clause-few g c).In_ok-take_inside in
+    let e = (goal.at.returns-then-is_enough-clause-few g c).After-pass-count in
+    let views : List SolidView = page_views c.read.new.self (c.loop-ended.count + 1 + c.pass-count.result) in
+    few_lines c.args.faces.now c.args.flow.now.main c.args.frame c.args.from c.count-count.ensures.tree c.requires.holds views views [] c.pass-count.new.self (sym (append-nil views)) (omega arith) (free_more g d c.pass-count.result c.if-ends.false (passed g e)) (short_past g e (shorts g d))
+
+pub returns-then-is_enough-clause-prefix : goal.returns-then-is_enough-clause-prefix
+returns-then-is_enough-clause-prefix g c =
+    let d = (goal.at.returns-then-is_enough-clause-prefix g c).In_ok-take_inside in
+    let e = (goal.at.returns-then-is_enough-clause-prefix g c).After-pass-count in
     let t : Tree = c.args.flow.now.main in
-    let views : List SolidView = map solid_view c.push-in-loop-next.new.self.items in
-    record {
-      follow = follow_front c.args.faces.now t c.args.frame.width c.args.from.at views rest are;
-      are = reads_are t c.args.frame.width c.take_inside.new.lines.kept views (placed_on g c) (ends_on g c) (small_on g c) (held_now g c);
-    }
+    let k : ℕ = c.loop-ended.count + 1 + c.pass-count.result in
+    let views : List SolidView = page_views c.read.new.self k in
+    let p = passed g e in
+    let size : length views ≡ k = length-take-le k (page_of c.read.new.self) p.within in
+    read_missed c.args.faces.now t c.args.frame c.args.from.at c.args.from.kept c.args.notes.now.list.own c.take_inside.new.self.areas.items c.args.room.now.carried c.count-count.ensures.tree c.requires.holds c.requires.frame.width_low views (end_of c.args.from.at (page_of c.read.new.self) k) (holds_on g d k p.within) (goes_on g d k p.within) (omega (arith, size)) (free_more g d c.pass-count.result c.if-ends.false p)
+    (λ list told. c.is_enough.ensures.enough c.if-is_enough.true c.args.from.kept c.args.frame.height list c.args.notes.now.list.own (rows_of t views) (looks_past g e (looks g d) list told))
 
-pub returns-then-is_enough-clause-ahead : goal.returns-then-is_enough-clause-ahead
-returns-then-is_enough-clause-ahead g c = let p = returns-then-is_enough-clause-prefix g c in read_ahead g (goal.at.returns-then-is_enough-clause-ahead g c).Else-is_err p.rest p.are
+-- ---- where memory is wanting
+pub returns-in_default-clause-kept : goal.returns-in_default-clause-kept
+returns-in_default-clause-kept g c = main_lines c.args.faces.now c.args.flow.now c.loop-ended.lines c.read.new.lines c.loop-ended.invariant.kept c.read.ensures.kept c.read.ensures.places
 
-pub returns-then-ends-clause-ahead : goal.returns-then-ends-clause-ahead
-returns-then-ends-clause-ahead g c = let p = returns-then-ends-clause-prefix g c in read_ahead g (goal.at.returns-then-ends-clause-ahead g c).Else-is_err p.rest p.are
+pub returns-in_default-clause-keeps : goal.returns-in_default-clause-keeps
+returns-in_default-clause-keeps g c = keeps_twice c.args.lines.now.kept c.loop-ended.lines.kept c.read.new.lines.kept c.loop-ended.invariant.keeps c.read.ensures.keeps
 
-pub returns-in_default-next-clause-ahead : goal.returns-in_default-next-clause-ahead
-returns-in_default-next-clause-ahead g c =
-    let t : Tree = c.args.flow.now.main in
-    let views : List SolidView = map solid_view c.loop-next.solids.items in
-    let p = returns-in_default-next-clause-prefix g c in
-    record {
-      follow = follow_front c.args.faces.now t c.args.frame.width c.args.from.at views p.rest p.are;
-      are = reads_are t c.args.frame.width c.next_read.new.lines.kept views c.loop-next.invariant.placed c.loop-next.invariant.ends c.loop-next.invariant.small (returns-in_default-next-clause-held g c);
-    }
+pub returns-in_err-take_inside-clause-keeps : goal.returns-in_err-take_inside-clause-keeps
+returns-in_err-take_inside-clause-keeps g c = keeps_twice c.args.lines.now.kept c.read.new.lines.kept c.take_inside.new.lines.kept (keeps_twice c.args.lines.now.kept c.loop-ended.lines.kept c.read.new.lines.kept c.loop-ended.invariant.keeps c.read.ensures.keeps) c.take_inside.ensures.keeps
 
-pub next_read-requires-clause-ahead : goal.next_read-requires-clause-ahead
-next_read-requires-clause-ahead g c =
-    let t : Tree = c.args.flow.now.main in
-    let wide : SFits w64 c.args.frame.width = search rules in
-    let size : length c.loop-next.solids.items ≡ c.len.result = omega arith in
-    subst (λ (w : ℤ). AreAhead c.args.faces.now t w c.loop-next.lines.kept c.loop-next.at (drop c.len.result (map solid_view c.args.ahead.now))) (sym (to_z-of_z w64 c.args.frame.width wide))
-    (subst (λ (n : ℕ). AreAhead c.args.faces.now t c.args.frame.width c.loop-next.lines.kept c.loop-next.at (drop n (map solid_view c.args.ahead.now))) size c.loop-next.invariant.ahead)
+-- ---- each place is one of those that are read
+pub row-requires : goal.row-requires
+row-requires g c =
+    let there = c.in-Ok.ensures.there c.if-ended.false in
+    let size = page_size c.read.new.self in
+    let same = rows_size c.args.faces.now c.args.flow.now.main c.loop-ended.ahead.width c.read.new.lines.kept c.args.from.at c.read.new.self c.in-Ok.ensures.ahead in
+    omega (arith, there, size, same)
+
+pub end_of-end-requires : goal.end_of-end-requires
+end_of-end-requires g c =
+    let there = c.in-Ok.ensures.there c.if-ended.false in
+    let size = page_size c.read.new.self in
+    omega (arith, there, size)
+
+pub joined_at-requires-clause-within : goal.joined_at-requires-clause-within
+joined_at-requires-clause-within g c =
+    let there = c.in-Ok.ensures.there c.if-ended.false in
+    let size = page_size c.read.new.self in
+    let same = rows_size c.args.faces.now c.args.flow.now.main c.loop-ended.ahead.width c.read.new.lines.kept c.args.from.at c.read.new.self c.in-Ok.ensures.ahead in
+    omega (arith, there, size, same)

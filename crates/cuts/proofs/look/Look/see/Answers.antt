@@ -1,10 +1,10 @@
-use Rattle.std.proofs.Common.{◌≡◌, ◌∙◌, ◌<◌, ◌≤◌, ℕ, zero, suc, List, length, Some, None, ap, arith, ◌+ℤ◌, ◌≤ℤ◌, ◌∷◌, ◌++◌, [], ℤ, Bool, true, false, refl, sym, subst, ◌||◌}
+use Rattle.std.proofs.Common.{◌≡◌, ◌∙◌, ◌<◌, ◌≤◌, ℕ, zero, suc, List, length, Option, Some, None, is_some, inl, inr, ap, arith, ◌+ℤ◌, ◌≤ℤ◌, ◌∷◌, ◌++◌, [], ℤ, Bool, true, false, refl, sym, subst, ◌||◌}
 use Rattle.std.proofs.lemmas.Int.{to_z-of_z}
 use mir.Val.{SFits}
 use mir.Syntax.{w64}
 use Rattle.cuts.specs.declared.look.Look.{Look}
 use Rattle.cuts.specs.declared.row.SolidRow.{SolidRow}
-use Rattle.cuts.specs.Prefixes.{HasMissed, IsGoing, look_by}
+use Rattle.cuts.specs.Prefixes.{HasMissed, HasPlaced, IsGoing, IsStacked, look_by}
 use Rattle.cuts.specs.Seen.{seen_by}
 use Rattle.cuts.proofs.LookLemmas.{took_missed, took_miss, seam_misses, seam_fits}
 use Rattle.cuts.specs.Short.{short_by}
@@ -15,9 +15,14 @@ above : (n : ℕ) → (n ≡ 0 → ⊥) → 0 < n
 above zero f = absurd (f refl)
 above (suc n) f = omega arith
 
-is_some : (rows : List SolidRow) (b : Bool) → (b ≡ false → rows ≡ []) → 0 < length rows → b ≡ true
-is_some rows true f l = refl
-is_some rows false f l = let e : length rows ≡ 0 = ap (λ (rs : List SolidRow). length rs) (f refl) in absurd (omega (arith, e))
+has_some : (rows : List SolidRow) (b : Bool) → (b ≡ false → rows ≡ []) → 0 < length rows → b ≡ true
+has_some rows true f l = refl
+has_some rows false f l = let e : length rows ≡ 0 = ap (λ (rs : List SolidRow). length rs) (f refl) in absurd (omega (arith, e))
+
+-- before a point without room it is told how far the solids reach
+going_placed : (kept : Bool) (height : ℤ) (rows : List SolidRow) (l : Look) → l.left ≡ None → IsStacked kept height rows l → HasPlaced kept rows l
+going_placed kept height rows l none (inl placed) = placed
+going_placed kept height rows l none (inr below) = absurd (let f : false ≡ true = sym (ap (λ (o : Option ℕ). is_some o) none) ∙ below.missed in cc)
 
 pub returns-in-Some-clause-seen : goal.returns-in-Some-clause-seen
 returns-in-Some-clause-seen c = λ rows list n told look.
@@ -71,7 +76,8 @@ returns-clause-short c = λ rows widest placed few more short.
     let height : ℤ = c.args.room.now.height in
     let s : short_by kept height widest rows None = subst (short_by kept height widest rows) c.in_default.is short.short in
     let least : c.least_with-self.result ≤ widest = c.least_with-self.ensures.most widest short.least few in
+    let is = going_placed kept height rows c.args.self.now c.in_default.is placed in
     record {
       least = least;
-      short = subst (short_by kept height widest (rows ++ c.args.row.now ∷ [])) (sym c.in_default.is) (short_going kept height widest rows c.args.row.now (λ b l. subst (λ (e : ℤ). e ≤ℤ height) placed.extent (c.misses.ensures.fits c.if-misses.false (is_some rows c.args.self.now.some placed.none l) b)) s);
+      short = subst (short_by kept height widest (rows ++ c.args.row.now ∷ [])) (sym c.in_default.is) (short_going kept height widest rows c.args.row.now (λ b l. subst (λ (e : ℤ). e ≤ℤ height) is.extent (c.misses.ensures.fits c.if-misses.false (has_some rows c.args.self.now.some is.none l) b)) s);
     }

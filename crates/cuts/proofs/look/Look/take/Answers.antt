@@ -1,6 +1,6 @@
-use Rattle.std.proofs.Common.{◌≡◌, ◌∙◌, ℕ, List, length, Option, Some, None, ap, ◌+ℤ◌, ◌∷◌, ◌++◌, [], ℤ, Bool, true, false, rules, refl, sym, subst, ◌⊎◌, ◌^◌, inl, inr, not}
+use Rattle.std.proofs.Common.{◌≡◌, ◌∙◌, ℕ, List, length, Option, Some, None, ap, ◌+ℤ◌, ◌∷◌, ◌++◌, [], ℤ, Bool, true, false, rules, refl, sym, subst, ◌⊎◌, ◌^◌, inl, inr, not, arith}
 use Rattle.std.specs.Int.{int_max}
-use Rattle.std.proofs.lemmas.Int.{to_z-of_z}
+use Rattle.std.proofs.lemmas.Int.{clamps, ints, to_z-of_z}
 use mir.Val.{SFits}
 use mir.Syntax.{w64}
 use Rattle.notes.specs.declared.reach.Reach.{Reach}
@@ -9,10 +9,10 @@ use Rattle.bk_num.specs.Numbers.{IsWithin}
 use Rattle.cuts.specs.Areas.{AreTold}
 use Rattle.cuts.specs.Cuts.{NoteLists}
 use Rattle.cuts.specs.declared.row.SolidRow.{SolidRow}
-use Rattle.cuts.specs.Prefixes.{look_by}
+use Rattle.cuts.specs.Prefixes.{IsStacked, look_by}
 use Rattle.cuts.specs.Rows.{IsAtTop, top_gap}
 use Rattle.cuts.specs.Seen.{seen_by}
-use Rattle.cuts.proofs.LookLemmas.{took_going, took_placed}
+use Rattle.cuts.proofs.LookLemmas.{below_more, took_going, took_placed}
 use Rattle.cuts.proofs.ReachLemmas.{reached_more}
 use Rattle.cuts.proofs.look.Look.take.Goals as goal
 use Rattle.cuts.proofs.look.Look.take.Goals.{After-place}
@@ -66,3 +66,13 @@ returns-clause-read c = λ n read.
     by : (b : Bool) → (b ≡ false → IsAtTop c.args.self.now.reach) → (not b ≡ false → IsWithin (2 ^ 32) c.gap_above-gap.result) → IsAtTop c.args.self.now.reach ⊎ IsWithin (2 ^ 32) c.gap_above-gap.result
     by true top small = inr (small refl)
     by false top small = inl (top refl)
+
+pub returns-clause-stacked : goal.returns-clause-stacked
+returns-clause-stacked c = λ rows stacked. by (goal.at.returns-clause-stacked c).After-place rows stacked
+  where
+    by : (d : After-place) (rows : List SolidRow) → IsStacked d.args.room.now.kept d.args.room.now.height rows d.args.self.now → IsStacked d.args.room.now.kept d.args.room.now.height (rows ++ d.args.row.now ∷ []) (new_of d)
+    by d rows (inl placed) = inl (took_placed d.args.room.now.kept rows d.args.row.now d.args.self.now (new_of d) d.gap_above-gap.result placed (top_is d) (below_is d) refl (bottom_is d) (extent_is d))
+    by d rows (inr below) =
+        let over = below.reach in
+        let extent = extent_is d in
+        inr (record { missed = d.see.ensures.missed below.missed; reach = omega (arith, ints, clamps, over, extent); over = below_more d.args.room.now.kept d.args.room.now.height rows (d.args.row.now ∷ []) below.over })
