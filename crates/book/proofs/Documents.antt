@@ -1,5 +1,5 @@
 -- What each step of a document gives comes to the document, or to its refusal.
-use Rattle.std.proofs.Common.{◌≡◌, ℕ, List, Option, None, Some, Result, Ok, Err, refl}
+use Rattle.std.proofs.Common.{◌≡◌, ℕ, List, Option, Some, Result, Ok, Err, refl}
 use Rattle.metrics.specs.Text.{faces_of}
 use Rattle.metrics.specs.Face.{FontFace}
 use Rattle.dom.specs.Nodes.{Node}

@@ -1,5 +1,5 @@
 -- Few lines are filled by what lays a document out, whatever leads to it.
-use Rattle.std.proofs.Common.{◌≡◌, ℕ, List, Option, Result, Ok, Err, sym, ap, subst}
+use Rattle.std.proofs.Common.{◌≡◌, ℕ, List, Option, Err, sym, subst}
 use Rattle.bk_io.specs.Shelf.{Told}
 use Rattle.bk_num.specs.declared.ids.NodeId.{NodeId}
 use Rattle.gen_text.specs.References.{AreTargets}

@@ -1,5 +1,5 @@
 -- How a run stops at a file, and goes on after one.
-use Rattle.std.proofs.Common.{◌≡◌, ◌≢◌, ap, ◌⊎◌, ℕ, suc, ◌+◌, ◌≤◌, List, [], ◌∷◌, length, nat_lt, true, false, cond, inl, inr, refl, sym, arith, subst, Option, None, Some, Result, Ok, Err, Bool}
+use Rattle.std.proofs.Common.{◌≡◌, ◌≢◌, ap, ◌⊎◌, ℕ, suc, ◌≤◌, List, [], ◌∷◌, length, nat_lt, true, false, cond, inl, inr, refl, sym, arith, subst, Option, None, Some, Result, Ok, Err, Bool}
 use Rattle.std.specs.List.{list_any}
 use Rattle.std.specs.Io.KnownBytes.{Keeps}
 use Rattle.std.specs.Str.{is_utf8}

@@ -8,7 +8,7 @@ use Rattle.passes.specs.Looked.{TakesFewSteps}
 use Rattle.passes.specs.Work.{Work}
 use Rattle.passes.specs.declared.settle.Settled.{Settled}
 use Rattle.book.specs.Document.{Document}
-use Rattle.book.specs.Expect.{Expect, free, refused, given}
+use Rattle.book.specs.Expect.{Expect, given}
 use Rattle.book.specs.Flow.{IsWorkOf}
 use Rattle.book.specs.Laid.{work_in}
 use Rattle.book.specs.Run.{IsExpected}

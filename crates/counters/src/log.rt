@@ -1,8 +1,6 @@
 //! What a document does to its counters, written down place by place.
 
 ghost use Rattle.std.specs.Prelude.{◌≡◌, ◌++◌, ◌∷◌, [], true, IfOk, IfSome, IsTrue, OnOk, map};
-ghost use Rattle.std.specs.Str.{bytes_eq};
-ghost use Rattle.std.specs.List.{list_any};
 ghost use Rattle.std.specs.String.{string_bytes};
 ghost use Rattle.counters.specs.Document.{named, not_page};
 ghost use Rattle.counters.specs.Log.{changes_in, events_at, events_in, is_asked};

@@ -1,5 +1,5 @@
 -- The margin boxes of a page (css-page-3, 5.1).
-use Rattle.std.specs.Prelude.{◌≡◌, ℕ, List, [], ◌∷◌, length, Option, codes}
+use Rattle.std.specs.Prelude.{ℕ, List, [], ◌∷◌, Option, codes}
 use Rattle.css_words.specs.Table.{find_word}
 
 -- how many margin boxes a page has

@@ -2,7 +2,7 @@
 use Rattle.std.proofs.Common.{◌≡◌, ◌⊎◌, inl, inr, ⊎_elim, ℕ, zero, suc, List, [], ◌∷◌, Some, slice_get, sym, ap, subst, ◌∙◌}
 use Rattle.std.specs.List.{Contains}
 use Rattle.bk_num.proofs.ListLemmas.{contains-get, get-contains}
-use Rattle.line_fill.specs.Kept.{AreAsked, Asked, Holds, HoldsNow, KeepWhatWasAsked, LeavesAreApart, Stands, asked_of}
+use Rattle.line_fill.specs.Kept.{AreAsked, Asked, HoldsNow, KeepWhatWasAsked, LeavesAreApart, Stands, asked_of}
 use Rattle.line_fill.specs.declared.kept.KeptLeaf.{KeptLeaf}
 use Rattle.line_fill.specs.declared.lines.KeptLine.{KeptLine}
 use Rattle.line_fill.proofs.AskLemmas.{had_line}

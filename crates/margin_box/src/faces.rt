@@ -4,7 +4,7 @@ ghost use Rattle.std.specs.Prelude.{◌≡◌, ◌<◌, ◌≤ℤ◌, ◌++◌, 
 ghost use Rattle.std.specs.Map.{lookup};
 ghost use Rattle.boxes.specs.Table.{cell_of};
 ghost use Rattle.page_ctx.specs.Margins.{MarginStyleOf, style_in, style_of};
-ghost use Rattle.margin_box.specs.Chosen.{AreChosen, AreFacesOf, IsFaceOf, is_same, style_with};
+ghost use Rattle.margin_box.specs.Chosen.{AreChosen, AreFacesOf, IsFaceOf, is_same};
 
 use crate::items::Margins;
 use crate::keys::PageKey;

@@ -1,16 +1,16 @@
 -- Groups of equal selectors.
-use Rattle.std.proofs.Common.{◌≡◌, ◌⊎◌, ◌↔◌, ℕ, ◌+◌, ◌<◌, ◌≤◌, inl, inr, List, [], ◌∷◌, ◌++◌, Some, Result, Ok, Err, OnOk, get_or, length, map, refl, sym, ◌∙◌, ap, subst, arith}
+use Rattle.std.proofs.Common.{◌≡◌, ◌⊎◌, ℕ, ◌+◌, ◌<◌, ◌≤◌, inl, inr, List, [], ◌∷◌, ◌++◌, Some, Result, Ok, Err, OnOk, get_or, length, refl, sym, ◌∙◌, ap, subst, arith}
 use Rattle.std.specs.Prelude.{slice_get, slice_set}
 use Rattle.std.specs.List.{All, Contains}
 use Rattle.std.proofs.Common.{length-append}
 use Rattle.std.proofs.lemmas.Bool.{cases_eq, cases_lt}
-use Rattle.std.proofs.lemmas.List.{length-map, length-set, get_or-set_same, get_or-set_other, get_or_past}
+use Rattle.std.proofs.lemmas.List.{length-set, get_or-set_same, get_or-set_other, get_or_past}
 use Rattle.std.proofs.lemmas.List.Elements.{All-from_get_or, Contains-get_or, Contains-push, Contains-push_cases, Contains-append_left}
 use Rattle.std.proofs.lemmas.Option.{slice_get-get_or, get_or_from_slice_get, slice_get_within}
-use Rattle.bk_num.proofs.ListLemmas.{contains-none, get-before, get-end, get-keep, slice_get_at}
+use Rattle.bk_num.proofs.ListLemmas.{contains-none, get-before, get-end, get-keep}
 use Rattle.selectors.specs.Selectors.{SelectorView}
-use Rattle.selectors.specs.Match.{Tree, Matches}
-use Rattle.match_table.specs.All.{AreAscending, MatchesAt, IsPlaceIn, AreGroups, IsMatchList, AreMatchLists, Matched}
+use Rattle.selectors.specs.Match.{Tree}
+use Rattle.match_table.specs.All.{AreAscending, MatchesAt, IsPlaceIn, AreGroups, IsMatchList, AreMatchLists}
 use Rattle.match_table.specs.Rows.{IsMatchRow, AreMatchRows}
 use Rattle.match_table.specs.Groups.{IsSame, AreGrouped, IsAdded}
 use Rattle.match_table.proofs.AllLemmas.{ascending-push}

@@ -1,6 +1,6 @@
 //! Whether two selectors are the same, part by part.
 
-ghost use Rattle.std.specs.Prelude.{◌≡◌, IsTrue, option_map};
+ghost use Rattle.std.specs.Prelude.{◌≡◌, IsTrue};
 
 use bk_num::name::Name;
 use bk_num::values::Pseudo;

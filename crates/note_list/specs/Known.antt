@@ -1,6 +1,6 @@
 -- Lines that are known before they are read: each stands for a triple that is held, so it takes no step. How many of the
 -- others there are bounds the steps of a reader.
-use Rattle.std.specs.Prelude.{◌≡◌, ◌+◌, ◌≤◌, ℕ, ℤ, List, Option, Bool, true, false, not, slice_get, if◌then◌else◌}
+use Rattle.std.specs.Prelude.{◌≡◌, ◌+◌, ◌≤◌, ℕ, ℤ, List, Bool, true, false, slice_get, if◌then◌else◌}
 use Rattle.std.specs.List.{filter, sum_by}
 use Rattle.std.specs.Option.{option_map_or}
 use Rattle.boxes.specs.Tree.{Tree}

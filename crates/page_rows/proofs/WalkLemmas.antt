@@ -1,6 +1,5 @@
 -- A walk stays in its tree.
 use Rattle.std.proofs.Common.{◌≡◌, Option, Some, None, MatchOption, ap}
-use Rattle.boxes.specs.Tree.{Tree}
 use Rattle.cursor.specs.Cursors.{CursorView}
 use Rattle.cursor.specs.declared.solid.Solid.{Solid}
 

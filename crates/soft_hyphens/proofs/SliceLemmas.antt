@@ -9,7 +9,7 @@ use Rattle.std.proofs.lemmas.Bool.{cases_lt}
 use Rattle.std.proofs.lemmas.List.{drop-drop, drop_all, get_or-drop, length-drop, length-take-le, take_all}
 use Rattle.std.proofs.lemmas.List.Folds.{drop_split}
 use Rattle.std.proofs.lemmas.Option.{slice_get-get_or}
-use Rattle.std.proofs.lemmas.Str.{chars-append, chars-nil, chars_past_char, encodes-chars, IsCharBoundary-past_char, IsUtf8-between, IsUtf8-drop, len_utf8_bounds, length-encode, length-le-encodes}
+use Rattle.std.proofs.lemmas.Str.{chars-append, chars-nil, chars_past_char, encodes-chars, IsCharBoundary-past_char, IsUtf8-between, IsUtf8-drop, len_utf8_bounds, length-encode}
 use Rattle.inline_text.specs.Joined.{Laid, ends_from, joined}
 
 -- ---- characters
@@ -54,10 +54,6 @@ most-bytes (c ∷ cs) =
 pub few-bytes : (text : List ℕ) → IsUtf8 text → length text ≤ 4 * length (chars text)
 few-bytes text u = omega (arith, most-bytes (chars text), ap (λ (l : List ℕ). length l) (encodes-chars text u))
 
--- and at least one
-pub few-chars : (text : List ℕ) → IsUtf8 text → length (chars text) ≤ length text
-few-chars text u = omega (arith, length-le-encodes (chars text), ap (λ (l : List ℕ). length l) (encodes-chars text u))
-
 -- ---- pieces
 
 -- what stands at an offset is a piece, and what stands after it
@@ -88,24 +84,6 @@ piece-first text at end = ⊎_elim
         let to : at + length (slice_range text at end) ≡ at = omega (arith, ap (λ (l : List ℕ). length l) nil) in
         ap₂ (λ (l : List ℕ) (n : ℕ). l ++ drop n text) (sym nil) (sym to))
         (cases_lt at end)
-
--- a piece ends where the text may be cut
-pub piece-end : (text : List ℕ) (at end : ℕ) → IsCharBoundary text at → IsCharBoundary text end → IsCharBoundary text (at + length (slice_range text at end))
-piece-end text at end b e = ⊎_elim
-    (λ (l : at < end).
-    let n : length (slice_range text at end) ≡ end - at = length-take-le (end - at) (drop at text) (omega (arith, length-drop at text, e.0)) in
-    let to : end ≡ at + length (slice_range text at end) = omega (arith, n) in
-    subst (IsCharBoundary text) to e)
-    (λ (h : end ≤ at).
-    let z : end - at ≡ 0 = omega arith in
-    let none : length (slice_range text at end) ≡ 0 = ap (λ (n : ℕ). length (take n (drop at text))) z in
-    let to : at ≡ at + length (slice_range text at end) = omega (arith, none) in
-    subst (IsCharBoundary text) to b)
-    (cases_lt at end)
-
--- what stands from a place on, where nothing stands after another
-pub slice-rest : (text : List ℕ) (from at : ℕ) → from ≤ at → drop at text ≡ [] → drop from text ≡ slice_range text from at
-slice-rest text from at order none = drop_split text from at order ∙ ap (λ (l : List ℕ). slice_range text from at ++ l) none ∙ append-nil (slice_range text from at)
 
 -- the texts from a number on begin at an offset
 pub record BeginAt (l : Laid) (ts : List (List ℕ)) (i at : ℕ) : Type 0 where

@@ -1,10 +1,10 @@
--- Texts that are laid one after the other, and how many characters they have.
+-- Texts that are laid one after the other, and their characters.
 use Rattle.std.proofs.Common.{◌≡◌, ◌∙◌, ℕ, suc, ◌+◌, ◌-◌, Bool, List, [], ◌∷◌, ◌++◌, length, map, refl, sym, ap, ap₂, arith, append_assoc, append-nil, length-append}
 use Rattle.std.specs.Str.{chars}
-use Rattle.std.proofs.lemmas.List.{length-map, map-append}
+use Rattle.std.proofs.lemmas.List.{map-append}
 use Rattle.std.proofs.lemmas.Simd.{map-map}
 use Rattle.inline_text.specs.Joined.{Laid, ends_from, joined, laid_on, reached, repeated}
-use Rattle.soft_hyphens.specs.Pass.{chars_in, count_in, laid_after}
+use Rattle.soft_hyphens.specs.Pass.{chars_in, laid_after}
 use Rattle.soft_hyphens.specs.Words.{codes_of, letters_in}
 use Rattle.soft_hyphens.specs.declared.letter.Letter.{Letter}
 
@@ -42,17 +42,7 @@ laid-on-ends l n s h =
     let k : n - length l.ends ≡ 0 = omega (arith, h) in
     ap (λ (j : ℕ). l.ends ++ repeated j (length l.bytes)) k ∙ append-nil l.ends
 
--- ---- how many characters there are
-
-pub letters-length : (autos : List Bool) (ts : List (List ℕ)) → length ts ≡ length autos → length (letters_in autos ts) ≡ count_in ts
-letters-length [] [] h = refl
-letters-length [] (t ∷ ts) h = absurd (omega (arith, h))
-letters-length (a ∷ autos) [] h = absurd (omega (arith, h))
-letters-length (a ∷ autos) (t ∷ ts) h =
-    let here : List Letter = map (λ (c : ℕ). record { code = c; auto = a }) (chars t) in
-    let n : length here ≡ length (chars t) = length-map (chars t) (λ (c : ℕ). record { code = c; auto = a }) in
-    let m : length (letters_in autos ts) ≡ count_in ts = letters-length autos ts (omega (arith, h)) in
-    length-append here (letters_in autos ts) ∙ ap₂ (λ (x y : ℕ). x + y) n m
+-- ---- the characters of texts
 
 -- the characters are those of the texts
 pub codes-are : (autos : List Bool) (ts : List (List ℕ)) → length ts ≡ length autos → codes_of (letters_in autos ts) ≡ chars_in ts

@@ -10,7 +10,7 @@ use Rattle.page_seq.specs.Places.{first_place, last_or_here, last_place, page_of
 use Rattle.style.specs.declared.content.Keyword.{Keyword}
 use Rattle.style.specs.declared.content.Keyword.TheVariants as keyword
 use Rattle.strings.specs.Laws.{UnaskedChangeNothing, is_among}
-use Rattle.strings.specs.Shown.{assign_at, entry_of, first_on, is_earlier, is_on, last_on, mark_of, or_else, unless, shown_by, shown_on, starts_page, string_of, value_of}
+use Rattle.strings.specs.Shown.{assign_at, entry_of, first_on, is_earlier, is_on, last_on, mark_of, or_else, unless, shown_by, shown_on, starts_page, value_of}
 
 -- two places stand for the same assignment, or neither stands for one
 abbrev ArePicksOf : List Assign → Option ℕ → List Assign → Option ℕ → Type 0

@@ -1,4 +1,4 @@
-use Rattle.std.proofs.Common.{◌∙◌, ◌++◌, [], List, ℕ, length, sym, ap, ap₂, append-nil}
+use Rattle.std.proofs.Common.{◌∙◌, [], List, ℕ, sym, ap, ap₂, append-nil}
 use Rattle.inline_text.specs.declared.space.Gap.TheVariants.{Spaced}
 use Rattle.inline_text.specs.Joined.{Laid, laid_texts, reached}
 use Rattle.inline_text.specs.Space.{Char, chars_from}

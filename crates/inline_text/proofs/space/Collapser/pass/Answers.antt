@@ -1,4 +1,4 @@
-use Rattle.std.proofs.Common.{◌≡◌, ◌∙◌, ◌+◌, ◌++◌, ◌∷◌, [], List, ℕ, length, sym, ap, arith, length-append}
+use Rattle.std.proofs.Common.{◌∙◌, ◌+◌, ◌++◌, ◌∷◌, [], List, ℕ, length, sym, ap, arith, length-append}
 use Rattle.inline_text.specs.declared.space.Gap.TheVariants.{Spaced}
 use Rattle.inline_text.specs.Joined.{laid_texts}
 use Rattle.inline_text.specs.Space.{Char, chars_of_part}

@@ -1,4 +1,4 @@
-use Rattle.std.proofs.Common.{◌≡◌, ℤ, [], List, All, ap, length, sym, subst, arith}
+use Rattle.std.proofs.Common.{◌≡◌, ℤ, [], All, ap, length, sym, subst, arith}
 use Rattle.std.proofs.lemmas.Int.{ints, to_z-of_z}
 use Rattle.std.proofs.lemmas.List.Elements.{All-nil}
 use mir.Val.{SFits}
