@@ -47,8 +47,8 @@ FillsFew d (out.Done pages passes) old new = TakesFew d passes old new
 FillsFew d (out.NotSettled target before after) old new = TakesFew d d.passes old new
 FillsFew d o old new = Unit {0}
 
--- where a document is expected, a run that is Done, or that tells that page references don't settle, takes no more steps
--- than its passes may look at lines that the pass before didn't place
+-- where a document is expected, a run that is Done, or that tells that page references don't settle, takes no more
+-- steps than its passes may look at lines that the pass before didn't place
 abbrev pub MeetsInFew : Expect Document → Outcome → ℕ → ℕ → Type 0
 MeetsInFew (given d) o old new = FillsFew d o old new
 MeetsInFew e o old new = Unit {0}

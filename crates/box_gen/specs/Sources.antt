@@ -35,10 +35,11 @@ source_of texts faces points = record {
 
 -- what a flow is made from, and in a note what is in the note
 abbrev pub source_in : FlowInput → Source
-source_in i = record (source_of (text_source i.texts.now) i.faces.now (points_in (option_map (λ h. h.now) i.hyphenator))) {
-  is_note = λ n. not i.in_note && is_note_in (slice_get i.texts.now.styles.now n);
-  clones = not i.in_note;
-}
+source_in i =
+    record (source_of (text_source i.texts.now) i.faces.now (points_in (option_map (λ h. h.now) i.hyphenator))) {
+      is_note = λ n. not i.in_note && is_note_in (slice_get i.texts.now.styles.now n);
+      clones = not i.in_note;
+    }
 
 -- ---- the root
 

@@ -123,7 +123,8 @@ fn push_resets(counters: &[(Name, i64)], at: Position, resets: &mut Vec<Reset>) 
 /// Adds the resets of the page number at an element.
 fn push_resets_of(input: &FlowInput, start: &Start, resets: &mut Vec<Reset>) -> Result<(), NoMem>
     ensures list { OnOk result (resets.new.items ≡ resets.old.items ++
-        resets_at start.now.at (page_resets (style_at input.now.texts.now.styles.now start.now.node.0 pseudo.Element))) }
+        resets_at start.now.at
+        (page_resets (style_at input.now.texts.now.styles.now start.now.node.0 pseudo.Element))) }
     ensures small { OnOk result (All IsSmallReset resets.old.items → All IsSmallReset resets.new.items) }
 {
     match input.texts.styles.of(start.node, Pseudo::Element) {

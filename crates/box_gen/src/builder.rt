@@ -320,9 +320,11 @@ fn enter<'a>(
     requires shown { builder.old.unshown ≡ None }
     requires within { IsWithinRoom builder.old.site }
     requires room { HasRoom builder.old.site }
-    requires can { CanEnterNode (source_in input.now) (role_in kind) (walk_in input.now.texts.now.styles.now builder.old) }
+    requires can { CanEnterNode (source_in input.now) (role_in kind)
+        (walk_in input.now.texts.now.styles.now builder.old) }
     ensures walk { OnOk result (walk_in input.now.texts.now.styles.now builder.new ≡
-        enter_node (source_in input.now) node.0 (role_in kind.entry) (walk_in input.now.texts.now.styles.now builder.old)) }
+        enter_node (source_in input.now) node.0 (role_in kind.entry)
+        (walk_in input.now.texts.now.styles.now builder.old)) }
     ensures within { OnOk result (IsWithinRoom builder.new.site) }
     ensures room { OnOk result (builder.new.site.room ≡ builder.old.site.room) }
     ensures cause { IfErr result (λ e. e ≡ BuildErr.Text → builder.old.site.room.bytes <
@@ -371,7 +373,8 @@ fn leave<'a>(
     requires can { CanLeaveNode (source_in input.now) node.0 (role_in kind)
         (walk_in input.now.texts.now.styles.now builder.old) }
     ensures walk { OnOk result (walk_in input.now.texts.now.styles.now builder.new ≡
-        leave_node (source_in input.now) node.0 (role_in kind.entry) (walk_in input.now.texts.now.styles.now builder.old)) }
+        leave_node (source_in input.now) node.0 (role_in kind.entry)
+        (walk_in input.now.texts.now.styles.now builder.old)) }
     ensures within { OnOk result (IsWithinRoom builder.new.site) }
     ensures room { OnOk result (builder.new.site.room ≡ builder.old.site.room) }
     ensures cause { IfErr result (λ e. e ≡ BuildErr.Text → builder.old.site.room.bytes <

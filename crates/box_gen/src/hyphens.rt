@@ -52,7 +52,8 @@ fn hyphenated_by(
 ) -> Result<JoinedText, NoMem>
     requires { length texts.ends ≡ length (styles_in marks.now) }
     ensures { (ts : List (List ℕ)) → texts ≡ laid_texts ts → IfOk result (λ made. made ≡
-        laid_texts (spec.hyphenated (Some (points_with (value_in hyphenator.now))) (autos_by (styles_in marks.now)) ts)) }
+        laid_texts (spec.hyphenated (Some (points_with (value_in hyphenator.now)))
+        (autos_by (styles_in marks.now)) ts)) }
 {
     let autos = autos_of(alloc, marks)?;
     if !any_auto(&autos) {

@@ -297,7 +297,8 @@ fn pass_body<'a>(
     requires node { node_of step < length input.now.texts.now.dom.now }
     requires within { IsWithinRoom body.old.site }
     requires room { HasRoom body.old.site }
-    requires can { CanInNote (in_note (source_in input.now)) (walk_in input.now.texts.now.styles.now body.old) step false }
+    requires can { CanInNote (in_note (source_in input.now))
+        (walk_in input.now.texts.now.styles.now body.old) step false }
     ensures walk { OnOk result (walk_in input.now.texts.now.styles.now body.new ≡
         after_step (in_note (source_in input.now)) (walk_in input.now.texts.now.styles.now body.old) step) }
     ensures within { OnOk result (IsWithinRoom body.new.site) }

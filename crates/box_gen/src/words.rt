@@ -69,9 +69,9 @@ fn learn(
     Ok(())
 }
 
-/// What hyphenates a document by patterns, where they are given: it knows the words of its texts, so that each is looked
-/// up in the patterns once, and not in each pass. Words that go over the border of an element, and those of generated
-/// text, may be looked up each time.
+/// What hyphenates a document by patterns, where they are given: it knows the words of its texts, so that each is
+/// looked up in the patterns once, and not in each pass. Words that go over the border of an element, and those of
+/// generated text, may be looked up each time.
 pub fn hyphenator_for<'p>(
     alloc: Global,
     dom: &Dom,

@@ -16,7 +16,8 @@ none_near : IsNearFrame no_frame
 none_near = record { low = omega (arith, ints); high = omega (arith, ints) }
 
 -- the frame of whatever page is near where each frame of the table is
-pub near_frame : (rows : List PageRow) → All (HasCells IsNearFrame) rows → (index : ℕ) (name : NameId) (kind : PageKind) →
+pub near_frame : (rows : List PageRow) → All (HasCells IsNearFrame) rows →
+    (index : ℕ) (name : NameId) (kind : PageKind) →
     IsNearFrame (page_frame_of rows index name kind)
 near_frame rows near = frame_has IsNearFrame none_near rows near
 

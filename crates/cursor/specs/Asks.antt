@@ -16,7 +16,8 @@ abbrev pub asked_at : Tree → ℤ → SolidView → LeafData → Asked
 asked_at t width s leaf = asked_of leaf s.placed_at.offset (leaf_measure t width s.placed_at.event)
 
 -- a line is asked for, with a step where its triple isn't held
-pub record AsksForLine (t : Tree) (width : ℤ) (s : SolidView) (old new : List KeptLeaf) (steps steps' : ℕ) : Type 0 where
+pub record AsksForLine (t : Tree) (width : ℤ) (s : SolidView) (old new : List KeptLeaf)
+    (steps steps' : ℕ) : Type 0 where
   pub number : ℕ
   pub leaf : LeafData
   pub names : slice_get t.events s.placed_at.event ≡ Some (Leaf number)

@@ -26,8 +26,8 @@ NoLaterFits faces flow frame from carried =
     AreNoted faces flow.notes frame.width (carried_parts carried) own → c ≤ length own → j ≤ k → k ≤ length solids →
     HasMissedFrom from.kept (rows_of flow.main solids) frame.height (λ n. note_rows (list n)) c j k
 
--- on no page of a flow, whatever good frame it has, wherever it begins and whatever is carried to it, a later point fits
--- once the solids before one have no room
+-- on no page of a flow, whatever good frame it has, wherever it begins and whatever is carried to it, a later point
+-- fits once the solids before one have no room
 abbrev pub NoPageFitsLater : List FontFace → Flow → Type 0
 NoPageFitsLater faces flow = (frame : Frame) (from : CutFrom) (carried : List Carried) → IsGoodFrame frame →
     Holds flow.main from.at → AreCarried flow from.at carried → NoLaterFits faces flow frame from carried

@@ -73,7 +73,8 @@ pub record AreRead (faces : List FontFace) (flow : Flow) (frame : Frame) (at : P
       Tells frame.height (area_after p.areas.items (suc j))
       (area_of (note_rows notes) (must_of (note_rows notes) p.list.own))
 
--- the notes of a page are read with the first of its solids, those that end inside the frame up to the first forced seam
+-- the notes of a page are read with the first of its solids, those that end inside the frame up to the first forced
+-- seam
 pub record AreReadInside (faces : List FontFace) (flow : Flow) (frame : Frame) (from : CutFrom) (carried : List Carried)
     (solids : List SolidView) (p : PageNotes) : Type 0 where
   pub count : ℕ

@@ -89,6 +89,7 @@ assigned_by p set = (set.0, text_of p set.1)
 abbrev pub assigned_of : TextSource → ℕ → List (List ℕ × List Part) → List (List ℕ × List ℕ)
 assigned_of s n sets = map (assigned_by (place_at s n pseudo.Element)) (filter (λ set. is_asked s.asked set.0) sets)
 
--- the named strings that an element assigns, of those that pages ask for, with their texts, in the order in which it does
+-- the named strings that an element assigns, of those that pages ask for, with their texts, in the order in which it
+-- does
 abbrev pub assigned_strings : TextSource → ℕ → List (List ℕ × List ℕ)
 assigned_strings s n = assigned_of s n (sets_at s.styles n)

@@ -56,7 +56,8 @@ pub fn generated_text(
 fn style_text(alloc: Global, texts: &Texts<'_>, node: NodeId, pseudo: Pseudo) -> Result<Name, NoMem>
     requires { node.0 < length texts.now.dom.now }
     ensures { IfOk result (λ text. text ≡
-        text_of (place_at (source_in texts.now) node.0 pseudo) (content_of (style_at texts.now.styles.now node.0 pseudo))) }
+        text_of (place_at (source_in texts.now) node.0 pseudo)
+        (content_of (style_at texts.now.styles.now node.0 pseudo))) }
 {
     match texts.styles.of(node, pseudo) {
         Some(style) => some_text(alloc, texts, node, pseudo, &style.content),

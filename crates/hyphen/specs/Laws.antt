@@ -6,7 +6,8 @@ use Rattle.hyphen.specs.Pattern.{Pattern, value_from, value_at}
 -- unless it is 0
 pub record IsGreatest (ps : List Pattern) (word : List ℕ) (place v : ℕ) : Type 0 where
   pub bound : (k at : ℕ) (p : Pattern) → slice_get ps k ≡ Some p → at < length word → value_from p word place at ≤ v
-  pub reached : (v ≡ 0) ⊎ ((k : ℕ) × (at : ℕ) × (p : Pattern) × (slice_get ps k ≡ Some p) × (at < length word) × (value_from p word place at ≡ v))
+  pub reached : (v ≡ 0) ⊎ ((k : ℕ) × (at : ℕ) × (p : Pattern) ×
+      (slice_get ps k ≡ Some p) × (at < length word) × (value_from p word place at ≡ v))
 
 abbrev pub ValuesAreGreatest : Type 0
 ValuesAreGreatest = (ps : List Pattern) (word : List ℕ) (place : ℕ) → IsGreatest ps word place (value_at ps word place)

@@ -14,6 +14,7 @@ value_in p word place = pieces_value (two_values p.anywhere p.at_start) word pla
 -- patterns that were read give each place of each word the greatest value that a pattern of the text puts there, and a
 -- bad line is the first; memory may run out
 abbrev pub IsReading : Result (List Pattern) ℕ → Result Patterns PatErr → Type 0
-IsReading said (Ok p) = MatchResult said (λ ps. (word : List ℕ) (place : ℕ) → value_in p word place ≡ value_at ps word place) (λ _. ⊥)
+IsReading said (Ok p) =
+    MatchResult said (λ ps. (word : List ℕ) (place : ℕ) → value_in p word place ≡ value_at ps word place) (λ _. ⊥)
 IsReading said (Err (fault.Line n)) = said ≡ Err n
 IsReading said (Err fault.NoMemory) = Unit {0}

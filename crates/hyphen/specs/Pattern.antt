@@ -12,7 +12,8 @@ pub record Pattern : Type 0 where
 
 -- whether a pattern matches a word, given by its letters, from a place on
 unfoldable pub matches : Pattern → List ℕ → ℕ → Bool
-matches p word at = bytes_eq p.letters (take (length p.letters) (drop at word)) && ((not p.starts || at == 0) && (not p.ends || at + length p.letters == length word))
+matches p word at = bytes_eq p.letters (take (length p.letters) (drop at word)) &&
+    ((not p.starts || at == 0) && (not p.ends || at + length p.letters == length word))
 
 -- the value that a pattern puts at a place where it matches from another on: none is 0
 unfoldable pub value_from : Pattern → List ℕ → ℕ → ℕ → ℕ

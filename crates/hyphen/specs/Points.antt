@@ -11,7 +11,8 @@ letters_of word = map to_ascii_lowercase (chars word)
 -- whether a place of a word of n letters is a point, by its value: that is odd, and enough letters stand before it and
 -- after
 unfoldable pub is_point : ℕ → ℕ → ℕ → (ℕ → ℕ) → ℕ → Bool
-is_point n left right value place = value place % 2 == 1 && (nat_le 1 place && nat_le left place) && nat_le right (n - place)
+is_point n left right value place = value place % 2 == 1 &&
+    (nat_le 1 place && nat_le left place) && nat_le right (n - place)
 
 -- how many bytes the first letters have
 unfoldable pub offset_of : List ℕ → ℕ → ℕ

@@ -37,12 +37,16 @@ with_letter v c (Some m) = Some (record { letters = c ∷ m.letters; values = v 
 -- been read before
 unfoldable pub marks_of : Option ℕ → List ℕ → Option Marks
 marks_of d [] = Some (record { letters = []; values = unwrap_or d 0 ∷ [] })
-marks_of d (c ∷ cs) = if is_ascii_digit c then (if is_some d then None else marks_of (Some (c - 48)) cs) else if is_letter c then with_letter (unwrap_or d 0) c (marks_of None cs) else None
+marks_of d (c ∷ cs) =
+    if is_ascii_digit c then (if is_some d then None else marks_of (Some (c - 48)) cs)
+    else if is_letter c then with_letter (unwrap_or d 0) c (marks_of None cs) else None
 
 -- the pattern of these letters, of which there are 1 to 32
 unfoldable pub anchored : Bool → Bool → Option Marks → Option Pattern
 anchored starts ends None = None
-anchored starts ends (Some m) = if nat_le 1 (length m.letters) && nat_le (length m.letters) 32 then Some (record { starts = starts; letters = m.letters; values = m.values; ends = ends }) else None
+anchored starts ends (Some m) = if nat_le 1 (length m.letters) && nat_le (length m.letters) 32
+    then Some (record { starts = starts; letters = m.letters; values = m.values; ends = ends })
+    else None
 
 -- 1 where it holds
 abbrev pub one_if : Bool → ℕ
@@ -66,7 +70,8 @@ after_front_dot cs = drop (one_if (has_front_dot cs)) cs
 
 -- the pattern that a line spells, if it has a reading: a dot or none, the letters and values, a dot or none
 unfoldable pub pattern_of : List ℕ → Option Pattern
-pattern_of cs = anchored (has_front_dot cs) (has_end_dot (after_front_dot cs)) (marks_of None (before_end_dot (after_front_dot cs)))
+pattern_of cs = anchored (has_front_dot cs) (has_end_dot (after_front_dot cs))
+    (marks_of None (before_end_dot (after_front_dot cs)))
 
 -- whether a line is skipped: it is blank, or a `#` or `%` begins it
 unfoldable pub is_skipped : List ℕ → Bool

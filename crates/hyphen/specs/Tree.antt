@@ -13,7 +13,8 @@ own_values n e = if e then (out-Node n).at_end.items else (out-Node n).anywhere.
 -- the same at letters; none is 0
 unfoldable pub values_in : Node → Bool → List ℕ → ℕ → ℕ
 values_in n e [] k = slice_index (own_values n e) k
-values_in n e (c ∷ cs) k = option_map_or (λ (child : Box Node Global). values_in child.value e cs k) (get_by (nat_cmp c) (out-Node n).next) 0
+values_in n e (c ∷ cs) k = option_map_or (λ (child : Box Node Global). values_in child.value e cs k)
+    (get_by (nat_cmp c) (out-Node n).next) 0
 
 -- the greater of both at a node, where a word ends there
 unfoldable pub node_values : Node → Bool → ℕ → ℕ

@@ -159,7 +159,8 @@ pub(crate) fn refill_items<'a>(
 ) -> Result<(), NoMem>
     requires printer { CanPrint printer.now }
     requires place { place < length printer.now.list.now.pages }
-    ensures items { OnOk result (items_in printer.now.faces.now items.new.items ≡ items_at (view_of printer.now) place) }
+    ensures items { OnOk result (items_in printer.now.faces.now items.new.items ≡
+        items_at (view_of printer.now) place) }
     ensures faces { OnOk result (HaveItemFaces printer.now.faces.now items.new.items) }
 {
     folds_keep_all();

@@ -122,8 +122,8 @@ fn listing_of(alloc: Global, printer: &Printer<'_>) -> Result<ListingBytes, NoMe
     Ok(listing)
 }
 
-/// Puts the listing of a page list. All of it is made in memory before the first put; what a page prints is made, written
-/// there, and let go before the next page.
+/// Puts the listing of a page list. All of it is made in memory before the first put; what a page prints is made,
+/// written there, and let go before the next page.
 ///
 /// # Errors
 ///

@@ -1,5 +1,5 @@
--- Lines that are known before they are read: each stands for a triple that is held, so it takes no step. How many of the
--- others there are bounds the steps of a reader.
+-- Lines that are known before they are read: each stands for a triple that is held, so it takes no step. How many of
+-- the others there are bounds the steps of a reader.
 use Rattle.std.specs.Prelude.{◌≡◌, ◌+◌, ◌≤◌, ℕ, ℤ, List, Bool, true, false, slice_get, if◌then◌else◌}
 use Rattle.std.specs.List.{filter, sum_by}
 use Rattle.std.specs.Option.{option_map_or}
@@ -25,10 +25,12 @@ abbrev pub is_known_in : (Asked → Bool) → Tree → ℤ → Position → Even
 is_known_in known t width at (Opens b) = false
 is_known_in known t width at (Closes b) = false
 is_known_in known t width at (Leaf number) =
-    option_map_or (λ (leaf : LeafData). known (asked_of leaf at.offset (leaf_measure t width at.event))) (slice_get t.leaves number) false
+    option_map_or (λ (leaf : LeafData). known (asked_of leaf at.offset (leaf_measure t width at.event)))
+    (slice_get t.leaves number) false
 
 unfoldable pub is_known_at : (Asked → Bool) → Tree → ℤ → Position → Bool
-is_known_at known t width at = option_map_or (λ (e : Event). is_known_in known t width at e) (slice_get t.events at.event) false
+is_known_at known t width at =
+    option_map_or (λ (e : Event). is_known_in known t width at e) (slice_get t.events at.event) false
 
 -- whether a solid is a line
 abbrev pub is_line_kind : SolidKind → Bool

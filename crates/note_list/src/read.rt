@@ -126,8 +126,8 @@ impl NoteList {
         Ok(())
     }
 
-    /// Reads a note on, from a place of its body, up to the first solid with which the area of all is above a height. Its
-    /// lines are kept by the number after its own.
+    /// Reads a note on, from a place of its body, up to the first solid with which the area of all is above a height.
+    /// Its lines are kept by the number after its own.
     fn read_body<L: Ledger>(
         &mut self,
         body: &BoxTree,

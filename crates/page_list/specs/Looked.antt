@@ -95,8 +95,8 @@ pub record IsLookedNotes (faces : List FontFace) (flow : Flow) (frame : Frame) (
   pub reaches : IsNoteReach (note_rows list) frame.height reach
   pub lines_is : lines ≡ new_looked_noted known flow frame list reach
 
--- how many lines a page of a flow may look at that aren't known: of its own solids, and of the notes that are carried to
--- it and those that are called in the solids that are taken
+-- how many lines a page of a flow may look at that aren't known: of its own solids, and of the notes that are carried
+-- to it and those that are called in the solids that are taken
 pub record IsLookedFlow (faces : List FontFace) (flow : Flow) (frame : Frame) (from : CutFrom) (carried : List Carried)
     (known : Asked → Bool) (lines : ℕ) : Type 0 where
   pub solids : List SolidView

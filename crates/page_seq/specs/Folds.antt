@@ -33,4 +33,5 @@ frames_on per frames place = take per (drop (per * place) frames)
 
 -- the pages of a list of frames, `per` on each and on the last one as many as are left
 abbrev pub fold_of : ℕ → List Page → List Page
-fold_of per frames = flat_map (λ place. page_of_frames (suc place) (frames_on per frames place)) (range_with_len 0 (page_at per (length frames)))
+fold_of per frames = flat_map
+    (λ place. page_of_frames (suc place) (frames_on per frames place)) (range_with_len 0 (page_at per (length frames)))

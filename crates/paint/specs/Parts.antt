@@ -286,7 +286,8 @@ abbrev pub AddsSolid : List Event → Placed → List Fragment → List Fragment
 AddsSolid es s old new = (solids : List Placed) → HaveSolids es solids old → HaveSolids es (solids ++ s ∷ []) new
 
 -- the boxes in which a page's solids stand, each with the solids whose innermost box it is, up to where one has gone
-pub record AreGathered (t : Tree) (measure : ℤ) (solids : List Placed) (parts : List Fragment) (at : Reached) : Type 0 where
+pub record AreGathered (t : Tree) (measure : ℤ) (solids : List Placed) (parts : List Fragment)
+    (at : Reached) : Type 0 where
   pub is_at : IsAt t measure parts at
   pub end : at.event ≤ length t.events
   pub behind : (s : Placed) → last_solid solids ≡ Some s →

@@ -278,8 +278,8 @@ fn begin_of(tree: &BoxTree, solids: &[Placed]) -> u32
     }
 }
 
-/// Gives the clone boxes that a page's end parts their lower edges again, and answers before which event those open that
-/// its start parts; where no box clones, nothing is done.
+/// Gives the clone boxes that a page's end parts their lower edges again, and answers before which event those open
+/// that its start parts; where no box clones, nothing is done.
 pub(crate) fn stand_again(
     parts: &mut Vec<Fragment>,
     tree: &BoxTree,

@@ -213,8 +213,8 @@ fn first_event(solids: &[Placed]) -> u32
     }
 }
 
-/// Appends to an empty list the boxes in which solids stand, in the order in which they open, each with the solids whose
-/// innermost box it is.
+/// Appends to an empty list the boxes in which solids stand, in the order in which they open, each with the solids
+/// whose innermost box it is.
 fn gather(
     parts: &mut Vec<Fragment>,
     tree: &BoxTree,
@@ -235,16 +235,16 @@ fn gather(
     Ok(reached)
 }
 
-/// The boxes in which solids stand, in the order in which they open, each with how far it reaches, and before which event
-/// those open that the page's start parts.
+/// The boxes in which solids stand, in the order in which they open, each with how far it reaches, and before which
+/// event those open that the page's start parts.
 #[derive(Drop)]
 pub(crate) struct Fragments {
     pub parts: Vec<Fragment>,
     pub from: u32,
 }
 
-/// The fragments of the boxes in which solids stand. Time goes with the solids, the boxes that are open at the first, and
-/// the events up to the last, and where a box clones, with the runs before the first and behind the last.
+/// The fragments of the boxes in which solids stand. Time goes with the solids, the boxes that are open at the first,
+/// and the events up to the last, and where a box clones, with the runs before the first and behind the last.
 pub(crate) fn fragments_of(
     alloc: Global,
     tree: &BoxTree,

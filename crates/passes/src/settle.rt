@@ -204,8 +204,8 @@ fn settle_for<Fr: Frames, L: Ledger>(
 
 /// Lays a document out in passes, each under the table that the pass before shows, the first under zeros, until a pass
 /// shows the table under which it is laid out: at most `limit` passes, which is at least 1. The flow and the pages of a
-/// pass that doesn't settle are let go before the next. Where passes settle, or don't within the limit, no more steps are
-/// taken than lines stand on pages, or as far below as their cuts may look, that the pass before didn't place.
+/// pass that doesn't settle are let go before the next. Where passes settle, or don't within the limit, no more steps
+/// are taken than lines stand on pages, or as far below as their cuts may look, that the pass before didn't place.
 ///
 /// # Errors
 ///

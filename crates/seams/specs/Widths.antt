@@ -1,5 +1,5 @@
--- The boxes that are open at a place: how wide their contents are (CSS 2.1, 10.3.3), and what of them stands again where
--- a page parts them (css-break-3, 5.4).
+-- The boxes that are open at a place: how wide their contents are (CSS 2.1, 10.3.3), and what of them stands again
+-- where a page parts them (css-break-3, 5.4).
 use Rattle.std.specs.Prelude.{◌≡◌, ℕ, suc, ◌*◌, ◌+◌, ◌^◌, ◌==◌, ℤ, pos, ◌≤ℤ◌, List, [], ◌∷◌, ◌++◌, Some, slice_get, if◌then◌else◌}
 use Rattle.boxes.specs.Clones.{clone_edges}
 use Rattle.boxes.specs.Tree.{Tree, open_before}

@@ -14,4 +14,5 @@ points_of known word = option_map (λ v. v.items) (get_by_text known word)
 
 -- each word that is known has the points that it has by the values of its places
 abbrev pub HavePoints : (List ℕ → ℕ → ℕ) → (List ℕ → Option (List ℕ)) → Type 0
-HavePoints value known = (word : List ℕ) → MatchOption (known word) (Unit {0}) (λ points. points ≡ word_points value word)
+HavePoints value known = (word : List ℕ) →
+    MatchOption (known word) (Unit {0}) (λ points. points ≡ word_points value word)

@@ -23,7 +23,8 @@ pub fn hyphenate(
 ) -> Result<JoinedText, NoMem>
     requires { length texts.ends ≡ length autos.now }
     ensures { (ts : List (List ℕ)) → texts ≡ laid_texts ts →
-        IfOk result (λ made. made ≡ laid_texts (hyphenated (Some (points_with (value_in hyphenator.now))) autos.now ts)) }
+        IfOk result (λ made. made ≡
+        laid_texts (hyphenated (Some (points_with (value_in hyphenator.now))) autos.now ts)) }
 {
     let offsets = offsets_of(alloc, texts.text(), texts.ends(), autos, hyphenator)?;
     put_texts(alloc, texts.text(), texts.ends(), &offsets)

@@ -22,8 +22,8 @@ use bk_num::values::{Align, BreakAt, Color, NumStyle, WhiteSpace};
 use std::alloc::Global;
 
 /// A computed style. `page` is the number of the used page name. Of `bool`: `float` is `footnote`, `font_style` is
-/// italic, `overflow_wrap` breaks anywhere, `break_inside` avoids, and `box_decoration_break` clones. Colours of borders are those that are painted,
-/// and a border whose style is none or hidden has the width 0.
+/// italic, `overflow_wrap` breaks anywhere, `break_inside` avoids, and `box_decoration_break` clones. Colours of
+/// borders are those that are painted, and a border whose style is none or hidden has the width 0.
 #[derive(Drop)]
 pub struct Style {
     pub display: Display,

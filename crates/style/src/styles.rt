@@ -44,8 +44,8 @@ impl Model for Styles {
     ghost invariant = { RowsHaveStyles };
 }
 
-/// The styles that are kept of nodes, by numbers, and which node has which. What follows from a style alone need be found
-/// only once for each. Contracts see the styles, and their numbers at nodes and pseudo-elements.
+/// The styles that are kept of nodes, by numbers, and which node has which. What follows from a style alone need be
+/// found only once for each. Contracts see the styles, and their numbers at nodes and pseudo-elements.
 #[derive(Drop)]
 pub struct StyleTable<'a> {
     styles: &'a [Style],

@@ -82,8 +82,9 @@ fn take(alloc: Global, tree: &mut BoxTree, step: &Step<'_>, clones: bool) -> Res
     }
 }
 
-/// The tree that the steps make; its boxes are sliced where none may stand again. An error where they make no whole tree, where more boxes are open at once or more
-/// bytes of text stand in it than a flow may have, or where memory is wanting.
+/// The tree that the steps make; its boxes are sliced where none may stand again. An error where they make no whole
+/// tree, where more boxes are open at once or more bytes of text stand in it than a flow may have, or where memory is
+/// wanting.
 pub fn tree_of(alloc: Global, steps: &[Step<'_>], clones: bool) -> Result<BoxTree, NoMem>
     ensures whole { IfOk result (λ tree. IsWhole tree.events) }
     ensures depth { IfOk result (λ tree. depth_of tree.events ≤ most_open) }
