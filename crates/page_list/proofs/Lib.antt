@@ -9,6 +9,7 @@ pub mod FallLemmas
 pub mod FewLemmas
 pub mod FirstSolidLemmas
 pub mod InsideLemmas
+pub mod LeafTexts
 pub mod LookedLemmas
 pub mod NextLemmas
 pub mod NoteRunLemmas

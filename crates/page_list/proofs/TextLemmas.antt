@@ -1,22 +1,18 @@
 -- The texts and edges of the solids that a tree has, joined, are the tree's.
-use Rattle.std.proofs.Common.{◌≡◌, ◌≢◌, ◌≤◌, ◌<◌, ◌+◌, ◌-◌, ℕ, zero, suc, Bool, true, false, cond, eqb, List, [], ◌∷◌, ◌++◌, Option, None, Some, length, drop, take, slice_get, append-nil, append_assoc, take-append-drop, add-one, refl, sym, ap, ◌∙◌, subst, arith, ◌⊎◌, ⊎_elim, inl, inr}
+use Rattle.std.proofs.Common.{◌≡◌, ◌≢◌, ◌+◌, ◌-◌, ℕ, zero, suc, Bool, true, false, cond, eqb, List, [], ◌∷◌, ◌++◌, None, Some, length, drop, take, slice_get, append_assoc, take-append-drop, add-one, refl, sym, ap, ◌∙◌, subst, arith, ◌⊎◌, inl, inr}
 use Rattle.std.specs.Prelude.{slice_range}
 use Rattle.std.specs.List.{flat_map}
-use Rattle.std.proofs.lemmas.Bool.{cases_lt, eq-eqb}
+use Rattle.std.proofs.lemmas.Bool.{eq-eqb}
 use Rattle.std.proofs.lemmas.Bool.Decides.{eqb_tells}
-use Rattle.std.proofs.lemmas.Grind.{flat_map-append}
 use Rattle.std.proofs.lemmas.List.{drop-drop, drop-append-le, take_rest}
 use Rattle.std.proofs.lemmas.Option.{slice_get_within}
 use Rattle.std.proofs.Math.Seq.{drop-nil}
 use Rattle.boxes.specs.Tree.{Tree, IsTree}
-use Rattle.boxes.specs.Tree.IsTree.{empty, opened, filled, closed}
 use Rattle.boxes.specs.declared.leaf.Leaf.{Leaf as LeafData}
 use Rattle.boxes.specs.declared.page.Placed.{Placed}
 use Rattle.boxes.specs.declared.place.Event.{Event}
 use Rattle.boxes.specs.declared.place.Event.TheVariants.{Opens, Closes, Leaf}
 use Rattle.boxes.specs.declared.place.Position.{Position}
-use Rattle.boxes.proofs.ListLemmas.{get-before, get-end}
-use Rattle.boxes.proofs.TreeFacts.{leaf_there}
 use Rattle.seams.specs.Runs.{solid_from, is_solid, is_solid_at}
 use Rattle.cursor.proofs.RemLemmas.{Stands, place}
 use Rattle.boxes.specs.declared.page.SolidKind.{SolidKind}
@@ -24,86 +20,21 @@ use Rattle.boxes.specs.declared.page.SolidKind.TheVariants.{OpenEdge, CloseEdge}
 use Rattle.page_list.specs.Parted.{IsPart, IsPartOfLeaf, IsNextSolid, AreNextSolids, HoldsAll, HoldsText, HoldsEdges, edges_among, edge_by, text_of, text_by, text_at, text_on}
 use Rattle.page_list.specs.Parted.IsPart.{line, upper, lower}
 use Rattle.seams.proofs.RunLemmas.{after_solid, drop_get}
-use Rattle.page_list.proofs.NextLemmas.{solid_at, start_stands}
-
--- the texts of the leaves among events
-abbrev texts : List LeafData → List Event → List ℕ
-texts leaves es = flat_map (λ e. text_by leaves (Some e)) es
-
--- ---- the leaves of a tree stand in order
-texts_more : (leaves : List LeafData) (leaf : LeafData) (es : List Event) → ((k l : ℕ) → slice_get es k ≡ Some (Leaf l) → l < length leaves) → texts (leaves ++ leaf ∷ []) es ≡ texts leaves es
-texts_more leaves leaf [] there = refl
-texts_more leaves leaf (Opens b ∷ es) there = texts_more leaves leaf es (λ k. there (suc k))
-texts_more leaves leaf (Closes b ∷ es) there = texts_more leaves leaf es (λ k. there (suc k))
-texts_more leaves leaf (Leaf l ∷ es) there =
-    ap (λ (o : Option LeafData). text_of o ++ texts (leaves ++ leaf ∷ []) es) (get-before leaves leaf l (there 0 l refl))
-    ∙ ap (λ (rest : List ℕ). text_of (slice_get leaves l) ++ rest) (texts_more leaves leaf es (λ k. there (suc k)))
-
-texts_push : (leaves : List LeafData) (es : List Event) (e : Event) → texts leaves (es ++ e ∷ []) ≡ texts leaves es ++ text_by leaves (Some e)
-texts_push leaves es e = flat_map-append (λ x. text_by leaves (Some x)) es (e ∷ []) ∙ ap (λ (rest : List ℕ). texts leaves es ++ rest) (append-nil (text_by leaves (Some e)))
-
-tree_texts : (t : Tree) → IsTree t → texts t.leaves t.events ≡ flat_map (λ l. l.text) t.leaves
-tree_texts _ empty = refl
-tree_texts _ (opened t p tree few there good) = texts_push t.leaves t.events (Opens (length t.boxes)) ∙ append-nil (texts t.leaves t.events) ∙ tree_texts t tree
-tree_texts _ (closed t b tree few at) = texts_push t.leaves t.events (Closes b) ∙ append-nil (texts t.leaves t.events) ∙ tree_texts t tree
-tree_texts _ (filled t leaf tree few there good owners) =
-    let more : List LeafData = t.leaves ++ leaf ∷ [] in
-    texts_push more t.events (Leaf (length t.leaves))
-    ∙ ap (λ (o : Option LeafData). texts more t.events ++ text_of o) (get-end t.leaves leaf)
-    ∙ ap (λ (prefix : List ℕ). prefix ++ leaf.text) (texts_more t.leaves leaf t.events (leaf_there t tree) ∙ tree_texts t tree)
-    ∙ sym (flat_map-append (λ (l : LeafData). l.text) t.leaves (leaf ∷ []) ∙ ap (λ (rest : List ℕ). flat_map (λ (l : LeafData). l.text) t.leaves ++ rest) (append-nil leaf.text))
+use Rattle.page_list.proofs.NextLemmas.{start_stands}
+use Rattle.page_list.proofs.LeafTexts.{texts, texts_found, texts_here, texts_none, tree_texts, offset_same, edge_begins, told_by}
 
 -- ---- the text from a place on
--- no leaf stands before the first solid
-texts_skip : (t : Tree) (es : List Event) (k n : ℕ) → solid_from t.boxes es k ≡ Some n → (m : ℕ) × (k + m ≡ n) × (texts t.leaves es ≡ texts t.leaves (drop m es))
-texts_skip t [] k n e = absurd (cc)
-texts_skip t (x ∷ es) k n e = by x (is_solid t.boxes x) refl e (texts_skip t es (suc k) n)
-  where
-    by : (y : Event) (b : Bool) → is_solid t.boxes y ≡ b → cond b (Some k) (solid_from t.boxes es (suc k)) ≡ Some n → (solid_from t.boxes es (suc k) ≡ Some n → (m : ℕ) × (suc k + m ≡ n) × (texts t.leaves es ≡ texts t.leaves (drop m es))) → (m : ℕ) × (k + m ≡ n) × (texts t.leaves (y ∷ es) ≡ texts t.leaves (drop m (y ∷ es)))
-    by y true is at more = let same : k ≡ n = cc in (0, omega arith, refl)
-    by (Opens b) false is at more = let f = more at in let n_is = f.1 in (suc f.0, omega arith, f.2)
-    by (Closes b) false is at more = let f = more at in let n_is = f.1 in (suc f.0, omega arith, f.2)
-    by (Leaf l) false is at more = absurd (let f : true ≡ false = is in cc)
-
-texts_none : (t : Tree) (es : List Event) (k : ℕ) → solid_from t.boxes es k ≡ None → texts t.leaves es ≡ []
-texts_none t [] k e = refl
-texts_none t (x ∷ es) k e = by x (is_solid t.boxes x) refl e (texts_none t es (suc k))
-  where
-    by : (y : Event) (b : Bool) → is_solid t.boxes y ≡ b → cond b (Some k) (solid_from t.boxes es (suc k)) ≡ None → (solid_from t.boxes es (suc k) ≡ None → texts t.leaves es ≡ []) → texts t.leaves (y ∷ es) ≡ []
-    by y true is at more = absurd (cc)
-    by (Opens b) false is at more = more at
-    by (Closes b) false is at more = more at
-    by (Leaf l) false is at more = absurd (let f : true ≡ false = is in cc)
+-- the text of a leaf
+abbrev leaf_text : LeafData → List ℕ
+leaf_text leaf = leaf.text
 
 abbrev text_from : Tree → Position → List ℕ
-text_from t at = drop at.offset (texts t.leaves (drop at.event t.events))
-
-texts_here : (t : Tree) (k l : ℕ) (leaf : LeafData) → slice_get t.events k ≡ Some (Leaf l) → slice_get t.leaves l ≡ Some leaf → texts t.leaves (drop k t.events) ≡ leaf.text ++ texts t.leaves (drop (suc k) t.events)
-texts_here t k l leaf at has =
-    ap (texts t.leaves) (drop_get t.events k (Leaf l) at) ∙ ap (λ (o : Option LeafData). text_of o ++ texts t.leaves (drop (suc k) t.events)) has
+text_from t at = drop at.offset (texts leaf_text t.leaves (drop at.event t.events))
 
 -- ---- the text of the next line
--- a line's offset is that of the place before it
-offset_same : (t : Tree) (at : Position) (p : Placed) → Stands t at → IsNextSolid t at p → p.at.offset ≡ at.offset
-offset_same t at p st n = by (eqb_tells p.at.event at.event)
-  where
-    by : ((eqb p.at.event at.event ≡ true) × (p.at.event ≡ at.event)) ⊎ ((eqb p.at.event at.event ≡ false) × (p.at.event ≢ at.event)) → p.at.offset ≡ at.offset
-    by (inl e) = n.begins ∙ ap (λ (b : Bool). cond b at.offset 0) e.0
-    by (inr e) =
-        let begins : p.at.offset ≡ 0 = n.begins ∙ ap (λ (b : Bool). cond b at.offset 0) e.0 in
-        ⊎_elim
-        (λ (o : 0 < at.offset).
-        let s = st.offset o in
-        let here : Some at.event ≡ Some p.at.event = sym (solid_at t at.event (ap (is_solid_at t.boxes) s.2)) ∙ n.found in
-        absurd (e.1 (let same : p.at.event ≡ at.event = cc in same)))
-        (λ (o : at.offset ≤ 0). omega arith)
-        (cases_lt 0 at.offset)
-
 text_before : (t : Tree) (at : Position) (p : Placed) → Stands t at → IsNextSolid t at p → text_from t at ≡ text_from t p.at
 text_before t at p st n =
-    let skip = texts_skip t (drop at.event t.events) at.event p.at.event n.found in
-    let there : drop skip.0 (drop at.event t.events) ≡ drop p.at.event t.events = drop-drop skip.0 at.event t.events ∙ ap (λ (k : ℕ). drop k t.events) skip.1 in
-    ap (drop at.offset) (skip.2 ∙ ap (texts t.leaves) there) ∙ ap (λ (o : ℕ). drop o (texts t.leaves (drop p.at.event t.events))) (sym (offset_same t at p st n))
+    ap (drop at.offset) (texts_found leaf_text t at.event p.at.event n.found) ∙ ap (λ (o : ℕ). drop o (texts leaf_text t.leaves (drop p.at.event t.events))) (sym (offset_same t at p st n))
 
 -- what a line takes of the text from its place on
 record Takes (t : Tree) (p : Placed) : Type 0 where
@@ -116,8 +47,8 @@ line_takes t p n = by (eqb_tells n.to (length n.leaf.text))
     here : text_at t p.at.event ≡ n.leaf.text
     here = ap (text_by t.leaves) n.names ∙ ap text_of n.has
 
-    left : text_from t p.at ≡ drop p.at.offset n.leaf.text ++ texts t.leaves (drop (suc p.at.event) t.events)
-    left = let a = n.after in let w = n.within in ap (drop p.at.offset) (texts_here t p.at.event n.number n.leaf n.names n.has) ∙ drop-append-le p.at.offset n.leaf.text (texts t.leaves (drop (suc p.at.event) t.events)) (omega arith)
+    left : text_from t p.at ≡ drop p.at.offset n.leaf.text ++ texts leaf_text t.leaves (drop (suc p.at.event) t.events)
+    left = let a = n.after in let w = n.within in ap (drop p.at.offset) (texts_here leaf_text t p.at.event n.number n.leaf n.names n.has) ∙ drop-append-le p.at.offset n.leaf.text (texts leaf_text t.leaves (drop (suc p.at.event) t.events)) (omega arith)
 
     on : (stop : ℕ) → cond (eqb p.end.event p.at.event) p.end.offset (length (text_at t p.at.event)) ≡ stop → text_on t p ≡ slice_range n.leaf.text p.at.offset stop
     on stop e = ap (slice_range (text_at t p.at.event) p.at.offset) e ∙ ap (λ (text : List ℕ). slice_range text p.at.offset stop) here
@@ -142,8 +73,8 @@ line_takes t p n = by (eqb_tells n.to (length n.leaf.text))
         let tells : eqb p.at.event p.at.event ≡ true = eq-eqb p.at.event p.at.event refl in
         let stop : cond (eqb p.end.event p.at.event) p.end.offset (length (text_at t p.at.event)) ≡ n.to =
         ap (λ (q : Position). cond (eqb q.event p.at.event) q.offset (length (text_at t p.at.event))) end ∙ ap (λ (b : Bool). cond b n.to (length (text_at t p.at.event))) tells in
-        let more : text_from t (place p.at.event n.to) ≡ drop n.to n.leaf.text ++ texts t.leaves (drop (suc p.at.event) t.events) =
-        ap (drop n.to) (texts_here t p.at.event n.number n.leaf n.names n.has) ∙ drop-append-le n.to n.leaf.text (texts t.leaves (drop (suc p.at.event) t.events)) n.within in
+        let more : text_from t (place p.at.event n.to) ≡ drop n.to n.leaf.text ++ texts leaf_text t.leaves (drop (suc p.at.event) t.events) =
+        ap (drop n.to) (texts_here leaf_text t p.at.event n.number n.leaf n.names n.has) ∙ drop-append-le n.to n.leaf.text (texts leaf_text t.leaves (drop (suc p.at.event) t.events)) n.within in
         let to_is : p.at.offset + (n.to - p.at.offset) ≡ n.to = omega arith in
         let cut : drop n.to n.leaf.text ≡ drop (n.to - p.at.offset) (drop p.at.offset n.leaf.text) = sym (drop-drop (n.to - p.at.offset) p.at.offset n.leaf.text ∙ ap (λ (k : ℕ). drop k n.leaf.text) to_is) in
         let words : List ℕ = slice_range n.leaf.text p.at.offset n.to in
@@ -151,19 +82,19 @@ line_takes t p n = by (eqb_tells n.to (length n.leaf.text))
         record {
           stands = subst (Stands t) (sym end) (record { within = omega arith; offset = λ o. (n.number, n.leaf, n.names, n.has, omega arith) });
           text = ap (λ (prefix : List ℕ). prefix ++ text_from t p.end) (on n.to stop) ∙ ap (λ (q : Position). words ++ text_from t q) end ∙ ap (λ (rest : List ℕ). words ++ rest) more
-              ∙ sym (append_assoc words (drop n.to n.leaf.text) (texts t.leaves (drop (suc p.at.event) t.events)))
-              ∙ ap (λ (prefix : List ℕ). prefix ++ texts t.leaves (drop (suc p.at.event) t.events)) (ap (λ (rest : List ℕ). words ++ rest) cut ∙ take-append-drop (n.to - p.at.offset) (drop p.at.offset n.leaf.text))
+              ∙ sym (append_assoc words (drop n.to n.leaf.text) (texts leaf_text t.leaves (drop (suc p.at.event) t.events)))
+              ∙ ap (λ (prefix : List ℕ). prefix ++ texts leaf_text t.leaves (drop (suc p.at.event) t.events)) (ap (λ (rest : List ℕ). words ++ rest) cut ∙ take-append-drop (n.to - p.at.offset) (drop p.at.offset n.leaf.text))
               ∙ sym left;
         }
 
 -- an edge takes none
-edge_takes : (t : Tree) (p : Placed) (e : Event) → slice_get t.events p.at.event ≡ Some e → text_by t.leaves (Some e) ≡ [] → p.at.offset ≡ 0 → p.end ≡ place (p.at.event + 1) 0 → Takes t p
-edge_takes t p e at bare begins ends =
+edge_takes : (t : Tree) (p : Placed) (e : Event) → slice_get t.events p.at.event ≡ Some e → text_by t.leaves (Some e) ≡ [] → told_by leaf_text t.leaves (Some e) ≡ [] → p.at.offset ≡ 0 → p.end ≡ place (p.at.event + 1) 0 → Takes t p
+edge_takes t p e at bare plain begins ends =
     let end : p.end ≡ place (suc p.at.event) 0 = ends ∙ ap (λ (k : ℕ). place k 0) (add-one p.at.event) in
     let none : text_at t p.at.event ≡ [] = ap (text_by t.leaves) at ∙ bare in
     let bare_on : text_on t p ≡ [] = ap (λ (text : List ℕ). slice_range text p.at.offset (cond (eqb p.end.event p.at.event) p.end.offset (length (text_at t p.at.event)))) none ∙ slice_none p.at.offset (cond (eqb p.end.event p.at.event) p.end.offset (length (text_at t p.at.event))) in
-    let left : text_from t p.at ≡ texts t.leaves (drop (suc p.at.event) t.events) =
-    ap (λ (o : ℕ). drop o (texts t.leaves (drop p.at.event t.events))) begins ∙ ap (texts t.leaves) (drop_get t.events p.at.event e at) ∙ ap (λ (prefix : List ℕ). prefix ++ texts t.leaves (drop (suc p.at.event) t.events)) bare in
+    let left : text_from t p.at ≡ texts leaf_text t.leaves (drop (suc p.at.event) t.events) =
+    ap (λ (o : ℕ). drop o (texts leaf_text t.leaves (drop p.at.event t.events))) begins ∙ ap (texts leaf_text t.leaves) (drop_get t.events p.at.event e at) ∙ ap (λ (prefix : List ℕ). prefix ++ texts leaf_text t.leaves (drop (suc p.at.event) t.events)) plain in
     let low = slice_get_within t.events p.at.event e at in
     record {
       stands = subst (Stands t) (sym end) (record { within = omega arith; offset = λ o. absurd (omega arith) });
@@ -181,22 +112,15 @@ takes : (t : Tree) (at : Position) (p : Placed) → Stands t at → IsNextSolid 
 takes t at p st n = by n.part
   where
     none : ((l : ℕ) → slice_get t.events p.at.event ≡ Some (Leaf l) → ⊥) → p.at.offset ≡ 0
-    none other = offset_same t at p st n ∙ ⊎_elim
-        (λ (o : 0 < at.offset).
-        let s = st.offset o in
-        let here : Some at.event ≡ Some p.at.event = sym (solid_at t at.event (ap (is_solid_at t.boxes) s.2)) ∙ n.found in
-        let same : at.event ≡ p.at.event = cc in
-        absurd (other s.0 (ap (slice_get t.events) (sym same) ∙ s.2)))
-        (λ (o : at.offset ≤ 0). omega arith)
-        (cases_lt 0 at.offset)
+    none = edge_begins t at p st n
 
     by : IsPart t p → Takes t p
     by (line l) = line_takes t p l
-    by (upper b e l) = edge_takes t p (Opens b) e refl (none (λ k f. let g = sym e ∙ f in cc)) l.ends
-    by (lower b e l) = edge_takes t p (Closes b) e refl (none (λ k f. let g = sym e ∙ f in cc)) l.ends
+    by (upper b e l) = edge_takes t p (Opens b) e refl refl (none (λ k f. let g = sym e ∙ f in cc)) l.ends
+    by (lower b e l) = edge_takes t p (Closes b) e refl refl (none (λ k f. let g = sym e ∙ f in cc)) l.ends
 
 lines_text : (t : Tree) (at : Position) (lines : List Placed) → Stands t at → AreNextSolids t at lines → flat_map (text_on t) lines ≡ text_from t at
-lines_text t at [] st none = sym (ap (drop at.offset) (texts_none t (drop at.event t.events) at.event none) ∙ drop-nil at.offset)
+lines_text t at [] st none = sym (ap (drop at.offset) (texts_none leaf_text t (drop at.event t.events) at.event none) ∙ drop-nil at.offset)
 lines_text t at (p ∷ lines) st r =
     let n : IsNextSolid t at p = r.1.0 in
     let took = takes t at p st n in
@@ -204,7 +128,7 @@ lines_text t at (p ∷ lines) st r =
     ap (λ (more : List ℕ). text_on t p ++ more) (rest ∙ ap (text_from t) r.1.1) ∙ took.text ∙ sym (text_before t at p st n)
 
 pub parted_text : (t : Tree) (lines : List Placed) → IsTree t → HoldsAll t lines → HoldsText t lines
-parted_text t lines tree parted = lines_text t (place 0 0) lines (start_stands t) parted ∙ tree_texts t tree
+parted_text t lines tree parted = lines_text t (place 0 0) lines (start_stands t) parted ∙ tree_texts leaf_text t tree
 
 -- ---- the edges
 edges_skip : (t : Tree) (es : List Event) (k n : ℕ) → solid_from t.boxes es k ≡ Some n → (m : ℕ) × (k + m ≡ n) × (edges_among t.boxes es ≡ edges_among t.boxes (drop m es))
