@@ -1,5 +1,5 @@
 -- Columns keep the bounds of frames, and one column is the frame of its page.
-use Rattle.std.proofs.Common.{◌≡◌, ◌≤◌, ◌<◌, ◌∙◌, ℕ, ◌+◌, ◌-◌, ◌*◌, ◌/◌, ◌^◌, ⊎_elim, length, ℤ, pos, negsuc, ◌≤ℤ◌, ◌+ℤ◌, ◌-ℤ◌, ◌*ℤ◌, List, refl, sym, ap, subst, arith, div-le_self}
+use Rattle.std.proofs.Common.{◌≡◌, ◌≤◌, ◌<◌, ◌∙◌, ℕ, ◌+◌, ◌-◌, ◌*◌, ◌/◌, ◌^◌, ⊎_elim, length, ℤ, pos, negsuc, ◌≤ℤ◌, ◌+ℤ◌, ◌-ℤ◌, ◌*ℤ◌, List, sym, ap, subst, arith, div-le_self}
 use Rattle.std.specs.Int.{int_max}
 use Rattle.std.specs.Prelude.{neg_ℤ}
 use Rattle.std.proofs.lemmas.Int.{ints, clamps}
@@ -16,6 +16,7 @@ use Rattle.boxes.specs.declared.frames.Frame.{Frame}
 use Rattle.boxes.specs.declared.frames.PageKind.{PageKind}
 use Rattle.boxes.specs.declared.page.Page.{Page}
 use Rattle.columns.specs.Columns.{IsNearFrame, column_of, column_width}
+use Rattle.columns.proofs.OneLemmas.{only_column}
 use Rattle.page_seq.specs.FoldLaws.{FoldsKeepAll}
 use Rattle.page_seq.specs.Folds.{fold_of}
 
@@ -75,19 +76,6 @@ good_column count place gap f per within low high good near =
     }
 
 -- ---- one column
-
-whole_width : (gap width : ℤ) → pos 0 ≤ℤ width → column_width 1 gap width ≡ width
-whole_width gap (pos n) low =
-    let e : pos n -ℤ pos (1 - 1) *ℤ gap ≡ pos n = grind (arith, ints) in
-    let d : n / 1 ≡ n = grind arith in
-    ap (λ z. int_max (pos 0) (floor_div z 1)) e ∙ ap (λ k. int_max (pos 0) (pos k)) d ∙ omega (arith, ints, clamps)
-whole_width gap (negsuc n) low = absurd (omega (arith, ints))
-
-no_step : (left step : ℤ) → left +ℤ pos 0 *ℤ step ≡ left
-no_step left step = grind (arith, ints)
-
-only_column : (gap : ℤ) (f : Frame) → pos 0 ≤ℤ f.width → column_of 1 gap f 0 ≡ f
-only_column gap f low = rw (no_step f.left (column_width 1 gap f.width +ℤ gap), whole_width gap f.width low) refl
 
 -- columns of the frames of pages
 abbrev pub columns_in : (ℕ → NameId → PageKind → Frame) → ℕ → ℤ → PageFrames

@@ -16,21 +16,21 @@ use Rattle.columns.specs.Laws.{OneColumnIsThePage}
 use Rattle.page_seq.specs.Frames.{IsGoodTable, frame_of as page_frame_of}
 use Rattle.page_seq.specs.GoodFrames.{good_frame}
 
-whole : (gap width : ℤ) → pos 0 ≤ℤ width → column_width 1 gap width ≡ width
-whole gap (pos n) low = let e : pos n -ℤ pos (1 - 1) *ℤ gap ≡ pos n = grind (arith, ints) in ap (λ z. int_max (pos 0) (floor_div z 1)) e ∙ (let d : n / 1 ≡ n = grind arith in ap (λ k. int_max (pos 0) (pos k)) d ∙ omega (arith, ints, clamps))
-whole gap (negsuc n) low = absurd (omega (arith, ints))
+whole_width : (gap width : ℤ) → pos 0 ≤ℤ width → column_width 1 gap width ≡ width
+whole_width gap (pos n) low = let e : pos n -ℤ pos (1 - 1) *ℤ gap ≡ pos n = grind (arith, ints) in ap (λ z. int_max (pos 0) (floor_div z 1)) e ∙ (let d : n / 1 ≡ n = grind arith in ap (λ k. int_max (pos 0) (pos k)) d ∙ omega (arith, ints, clamps))
+whole_width gap (negsuc n) low = absurd (omega (arith, ints))
 
 no_step : (left step : ℤ) → left +ℤ pos 0 *ℤ step ≡ left
 no_step left step = grind (arith, ints)
 
-first : (gap : ℤ) (f : Frame) → pos 0 ≤ℤ f.width → column_of 1 gap f 0 ≡ f
-first gap f low = rw (no_step f.left (column_width 1 gap f.width +ℤ gap), whole gap f.width low) refl
+pub only_column : (gap : ℤ) (f : Frame) → pos 0 ≤ℤ f.width → column_of 1 gap f 0 ≡ f
+only_column gap f low = rw (no_step f.left (column_width 1 gap f.width +ℤ gap), whole_width gap f.width low) refl
 
 same_frame : (rows : List PageRow) (gap : ℤ) → IsGoodTable rows → (index : ℕ) (name : NameId) (kind : PageKind) → frame_of rows 1 gap index name kind ≡ page_frame_of rows index name kind
 same_frame rows gap good index name kind =
     let page : page_at 1 index ≡ index = grind arith in
     let column : column_at 1 index ≡ 0 = grind arith in
-    ap (λ k. column_of 1 gap (page_frame_of rows (page_at 1 index) name kind) k) column ∙ (ap (λ i. column_of 1 gap (page_frame_of rows i name kind) 0) page ∙ first gap (page_frame_of rows index name kind) (good_frame rows good index name kind).width_low)
+    ap (λ k. column_of 1 gap (page_frame_of rows (page_at 1 index) name kind) k) column ∙ (ap (λ i. column_of 1 gap (page_frame_of rows i name kind) 0) page ∙ only_column gap (page_frame_of rows index name kind) (good_frame rows good index name kind).width_low)
 
 abbrev seen : (ℕ → Demand → Bool) → (ℕ → NameId → PageKind → Frame) → PageFrames
 seen meets frame = record { meets = meets; frame_of = frame }
