@@ -20,9 +20,10 @@ use Rattle.boxes.specs.declared.place.Position.{Position}
 use Rattle.seams.specs.Runs.{is_solid_at}
 use Rattle.seams.proofs.RunLemmas.{drop_get}
 use Rattle.cursor.proofs.RemLemmas.{Stands, place}
+use Rattle.cursor.proofs.PartLemmas.{solid_itself}
 use Rattle.page_list.specs.Parted.{IsPart, IsPartOfLeaf, IsNextSolid, AreNextSolids, HoldsAll, solids_of}
 use Rattle.page_list.specs.Parted.IsPart.{line, upper, lower}
-use Rattle.page_list.proofs.NextLemmas.{solid_at, start_stands}
+use Rattle.page_list.proofs.NextLemmas.{start_stands}
 use Rattle.page_list.proofs.LeafTexts.{told, told_by, texts, texts_found, texts_here, texts_none, tree_texts, offset_same, edge_begins}
 use Rattle.paint.specs.Items.{for_some, line_of}
 use Rattle.paint.specs.Pages.{flow_origin, tree_items}
@@ -73,7 +74,7 @@ text_before t at p st n = by (cases_lt 0 at.offset)
     by : (0 < at.offset) ⊎ (at.offset ≤ 0) → text_from t at ≡ text_from t p.at
     by (inl o) =
         let s = st.offset o in
-        let here : Some at.event ≡ Some p.at.event = sym (solid_at t at.event (ap (is_solid_at t.boxes) s.2)) ∙ n.found in
+        let here : Some at.event ≡ Some p.at.event = sym (solid_itself t at.event (ap (is_solid_at t.boxes) s.2)) ∙ n.found in
         let event : at.event ≡ p.at.event = cc in
         ap₂ (λ (e o : ℕ). text_from t (place e o)) event (sym offset)
     by (inr o) = from_start t at (omega arith) ∙ texts_found leaf_text t at.event p.at.event n.found ∙ sym (from_start t p.at (omega (arith, offset, o)))
@@ -168,7 +169,7 @@ lines_text t at [] st none = sym (by (eqb_tells at.offset 0))
     by (inl e) = from_start t at e.1 ∙ texts_none leaf_text t (drop at.event t.events) at.event none
     by (inr e) =
         let s = st.offset (omega (arith, e.1)) in
-        let here = solid_at t at.event (ap (is_solid_at t.boxes) s.2) in
+        let here = solid_itself t at.event (ap (is_solid_at t.boxes) s.2) in
         absurd (let f : Some at.event ≡ None = sym here ∙ none in cc)
 lines_text t at (p ∷ lines) st r =
     let n : IsNextSolid t at p = r.1.0 in

@@ -186,14 +186,16 @@ low_next t from n (Leaf l) tree low order there none = absurd (not_true (sym non
 
 -- ---- solids before an event
 
-solid_itself : (t : Tree) (k : ℕ) → is_solid_at t.boxes (slice_get t.events k) ≡ true → solid_after t k ≡ Some k
+-- a solid is the first one from itself on
+pub solid_itself : (t : Tree) (k : ℕ) → is_solid_at t.boxes (slice_get t.events k) ≡ true → solid_after t k ≡ Some k
 solid_itself t k is = solid_step t k true (go (slice_get t.events k) refl is) is
   where
     go : (o : Option Event) → slice_get t.events k ≡ o → is_solid_at t.boxes o ≡ true → k < length t.events
     go None e is = absurd (not_true is)
     go (Some event) e is = slice_get_within t.events k event e
 
-before_next : (t : Tree) (d j e : ℕ) → j + d ≡ e → solid_after t j ≡ Some e → solid_before t e ≡ solid_before t j
+-- no solid stands between an event and the first solid from it on
+pub before_next : (t : Tree) (d j e : ℕ) → j + d ≡ e → solid_after t j ≡ Some e → solid_before t e ≡ solid_before t j
 before_next t zero j e n found = ap (solid_before t) (omega arith)
 before_next t (suc d) j e n found = by (is_solid_at t.boxes (slice_get t.events j)) refl (λ next. before_next t d (suc j) e (omega arith) next)
   where
@@ -206,10 +208,10 @@ before_next t (suc d) j e n found = by (is_solid_at t.boxes (slice_get t.events 
         let next : solid_after t (suc j) ≡ Some e = sym (solid_step t j false inside is) ∙ found in
         more next ∙ ap (λ (b : Bool). cond b (Some j) (solid_before t j)) is
 
-before_found : (t : Tree) (j e : ℕ) → solid_after t j ≡ Some e → solid_before t e ≡ solid_before t j
+pub before_found : (t : Tree) (j e : ℕ) → solid_after t j ≡ Some e → solid_before t e ≡ solid_before t j
 before_found t j e found = let low = (after_solid t j e found).0 in before_next t (e - j) j e (omega arith) found
 
-solid_here : (t : Tree) (from event : ℕ) → solid_after t from ≡ Some event → solid_before t (event + 1) ≡ Some event
+pub solid_here : (t : Tree) (from event : ℕ) → solid_after t from ≡ Some event → solid_before t (event + 1) ≡ Some event
 solid_here t from event found = ap (solid_before t) (add-one event) ∙ ap (λ (b : Bool). cond b (Some event) (solid_before t event)) (after_solid t from event found).1
 
 -- ---- the walk from a line on

@@ -12,10 +12,11 @@ use Rattle.cursor.specs.declared.solid.Solid.{Solid}
 use Rattle.cursor.specs.Fields.{solid_view}
 use Rattle.cursor.specs.Remainder.{SolidView, IsSmallSolid}
 use Rattle.cuts.specs.declared.row.SolidRow.{SolidRow}
-use Rattle.cuts.specs.Rows.{rows_bottom, rows_extent, row_gap, row_height, top_gap}
+use Rattle.cuts.specs.Rows.{rows_bottom, rows_extent, row_gap, row_height}
 use Rattle.cuts.proofs.AppendLemmas.{extent-append}
 use Rattle.note_list.specs.Places.{IsNear}
 use Rattle.page_list.specs.Cuts.{first_gap, placed_below, placed_from, row_of, rows_of}
+use Rattle.page_list.proofs.InsideLemmas.{Are, shift, one_more, top_is}
 use Rattle.fragment.specs.Solids.{foot_from}
 
 -- ---- the tops
@@ -51,16 +52,6 @@ near_first kept solids few small =
     near_from (first_gap kept (map solid_view solids)) (map solid_view solids) (rw length-map few) (first_near kept (map solid_view solids) views) views
 
 -- ---- the greatest bottom
--- the rows of a list from a place on are those of some solids
-abbrev Are : Tree → List SolidRow → ℕ → List SolidView → Type 0
-Are t whole n xs = (k : ℕ) (s : SolidView) → slice_get xs k ≡ Some s → slice_get whole (n + k) ≡ Some (row_of t s)
-
-shift : (n m : ℕ) → n + suc m ≡ suc n + m
-shift n m = omega arith
-
-one_more : (k : ℕ) → suc k ≡ 1 + k
-one_more k = omega arith
-
 foot_below : (t : Tree) (kept : Bool) (whole : List SolidRow) (n : ℕ) (xs : List SolidView) → Are t whole (suc n) xs → foot_from (rows_extent kept whole (suc n)) (placed_below (rows_bottom kept whole (suc n)) xs) ≡ rows_extent kept whole (suc n + length xs)
 foot_below t kept whole n [] same = ap (rows_extent kept whole) (sym (add-zero (suc n)))
 foot_below t kept whole n (s ∷ xs) same =
@@ -70,10 +61,6 @@ foot_below t kept whole n (s ∷ xs) same =
     ap (λ (b : ℤ). foot_from (int_max (rows_extent kept whole (suc n)) b) (placed_below b xs)) here
     ∙ foot_below t kept whole (suc n) xs later
     ∙ ap (rows_extent kept whole) (sym (shift (suc n) (length xs)))
-
--- the first solid of a page
-top_is : (t : Tree) (kept : Bool) (s : SolidView) (xs : List SolidView) → top_gap kept (Some (row_of t s)) ≡ first_gap kept (s ∷ xs)
-top_is t kept s xs = refl
 
 foot_all : (t : Tree) (kept : Bool) (solids : List SolidView) → foot_from (pos 0) (placed_from (first_gap kept solids) solids) ≡ rows_extent kept (rows_of t solids) (length solids)
 foot_all t kept [] = refl

@@ -15,6 +15,7 @@ use Rattle.cursor.specs.Remainder.{SolidView, IsSolid, IsContent, leaf_measure, 
 use Rattle.cursor.specs.Remainder.IsContent.{of_line, of_open, of_close}
 use Rattle.cursor.proofs.RemLemmas.{Stands, solid_stands, begins_of, found_of, solid_within}
 use Rattle.page_seq.specs.Places.{anchor_of, is_before}
+use Rattle.page_seq.proofs.PlaceLemmas.{IsNoLater}
 use Rattle.note_list.specs.Calls.{called_before, end_after as end_behind, end_before}
 use Rattle.page_list.specs.Cuts.{place_after}
 use Rattle.fragment.specs.Reads.{called_by}
@@ -23,9 +24,6 @@ abbrev place : ℕ → ℕ → Position
 place event offset = record { event = event; offset = offset }
 
 -- ---- the order of places
-abbrev pub IsNoLater : Position → Position → Type 0
-IsNoLater a b = (a.event < b.event) ⊎ ((a.event ≡ b.event) × (a.offset ≤ b.offset))
-
 pub no_later_on : (a b c : Position) → IsNoLater a b → IsNoLater b c → IsNoLater a c
 no_later_on a b c l m = grind arith
 

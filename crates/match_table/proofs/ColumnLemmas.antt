@@ -14,7 +14,7 @@ use Rattle.selectors.specs.Selectors.{SelectorView}
 use Rattle.selectors.specs.Match.{Tree, parent_of, IsAbove, nearest, further, IsEarlier, just_before, long_before, fits, Reaches, Stands, StandBy, joins_by}
 use Rattle.match_table.specs.Columns.{ReachFrom, IsCell, AreCells}
 use Rattle.selectors.proofs.SetLemmas.{has_none}
-use Rattle.selectors.proofs.Pending.{joins_is, joined_by}
+use Rattle.selectors.proofs.Pending.{joins_is, joined_by, no_above, above_step, no_earlier, earlier_step}
 
 -- ---- the nodes that a node lies in
 
@@ -25,17 +25,9 @@ pub child-is : (dom : Tree) (s : SelectorView) (n : ℕ) (c : Cell) (k : ℕ) �
 child-is dom s n c k (inl (none, reach, above)) = (λ h. absurd (let f : true ≡ false = sym h ∙ ap (λ x. has x k) reach ∙ has_none k in cc), λ r. absurd (let f : ◌≡◌ {A = Option ℕ} None (Some r.0) = sym none ∙ r.1 in cc))
 child-is dom s n c k (inr (p, at, is)) = (λ h. (p, at, (is.reach k).0 h), λ r. (is.reach k).1 (subst (λ m. Reaches dom s k m) (same_Some r.0 p (sym r.1 ∙ at)) r.2))
 
-no-above : (dom : Tree) (m n : ℕ) → parent_of dom n ≡ None → IsAbove dom m n → ⊥
-no-above dom m n none (nearest e) = let f : ◌≡◌ {A = Option ℕ} None (Some m) = sym none ∙ e in cc
-no-above dom m n none (further p e a) = let f : ◌≡◌ {A = Option ℕ} None (Some p) = sym none ∙ e in cc
-
-above-step : (dom : Tree) (m n p : ℕ) → parent_of dom n ≡ Some p → IsAbove dom m n → (m ≡ p) ⊎ IsAbove dom m p
-above-step dom m n p at (nearest e) = inl (same_Some m p (sym e ∙ at))
-above-step dom m n p at (further q e a) = inr (subst (λ x. IsAbove dom m x) (same_Some q p (sym e ∙ at)) a)
-
 pub inside-is : (dom : Tree) (s : SelectorView) (n : ℕ) (c : Cell) (k : ℕ) (above : ℕ) → has above k ≡ (has c.above k || has c.reach k) → IsOuter dom s n c → (has above k ≡ true) ↔ ReachFrom dom s (λ m. IsAbove dom m n) k
 inside-is dom s n c k above union (inl (none, reach, empty)) =
-    (λ h. absurd (let f : true ≡ false = sym h ∙ union ∙ rw (empty, reach, has_none k) refl in cc), λ r. absurd (no-above dom r.0 n none r.1))
+    (λ h. absurd (let f : true ≡ false = sym h ∙ union ∙ rw (empty, reach, has_none k) refl in cc), λ r. absurd (no_above dom r.0 n none r.1))
 inside-is dom s n c k above union (inr (p, at, is)) = (there, back)
   where
     there : has above k ≡ true → ReachFrom dom s (λ m. IsAbove dom m n) k
@@ -45,7 +37,7 @@ inside-is dom s n c k above union (inr (p, at, is)) = (there, back)
     ]
 
     back : ReachFrom dom s (λ m. IsAbove dom m n) k → has above k ≡ true
-    back (m, a, r) = union ∙ (elim (above-step dom m n p at a) [
+    back (m, a, r) = union ∙ (elim (above_step dom m n p at a) [
       | inl e ↦ or_right (has c.above k) (has c.reach k) ((is.reach k).1 (subst (λ x. Reaches dom s k x) e r))
       | inr b ↦ or_left (has c.above k) (has c.reach k) ((is.above k).1 (m, b, r))
     ])
@@ -59,17 +51,9 @@ pub next-is : (dom : Tree) (s : SelectorView) (n : ℕ) (c : Cell) (k : ℕ) →
 next-is dom s n c k (inl (none, reach, before)) = (λ h. absurd (let f : true ≡ false = sym h ∙ ap (λ x. has x k) reach ∙ has_none k in cc), λ r. absurd (let f : ◌≡◌ {A = Option ℕ} None (Some r.0) = sym none ∙ r.1 in cc))
 next-is dom s n c k (inr (p, at, is)) = (λ h. (p, at, (is.reach k).0 h), λ r. (is.reach k).1 (subst (λ m. Reaches dom s k m) (same_Some r.0 p (sym r.1 ∙ at)) r.2))
 
-no-earlier : (dom : Tree) (m n : ℕ) → prev_element dom n ≡ None → IsEarlier dom m n → ⊥
-no-earlier dom m n none (just_before e) = let f : ◌≡◌ {A = Option ℕ} None (Some m) = sym none ∙ e in cc
-no-earlier dom m n none (long_before p e a) = let f : ◌≡◌ {A = Option ℕ} None (Some p) = sym none ∙ e in cc
-
-earlier-step : (dom : Tree) (m n p : ℕ) → prev_element dom n ≡ Some p → IsEarlier dom m n → (m ≡ p) ⊎ IsEarlier dom m p
-earlier-step dom m n p at (just_before e) = inl (same_Some m p (sym e ∙ at))
-earlier-step dom m n p at (long_before q e a) = inr (subst (λ x. IsEarlier dom m x) (same_Some q p (sym e ∙ at)) a)
-
 pub later-is : (dom : Tree) (s : SelectorView) (n : ℕ) (c : Cell) (k : ℕ) (before : ℕ) → has before k ≡ (has c.before k || has c.reach k) → IsBeside dom s n c → (has before k ≡ true) ↔ ReachFrom dom s (λ m. IsEarlier dom m n) k
 later-is dom s n c k before union (inl (none, reach, empty)) =
-    (λ h. absurd (let f : true ≡ false = sym h ∙ union ∙ rw (empty, reach, has_none k) refl in cc), λ r. absurd (no-earlier dom r.0 n none r.1))
+    (λ h. absurd (let f : true ≡ false = sym h ∙ union ∙ rw (empty, reach, has_none k) refl in cc), λ r. absurd (no_earlier dom r.0 n none r.1))
 later-is dom s n c k before union (inr (p, at, is)) = (there, back)
   where
     there : has before k ≡ true → ReachFrom dom s (λ m. IsEarlier dom m n) k
@@ -79,7 +63,7 @@ later-is dom s n c k before union (inr (p, at, is)) = (there, back)
     ]
 
     back : ReachFrom dom s (λ m. IsEarlier dom m n) k → has before k ≡ true
-    back (m, a, r) = union ∙ (elim (earlier-step dom m n p at a) [
+    back (m, a, r) = union ∙ (elim (earlier_step dom m n p at a) [
       | inl e ↦ or_right (has c.before k) (has c.reach k) ((is.reach k).1 (subst (λ x. Reaches dom s k x) e r))
       | inr b ↦ or_left (has c.before k) (has c.reach k) ((is.before k).1 (m, b, r))
     ])

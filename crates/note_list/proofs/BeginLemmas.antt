@@ -12,7 +12,8 @@ use Rattle.seams.specs.Runs.{is_solid_at, solid_after, solid_before}
 use Rattle.seams.proofs.RunLemmas.{after_solid, solid_step}
 use Rattle.cursor.specs.Remainder.{IsContent, IsLineSolid, IsRemainder, IsSolid, SolidView, leaf_measure}
 use Rattle.cursor.specs.Remainder.IsContent.{of_line, of_open, of_close}
-use Rattle.cursor.proofs.RemLemmas.{Stands, begins_of, found_of, place, solid_stands, solid_within}
+use Rattle.cursor.proofs.RemLemmas.{Stands, begins_of, found_of, place, solid_stands}
+use Rattle.cursor.proofs.PartLemmas.{solid_itself, before_found}
 use Rattle.note_list.specs.Calls.{start_place}
 use Rattle.note_list.specs.Lists.{NotePart, is_first, noted}
 use Rattle.note_list.specs.Reads.{has_begin}
@@ -25,27 +26,6 @@ event_within t k is = go (slice_get t.events k) refl is
     go : (o : Option Event) → slice_get t.events k ≡ o → is_solid_at t.boxes o ≡ true → k < length t.events
     go None e is = absurd (cc)
     go (Some event) e is = slice_get_within t.events k event e
-
--- a solid is the first one from itself on
-pub solid_itself : (t : Tree) (k : ℕ) → is_solid_at t.boxes (slice_get t.events k) ≡ true → solid_after t k ≡ Some k
-solid_itself t k is = solid_step t k true (event_within t k is) is
-
--- no solid stands between an event and the first solid from it on
-pub before_next : (t : Tree) (d j e : ℕ) → j + d ≡ e → solid_after t j ≡ Some e → solid_before t e ≡ solid_before t j
-before_next t zero j e n found = ap (solid_before t) (omega arith)
-before_next t (suc d) j e n found = by (is_solid_at t.boxes (slice_get t.events j)) refl (λ next. before_next t d (suc j) e (omega arith) next)
-  where
-    inside : j < length t.events
-    inside = let w = solid_within t j e found in omega arith
-
-    by : (b : Bool) → is_solid_at t.boxes (slice_get t.events j) ≡ b → (solid_after t (suc j) ≡ Some e → solid_before t e ≡ solid_before t (suc j)) → solid_before t e ≡ solid_before t j
-    by true is more = absurd (let f : Some e ≡ Some j = sym found ∙ solid_itself t j is in let g : e ≡ j = cc in omega arith)
-    by false is more =
-        let next : solid_after t (suc j) ≡ Some e = sym (solid_step t j false inside is) ∙ found in
-        more next ∙ ap (λ (b : Bool). cond b (Some j) (solid_before t j)) is
-
-pub before_found : (t : Tree) (j e : ℕ) → solid_after t j ≡ Some e → solid_before t e ≡ solid_before t j
-before_found t j e found = let low = (after_solid t j e found).0 in before_next t (e - j) j e (omega arith) found
 
 -- where no solid stands before one, it is the first of all
 none_before : (t : Tree) (m j : ℕ) → solid_before t m ≡ None → j < m → is_solid_at t.boxes (slice_get t.events j) ≡ false

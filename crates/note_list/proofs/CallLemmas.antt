@@ -1,5 +1,5 @@
 -- How many notes are called before a place.
-use Rattle.std.proofs.Common.{◌≡◌, ℕ, zero, suc, ◌+◌, ◌-◌, ◌<◌, ◌≤◌, ⊎_elim, Bool, true, false, cond, List, [], ◌∷◌, Option, Some, None, option_map, is_some, length, map, get_or, slice_get, refl, sym, ap, ◌∙◌, subst, arith, add-one}
+use Rattle.std.proofs.Common.{◌≡◌, ℕ, zero, suc, ◌+◌, ◌-◌, ◌<◌, ◌≤◌, ⊎_elim, Bool, true, false, cond, List, [], ◌∷◌, Option, Some, None, option_map, is_some, length, map, get_or, slice_get, refl, sym, ap, ◌∙◌, subst, arith}
 use Rattle.std.specs.List.{prefix_len}
 use Rattle.std.specs.List.Sorted.{IsPartitionedBy}
 use Rattle.std.proofs.lemmas.Bool.{cases_lt}
@@ -13,8 +13,8 @@ use Rattle.boxes.specs.declared.place.Position.{Position}
 use Rattle.page_seq.specs.Places.{NeverFall, anchor_of, is_before}
 use Rattle.page_seq.proofs.PlaceLemmas.{anchor_lower}
 use Rattle.seams.specs.Runs.{is_solid_at, solid_after, solid_before}
-use Rattle.seams.proofs.RunLemmas.{after_solid, solid_step}
-use Rattle.note_list.proofs.BeginLemmas.{solid_itself}
+use Rattle.seams.proofs.RunLemmas.{solid_step}
+use Rattle.cursor.proofs.PartLemmas.{solid_itself}
 
 -- ---- prefixes
 
@@ -86,9 +86,6 @@ none_between t (suc d) at to o e within found none = by (is_solid_at t.boxes (sl
     by : (b : Bool) → is_solid_at t.boxes (slice_get t.events at) ≡ b → (solid_after t (suc at) ≡ o → solid_before t to ≡ solid_before t (suc at)) → solid_before t to ≡ solid_before t at
     by true is more = absurd (let low = none at (sym found ∙ solid_itself t at is) in omega arith)
     by false is more = more (sym (solid_step t at false (omega arith) is) ∙ found) ∙ ap (λ (b : Bool). cond b (Some at) (solid_before t at)) is
-
-pub solid_here : (t : Tree) (from event : ℕ) → solid_after t from ≡ Some event → solid_before t (event + 1) ≡ Some event
-solid_here t from event found = ap (solid_before t) (add-one event) ∙ ap (λ (b : Bool). cond b (Some event) (solid_before t event)) (after_solid t from event found).1
 
 pub none_of : (o : Option ℕ) → is_some o ≡ false → o ≡ None
 none_of None e = refl

@@ -17,6 +17,7 @@ use Rattle.notes.specs.declared.solid.NoteSolid.{NoteSolid}
 use Rattle.bk_num.specs.Limits.{separator}
 use Rattle.notes.specs.Notes.{IsCarryCount, IsPlaced, IsSmallNote, area_of, must_of}
 use Rattle.cursor.proofs.RemLemmas.{holds_next, solid_within}
+use Rattle.cursor.proofs.PartLemmas.{solid_itself}
 use Rattle.seams.specs.Runs.{solid_after}
 use Rattle.seams.proofs.RunLemmas.{after_solid}
 use Rattle.note_list.specs.Calls.{start_place}
@@ -29,7 +30,6 @@ use Rattle.note_list.specs.declared.carried.Carried.{Carried}
 use Rattle.note_list.specs.declared.list.NoteList.{NoteList}
 use Rattle.note_list.specs.declared.list.PlacedList.{PlacedList}
 use Rattle.note_list.specs.declared.solid.NotedSolid.{NotedSolid}
-use Rattle.note_list.proofs.BeginLemmas.{solid_itself}
 use Rattle.note_list.proofs.LeftLemmas.{Rise, left_none, left_some, start_of}
 use Rattle.note_list.proofs.NotedLemmas.{all_get, called_held, called_of, carried_held, noted_split, noted_unique, start_held}
 use Rattle.note_list.proofs.PlaceLemmas.{must_prefix, placed_prefix}

@@ -10,6 +10,7 @@ use Rattle.boxes.specs.declared.flow.Note.{Note}
 use Rattle.boxes.specs.declared.place.Position.{Position}
 use Rattle.cursor.specs.Remainder.{IsContent, IsRemainder, IsSolid, SolidView}
 use Rattle.cursor.specs.Remainder.IsContent.{of_line, of_open, of_close}
+use Rattle.cursor.proofs.PartLemmas.{solid_itself}
 use Rattle.seams.specs.Runs.{solid_after}
 use Rattle.seams.proofs.RunLemmas.{after_solid}
 use Rattle.seams.proofs.WidthLemmas.{some-same}
@@ -18,7 +19,6 @@ use Rattle.note_list.specs.Left.{left_at, left_in, left_part}
 use Rattle.note_list.specs.Lists.{AreNoted, NotePart, carried_parts}
 use Rattle.note_list.specs.declared.carried.Carried.{Carried}
 use Rattle.note_list.specs.declared.solid.NotedSolid.{NotedSolid}
-use Rattle.note_list.proofs.BeginLemmas.{solid_itself}
 use Rattle.note_list.proofs.PartLemmas.{GoesOn, RiseBy, part_goes, rise_ascends, rise_below, rise_carried, rise_part}
 
 -- the place of the first solid at or after a place

@@ -18,10 +18,10 @@ use Rattle.line_fill.proofs.EndLemmas.{lines_go_on}
 use Rattle.cursor.specs.Remainder.{SolidView, IsSolid, IsContent, IsLineSolid, IsRemainder, leaf_measure, end_of}
 use Rattle.cursor.specs.Remainder.IsContent.{of_line, of_open, of_close}
 use Rattle.cursor.proofs.RemLemmas.{Stands, solid_stands, begins_of, found_of}
+use Rattle.cursor.proofs.PartLemmas.{solid_itself}
 use Rattle.cuts.specs.declared.row.SolidRow.{SolidRow}
 use Rattle.cuts.specs.Rows.{AreForcedBetween}
 use Rattle.page_list.specs.Cuts.{row_of, rows_of}
-use Rattle.page_list.proofs.NextLemmas.{solid_at}
 
 abbrev place : ℕ → ℕ → Position
 place event offset = record { event = event; offset = offset }
@@ -109,7 +109,7 @@ next_between faces t w from r s tree st first second forced = ap (λ (i : SeamIn
 
         block : (p : ℕ) × (solid_before t s.placed_at.event ≡ Some p) → (seam_before t s.placed_at.event w).class ≡ A
         block (p, found) =
-            let at = solid_at t s.placed_at.event here in
+            let at = solid_itself t s.placed_at.event here in
             let pair : seam_before t s.placed_at.event w ≡ seam_between t w (Some p) (Some s.placed_at.event) =
             ap (λ (o : Option ℕ). seam_between t w (solid_behind t o) o) at ∙ ap (λ (o : Option ℕ). seam_between t w o (Some s.placed_at.event)) found in
             ap (λ (i : SeamInfo). i.class) pair ∙ forced_class t p s.placed_at.event w (sym (ap (λ (i : SeamInfo). is_some i.forced) pair) ∙ f)

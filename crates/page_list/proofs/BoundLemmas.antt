@@ -25,6 +25,7 @@ use Rattle.seams.specs.declared.seam_info.SeamInfo.{SeamInfo}
 use Rattle.seams.proofs.RunLemmas.{after_solid, drop_get}
 use Rattle.cursor.specs.Remainder.{SolidView, IsRemainder}
 use Rattle.cursor.proofs.RemLemmas.{Stands}
+use Rattle.cursor.proofs.PartLemmas.{solid_itself}
 use Rattle.note_list.specs.Calls.{called_before}
 use Rattle.note_list.specs.Conditions.{CanBePaged}
 use Rattle.note_list.specs.Lists.{carried_parts, called_parts, note_rows}
@@ -39,7 +40,6 @@ use Rattle.page_list.specs.Pages.IsStep.{blank, flows, noted}
 use Rattle.page_list.specs.declared.cut.Cut.{Cut}
 use Rattle.page_list.specs.declared.cut.CutFrom.{CutFrom}
 use Rattle.page_list.proofs.BreakLemmas.{Asks, Cuts, asks_step, cuts_of, none_ends, seam_next, unlike}
-use Rattle.page_list.proofs.NextLemmas.{solid_at}
 use Rattle.page_list.proofs.RestLemmas.{IsAtChar, begin_at_char, beyond, passed_low, passed_none, past_first, place, reached, rest_at, solid_takes}
 use Rattle.page_list.proofs.StateLemmas.{Stays, cut_rise, stays_start, stays_step, trees}
 use Rattle.page_list.proofs.WeightLemmas.{AtChars, IsLighter, are_texts, chars_append, chars_called, left_lighter, total, weight, weight_all}
@@ -122,7 +122,7 @@ module _ (free : Demand → Bool) (t : Tree) where
       by None e = absurd (let f : false ≡ true = sym (ap asked_by e) ∙ asks in cc)
       by (Some n) e =
           let is = (after_solid t 0 n e).1 in
-          let here = solid_at t n is in
+          let here = solid_itself t n is in
           let s = sided_at (place n 0) is (ap asked_by (here ∙ sym e) ∙ asks) in
           let head = s.1 in
           let more = sided_later 0 n (omega arith) in

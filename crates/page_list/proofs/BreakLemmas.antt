@@ -19,6 +19,7 @@ use Rattle.seams.specs.declared.seam_info.SeamInfo.{SeamInfo}
 use Rattle.seams.proofs.RunLemmas.{after_solid}
 use Rattle.cursor.specs.Remainder.{SolidView, IsSolid, IsRemainder}
 use Rattle.cursor.proofs.RemLemmas.{Stands, begins_of}
+use Rattle.cursor.proofs.PartLemmas.{solid_itself}
 use Rattle.std.proofs.lemmas.List.{length-map}
 use Rattle.boxes.proofs.ListLemmas.{slice_get_at}
 use Rattle.cuts.proofs.CutLemmas.{cut_limit}
@@ -35,7 +36,6 @@ use Rattle.boxes.specs.Frames.{PageFrames}
 use Rattle.page_list.specs.Pages.{IsEnded, IsPaged, IsStep, State, meets_at, name_at, start_of}
 use Rattle.page_list.specs.Pages.IsStep.{blank, flows, noted}
 use Rattle.page_list.specs.Parted.{IsUnbroken, IsMet, HoldsBreaks}
-use Rattle.page_list.proofs.NextLemmas.{solid_at}
 use Rattle.page_list.proofs.StateLemmas.{Stays, stays_start, stays_step}
 
 -- ---- a seam's demand
@@ -55,7 +55,7 @@ seam_next faces t w from s st is m = by (eqb_tells s.placed_at.event from.event)
     place event offset = record { event = event; offset = offset }
 
     here : solid_after t s.placed_at.event ≡ Some s.placed_at.event
-    here = solid_at t s.placed_at.event (after_solid t from.event s.placed_at.event is.found).1
+    here = solid_itself t s.placed_at.event (after_solid t from.event s.placed_at.event is.found).1
 
     by : ((eqb s.placed_at.event from.event ≡ true) × (s.placed_at.event ≡ from.event)) ⊎ ((eqb s.placed_at.event from.event ≡ false) × (s.placed_at.event ≢ from.event)) → seam_of t from m ≡ seam_of t s.placed_at m
     by (inl e) =
@@ -66,7 +66,7 @@ seam_next faces t w from s st is m = by (eqb_tells s.placed_at.event from.event)
         let none : from.offset ≡ 0 = ⊎_elim
         (λ (o : 0 < from.offset).
         let p = st.offset o in
-        let at : solid_after t from.event ≡ Some from.event = solid_at t from.event (ap (λ o. is_solid_at t.boxes o) p.2) in
+        let at : solid_after t from.event ≡ Some from.event = solid_itself t from.event (ap (λ o. is_solid_at t.boxes o) p.2) in
         let same : Some from.event ≡ Some s.placed_at.event = sym at ∙ is.found in
         absurd (e.1 (let n : from.event ≡ s.placed_at.event = cc in sym n)))
         (λ (o : from.offset ≤ 0). omega arith)

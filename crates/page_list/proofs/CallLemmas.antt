@@ -17,13 +17,12 @@ use Rattle.seams.proofs.RunLemmas.{after_solid, before_solid}
 use Rattle.cursor.specs.Remainder.{SolidView, IsSolid, IsContent, IsRemainder, leaf_measure}
 use Rattle.cursor.specs.Remainder.IsContent.{of_line, of_open, of_close}
 use Rattle.cursor.proofs.RemLemmas.{Stands, begins_of, found_of, place, solid_stands, solid_within}
+use Rattle.cursor.proofs.PartLemmas.{before_next, solid_itself}
 use Rattle.page_seq.specs.Places.{NeverFall, anchor_of, is_before}
 use Rattle.page_seq.proofs.PlaceLemmas.{anchor_lower}
 use Rattle.note_list.specs.Calls.{called_before, end_after, end_before, start_place}
 use Rattle.page_list.specs.Cuts.{place_after}
-use Rattle.page_list.proofs.NextLemmas.{solid_at}
 use Rattle.note_list.proofs.CallLemmas.{before_trans, before_self, before_lower, never_fall}
-use Rattle.note_list.proofs.BeginLemmas.{before_next}
 
 -- ---- prefixes
 prefix_step : (b c : Bool) (m n : ℕ) → (b ≡ true → c ≡ true) → m ≤ n → cond b (1 + m) 0 ≤ cond c (1 + n) 0
@@ -157,7 +156,7 @@ module _ (faces : List FontFace) (t : Tree) (w : ℤ) (tree : IsTree t) where
           (λ (o : 0 < from.offset).
           let p = st.offset o in
           let leaf : is_solid_at t.boxes (slice_get t.events from.event) ≡ true = ap (is_solid_at t.boxes) p.2 in
-          let same : Some s.placed_at.event ≡ Some from.event = sym is.found ∙ solid_at t from.event leaf in
+          let same : Some s.placed_at.event ≡ Some from.event = sym is.found ∙ solid_itself t from.event leaf in
           absurd (e.1 (cc)))
           (λ (o : from.offset ≤ 0).
           let low = after in

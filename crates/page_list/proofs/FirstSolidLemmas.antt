@@ -15,11 +15,11 @@ use Rattle.seams.specs.Runs.{is_solid, is_solid_at, solid_after, solid_before, s
 use Rattle.seams.proofs.RunLemmas.{after_solid}
 use Rattle.cursor.specs.Remainder.{SolidView, IsRemainder, IsSolid}
 use Rattle.cursor.proofs.RemLemmas.{begins_of}
+use Rattle.cursor.proofs.PartLemmas.{before_next}
 use Rattle.notes.specs.Notes.{last_begin}
 use Rattle.note_list.specs.Calls.{start_place}
 use Rattle.note_list.specs.Lists.{NotePart, AreNoted, called_parts, is_first, noted, placed_notes, note_rows}
 use Rattle.note_list.specs.declared.solid.NotedSolid.{NotedSolid}
-use Rattle.note_list.proofs.BeginLemmas.{before_next}
 use Rattle.page_list.proofs.CarriedLemmas.{called_part}
 use Rattle.page_list.proofs.NextLemmas.{start_stands}
 

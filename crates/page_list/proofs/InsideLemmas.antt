@@ -44,15 +44,15 @@ take_get (suc n) [] k x e = absurd (cc)
 take_get (suc n) (y ∷ xs) zero x e = e
 take_get (suc n) (y ∷ xs) (suc k) x e = take_get n xs k x e
 
-shift : (n m : ℕ) → n + suc m ≡ suc n + m
+pub shift : (n m : ℕ) → n + suc m ≡ suc n + m
 shift n m = omega arith
 
-one_more : (k : ℕ) → suc k ≡ 1 + k
+pub one_more : (k : ℕ) → suc k ≡ 1 + k
 one_more k = omega arith
 
 -- ---- solids
 -- the rows of a list from a place on are those of some solids
-abbrev Are : Tree → List SolidRow → ℕ → List SolidView → Type 0
+abbrev pub Are : Tree → List SolidRow → ℕ → List SolidView → Type 0
 Are t whole n xs = (k : ℕ) (s : SolidView) → slice_get xs k ≡ Some s → slice_get whole (n + k) ≡ Some (row_of t s)
 
 inside_below : (t : Tree) (kept : Bool) (height : ℤ) (whole : List SolidRow) (n : ℕ) (xs : List SolidView) → Are t whole (suc n) xs → rows_extent kept whole (suc n + length xs) ≤ℤ height → All (EndsBy height) (placed_below (rows_bottom kept whole (suc n)) xs)
@@ -68,7 +68,7 @@ inside_below t kept height whole n (s ∷ xs) same fits =
     (subst (λ (b : ℤ). All (EndsBy height) (placed_below b xs)) here (inside_below t kept height whole (suc n) xs later far))
 
 -- the first solid of a page
-top_is : (t : Tree) (kept : Bool) (s : SolidView) (xs : List SolidView) → top_gap kept (Some (row_of t s)) ≡ first_gap kept (s ∷ xs)
+pub top_is : (t : Tree) (kept : Bool) (s : SolidView) (xs : List SolidView) → top_gap kept (Some (row_of t s)) ≡ first_gap kept (s ∷ xs)
 top_is t true s xs = refl
 top_is t false s xs = refl
 

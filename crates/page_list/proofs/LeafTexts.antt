@@ -17,8 +17,8 @@ use Rattle.boxes.proofs.TreeFacts.{leaf_there}
 use Rattle.seams.specs.Runs.{solid_from, is_solid, is_solid_at}
 use Rattle.seams.proofs.RunLemmas.{drop_get}
 use Rattle.cursor.proofs.RemLemmas.{Stands}
+use Rattle.cursor.proofs.PartLemmas.{solid_itself}
 use Rattle.page_list.specs.Parted.{IsNextSolid}
-use Rattle.page_list.proofs.NextLemmas.{solid_at}
 
 -- what is told of a leaf, and nothing where none is
 abbrev pub told : (LeafData → List ℕ) → Option LeafData → List ℕ
@@ -104,7 +104,7 @@ offset_same t at p st n = by (eqb_tells p.at.event at.event)
         ⊎_elim
         (λ (o : 0 < at.offset).
         let s = st.offset o in
-        let here : Some at.event ≡ Some p.at.event = sym (solid_at t at.event (ap (is_solid_at t.boxes) s.2)) ∙ n.found in
+        let here : Some at.event ≡ Some p.at.event = sym (solid_itself t at.event (ap (is_solid_at t.boxes) s.2)) ∙ n.found in
         absurd (e.1 (let same : p.at.event ≡ at.event = cc in same)))
         (λ (o : at.offset ≤ 0). omega arith)
         (cases_lt 0 at.offset)
@@ -114,7 +114,7 @@ pub edge_begins : (t : Tree) (at : Position) (p : Placed) → Stands t at → Is
 edge_begins t at p st n other = offset_same t at p st n ∙ ⊎_elim
     (λ (o : 0 < at.offset).
     let s = st.offset o in
-    let here : Some at.event ≡ Some p.at.event = sym (solid_at t at.event (ap (is_solid_at t.boxes) s.2)) ∙ n.found in
+    let here : Some at.event ≡ Some p.at.event = sym (solid_itself t at.event (ap (is_solid_at t.boxes) s.2)) ∙ n.found in
     let same : at.event ≡ p.at.event = cc in
     absurd (other s.0 (ap (slice_get t.events) (sym same) ∙ s.2)))
     (λ (o : at.offset ≤ 0). omega arith)

@@ -1,29 +1,21 @@
 -- A solid of a remainder is the next one at its place, whatever the width of the frame is.
-use Rattle.std.proofs.Common.{◌≡◌, ℕ, zero, suc, ℤ, Bool, true, cond, eqb, List, [], ◌∷◌, Option, None, Some, drop, slice_get, refl, sym, ap, ◌∙◌, subst, arith}
+use Rattle.std.proofs.Common.{◌≡◌, ℕ, zero, suc, ℤ, Bool, true, cond, eqb, List, [], ◌∷◌, Some, slice_get, sym, ap, ◌∙◌, subst, arith}
 use Rattle.std.proofs.lemmas.Bool.{eq-eqb}
 use Rattle.metrics.specs.Face.{FontFace}
 use Rattle.boxes.specs.Tree.{Tree, IsTree}
 use Rattle.boxes.specs.declared.page.Placed.{Placed}
-use Rattle.boxes.specs.declared.place.Event.{Event}
 use Rattle.boxes.specs.declared.place.Position.{Position}
 use Rattle.line_fill.proofs.EndLemmas.{end_place, lines_go_on}
-use Rattle.seams.specs.Runs.{solid_after, solid_from, is_solid_at}
-use Rattle.seams.proofs.RunLemmas.{after_solid, drop_get}
+use Rattle.seams.specs.Runs.{solid_after}
+use Rattle.seams.proofs.RunLemmas.{after_solid}
 use Rattle.cursor.specs.Remainder.{SolidView, IsSolid, IsContent, IsRemainder, leaf_measure}
 use Rattle.cursor.specs.Remainder.IsContent.{of_line, of_open, of_close}
 use Rattle.cursor.proofs.RemLemmas.{Stands, begins_of, found_of, place_stands, solid_stands}
+use Rattle.cursor.proofs.PartLemmas.{solid_itself}
 use Rattle.note_list.specs.Calls.{start_place}
 use Rattle.page_list.specs.Cuts.{place_after}
 use Rattle.page_list.specs.Parted.{IsPart, IsNextSolid, AreNextSolids}
 use Rattle.page_list.specs.Parted.IsPart.{line, upper, lower}
-
--- an event that is a solid is the first one from itself on
-pub solid_at : (t : Tree) (k : ℕ) → is_solid_at t.boxes (slice_get t.events k) ≡ true → solid_after t k ≡ Some k
-solid_at t k is = go (slice_get t.events k) refl is
-  where
-    go : (o : Option Event) → slice_get t.events k ≡ o → is_solid_at t.boxes o ≡ true → solid_after t k ≡ Some k
-    go None e h = absurd (cc)
-    go (Some event) e h = ap (λ (es : List Event). solid_from t.boxes es k) (drop_get t.events k event e) ∙ ap (λ (b : Bool). cond b (Some k) (solid_from t.boxes (drop (suc k) t.events) (suc k))) h
 
 pub start_stands : (t : Tree) → Stands t start_place
 start_stands t = record { within = omega arith; offset = λ o. absurd (omega arith) }
@@ -47,7 +39,7 @@ module _ (faces : List FontFace) (t : Tree) (w : ℤ) (tree : IsTree t) where
 
   -- it is the first solid at its own place
   pub here : (from : Position) (s : SolidView) → IsSolid faces t w from s → solid_after t s.placed_at.event ≡ Some s.placed_at.event
-  here from s is = solid_at t s.placed_at.event (after_solid t from.event s.placed_at.event is.found).1
+  here from s is = solid_itself t s.placed_at.event (after_solid t from.event s.placed_at.event is.found).1
 
   -- the solids from the place of the next solid on are those from any place before it
   pub same_next : (from : Position) (s : SolidView) → Stands t from → IsSolid faces t w from s → (p : Placed) → IsNextSolid t s.placed_at p → IsNextSolid t from p

@@ -21,9 +21,9 @@ use Rattle.seams.proofs.RunLemmas.{after_solid, drop_get}
 use Rattle.cursor.specs.Remainder.{SolidView, IsSolid, IsContent, IsLineSolid, IsRemainder, leaf_measure, end_of}
 use Rattle.cursor.specs.Remainder.IsContent.{of_line, of_open, of_close}
 use Rattle.cursor.proofs.RemLemmas.{Stands, solid_stands, begins_of, found_of}
+use Rattle.cursor.proofs.PartLemmas.{solid_itself}
 use Rattle.page_list.specs.Bounds.{HaveTexts, chars_among, chars_by}
 use Rattle.page_list.specs.Parted.{edges_among, text_at, text_by, text_of}
-use Rattle.page_list.proofs.NextLemmas.{solid_at}
 
 abbrev pub place : ℕ → ℕ → Position
 place event offset = record { event = event; offset = offset }
@@ -200,7 +200,7 @@ solid_takes faces t w from s tree texts st char is = record { later = (place_by 
     place_by (inr e) = ⊎_elim
         (λ (o : 0 < from.offset).
         let p = st.offset o in
-        let at : solid_after t from.event ≡ Some from.event = solid_at t from.event (ap (λ o. is_solid_at t.boxes o) p.2) in
+        let at : solid_after t from.event ≡ Some from.event = solid_itself t from.event (ap (λ o. is_solid_at t.boxes o) p.2) in
         let same : Some from.event ≡ Some s.placed_at.event = sym at ∙ is.found in
         absurd (e.1 (let n : from.event ≡ s.placed_at.event = cc in sym n)))
         (λ (o : from.offset ≤ 0).

@@ -239,7 +239,7 @@ page_at_lower pages a b d isnt = page_by pages b (λ n. page_at pages a ≤ n) s
 -- ---- places at the end of texts
 
 -- no place of a is after that of b
-abbrev IsNoLater : Position → Position → Type 0
+abbrev pub IsNoLater : Position → Position → Type 0
 IsNoLater a b = (a.event < b.event) ⊎ ((a.event ≡ b.event) × (a.offset ≤ b.offset))
 
 -- c is a, or where a stands at the end of a text of a size or after it, the next event
