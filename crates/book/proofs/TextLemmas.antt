@@ -8,6 +8,7 @@ use Rattle.std.proofs.lemmas.Grind.{flat_map-append}
 use Rattle.std.proofs.lemmas.List.{take_rest}
 use Rattle.std.proofs.lemmas.List.Folds.{drop_split}
 use Rattle.std.proofs.lemmas.Option.{slice_get_within}
+use Rattle.bk_num.proofs.ListLemmas.{drop-next}
 use Rattle.metrics.specs.Face.{FontFace}
 use Rattle.boxes.specs.Tree.{Tree, IsTree}
 use Rattle.boxes.specs.declared.flow.Flow.{Flow}
@@ -18,7 +19,6 @@ use Rattle.boxes.specs.declared.place.Event.{Event}
 use Rattle.boxes.specs.declared.place.Event.TheVariants.{Opens, Closes, Leaf}
 use Rattle.boxes.specs.declared.place.Position.{Position}
 use Rattle.seams.specs.Runs.{is_solid_at}
-use Rattle.seams.proofs.RunLemmas.{drop_get}
 use Rattle.cursor.proofs.RemLemmas.{Stands, place}
 use Rattle.cursor.proofs.PartLemmas.{solid_itself}
 use Rattle.page_list.specs.Parted.{IsPart, IsPartOfLeaf, IsNextSolid, AreNextSolids, HoldsAll, solids_of}
@@ -143,7 +143,7 @@ edge_takes : (t : Tree) (p : Placed) (e : Event) → slice_get t.events p.at.eve
 edge_takes t p e at bare none begins ends =
     let end : p.end ≡ place (suc p.at.event) 0 = ends ∙ ap (λ (k : ℕ). place k 0) (add-one p.at.event) in
     let left : text_from t p.at ≡ texts leaf_text t.leaves (drop (suc p.at.event) t.events) =
-    from_start t p.at begins ∙ ap (texts leaf_text t.leaves) (drop_get t.events p.at.event e at) ∙ ap (λ (prefix : List ℕ). prefix ++ texts leaf_text t.leaves (drop (suc p.at.event) t.events)) bare in
+    from_start t p.at begins ∙ ap (texts leaf_text t.leaves) (drop-next t.events p.at.event e at) ∙ ap (λ (prefix : List ℕ). prefix ++ texts leaf_text t.leaves (drop (suc p.at.event) t.events)) bare in
     let low = slice_get_within t.events p.at.event e at in
     record {
       stands = subst (Stands t) (sym end) (record { within = omega arith; offset = λ o. absurd (omega arith) });

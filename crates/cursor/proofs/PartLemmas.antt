@@ -3,7 +3,7 @@ use Rattle.std.proofs.Common.{◌≡◌, ◌≢◌, ◌<◌, ◌≤◌, ◌+◌,
 use Rattle.std.specs.Prelude.{IsTrue}
 use Rattle.std.proofs.Math.Arith.{lt_of_le-ne}
 use Rattle.std.proofs.lemmas.Option.{slice_get_within}
-use Rattle.bk_num.proofs.ListLemmas.{get-push, get-before}
+use Rattle.bk_num.proofs.ListLemmas.{get-push, get-before, slice_get_at}
 use Rattle.boxes.specs.Tree.{Tree, IsTree, is_leaf, is_opening, last_event}
 use Rattle.boxes.specs.Tree.IsTree.{empty, opened, filled, closed}
 use Rattle.boxes.specs.declared.place.Event.{Event}
@@ -102,20 +102,15 @@ alone _ (opened t p tree few place good) = push_other t.events (Opens (length t.
 alone _ (filled t leaf tree few place good owners) = push_leaf t.events (Leaf (length t.leaves)) (alone t tree) (length t.leaves) refl place
 alone _ (closed t b tree few at) = push_other t.events (Closes b) (alone t tree) (λ l e. cc) (λ f. refl)
 
-there_is : {X : Type 0} (xs : List X) (k : ℕ) → k < length xs → (x : X) × (slice_get xs k ≡ Some x)
-there_is [] k l = absurd (omega arith)
-there_is (x ∷ xs) zero l = (x, refl)
-there_is (x ∷ xs) (suc k) l = there_is xs k (omega arith)
-
 -- whether a box opens among events, and whether one does behind a lower edge, by the first of them
 opening_step : (t : Tree) (k to : ℕ) (b : Bool) → k < to → to ≤ length t.events → is_opening (slice_get t.events k) ≡ b → has_opening (events_in t k to) ≡ (b || has_opening (events_in t (suc k) to))
 opening_step t k to b l w o =
-    let at = there_is t.events k (omega (arith, l, w)) in
+    let at = slice_get_at t.events k (omega (arith, l, w)) in
     ap (λ (es : List Event). has_opening es) (events_step t k to at.0 l at.1) ∙ ap (λ (x : Bool). x || has_opening (events_in t (suc k) to)) (ap is_opening (sym at.1) ∙ o)
 
 block_step : (t : Tree) (k to : ℕ) (b : Bool) → k < to → to ≤ length t.events → is_closing (slice_get t.events k) ≡ b → has_block_seam (events_in t k to) ≡ cond b (has_opening (events_in t (suc k) to)) (has_block_seam (events_in t (suc k) to))
 block_step t k to b l w o =
-    let at = there_is t.events k (omega (arith, l, w)) in
+    let at = slice_get_at t.events k (omega (arith, l, w)) in
     ap (λ (es : List Event). has_block_seam es) (events_step t k to at.0 l at.1) ∙ ap (λ (x : Bool). cond x (has_opening (events_in t (suc k) to)) (has_block_seam (events_in t (suc k) to))) (ap is_closing (sym at.1) ∙ o)
 
 -- an Open among events
@@ -263,7 +258,7 @@ module _ (faces : List FontFace) (t : Tree) (w : ℤ) (tree : IsTree t) where
           let o = order in
           let s = start_within t p in
           let q = b.event_is in
-          let v = there_is t.events n (solid_within t at.event n is.found) in
+          let v = slice_get_at t.events n (solid_within t at.event n is.found) in
           inr (ap is_closing v.1 ∙ low_next t (run_start t (Some p)) n v.0 tree b.low (omega (arith, o, s, q)) v.1 e)
 
   not_line : (at : Position) (x : SolidView) → IsSolid faces t w at x → is_closing (slice_get t.events x.placed_at.event) ≡ true → x.kind ≡ Line → ⊥
@@ -331,7 +326,7 @@ module _ (faces : List FontFace) (t : Tree) (w : ℤ) (tree : IsTree t) where
               let o = (after_solid t x.end.event y.placed_at.event second.found).0 in
               let v = solid_within t x.end.event y.placed_at.event second.found in
               let q : x.end.event ≡ n + 1 = ap (λ (p : Position). p.event) ends in
-              there_is t.events (suc n) (omega (arith, o, v, q))
+              slice_get_at t.events (suc n) (omega (arith, o, v, q))
 
           behind : IsBehind t n x.end
           behind = record {

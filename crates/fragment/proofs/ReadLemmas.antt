@@ -2,13 +2,13 @@
 use Rattle.std.proofs.Common.{◌≡◌, ◌<◌, ◌≤◌, ℕ, zero, suc, ℤ, All, length, length-append, List, [], ◌∷◌, ◌++◌, refl, sym, ap, ◌∙◌, subst, arith, append-nil, append_assoc, ⊎_elim}
 use Rattle.std.proofs.lemmas.Bool.{cases_lt}
 use Rattle.std.proofs.lemmas.List.Elements.{All-nil, All-push}
+use Rattle.bk_num.proofs.ListLemmas.{get-append}
 use Rattle.metrics.specs.Face.{FontFace}
 use Rattle.boxes.specs.declared.flow.Flow.{Flow}
 use Rattle.boxes.specs.declared.frames.Frame.{Frame}
 use Rattle.boxes.specs.declared.place.Position.{Position}
 use Rattle.boxes.proofs.ListLemmas.{get-end}
 use Rattle.cuts.specs.Areas.{IsArea, Tells, area_after, area_or}
-use Rattle.cuts.proofs.AppendLemmas.{get-append}
 use Rattle.notes.specs.Notes.{area_of, must_of}
 use Rattle.note_list.specs.Calls.{called_before}
 use Rattle.note_list.specs.Lists.{AreNoted, NotePart, called_parts, carried_parts, note_rows}

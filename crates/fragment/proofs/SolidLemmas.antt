@@ -8,6 +8,7 @@ use Rattle.std.proofs.lemmas.List.{length-map}
 use Rattle.boxes.proofs.TreeFacts.{few_events}
 use Rattle.std.proofs.lemmas.List.Elements.{All-map}
 use Rattle.std.proofs.Math.Seq.{drop-nil}
+use Rattle.bk_num.proofs.ListLemmas.{drop-next}
 use Rattle.metrics.specs.Face.{FontFace}
 use Rattle.boxes.specs.Tree.{Tree, IsTree, Holds}
 use Rattle.boxes.specs.declared.leaf.Leaf.{Leaf as LeafData}
@@ -28,11 +29,6 @@ use Rattle.page_list.specs.Cuts.{row_of, rows_of, place_after}
 
 abbrev place : ℕ → ℕ → Position
 place event offset = record { event = event; offset = offset }
-
-pub drop_get : {X : Type 0} (xs : List X) (k : ℕ) (x : X) → slice_get xs k ≡ Some x → drop k xs ≡ x ∷ drop (suc k) xs
-drop_get [] k x h = absurd (cc)
-drop_get {X} (y ∷ xs) zero x h = let same : y ≡ x = cc in ap (λ (z : X). z ∷ xs) same
-drop_get (y ∷ xs) (suc k) x h = drop_get xs k x h
 
 pub view_at : (solids : List Solid) (k : ℕ) (s : Solid) → slice_get solids k ≡ Some s → slice_get (map solid_view solids) k ≡ Some (solid_view s)
 view_at [] k s h = absurd (cc)
@@ -73,7 +69,7 @@ size_later leaves es j k low =
     subst (λ (xs : List Event). text_size leaves xs ≤ text_size leaves (drop j es)) e (size_mono leaves (drop j es) (k - j))
 
 pub size_here : (t : Tree) (k l : ℕ) (leaf : LeafData) → slice_get t.events k ≡ Some (Leaf l) → slice_get t.leaves l ≡ Some leaf → text_size t.leaves (drop k t.events) ≡ length leaf.text + text_size t.leaves (drop (suc k) t.events)
-size_here t k l leaf at has = ap (text_size t.leaves) (drop_get t.events k (Leaf l) at) ∙ ap (λ (o : Option LeafData). size_of o + text_size t.leaves (drop (suc k) t.events)) has
+size_here t k l leaf at has = ap (text_size t.leaves) (drop-next t.events k (Leaf l) at) ∙ ap (λ (o : Option LeafData). size_of o + text_size t.leaves (drop (suc k) t.events)) has
 
 -- bytes and events from a place on
 abbrev room_at : Tree → Position → ℕ
@@ -105,7 +101,7 @@ solids_few faces t w tree from (s ∷ xs) st r =
     from_offset = ⊎_elim
         (λ (o : 0 < from.offset).
         let p = st.offset o in
-        let here : solid_after t from.event ≡ Some from.event = ap (λ (es : List Event). solid_from t.boxes es from.event) (drop_get t.events from.event (Leaf p.0) p.2) in
+        let here : solid_after t from.event ≡ Some from.event = ap (λ (es : List Event). solid_from t.boxes es from.event) (drop-next t.events from.event (Leaf p.0) p.2) in
         let same : s.placed_at.event ≡ from.event = (let q : Some s.placed_at.event ≡ Some from.event = sym is.found ∙ here in cc) in
         let tells : eqb s.placed_at.event from.event ≡ true = eq-eqb s.placed_at.event from.event same in
         let e : s.placed_at.offset ≡ from.offset = begins_of faces t w from s st is ∙ ap (λ (x : Bool). cond x from.offset 0) tells in

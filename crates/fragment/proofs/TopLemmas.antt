@@ -2,17 +2,17 @@
 use Rattle.std.proofs.Common.{◌≡◌, ◌+◌, ◌*◌, ◌^◌, ℕ, ℤ, pos, neg_ℤ, ◌+ℤ◌, ◌≤ℤ◌, List, [], ◌∷◌, ◌++◌, Some, drop, slice_get, refl, sym, ap, ◌∙◌, arith, add-one, append_assoc}
 use Rattle.std.specs.Int.{int_max}
 use Rattle.std.proofs.lemmas.Int.{ints}
+use Rattle.bk_num.proofs.ListLemmas.{drop-next}
 use Rattle.boxes.specs.declared.page.Placed.{Placed}
 use Rattle.cursor.specs.Remainder.{SolidView}
 use Rattle.page_list.specs.Cuts.{placed_from, placed_below, placed_at}
 use Rattle.fragment.specs.Solids.{foot_from}
-use Rattle.fragment.proofs.SolidLemmas.{drop_get}
 
 -- the first solid stands under the gap of the page
 pub place_begun : (first under : ℤ) (views : List SolidView) (s : SolidView) (items pushed : List Placed) → slice_get views 0 ≡ Some s →
     items ≡ [] → under ≡ first +ℤ s.height → pushed ≡ items ++ placed_at first s ∷ [] → placed_from first views ≡ pushed ++ placed_below under (drop 1 views)
 place_begun first under views s items pushed there items_is under_is push_is =
-    let rest : views ≡ s ∷ drop 1 views = drop_get views 0 s there in
+    let rest : views ≡ s ∷ drop 1 views = drop-next views 0 s there in
     let tail : List Placed = placed_below under (drop 1 views) in
     ap (placed_from first) rest ∙ ap (λ (z : ℤ). placed_at first s ∷ placed_below z (drop 1 views)) (sym under_is)
     ∙ ap (λ (ps : List Placed). (ps ++ placed_at first s ∷ []) ++ tail) (sym items_is) ∙ ap (λ (ps : List Placed). ps ++ tail) (sym push_is)
@@ -23,7 +23,7 @@ pub place_more : (first bottom under : ℤ) (views : List SolidView) (s : SolidV
     pushed ≡ items ++ placed_at (bottom +ℤ s.seam.whole_gap) s ∷ [] → placed_from first views ≡ pushed ++ placed_below under (drop (at + 1) views)
 place_more first bottom under views s at items pushed there placed under_is push_is =
     let p : Placed = placed_at (bottom +ℤ s.seam.whole_gap) s in
-    let rest : drop at views ≡ s ∷ drop (at + 1) views = drop_get views at s there ∙ ap (λ (n : ℕ). s ∷ drop n views) (sym (add-one at)) in
+    let rest : drop at views ≡ s ∷ drop (at + 1) views = drop-next views at s there ∙ ap (λ (n : ℕ). s ∷ drop n views) (sym (add-one at)) in
     let tail : List Placed = placed_below under (drop (at + 1) views) in
     placed ∙ ap (λ (xs : List SolidView). items ++ placed_below bottom xs) rest ∙ ap (λ (z : ℤ). items ++ p ∷ placed_below z (drop (at + 1) views)) (sym under_is)
     ∙ sym (append_assoc items (p ∷ []) tail) ∙ ap (λ (ps : List Placed). ps ++ tail) (sym push_is)

@@ -16,13 +16,11 @@ use Rattle.gen_text.specs.References.{links_by}
 use Rattle.gen_text.specs.Target.{IsTarget, IsOfId, address_of, id_in}
 use Rattle.gen_text.specs.References.{page_links, LeadTo, IsNamedBelow, IsMarked, Marks, MarkedBelow, AreMarked, AreTargets}
 use Rattle.bk_num.specs.declared.ids.NodeId.{NodeId}
+use Rattle.bk_num.proofs.ListLemmas.{contains-none, contains-one}
 use Rattle.std.specs.List.Sorted.{IsStrictlyIncreasing}
 use Rattle.std.proofs.lemmas.List.{get_or_append_left, map-append, length-append}
 use Rattle.std.proofs.lemmas.List.Elements.{Contains-get_or}
 use Rattle.std.proofs.Math.Seq.{get_or-append_seam}
-
-pub nothing : {X : Type 0} (x : X) → Contains [] x → ⊥
-nothing x (k, less, is) = absurd (omega (arith, less))
 
 -- an id leads to one element at most
 pub of_id_one : (nodes : List Node) (styles : List NodeStyles) (id : Option (List ℕ)) (a b : Option ℕ) → IsTree nodes → IsOfId nodes styles id a → IsOfId nodes styles id b → a ≡ b
@@ -39,7 +37,7 @@ marks_none nodes styles n m t = (λ h. inl h, to)
   where
     to : IsMarked m t ⊎ LeadTo nodes styles n [] t → IsMarked m t
     to (inl h) = h
-    to (inr h) = absurd (nothing h.0 h.1)
+    to (inr h) = absurd (contains-none h.0 h.1)
 
 pub marks_append : (nodes : List Node) (styles : List NodeStyles) (n : ℕ) (ks ls : List Link) (a b c : List Bool) → Marks nodes styles n ks a b → Marks nodes styles n ls b c → Marks nodes styles n (ks ++ ls) a c
 marks_append nodes styles n ks ls a b c f g t = (λ h. to ((g t).0 h), from)
@@ -63,17 +61,13 @@ marks_append nodes styles n ks ls a b c f g t = (λ h. to ((g t).0 h), from)
 pub marks_four : (nodes : List Node) (styles : List NodeStyles) (n : ℕ) (ks ls ms ns : List Link) (a b c d e : List Bool) → Marks nodes styles n ks a b → Marks nodes styles n ls b c → Marks nodes styles n ms c d → Marks nodes styles n ns d e → Marks nodes styles n (ks ++ (ls ++ (ms ++ ns))) a e
 marks_four nodes styles n ks ls ms ns a b c d e f g h i = marks_append nodes styles n ks (ls ++ (ms ++ ns)) a b e f (marks_append nodes styles n ls (ms ++ ns) b c e g (marks_append nodes styles n ms ns c d e h i))
 
-only : {X : Type 0} (x y : X) → Contains (x ∷ []) y → x ≡ y
-only x y (zero, less, is) = is
-only x y (suc k, less, is) = absurd (omega (arith, less))
-
 -- a link without a target marks nothing
 pub marks_missing : (nodes : List Node) (styles : List NodeStyles) (n : ℕ) (l : Link) (m : List Bool) → IsTree nodes → IsTarget nodes styles n l None → Marks nodes styles n (l ∷ []) m m
 marks_missing nodes styles n l m tree is t = (λ h. inl h, to)
   where
     to : IsMarked m t ⊎ LeadTo nodes styles n (l ∷ []) t → IsMarked m t
     to (inl h) = h
-    to (inr h) = let same : l ≡ h.0 = only l h.0 h.1 in let bad : None ≡ Some t = target_one nodes styles n l None (Some t) tree is (subst (λ (k : Link). IsTarget nodes styles n k (Some t)) (sym same) h.2) in cc
+    to (inr h) = let same : l ≡ h.0 = contains-one l h.0 h.1 in let bad : None ≡ Some t = target_one nodes styles n l None (Some t) tree is (subst (λ (k : Link). IsTarget nodes styles n k (Some t)) (sym same) h.2) in cc
 
 pub marks_one : (nodes : List Node) (styles : List NodeStyles) (n : ℕ) (l : Link) (m : List Bool) (u : ℕ) → IsTree nodes → u < length m → IsTarget nodes styles n l (Some u) → Marks nodes styles n (l ∷ []) m (set m u true)
 marks_one nodes styles n l m u tree within is t = (λ h. to h (cases_eq t u), from)
@@ -91,7 +85,7 @@ marks_one nodes styles n l m u tree within is t = (λ h. to h (cases_eq t u), fr
 
     from : IsMarked m t ⊎ LeadTo nodes styles n (l ∷ []) t → IsMarked (set m u true) t
     from (inl h) = kept h (cases_eq t u)
-    from (inr h) = let same : l ≡ h.0 = only l h.0 h.1 in let one : Some u ≡ Some t = target_one nodes styles n l (Some u) (Some t) tree is (subst (λ (k : Link). IsTarget nodes styles n k (Some t)) (sym same) h.2) in here cc
+    from (inr h) = let same : l ≡ h.0 = contains-one l h.0 h.1 in let one : Some u ≡ Some t = target_one nodes styles n l (Some u) (Some t) tree is (subst (λ (k : Link). IsTarget nodes styles n k (Some t)) (sym same) h.2) in here cc
 
 -- ---- one node after another
 
@@ -155,7 +149,7 @@ increasing_push xs y up below k less = by (cases_lt (k + 1) (length xs))
     by (inr o) = let e : k + 1 ≡ length xs = omega (arith, less, o, len) in rw (get_or_append_left xs (y ∷ []) 0 k (omega (arith, e))) (rw (last e) (below (get_or xs k 0) (Contains-get_or xs k 0 (omega (arith, e)))))
 
 pub listed_none : (marks : List Bool) → ListedBelow marks 0 []
-listed_none marks = record { rises = increasing_none; listed = λ t. (λ h. absurd (nothing t h), λ h. absurd (omega (arith, h.0))) }
+listed_none marks = record { rises = increasing_none; listed = λ t. (λ h. absurd (contains-none t h), λ h. absurd (omega (arith, h.0))) }
 
 pub listed_skip : (marks : List Bool) (i : ℕ) (list : List NodeId) → get_or marks i false ≡ false → ListedBelow marks i list → ListedBelow marks (i + 1) list
 listed_skip marks i list off h = record { rises = h.rises; listed = λ t. (λ c. let b = (h.listed t).0 c in let less = b.0 in (omega (arith, less), b.1), λ c. from t c (cases_lt t i)) }

@@ -3,10 +3,10 @@ use Rattle.std.proofs.Common.{◌≡◌, ◌⊎◌, inl, inr, ℕ, zero, suc, �
 use Rattle.std.specs.List.{Contains}
 use Rattle.std.specs.List.Sorted.{IsStrictlyIncreasing}
 use Rattle.bk_num.specs.declared.ids.NodeId.{NodeId}
+use Rattle.bk_num.proofs.ListLemmas.{contains-none}
 use Rattle.dom.specs.Nodes.{Node}
 use Rattle.style.specs.Nodes.{NodeStyles}
 use Rattle.gen_text.specs.References.{AreTargets}
-use Rattle.gen_text.proofs.MarkLemmas.{nothing}
 
 here : (x : ℕ) (xs : List ℕ) → Contains (x ∷ xs) x
 here x xs = (0, omega arith, refl)
@@ -22,7 +22,7 @@ rest_up : (x : ℕ) (xs : List ℕ) → IsStrictlyIncreasing (x ∷ xs) → IsSt
 rest_up x xs up k less = let e : suc k + 1 ≡ suc (k + 1) = omega arith in subst (λ (j : ℕ). get_or xs k 0 < get_or (x ∷ xs) j 0) e (up (suc k) (omega (arith, less)))
 
 head_below : (x : ℕ) (xs : List ℕ) → IsStrictlyIncreasing (x ∷ xs) → (t : ℕ) → Contains xs t → x < t
-head_below x [] up t h = absurd (nothing t h)
+head_below x [] up t h = absurd (contains-none t h)
 head_below x (y ∷ ys) up t h = by (λ later. head_below y ys (rest_up x (y ∷ ys) up) t later) (cases y ys t h)
   where
     first : x < y
@@ -51,8 +51,8 @@ rest_within x y xs ys same up within t h = by (cases y ys t (within t (there x x
 
 one : (xs ys : List ℕ) → IsStrictlyIncreasing xs → IsStrictlyIncreasing ys → Within xs ys → Within ys xs → xs ≡ ys
 one [] [] up down f g = refl
-one [] (y ∷ ys) up down f g = absurd (nothing y (g y (here y ys)))
-one (x ∷ xs) [] up down f g = absurd (nothing x (f x (here x xs)))
+one [] (y ∷ ys) up down f g = absurd (contains-none y (g y (here y ys)))
+one (x ∷ xs) [] up down f g = absurd (contains-none x (f x (here x xs)))
 one (x ∷ xs) (y ∷ ys) up down f g =
     let less = head_least x y xs ys up g in
     let more = head_least y x ys xs down f in

@@ -8,9 +8,10 @@ use Rattle.std.proofs.lemmas.Bool.Decides.{nat_tests}
 use Rattle.std.proofs.lemmas.List.Folds.{list_any_at, list_any_none}
 use Rattle.std.proofs.lemmas.Option.{slice_get_within, get_or_from_slice_get, slice_get-get_or}
 use Rattle.std.proofs.lemmas.Slice.Eq.{bytes_eq-Decides}
+use Rattle.bk_num.proofs.ListLemmas.{bytes_same}
 use Rattle.metrics.specs.Face.{FontFace, no_face}
 use Rattle.metrics.specs.Choice.{IsNearer, closer, lesser, GoesBefore, by_style, by_weight, HasName, IsChosen, apart, is_named, name_of}
-use Rattle.metrics.proofs.ChoiceLemmas.{bytes_same, chosen, chosen_once, position-none, position-some}
+use Rattle.metrics.proofs.ChoiceLemmas.{chosen, chosen_once, position-none, position-some}
 use Rattle.metrics.specs.Chosen.{FaceIsChosen, face_by, goes_before, is_first, is_nearer}
 
 nearer-yes : (asked m n : ℕ) → IsNearer asked m n → is_nearer asked m n ≡ true

@@ -6,6 +6,7 @@ use Rattle.std.proofs.lemmas.Int.{ints}
 use Rattle.std.proofs.lemmas.List.{length-take-le}
 use Rattle.std.proofs.lemmas.Option.{slice_get-map}
 use Rattle.bk_num.specs.Limits.{separator}
+use Rattle.bk_num.proofs.ListLemmas.{get-take}
 use Rattle.notes.specs.declared.solid.NoteSolid.{NoteSolid}
 use Rattle.notes.specs.Notes.{note_bottom, note_gap, note_height, placed_bottom}
 use Rattle.notes.specs.Stacked.{greatest_of}
@@ -13,12 +14,6 @@ use Rattle.notes.proofs.NoteLemmas.{area_is}
 use Rattle.note_list.specs.Areas.{PlacesTakeTheirRoom}
 use Rattle.note_list.specs.Lists.{note_rows, placed_notes}
 use Rattle.note_list.specs.declared.solid.NotedSolid.{NotedSolid}
-
-take_get : {X : Type 0} (n : ℕ) (xs : List X) (k : ℕ) (x : X) → slice_get (take n xs) k ≡ Some x → slice_get xs k ≡ Some x
-take_get zero xs k x e = absurd (cc)
-take_get (suc n) [] k x e = absurd (cc)
-take_get (suc n) (y ∷ xs) zero x e = e
-take_get (suc n) (y ∷ xs) (suc k) x e = take_get n xs k x e
 
 greatest_same : (least : ℤ) (f g : ℕ → ℤ) (n : ℕ) → ((k : ℕ) → k < n → f k ≡ g k) → greatest_of least f n ≡ greatest_of least g n
 greatest_same least f g zero same = refl
@@ -55,7 +50,7 @@ pub places_take_their_room : PlacesTakeTheirRoom
 places_take_their_room list n some low =
     let size : length (take n list) ≡ n = length-take-le n list low in
     let rows : List NoteSolid = note_rows list in
-    let are : Are (note_rows list) 0 (take n list) = λ k s e. subst (λ (i : ℕ). slice_get (note_rows list) i ≡ Some s.row) (let z : k ≡ 0 + k = omega arith in z) (slice_get-map (λ (x : NotedSolid). x.row) list k ∙ ap (option_map (λ (x : NotedSolid). x.row)) (take_get n list k s e)) in
+    let are : Are (note_rows list) 0 (take n list) = λ k s e. subst (λ (i : ℕ). slice_get (note_rows list) i ≡ Some s.row) (let z : k ≡ 0 + k = omega arith in z) (slice_get-map (λ (x : NotedSolid). x.row) list k ∙ ap (option_map (λ (x : NotedSolid). x.row)) ((get-take list n k s e).1)) in
     ap (greatest_of separator (λ k. placed_bottom (slice_get (placed_notes separator (take n list)) k))) (placed_length separator (take n list) ∙ size)
     ∙ greatest_same separator (λ k. placed_bottom (slice_get (placed_notes separator (take n list)) k)) (λ k. separator +ℤ note_bottom (note_rows list) (suc k)) n
     (λ k h. bottom_at (note_rows list) 0 (take n list) separator (omega (arith, ints)) are k (omega arith) ∙ ap (λ (i : ℕ). separator +ℤ note_bottom (note_rows list) i) (let z : 0 + suc k ≡ suc k = omega arith in z))

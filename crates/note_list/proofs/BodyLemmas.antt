@@ -5,6 +5,7 @@ use Rattle.std.proofs.lemmas.List.{append_assoc, append-nil, map-append, take-ap
 use Rattle.std.proofs.lemmas.List.Elements.{All-drop, All-push}
 use Rattle.std.proofs.lemmas.List.Folds.{list_any-append}
 use Rattle.std.proofs.lemmas.Option.{get_or_from_slice_get, slice_get_within}
+use Rattle.bk_num.proofs.ListLemmas.{all-get}
 use Rattle.metrics.specs.Face.{FontFace}
 use Rattle.boxes.specs.Tree.{Tree, IsTree, Holds}
 use Rattle.boxes.specs.declared.flow.Note.{Note}
@@ -21,7 +22,7 @@ use Rattle.note_list.specs.declared.carried.Carried.{Carried}
 use Rattle.note_list.specs.declared.list.NoteList.{NoteList}
 use Rattle.note_list.specs.declared.solid.NotedSolid.{NotedSolid}
 use Rattle.note_list.proofs.BeginLemmas.{end_not_first, none_carried, none_later, one_begins}
-use Rattle.note_list.proofs.NotedLemmas.{all_get, called_next, called_none, noted_join, noted_one}
+use Rattle.note_list.proofs.NotedLemmas.{called_next, called_none, noted_join, noted_one}
 
 -- what is read of a note so far: its solids up to a place
 pub record Reads (faces : List FontFace) (body : Tree) (width : ℤ) (p : NotePart) (at : Position) (old new : List NotedSolid) : Type 0 where
@@ -207,7 +208,7 @@ carry_full faces notes width height (c ∷ cs) l cut held full =
     own = held 0 c (omega arith)
 
     tree : CanBeCut faces own.note.body
-    tree = all_get (λ (n : Note). CanBeCut faces n.body) notes c.note own.note cut own.has
+    tree = all-get (λ (n : Note). CanBeCut faces n.body) notes c.note own.note cut own.has
 
 -- and so those that were read are all that it reads
 pub carry_rest : (faces : List FontFace) (notes : List Note) (width height : ℤ) (carried : List Carried) (k : ℕ) (old new : NoteList) → All (λ n. CanBeCut faces n.body) notes → All (IsHeld notes) carried → new.over ≡ true → Calls faces notes width height (carried_parts (take k carried)) old new → Calls faces notes width height (carried_parts carried) old new

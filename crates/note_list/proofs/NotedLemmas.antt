@@ -3,8 +3,7 @@ use Rattle.std.proofs.Common.{◌≡◌, ℕ, zero, suc, ◌+◌, ◌-◌, ◌<�
 use Rattle.std.specs.List.{range_with_len}
 use Rattle.std.proofs.lemmas.List.{append_assoc}
 use Rattle.std.proofs.lemmas.List.Elements.{All-cons, All-nil}
-use Rattle.std.proofs.lemmas.Option.{get_or_from_slice_get, slice_get_within}
-use Rattle.bk_num.proofs.ListLemmas.{slice_get_at}
+use Rattle.bk_num.proofs.ListLemmas.{slice_get_at, all-get}
 use Rattle.metrics.specs.Face.{FontFace}
 use Rattle.boxes.specs.declared.flow.Note.{Note}
 use Rattle.cursor.specs.Remainder.{SolidView, IsRemainder}
@@ -15,10 +14,6 @@ use Rattle.note_list.specs.Lists.{AreNoted, NotePart, called_parts, carried_part
 use Rattle.note_list.specs.declared.carried.Carried.{Carried}
 use Rattle.note_list.specs.declared.solid.NotedSolid.{NotedSolid}
 use Rattle.seams.proofs.WidthLemmas.{some-same}
-
--- what holds of each element holds of one
-pub all_get : {X : Type 0} (P : X → Type 0) (xs : List X) (k : ℕ) (x : X) → All P xs → slice_get xs k ≡ Some x → P x
-all_get P xs k x all e = subst P (get_or_from_slice_get xs k x x e) (all k x (slice_get_within xs k x e))
 
 -- ---- parts
 
@@ -68,7 +63,7 @@ pub noted_exists : (faces : List FontFace) (notes : List Note) (width : ℤ) (pa
 noted_exists faces notes width [] cut held = ([], refl)
 noted_exists faces notes width (p ∷ parts) cut held =
     let own : BeginsInNote notes p = held 0 p (omega arith) in
-    let tree : CanBeCut faces own.note.body = all_get (λ (n : Note). CanBeCut faces n.body) notes p.note own.note cut own.has in
+    let tree : CanBeCut faces own.note.body = all-get (λ (n : Note). CanBeCut faces n.body) notes p.note own.note cut own.has in
     let solids = remainder_exists faces own.note.body width p.at tree.is own.holds in
     let rest = noted_exists faces notes width parts cut (λ k d low. held (suc k) d (omega arith)) in
     (map (noted own.note.body p) solids.0 ++ rest.0, (own.note, own.has, solids.0, solids.1, rest.0, rest.1, refl))

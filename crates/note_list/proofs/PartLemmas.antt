@@ -7,7 +7,7 @@ use Rattle.std.proofs.lemmas.Int.{ints}
 use Rattle.std.proofs.lemmas.List.{append-nil, append_assoc, length-map, map-append}
 use Rattle.std.proofs.lemmas.List.Elements.{All-append, All-cons, All-nil}
 use Rattle.std.proofs.lemmas.List.FromFn.{map-range_with_len_more}
-use Rattle.bk_num.proofs.ListLemmas.{slice_get_at}
+use Rattle.bk_num.proofs.ListLemmas.{slice_get_at, all-get, head-same, tail-same}
 use Rattle.metrics.specs.Face.{FontFace}
 use Rattle.boxes.specs.declared.flow.Note.{Note}
 use Rattle.boxes.specs.declared.page.Placed.{Placed}
@@ -31,14 +31,8 @@ use Rattle.note_list.specs.declared.list.NoteList.{NoteList}
 use Rattle.note_list.specs.declared.list.PlacedList.{PlacedList}
 use Rattle.note_list.specs.declared.solid.NotedSolid.{NotedSolid}
 use Rattle.note_list.proofs.LeftLemmas.{Rise, left_none, left_some, start_of}
-use Rattle.note_list.proofs.NotedLemmas.{all_get, called_held, called_of, carried_held, noted_split, noted_unique, start_held}
+use Rattle.note_list.proofs.NotedLemmas.{called_held, called_of, carried_held, noted_split, noted_unique, start_held}
 use Rattle.note_list.proofs.PlaceLemmas.{must_prefix, placed_prefix}
-
-head-same : {A : Type 0} {x y : A} {xs ys : List A} → x ∷ xs ≡ y ∷ ys → x ≡ y
-head-same h = cc
-
-tail-same : {A : Type 0} {x y : A} {xs ys : List A} → x ∷ xs ≡ y ∷ ys → xs ≡ ys
-tail-same h = cc
 
 abbrev pub IsBelow : ℕ → NotedSolid → Type 0
 IsBelow to s = s.note < to
@@ -332,7 +326,7 @@ left_told faces notes width carried from to list read number held up below order
         let s : NotedSolid = there.0 in
         let last : slice_get (take (suc k) read) (length (take (suc k) read) - 1) ≡ Some s = last_taken read k (omega arith) ∙ there.1 in
         let at : slice_get list k ≡ Some s = sym (get_taken list (suc k) k (omega arith)) ∙ ap (λ (xs : List NotedSolid). slice_get xs k) e ∙ get_taken read (suc k) k (omega arith) ∙ there.1 in
-        let end : IsHeld notes (record { note = s.note; at = s.end }) = all_get (λ (x : NotedSolid). IsHeld notes (record { note = x.note; at = x.end })) read k s ends there.1 in
+        let end : IsHeld notes (record { note = s.note; at = s.end }) = all-get (λ (x : NotedSolid). IsHeld notes (record { note = x.note; at = x.end })) read k s ends there.1 in
         ap (left_after_last notes carried from to) last
         ∙ ap (λ (cs : List Carried). left_part notes (record { note = s.note; at = s.end }) ++ flat_map (left_from notes (suc s.note)) cs) (sym starts)
         ∙ sym (left_some faces notes width 0 parts list k s rise all are at end)

@@ -3,12 +3,11 @@ use Rattle.std.proofs.Common.{◌≡◌, ℕ, zero, suc, ◌+◌, ◌<◌, ◌�
 use Rattle.std.specs.Int.{int_max}
 use Rattle.std.proofs.lemmas.Bool.{cases_lt}
 use Rattle.std.proofs.lemmas.Int.{ints}
-use Rattle.bk_num.proofs.ListLemmas.{slice_get_at}
+use Rattle.bk_num.proofs.ListLemmas.{slice_get_at, all-get}
 use Rattle.bk_num.specs.Limits.{most_entries}
 use Rattle.notes.specs.declared.solid.NoteSolid.{NoteSolid}
 use Rattle.notes.specs.Notes.{IsCarryCount, IsSmallNote, area_of, last_begin, must_of, note_bottom, note_extent, note_gap, note_height}
 use Rattle.notes.proofs.NoteLemmas.{IsReach, area_never_falls, area_prefix, area_some, must_within, reach_start, reach_step, bottom_prefix, extent_prefix, begin_within}
-use Rattle.note_list.proofs.NotedLemmas.{all_get}
 
 -- ---- bounds
 
@@ -16,7 +15,7 @@ pub reach_of : (rows : List NoteSolid) (n : ℕ) → n ≤ length rows → All I
 reach_of rows zero h small = reach_start rows
 reach_of rows (suc n) h small =
     let there = slice_get_at rows n (omega arith) in
-    let own : IsSmallNote there.0 = all_get IsSmallNote rows n there.0 small there.1 in
+    let own : IsSmallNote there.0 = all-get IsSmallNote rows n there.0 small there.1 in
     let bottom : note_bottom rows (suc n) ≡ (note_bottom rows n +ℤ there.0.gap) +ℤ there.0.height = ap (λ (o : Option NoteSolid). (note_bottom rows n +ℤ note_gap o) +ℤ note_height o) there.1 in
     subst (λ (k : ℕ). IsReach rows k (note_bottom rows (suc n)) (note_extent rows (suc n))) (add-one n) (reach_step rows n there.0 (note_bottom rows n) (note_extent rows n) (note_bottom rows (suc n)) (note_extent rows (suc n)) (reach_of rows n (omega arith) small) there.1 own bottom refl)
 

@@ -6,6 +6,7 @@ use Rattle.std.proofs.Math.Nat.{mul-le-mul_right, max-eq_right, le-max_left}
 use Rattle.std.proofs.lemmas.Bool.{cases_lt}
 use Rattle.std.proofs.lemmas.Bool.Decides.{eqb_tells}
 use Rattle.std.proofs.lemmas.List.{drop-drop, length-map}
+use Rattle.bk_num.proofs.ListLemmas.{drop-next}
 use Rattle.metrics.specs.Face.{FontFace}
 use Rattle.boxes.specs.Steps.{IsRun}
 use Rattle.boxes.specs.Tree.{Tree, IsTree}
@@ -22,7 +23,7 @@ use Rattle.cuts.proofs.CutLemmas.{cut_within}
 use Rattle.seams.specs.Runs.{solid_after, is_solid, is_solid_at}
 use Rattle.seams.specs.Seams.{seam_of, seam_before, seam_between, solid_behind, line_seam}
 use Rattle.seams.specs.declared.seam_info.SeamInfo.{SeamInfo}
-use Rattle.seams.proofs.RunLemmas.{after_solid, drop_get}
+use Rattle.seams.proofs.RunLemmas.{after_solid}
 use Rattle.cursor.specs.Remainder.{SolidView, IsRemainder}
 use Rattle.cursor.proofs.RemLemmas.{Stands}
 use Rattle.cursor.proofs.PartLemmas.{solid_itself}
@@ -85,7 +86,7 @@ module _ (free : Demand → Bool) (t : Tree) where
       by None e h = absurd (cc)
       by (Some event) e h =
           let both : (is_solid t.boxes event && is_sided free (seam_of t (place at.event 0) (pos 0)).forced) ≡ true = rw h asked in
-          let here : sided_from at.event ≡ 1 + sided_from (suc at.event) = ap (sided_among free t at.event) (drop_get t.events at.event event e) ∙ ap (λ (b : Bool). cond b 1 0 + sided_from (suc at.event)) both in
+          let here : sided_from at.event ≡ 1 + sided_from (suc at.event) = ap (sided_among free t at.event) (drop-next t.events at.event event e) ∙ ap (λ (b : Bool). cond b 1 0 + sided_from (suc at.event)) both in
           omega arith
 
   abbrev bit : Bool → ℕ

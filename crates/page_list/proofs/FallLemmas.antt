@@ -5,6 +5,7 @@ use Rattle.std.proofs.Math.Nat.{mul-le-mul_right}
 use Rattle.std.proofs.Math.Seq.{drop-nil}
 use Rattle.std.proofs.lemmas.Bool.{cases_lt}
 use Rattle.std.proofs.lemmas.Bool.Decides.{eqb_tells}
+use Rattle.bk_num.proofs.ListLemmas.{drop-next}
 use Rattle.metrics.specs.Face.{FontFace}
 use Rattle.boxes.specs.Tree.{Tree, IsTree}
 use Rattle.boxes.specs.declared.flow.Note.{Note}
@@ -12,7 +13,7 @@ use Rattle.boxes.specs.declared.leaf.Leaf.{Leaf as LeafData}
 use Rattle.boxes.specs.declared.place.Event.TheVariants.{Leaf}
 use Rattle.boxes.specs.declared.place.Position.{Position}
 use Rattle.seams.specs.Runs.{solid_after, solid_from}
-use Rattle.seams.proofs.RunLemmas.{after_solid, drop_get}
+use Rattle.seams.proofs.RunLemmas.{after_solid}
 use Rattle.cursor.specs.Remainder.{SolidView, IsSolid, IsRemainder}
 use Rattle.cursor.proofs.RemLemmas.{Stands, left_from, place, solid_stands, solid_falls, place_stands, begins_of}
 use Rattle.note_list.specs.Lists.{NotePart, AreNoted, noted, is_of, left_after, left_of, carried_parts}
@@ -27,7 +28,7 @@ module _ (faces : List FontFace) (t : Tree) (w : ℤ) (tree : IsTree t) where
   pub offset_stays : (from : Position) (s : SolidView) → Stands t from → IsSolid faces t w from s → 0 < from.offset → s.placed_at.event ≡ from.event
   offset_stays from s st is o =
       let p = st.offset o in
-      let here : Some from.event ≡ Some s.placed_at.event = sym (ap (λ es. solid_from t.boxes es from.event) (drop_get t.events from.event (Leaf p.0) p.2)) ∙ is.found in
+      let here : Some from.event ≡ Some s.placed_at.event = sym (ap (λ es. solid_from t.boxes es from.event) (drop-next t.events from.event (Leaf p.0) p.2)) ∙ is.found in
       cc
 
   -- the place of the next solid has no more left than the place before it

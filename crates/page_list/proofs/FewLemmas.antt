@@ -8,6 +8,7 @@ use Rattle.std.proofs.lemmas.List.Sums.{sum_by-append, sum_by-cons, sum_by-take-
 use Rattle.std.proofs.lemmas.Option.{slice_get-map, slice_get_within}
 use Rattle.std.proofs.Math.Nat.{le-max_left, le-max_right}
 use Rattle.std.proofs.Math.Seq.{take-append_seam}
+use Rattle.bk_num.proofs.ListLemmas.{get-append}
 use Rattle.metrics.specs.Face.{FontFace}
 use Rattle.boxes.specs.Tree.{Tree, IsTree, Holds}
 use Rattle.boxes.specs.declared.frames.Frame.{Frame}
@@ -23,7 +24,7 @@ use Rattle.cuts.specs.declared.row.SolidRow.{SolidRow}
 use Rattle.cuts.specs.Prefixes.{AreFree, is_break, is_break_class}
 use Rattle.cuts.specs.Rows.{limit_of, rows_bottom}
 use Rattle.cuts.specs.Short.{AreParted, IsOver, IsShort, count_of}
-use Rattle.cuts.proofs.AppendLemmas.{bottom-append, get-append, limit-free, limit-more}
+use Rattle.cuts.proofs.AppendLemmas.{bottom-append, limit-free, limit-more}
 use Rattle.cuts.proofs.ShortLemmas.{reads_few}
 use Rattle.page_list.specs.Cuts.{row_of, rows_of}
 use Rattle.page_list.specs.Looked.{AreFewLines, IsReach, has_line, is_edge, most_widows, taken_of, up_to_line}

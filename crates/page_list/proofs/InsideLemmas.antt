@@ -22,6 +22,7 @@ use Rattle.cuts.specs.Cuts.IsCut.{at_level, at_loose, at_first}
 use Rattle.cuts.proofs.ReachLemmas.{extent-mono, tail_least}
 use Rattle.notes.specs.declared.solid.NoteSolid.{NoteSolid}
 use Rattle.bk_num.specs.Limits.{separator}
+use Rattle.bk_num.proofs.ListLemmas.{get-take}
 use Rattle.notes.specs.Notes.{IsPlaced, area_of, must_of, note_bottom, note_extent, note_gap, note_height}
 use Rattle.notes.proofs.NoteLemmas.{area_never_falls, area_suc}
 use Rattle.note_list.specs.Lists.{placed_notes, note_rows}
@@ -37,12 +38,6 @@ use Rattle.boxes.specs.Frames.{HaveWidths, PageFrames}
 use Rattle.page_list.specs.Pages.{IsEnded, IsStep, State, name_at, start_of}
 use Rattle.page_list.specs.Pages.IsStep.{blank, flows, noted as notes_step}
 use Rattle.page_list.proofs.TailLemmas.{rest_tails}
-
-take_get : {X : Type 0} (n : ℕ) (xs : List X) (k : ℕ) (x : X) → slice_get (take n xs) k ≡ Some x → slice_get xs k ≡ Some x
-take_get zero xs k x e = absurd (cc)
-take_get (suc n) [] k x e = absurd (cc)
-take_get (suc n) (y ∷ xs) zero x e = e
-take_get (suc n) (y ∷ xs) (suc k) x e = take_get n xs k x e
 
 pub shift : (n m : ℕ) → n + suc m ≡ suc n + m
 shift n m = omega arith
@@ -85,7 +80,7 @@ solids_inside t kept height (s ∷ xs) (suc n) low fits =
     let far : rows_extent kept (rows_of t (s ∷ xs)) (1 + length (take n xs)) ≤ℤ height = subst (λ (i : ℕ). rows_extent kept (rows_of t (s ∷ xs)) i ≤ℤ height) (one_more n ∙ ap (λ (i : ℕ). 1 + i) (sym size)) fits in
     let more : rows_extent kept (rows_of t (s ∷ xs)) 1 ≤ℤ rows_extent kept (rows_of t (s ∷ xs)) (1 + length (take n xs)) = extent-mono kept (rows_of t (s ∷ xs)) 1 (length (take n xs)) in
     let last : rows_bottom kept (rows_of t (s ∷ xs)) 1 ≤ℤ rows_extent kept (rows_of t (s ∷ xs)) 1 = omega (arith, ints, clamps) in
-    let later : Are t (rows_of t (s ∷ xs)) 1 (take n xs) = λ k r e. subst (λ (i : ℕ). slice_get (rows_of t (s ∷ xs)) i ≡ Some (row_of t r)) (one_more k) (slice_get-map (row_of t) xs k ∙ ap (option_map (row_of t)) (take_get n xs k r e)) in
+    let later : Are t (rows_of t (s ∷ xs)) 1 (take n xs) = λ k r e. subst (λ (i : ℕ). slice_get (rows_of t (s ∷ xs)) i ≡ Some (row_of t r)) (one_more k) (slice_get-map (row_of t) xs k ∙ ap (option_map (row_of t)) ((get-take xs n k r e).1)) in
     All-cons (EndsBy height) _ _ (rw (← here) (omega (arith, ints)))
     (subst (λ (b : ℤ). All (EndsBy height) (placed_below b (take n xs))) here (inside_below t kept height (rows_of t (s ∷ xs)) 0 (take n xs) later far))
 
@@ -116,7 +111,7 @@ pub notes_inside : (list : List NotedSolid) (number : ℕ) → number ≤ length
 notes_inside list number low =
     let size : length (take number list) ≡ number = length-take-le number list low in
     notes_below (area_of (note_rows list) number) (note_rows list) 0 (take number list) separator (omega (arith, ints))
-    (λ k s e. subst (λ (i : ℕ). slice_get (note_rows list) i ≡ Some s.row) (let z : k ≡ 0 + k = omega arith in z) (slice_get-map (λ n. n.row) list k ∙ ap (option_map (λ n. n.row)) (take_get number list k s e)))
+    (λ k s e. subst (λ (i : ℕ). slice_get (note_rows list) i ≡ Some s.row) (let z : k ≡ 0 + k = omega arith in z) (slice_get-map (λ n. n.row) list k ∙ ap (option_map (λ n. n.row)) ((get-take list number k s e).1)))
     (let z : 0 + length (take number list) ≡ number = omega arith in subst (λ (i : ℕ). area_of (note_rows list) i ≤ℤ area_of (note_rows list) number) (sym z) (omega (arith, ints)))
 
 -- ---- pages

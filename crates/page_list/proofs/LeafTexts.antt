@@ -5,6 +5,7 @@ use Rattle.std.proofs.lemmas.Bool.{cases_lt}
 use Rattle.std.proofs.lemmas.Bool.Decides.{eqb_tells}
 use Rattle.std.proofs.lemmas.Grind.{flat_map-append}
 use Rattle.std.proofs.lemmas.List.{drop-drop}
+use Rattle.bk_num.proofs.ListLemmas.{drop-next}
 use Rattle.boxes.specs.Tree.{Tree, IsTree}
 use Rattle.boxes.specs.Tree.IsTree.{empty, opened, filled, closed}
 use Rattle.boxes.specs.declared.leaf.Leaf.{Leaf as LeafData}
@@ -15,7 +16,6 @@ use Rattle.boxes.specs.declared.place.Position.{Position}
 use Rattle.boxes.proofs.ListLemmas.{get-before, get-end}
 use Rattle.boxes.proofs.TreeFacts.{leaf_there}
 use Rattle.seams.specs.Runs.{solid_from, is_solid, is_solid_at}
-use Rattle.seams.proofs.RunLemmas.{drop_get}
 use Rattle.cursor.proofs.RemLemmas.{Stands}
 use Rattle.cursor.proofs.PartLemmas.{solid_itself}
 use Rattle.page_list.specs.Parted.{IsNextSolid}
@@ -90,7 +90,7 @@ texts_none f t (x ∷ es) k e = by x (is_solid t.boxes x) refl e (texts_none f t
 -- a leaf, and those after it
 pub texts_here : (f : LeafData → List ℕ) (t : Tree) (k l : ℕ) (leaf : LeafData) → slice_get t.events k ≡ Some (Leaf l) → slice_get t.leaves l ≡ Some leaf → texts f t.leaves (drop k t.events) ≡ f leaf ++ texts f t.leaves (drop (suc k) t.events)
 texts_here f t k l leaf at has =
-    ap (texts f t.leaves) (drop_get t.events k (Leaf l) at) ∙ ap (λ (o : Option LeafData). told f o ++ texts f t.leaves (drop (suc k) t.events)) has
+    ap (texts f t.leaves) (drop-next t.events k (Leaf l) at) ∙ ap (λ (o : Option LeafData). told f o ++ texts f t.leaves (drop (suc k) t.events)) has
 
 -- ---- the next solid
 -- its offset is that of the place before it

@@ -7,6 +7,7 @@ use Rattle.std.proofs.lemmas.Str.{IsCharBoundary-start}
 use Rattle.std.proofs.lemmas.Bool.{cases_lt, lt-ltb, le-leb}
 use Rattle.std.proofs.lemmas.Bool.Decides.{eqb_tells}
 use Rattle.std.proofs.lemmas.List.{drop-drop}
+use Rattle.bk_num.proofs.ListLemmas.{drop-next}
 use Rattle.metrics.specs.Face.{FontFace}
 use Rattle.boxes.specs.Tree.{Tree, IsTree}
 use Rattle.boxes.specs.declared.leaf.Leaf.{Leaf as LeafData}
@@ -17,7 +18,7 @@ use Rattle.boxes.specs.declared.place.Position.{Position}
 use Rattle.boxes.specs.declared.props.BoxProps.{BoxProps}
 use Rattle.line_fill.proofs.EndLemmas.{lines_go_on, end_stands}
 use Rattle.seams.specs.Runs.{solid_after, is_solid, is_solid_at}
-use Rattle.seams.proofs.RunLemmas.{after_solid, drop_get}
+use Rattle.seams.proofs.RunLemmas.{after_solid}
 use Rattle.cursor.specs.Remainder.{SolidView, IsSolid, IsContent, IsLineSolid, IsRemainder, leaf_measure, end_of}
 use Rattle.cursor.specs.Remainder.IsContent.{of_line, of_open, of_close}
 use Rattle.cursor.proofs.RemLemmas.{Stands, solid_stands, begins_of, found_of}
@@ -123,22 +124,22 @@ left_later t j k low =
 edge_here : (t : Tree) (n : ℕ) (e : Event) → slice_get t.events n ≡ Some e → is_solid t.boxes e ≡ true → ((l : ℕ) → e ≡ Leaf l → ⊥) → suc (left t (n + 1)) ≡ left t n
 edge_here t n (Opens b) at is other =
     let next : left t (n + 1) ≡ left t (suc n) = ap (left t) (add-one n) in
-    let size : chars_among t.leaves (drop n t.events) ≡ chars_among t.leaves (drop (suc n) t.events) = ap (chars_among t.leaves) (drop_get t.events n (Opens b) at) in
+    let size : chars_among t.leaves (drop n t.events) ≡ chars_among t.leaves (drop (suc n) t.events) = ap (chars_among t.leaves) (drop-next t.events n (Opens b) at) in
     let edges : length (edges_among t.boxes (drop n t.events)) ≡ suc (length (edges_among t.boxes (drop (suc n) t.events))) =
-    ap (λ (es : List Event). length (edges_among t.boxes es)) (drop_get t.events n (Opens b) at) ∙ ap (λ (c : Bool). length (cond c (OpenEdge b ∷ edges_among t.boxes (drop (suc n) t.events)) (edges_among t.boxes (drop (suc n) t.events)))) is in
+    ap (λ (es : List Event). length (edges_among t.boxes es)) (drop-next t.events n (Opens b) at) ∙ ap (λ (c : Bool). length (cond c (OpenEdge b ∷ edges_among t.boxes (drop (suc n) t.events)) (edges_among t.boxes (drop (suc n) t.events)))) is in
     omega arith
 edge_here t n (Closes b) at is other =
     let next : left t (n + 1) ≡ left t (suc n) = ap (left t) (add-one n) in
-    let size : chars_among t.leaves (drop n t.events) ≡ chars_among t.leaves (drop (suc n) t.events) = ap (chars_among t.leaves) (drop_get t.events n (Closes b) at) in
+    let size : chars_among t.leaves (drop n t.events) ≡ chars_among t.leaves (drop (suc n) t.events) = ap (chars_among t.leaves) (drop-next t.events n (Closes b) at) in
     let edges : length (edges_among t.boxes (drop n t.events)) ≡ suc (length (edges_among t.boxes (drop (suc n) t.events))) =
-    ap (λ (es : List Event). length (edges_among t.boxes es)) (drop_get t.events n (Closes b) at) ∙ ap (λ (c : Bool). length (cond c (CloseEdge b ∷ edges_among t.boxes (drop (suc n) t.events)) (edges_among t.boxes (drop (suc n) t.events)))) is in
+    ap (λ (es : List Event). length (edges_among t.boxes es)) (drop-next t.events n (Closes b) at) ∙ ap (λ (c : Bool). length (cond c (CloseEdge b ∷ edges_among t.boxes (drop (suc n) t.events)) (edges_among t.boxes (drop (suc n) t.events)))) is in
     omega arith
 edge_here t n (Leaf l) at is other = absurd (other l refl)
 
 line_here : (t : Tree) (n l : ℕ) (leaf : LeafData) → slice_get t.events n ≡ Some (Leaf l) → slice_get t.leaves l ≡ Some leaf → left t n ≡ char_count leaf.text + left t (suc n)
 line_here t n l leaf at has =
-    let size : chars_among t.leaves (drop n t.events) ≡ char_count leaf.text + chars_among t.leaves (drop (suc n) t.events) = ap (chars_among t.leaves) (drop_get t.events n (Leaf l) at) ∙ ap (λ (o : Option LeafData). chars_by o + chars_among t.leaves (drop (suc n) t.events)) has in
-    let edges : length (edges_among t.boxes (drop n t.events)) ≡ length (edges_among t.boxes (drop (suc n) t.events)) = ap (λ (es : List Event). length (edges_among t.boxes es)) (drop_get t.events n (Leaf l) at) in
+    let size : chars_among t.leaves (drop n t.events) ≡ char_count leaf.text + chars_among t.leaves (drop (suc n) t.events) = ap (chars_among t.leaves) (drop-next t.events n (Leaf l) at) ∙ ap (λ (o : Option LeafData). chars_by o + chars_among t.leaves (drop (suc n) t.events)) has in
+    let edges : length (edges_among t.boxes (drop n t.events)) ≡ length (edges_among t.boxes (drop (suc n) t.events)) = ap (λ (es : List Event). length (edges_among t.boxes es)) (drop-next t.events n (Leaf l) at) in
     omega arith
 
 pub passed_none : (t : Tree) (at : Position) → at.offset ≡ 0 → passed t at ≡ 0

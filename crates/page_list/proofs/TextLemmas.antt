@@ -7,6 +7,7 @@ use Rattle.std.proofs.lemmas.Bool.Decides.{eqb_tells}
 use Rattle.std.proofs.lemmas.List.{drop-drop, drop-append-le, take_rest}
 use Rattle.std.proofs.lemmas.Option.{slice_get_within}
 use Rattle.std.proofs.Math.Seq.{drop-nil}
+use Rattle.bk_num.proofs.ListLemmas.{drop-next}
 use Rattle.boxes.specs.Tree.{Tree, IsTree}
 use Rattle.boxes.specs.declared.leaf.Leaf.{Leaf as LeafData}
 use Rattle.boxes.specs.declared.page.Placed.{Placed}
@@ -19,7 +20,7 @@ use Rattle.boxes.specs.declared.page.SolidKind.{SolidKind}
 use Rattle.boxes.specs.declared.page.SolidKind.TheVariants.{OpenEdge, CloseEdge}
 use Rattle.page_list.specs.Parted.{IsPart, IsPartOfLeaf, IsNextSolid, AreNextSolids, HoldsAll, HoldsText, HoldsEdges, edges_among, edge_by, text_of, text_by, text_at, text_on}
 use Rattle.page_list.specs.Parted.IsPart.{line, upper, lower}
-use Rattle.seams.proofs.RunLemmas.{after_solid, drop_get}
+use Rattle.seams.proofs.RunLemmas.{after_solid}
 use Rattle.page_list.proofs.NextLemmas.{start_stands}
 use Rattle.page_list.proofs.LeafTexts.{texts, texts_found, texts_here, texts_none, tree_texts, offset_same, edge_begins, told_by}
 
@@ -94,7 +95,7 @@ edge_takes t p e at bare plain begins ends =
     let none : text_at t p.at.event ≡ [] = ap (text_by t.leaves) at ∙ bare in
     let bare_on : text_on t p ≡ [] = ap (λ (text : List ℕ). slice_range text p.at.offset (cond (eqb p.end.event p.at.event) p.end.offset (length (text_at t p.at.event)))) none ∙ slice_none p.at.offset (cond (eqb p.end.event p.at.event) p.end.offset (length (text_at t p.at.event))) in
     let left : text_from t p.at ≡ texts leaf_text t.leaves (drop (suc p.at.event) t.events) =
-    ap (λ (o : ℕ). drop o (texts leaf_text t.leaves (drop p.at.event t.events))) begins ∙ ap (texts leaf_text t.leaves) (drop_get t.events p.at.event e at) ∙ ap (λ (prefix : List ℕ). prefix ++ texts leaf_text t.leaves (drop (suc p.at.event) t.events)) plain in
+    ap (λ (o : ℕ). drop o (texts leaf_text t.leaves (drop p.at.event t.events))) begins ∙ ap (texts leaf_text t.leaves) (drop-next t.events p.at.event e at) ∙ ap (λ (prefix : List ℕ). prefix ++ texts leaf_text t.leaves (drop (suc p.at.event) t.events)) plain in
     let low = slice_get_within t.events p.at.event e at in
     record {
       stands = subst (Stands t) (sym end) (record { within = omega arith; offset = λ o. absurd (omega arith) });
@@ -159,7 +160,7 @@ edge_takes_own : (t : Tree) (p : Placed) → is_solid_at t.boxes (slice_get t.ev
 edge_takes_own t p is (line l) = ap (λ (k : SolidKind). edge_by k ++ edges_from t p.end.event) l.kind_is ∙ ap (λ (q : Position). edges_from t q.event) l.ends ∙ by (eqb l.to (length l.leaf.text))
   where
     next : edges_from t (suc p.at.event) ≡ edges_from t p.at.event
-    next = sym (ap (edges_among t.boxes) (drop_get t.events p.at.event (Leaf l.number) l.names))
+    next = sym (ap (edges_among t.boxes) (drop-next t.events p.at.event (Leaf l.number) l.names))
 
     by : (b : Bool) → edges_from t (cond b (place (p.at.event + 1) 0) (place p.at.event l.to)).event ≡ edges_from t p.at.event
     by true = ap (edges_from t) (add-one p.at.event) ∙ next
@@ -167,11 +168,11 @@ edge_takes_own t p is (line l) = ap (λ (k : SolidKind). edge_by k ++ edges_from
 edge_takes_own t p is (upper b e l) =
     let own : is_solid t.boxes (Opens b) ≡ true = sym (ap (is_solid_at t.boxes) e) ∙ is in
     ap (λ (k : SolidKind). edge_by k ++ edges_from t p.end.event) l.kind_is ∙ ap (λ (q : Position). OpenEdge b ∷ edges_from t q.event) l.ends ∙ ap (λ (k : ℕ). OpenEdge b ∷ edges_from t k) (add-one p.at.event)
-    ∙ sym (ap (edges_among t.boxes) (drop_get t.events p.at.event (Opens b) e) ∙ ap (λ (x : Bool). cond x (OpenEdge b ∷ edges_from t (suc p.at.event)) (edges_from t (suc p.at.event))) own)
+    ∙ sym (ap (edges_among t.boxes) (drop-next t.events p.at.event (Opens b) e) ∙ ap (λ (x : Bool). cond x (OpenEdge b ∷ edges_from t (suc p.at.event)) (edges_from t (suc p.at.event))) own)
 edge_takes_own t p is (lower b e l) =
     let own : is_solid t.boxes (Closes b) ≡ true = sym (ap (is_solid_at t.boxes) e) ∙ is in
     ap (λ (k : SolidKind). edge_by k ++ edges_from t p.end.event) l.kind_is ∙ ap (λ (q : Position). CloseEdge b ∷ edges_from t q.event) l.ends ∙ ap (λ (k : ℕ). CloseEdge b ∷ edges_from t k) (add-one p.at.event)
-    ∙ sym (ap (edges_among t.boxes) (drop_get t.events p.at.event (Closes b) e) ∙ ap (λ (x : Bool). cond x (CloseEdge b ∷ edges_from t (suc p.at.event)) (edges_from t (suc p.at.event))) own)
+    ∙ sym (ap (edges_among t.boxes) (drop-next t.events p.at.event (Closes b) e) ∙ ap (λ (x : Bool). cond x (CloseEdge b ∷ edges_from t (suc p.at.event)) (edges_from t (suc p.at.event))) own)
 
 solids_edges : (t : Tree) (at : Position) (solids : List Placed) → AreNextSolids t at solids → flat_map (λ p. edge_by p.kind) solids ≡ edges_from t at.event
 solids_edges t at [] none = sym (edges_none t (drop at.event t.events) at.event none)

@@ -1,7 +1,8 @@
 -- Of trees in short: their faces are there, their lines go as far as they fit, and they have as many bytes of text as
 -- their leaves.
-use Rattle.std.proofs.Common.{◌≡◌, ◌<◌, ◌≤◌, ◌+◌, ◌∙◌, ◌^◌, ℕ, zero, suc, List, [], ◌∷◌, Some, All, length, slice_get, refl, sym, ap, subst, arith}
+use Rattle.std.proofs.Common.{◌≡◌, ◌<◌, ◌≤◌, ◌+◌, ◌∙◌, ◌^◌, ℕ, List, Some, All, length, slice_get, refl, sym, ap, subst}
 use Rattle.std.proofs.lemmas.List.Sums.{sum_by_push}
+use Rattle.bk_num.proofs.ListLemmas.{all-get}
 use Rattle.metrics.specs.Face.{FontFace}
 use Rattle.boxes.specs.Tree.{Tree, IsTree}
 use Rattle.boxes.specs.Tree.IsTree.{empty, opened, filled, closed}
@@ -12,19 +13,14 @@ use Rattle.note_list.specs.Conditions.{text_size}
 use Rattle.note_list.proofs.SizeLemmas.{bytes_opened, bytes_filled, bytes_closed}
 use Rattle.tree_fixtures.specs.Leaves.{IsShortLeaf, bytes_of}
 
-of_all : {X : Type 0} (P : X → Type 0) (xs : List X) (k : ℕ) (x : X) → All P xs → slice_get xs k ≡ Some x → P x
-of_all P [] k x all e = absurd (cc)
-of_all {X} P (y ∷ ys) zero x all e = let same : y ≡ x = cc in subst P same (all 0 y (omega arith))
-of_all P (y ∷ ys) (suc k) x all e = of_all P ys k x (λ j d less. all (suc j) d (omega arith)) e
-
 pub short_faces : (faces : List FontFace) (t : Tree) → 0 < length faces → All IsShortLeaf t.leaves → (l : ℕ) (leaf : Leaf) → slice_get t.leaves l ≡ Some leaf → HasFaces faces leaf
 short_faces faces t some all l leaf is =
-    let short = of_all IsShortLeaf t.leaves l leaf all is in
+    let short = all-get IsShortLeaf t.leaves l leaf all is in
     let strut : leaf.strut.face.0 < length faces = subst (λ (n : ℕ). n < length faces) (sym short.face) some in
     record { strut = strut; spans = λ k d less. rw (short.spans k d less).face strut }
 
 pub short_greedy : (t : Tree) → All IsShortLeaf t.leaves → IsGreedy t
-short_greedy t all l leaf is = (of_all IsShortLeaf t.leaves l leaf all is).greedy
+short_greedy t all l leaf is = (all-get IsShortLeaf t.leaves l leaf all is).greedy
 
 -- each leaf of a tree stands in it once
 text_once : (t : Tree) → IsTree t → text_size t.leaves t.events ≡ bytes_of t.leaves

@@ -2,6 +2,7 @@ use Rattle.std.proofs.Common.{◌≡◌, ◌<◌, ◌∙◌, ◌∷◌, ◌++◌
 use Rattle.std.specs.Int.{int_max}
 use Rattle.std.proofs.lemmas.Int.{ints, clamps, to_z-of_z}
 use Rattle.std.proofs.lemmas.Option.{slice_get_read}
+use Rattle.bk_num.proofs.ListLemmas.{drop-next}
 use mir.Val.{SFits}
 use mir.Syntax.{w64}
 use Rattle.boxes.specs.declared.page.Placed.{Placed}
@@ -10,7 +11,7 @@ use Rattle.cursor.specs.Fields.{solid_view}
 use Rattle.cursor.specs.Remainder.{SolidView, IsSmallSolid}
 use Rattle.page_list.specs.Cuts.{first_gap, placed_at}
 use Rattle.fragment.specs.Solids.{foot_from}
-use Rattle.fragment.proofs.SolidLemmas.{drop_get, view_at}
+use Rattle.fragment.proofs.SolidLemmas.{view_at}
 use Rattle.fragment.proofs.TopLemmas.{foot_push, place_begun, place_more, low_more, high_more}
 use Rattle.fragment.proofs.tops.place_all.Goals as goal
 
@@ -62,7 +63,7 @@ loop-at-init c =
     let tall_some = small.some in
     let fits : SFits w64 c.gap_above-first.result = search rules in
     let near = c.gap_above-first.ensures.near in
-    let rest : views ≡ solid_view s ∷ drop 1 views = drop_get views 0 (solid_view s) (view_at solids 0 s there) in
+    let rest : views ≡ solid_view s ∷ drop 1 views = drop-next views 0 (solid_view s) (view_at solids 0 s there) in
     let gap : to_z w64 (of_z w64 c.gap_above-first.result) ≡ first_gap c.args.kept views = to_z-of_z w64 c.gap_above-first.result fits ∙ c.gap_above-first.ensures.top refl ∙ ap (first_gap c.args.kept) (sym rest) in
     let none : pos 0 +ℤ to_z w64 (of_z w64 c.gap_above-first.result) ≡ to_z w64 (of_z w64 c.gap_above-first.result) = omega (arith, ints) in
     let under : c.push_below.new.reach.bottom ≡ first_gap c.args.kept views +ℤ s.height = c.push_below.ensures.bottom ∙ ap (λ (z : ℤ). z +ℤ s.height) (none ∙ gap) in

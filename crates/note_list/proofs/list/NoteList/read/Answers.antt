@@ -1,5 +1,6 @@
 use Rattle.std.proofs.Common.{◌≡◌, ◌+◌, ◌&&◌, ◌||◌, Bool, arith, is_some, refl, sym, ap, ◌∙◌, subst}
 use Rattle.std.proofs.lemmas.Option.{slice_get_within}
+use Rattle.bk_num.proofs.ListLemmas.{all-get}
 use Rattle.boxes.specs.Tree.{Tree}
 use Rattle.boxes.specs.declared.flow.Note.{Note}
 use Rattle.cursor.proofs.AskLemmas.{keeps_all}
@@ -10,7 +11,6 @@ use Rattle.seams.specs.Runs.{solid_after}
 use Rattle.note_list.specs.Conditions.{CanBeCut}
 use Rattle.note_list.specs.Lists.{NotePart}
 use Rattle.note_list.specs.Reads.{HasReadOn}
-use Rattle.note_list.proofs.NotedLemmas.{all_get}
 use Rattle.note_list.proofs.KeptLemmas.{note_lines}
 use Rattle.note_list.proofs.BodyLemmas.{list_full, list_read}
 use Rattle.note_list.proofs.list.NoteList.read.Goals as goal
@@ -18,7 +18,7 @@ use Rattle.note_list.proofs.list.NoteList.read.Goals as goal
 pub returns-then-self-clause-list : goal.returns-then-self-clause-list
 returns-then-self-clause-list g c = λ list r.
     let note : Note = c.requires.held.note in
-    let cut : CanBeCut c.args.faces.now note.body = all_get (λ (n : Note). CanBeCut c.args.faces.now n.body) c.args.flow.now.notes c.args.part.note note c.requires.flow.notes c.requires.held.has in
+    let cut : CanBeCut c.args.faces.now note.body = all-get (λ (n : Note). CanBeCut c.args.faces.now n.body) c.args.flow.now.notes c.args.part.note note c.requires.flow.notes c.requires.held.has in
     let body : c.body_of-body.result.now ≡ note.body = c.body_of-body.ensures note c.requires.held.has in
     list_full c.args.faces.now c.args.flow.now.notes c.args.frame.width c.args.frame.height _ note c.args.self.now _ cut.is (stands note.body c.args.part.at c.requires.held.holds) c.requires.held.has c.requires.start c.if-self.true refl refl
     (ap (λ (b : Bool). b || c.args.self.now.begun) (c.begins.ensures ∙ ap (λ (t : Tree). c.args.called && is_some (solid_after t 0)) body)) list r
@@ -26,7 +26,7 @@ returns-then-self-clause-list g c = λ list r.
 pub read_body-requires-clause-body : goal.read_body-requires-clause-body
 read_body-requires-clause-body g c =
     let note : Note = c.requires.held.note in
-    subst (CanBeCut c.args.faces.now) (sym (c.body_of-body.ensures note c.requires.held.has)) (all_get (λ (n : Note). CanBeCut c.args.faces.now n.body) c.args.flow.now.notes c.args.part.note note c.requires.flow.notes c.requires.held.has)
+    subst (CanBeCut c.args.faces.now) (sym (c.body_of-body.ensures note c.requires.held.has)) (all-get (λ (n : Note). CanBeCut c.args.faces.now n.body) c.args.flow.now.notes c.args.part.note note c.requires.flow.notes c.requires.held.has)
 
 pub returns-clause-list : goal.returns-clause-list
 returns-clause-list g c = λ list r.

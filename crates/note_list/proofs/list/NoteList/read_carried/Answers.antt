@@ -1,4 +1,5 @@
 use Rattle.std.proofs.Common.{◌≤◌, List, length, subst, arith}
+use Rattle.bk_num.proofs.ListLemmas.{all-get}
 use Rattle.cursor.proofs.AskLemmas.{keeps_all, keeps_twice}
 use Rattle.cursor.proofs.StepLemmas.{takes_none, takes_twice}
 use Rattle.note_list.specs.Conditions.{IsHeld}
@@ -6,7 +7,6 @@ use Rattle.note_list.specs.Lists.{carried_parts}
 use Rattle.note_list.specs.declared.carried.Carried.{Carried}
 use Rattle.note_list.proofs.KnownLemmas.{known_more}
 use Rattle.note_list.proofs.BodyLemmas.{Calls, calls_none, carry_next, carry_rest, take_end}
-use Rattle.note_list.proofs.NotedLemmas.{all_get}
 use Rattle.note_list.proofs.list.NoteList.read_carried.Goals as goal
 
 pub loop-at-init : goal.loop-at-init
@@ -26,7 +26,7 @@ pub returns-then-self-clause-list : goal.returns-then-self-clause-list
 returns-then-self-clause-list g c = carry_rest c.args.faces.now c.args.flow.now.notes c.args.frame.width c.args.frame.height c.args.carried.now c.loop-at.at c.args.self.now c.loop-at.self c.requires.flow.notes c.requires.carried c.if-self.true c.loop-at.invariant.calls
 
 pub read-requires-clause-held : goal.read-requires-clause-held
-read-requires-clause-held g c = all_get (IsHeld c.args.flow.now.notes) c.args.carried.now c.loop-at.at c.part.result c.requires.carried c.part.ensures
+read-requires-clause-held g c = all-get (IsHeld c.args.flow.now.notes) c.args.carried.now c.loop-at.at c.part.result c.requires.carried c.part.ensures
 
 pub loop-at-preserved : goal.loop-at-preserved
 loop-at-preserved g c = record {
