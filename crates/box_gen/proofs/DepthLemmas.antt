@@ -8,7 +8,7 @@ use Rattle.boxes.specs.Tree.{Tree, depth_of, innermost_of, rest_of, takes_leaf, 
 use Rattle.boxes.proofs.TreeLemmas.{most-push, open_least}
 use Rattle.dom.specs.Nodes.{Node, NodeData, Element, Text, HasPlace, IsTree, depth_at, depth_of as node_depth, parent_at, parents_of, part_of, reach_of, text_in}
 use Rattle.dom.specs.Walk.{children_of}
-use Rattle.dom.proofs.WalkLemmas.{falling}
+use Rattle.dom.proofs.WalkLemmas.{falling, parent-child}
 use Rattle.style.specs.declared.style.Style.{Style}
 use Rattle.style.specs.Styles.{initial_style}
 use Rattle.box_gen.specs.Items.{InlineItem}
@@ -21,7 +21,7 @@ use Rattle.box_gen.specs.Runs.{spans_of, text_of}
 use Rattle.box_gen.specs.Trees.{Source, Forest, none, node, side_by_side, below, forest_of, Role, text, hidden, inline, block, note, is_note_element, role_by, role_of}
 use Rattle.box_gen.proofs.FlowLemmas.{grown-end, grows, opens-gathered}
 use Rattle.box_gen.proofs.TreeLemmas.{opens, opens-box, opens-close, opens-leaf, opens-opened, opens-run}
-use Rattle.box_gen.proofs.WalkLemmas.{Under, under, parent-child}
+use Rattle.box_gen.proofs.WalkLemmas.{Under, under}
 use Rattle.box_gen.proofs.Gathering.{gather_node, gathered}
 
 -- ---- trees

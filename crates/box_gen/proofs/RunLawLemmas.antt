@@ -1,11 +1,12 @@
 -- The laws of runs that are hyphenated.
-use Rattle.std.proofs.Common.{◌≡◌, ◌∙◌, ℕ, zero, suc, ◌+◌, Bool, true, false, cond, ◌&&◌, ◌||◌, ◌==◌, true≢false, List, [], ◌∷◌, ◌++◌, map, None, Some, refl, sym, ap}
+use Rattle.std.proofs.Common.{◌≡◌, ◌∙◌, ℕ, zero, suc, ◌+◌, Bool, true, false, cond, ◌||◌, ◌==◌, List, [], ◌∷◌, ◌++◌, map, None, Some, refl, sym, ap}
 use Rattle.std.specs.Char.{IsScalar, encode_utf8}
 use Rattle.std.specs.List.{All}
 use Rattle.std.proofs.Math.Utf8.{scalar as is_scalar}
 use Rattle.std.specs.Str.{IsUtf8, all_scalars, chars, is_utf8}
 use Rattle.std.proofs.lemmas.List.Elements.{All-append, All-cons, All-head, All-map, All-nil, All-tail}
 use Rattle.std.proofs.lemmas.Str.{IsUtf8-append, IsUtf8-encode, IsUtf8-from_is_utf8, IsUtf8-nil, scalars-chars}
+use Rattle.std.proofs.lemmas.Bool.{and_parts}
 use Rattle.bk_num.specs.declared.values.WhiteSpace.{WhiteSpace}
 use Rattle.bk_num.specs.declared.values.WhiteSpace.TheVariants as space
 use Rattle.inline_text.specs.Joined.{joined}
@@ -48,15 +49,10 @@ is-spelled s k c h = by (c == 32) (collapses s) (c == 9) (c == 10) (folds_newlin
     by false l false true false = IsUtf8-encode c h
     by false l false false f = IsUtf8-encode c h
 
-both : (a b : Bool) → (a && b) ≡ true → (a ≡ true) × (b ≡ true)
-both true true e = (refl, refl)
-both true false e = absurd (true≢false (sym e))
-both false b e = absurd (true≢false (sym e))
-
 codes-of : (s : WhiteSpace) (k : ℕ) (cs : List ℕ) → all_scalars cs ≡ true → All IsSpelled (marked s k cs)
 codes-of s k [] e = All-nil IsSpelled
 codes-of s k (c ∷ cs) e =
-    let h = both (is_scalar c) (all_scalars cs) e in
+    let h = and_parts (is_scalar c) (all_scalars cs) e in
     All-cons IsSpelled (mark (class_of c s) c k) (marked s k cs) (is-spelled s k c h.0) (codes-of s k cs h.1)
 
 codes-from : (k : ℕ) (ps : List TextPart) → All IsText ps → All IsSpelled (chars_from k ps)

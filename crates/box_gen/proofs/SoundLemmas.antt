@@ -36,6 +36,7 @@ use Rattle.box_gen.specs.Represented.{represented_text}
 use Rattle.box_gen.specs.Runs.{AreGoodTexts, marks_in, spans_of, styles_in, text_of}
 use Rattle.box_gen.specs.Sources.{AreInRange, IsInRange}
 use Rattle.std.proofs.lemmas.List.{reverse-append}
+use Rattle.std.proofs.Math.Bool.{or-true}
 use Rattle.bk_num.specs.declared.ids.NodeId.{NodeId}
 use Rattle.box_gen.specs.Steps.{CanBegin, CanEnd, CanEnterNode, CanLeaveNode, CanPut, styles_of}
 use Rattle.box_gen.specs.TextStyles.{IsGoodTextStyle, text_style_of}
@@ -185,10 +186,6 @@ fine-gathered src s b (node n kids more) os g all r h =
     (fine-node src s b n kids os g all r h (role_of src n) refl (λ u c qs g q k. fine-gathered src u c kids qs g all q k))
 
 -- ---- what a step asks
-
-or-true : (b : Bool) → (b || true) ≡ true
-or-true true = refl
-or-true false = refl
 
 -- a box may open where the last event is no leaf and a box is open
 takes-box : (t : Tree) (x : ℕ) (os : List ℕ) → is_leaf (last_event t.events) ≡ false → opens t ≡ x ∷ os → IsTrue (takes_box t.events)

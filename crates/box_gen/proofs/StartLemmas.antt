@@ -10,7 +10,7 @@ use Rattle.boxes.specs.declared.flow.Start.{Start}
 use Rattle.boxes.specs.Tree.{takes_leaf}
 use Rattle.dom.specs.Nodes.{IsTree, is_at, parent_at, parents_of, text_at}
 use Rattle.dom.specs.Walk.{children_from, children_of}
-use Rattle.dom.proofs.WalkLemmas.{AreFalling, falling}
+use Rattle.dom.proofs.WalkLemmas.{AreFalling, falling, parent-child}
 use Rattle.style.specs.declared.style.Style.{Style}
 use Rattle.style.specs.Nodes.{NodeStyles}
 use Rattle.box_gen.specs.Elements.{ElementsHaveStarts, node_shown, shown_in, shown_of, times}
@@ -19,7 +19,7 @@ use Rattle.box_gen.specs.Gather.{Gathered}
 use Rattle.box_gen.specs.Trees.{Source, Forest, none, node, side_by_side, below, forest_of, in_note, is_block, is_note_element, Role, text, hidden, inline, block, note, role_by, role_of, shown_role}
 use Rattle.box_gen.proofs.BodyLemmas.{body-is, note_full, note_start}
 use Rattle.box_gen.proofs.ElementLemmas.{IsFloat, elements_in, known-gathered, known-texts, main-elements, no-first, no-generated, node_elements, nodes-append, nodes_in, role-floats, run-nodes, run_nodes}
-use Rattle.box_gen.proofs.WalkLemmas.{Greater, Under, below-greater, parent-child, under}
+use Rattle.box_gen.proofs.WalkLemmas.{Greater, Under, below-greater, under}
 use Rattle.box_gen.proofs.Gathering.{gathered}
 
 abbrev one : Bool → ℕ

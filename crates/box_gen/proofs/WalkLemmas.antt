@@ -5,11 +5,11 @@ use Rattle.std.proofs.lemmas.Map.Views.{exact_unsigned_eq}
 use Rattle.std.proofs.lemmas.Option.{slice_get-map}
 use Rattle.std.specs.List.{flat_map}
 use Rattle.bk_num.specs.declared.values.Pseudo.TheVariants as pseudo
-use Rattle.dom.specs.Nodes.{Node, NodeData, Element, Text, HasPlace, flat, is_at, is_element, is_element_at, is_element_node, parents_of, parent_at, part_of, text_at, text_in, IsTree}
+use Rattle.dom.specs.Nodes.{Node, NodeData, Element, Text, HasPlace, is_at, is_element, is_element_at, is_element_node, parents_of, parent_at, part_of, text_at, text_in, IsTree}
 use Rattle.dom.specs.Walk.{children_from, children_of, tour, steps_of}
 use Rattle.dom.specs.declared.walk.Step.{Step}
 use Rattle.dom.specs.declared.walk.Step.TheVariants.{Enter, Leave}
-use Rattle.dom.proofs.WalkLemmas.{AreFalling, falling, root-parent}
+use Rattle.dom.proofs.WalkLemmas.{AreFalling, falling, root-parent, parent-child}
 use Rattle.style.specs.declared.style.Style.{Style}
 use Rattle.style.specs.Nodes.{NodeStyles, style_at, style_of}
 use Rattle.box_gen.specs.Items as item
@@ -161,13 +161,6 @@ own-of src n u (inr e) = own-by src n u (ap role_style e)
 
 pub own-note : (src : Source) (n : ℕ) (u : Style) → role_of src n ≡ note u → style_at src.styles n pseudo.Element ≡ Some u
 own-note src n u e = own-by src n u (ap role_style e)
-
-pub parent-child : (ps : List (Option ℕ)) (n p : ℕ) → parent_at ps n ≡ Some p → slice_get ps n ≡ Some (Some p)
-parent-child ps n p h = by (slice_get ps n) h
-  where
-    by : (o : Option (Option ℕ)) → flat o ≡ Some p → o ≡ Some (Some p)
-    by None g = cc
-    by (Some q) g = ap (λ (o : Option ℕ). Some o) g
 
 -- the children of a node, which have it as their parent and come after it
 unfoldable pub Under : List (Option ℕ) → ℕ → List ℕ → Type 0

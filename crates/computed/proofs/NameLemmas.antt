@@ -1,10 +1,11 @@
 -- Names of pages, as they are given and numbered.
-use Rattle.std.proofs.Common.{◌≡◌, ◌∙◌, ℕ, ℤ, zero, suc, Bool, true, false, ◌||◌, cond, List, [], ◌∷◌, ◌++◌, append_assoc, append-nil, Option, None, Some, length, slice_get, refl, sym, ap}
+use Rattle.std.proofs.Common.{◌≡◌, ◌∙◌, ℕ, ℤ, zero, suc, Bool, true, ◌||◌, cond, List, [], ◌∷◌, ◌++◌, append_assoc, append-nil, Option, None, Some, length, slice_get, refl, sym, ap}
 use Rattle.std.proofs.lemmas.List.Sums.{fold-append}
 use Rattle.std.proofs.lemmas.Slice.Eq.{bytes_eq-Decides}
 use Rattle.std.specs.List.{list_any}
 use Rattle.std.specs.Option.{option_to_list}
 use Rattle.std.specs.Str.{bytes_eq}
+use Rattle.std.proofs.Math.Bool.{or-true}
 use Rattle.dom.specs.NameLists.{AreOnce}
 use Rattle.dom.proofs.NameLemmas.{once-with}
 use Rattle.style.specs.Nodes.{NodeStyles}
@@ -16,10 +17,6 @@ use Rattle.computed.specs.Names.{page_in, given_names, node_names, page_names, w
 use Rattle.computed.specs.Walk.{IsPage, IsStyle, HasPseudo, IsElement, style_above, root_above, parent_row}
 
 -- ---- names that are there already
-
-or-true : (b : Bool) → (b || true) ≡ true
-or-true true = refl
-or-true false = refl
 
 listed : (names : List (List ℕ)) (name : List ℕ) (n : ℕ) → slice_get names n ≡ Some name → list_any (bytes_eq name) names ≡ true
 listed [] name n h = cc

@@ -2,7 +2,7 @@
 use Rattle.std.proofs.Common.{◌≡◌, ℕ, suc, ◌-◌, ◌<◌, ◌==◌, Bool, true, false, cond, ◌&&◌, List, [], ◌∷◌, ◌++◌, Option, None, Some, length, map, slice_get, refl, sym, ◌∙◌, ap, subst, arith, append-nil, append_assoc}
 use Rattle.std.specs.Prelude.{nat_le, nat_lt, filter, not, fold, reverse, ℤ, pos, ◌+ℤ◌}
 use Rattle.std.specs.Str.{bytes_eq}
-use Rattle.std.proofs.lemmas.Bool.{eqb-true}
+use Rattle.std.proofs.lemmas.Bool.{eqb-true, and_parts}
 use Rattle.std.proofs.lemmas.Bool.Decides.{Decides-int_eq, nat_tests}
 use Rattle.std.proofs.Math.IntN.{+ℤ_idr}
 use Rattle.bk_num.proofs.ListLemmas.{bytes_same}
@@ -15,11 +15,6 @@ use Rattle.counters.specs.Scopes.{AreNested, Each, History, IsAfter, Scope, hold
 use Rattle.counters.specs.Gather.{AreKept, adds_nothing, is_at, is_same, is_use, needed, with_change, with_changes}
 use Rattle.counters.proofs.ScopeLemmas.{each-map}
 use Rattle.counters.proofs.ValueLemmas.{filter-none, up_to}
-
-both : (a b : Bool) → (a && b) ≡ true → (a ≡ true) × (b ≡ true)
-both true true e = (refl, refl)
-both true false e = cc
-both false b e = cc
 
 -- ---- one event more
 
@@ -174,7 +169,7 @@ alike-run (e ∷ more) k at h g nested covers a =
         → ((x y : History) → Covers (Some e.at) x.scopes → Alike x y → Alike (fold with_event x (up_to k more)) (fold with_event y (up_to k (needed (Some e.at) more))))
         → Alike (fold with_event h (cond b (e ∷ up_to k more) (up_to k more))) (fold with_event g (up_to k (cond s (needed at more) (e ∷ needed (Some e.at) more))))
     by true t true u same other =
-        let p = both (is_same at e.at) (is_use e.act) u in
+        let p = and_parts (is_same at e.at) (is_use e.act) u in
         let here : at ≡ Some e.at = same-place at e.at p.0 in
         same (with_event h e) g (subst (λ o. Covers o (with_event h e).scopes) (sym here) covered) (skipped-by h g e.at e.end e.act (subst (λ o. Covers o h.scopes) here covers) p.1 a)
     by true t false u same other = rw t (other (with_event h e) (with_event g e) covered (kept-alike h g e a))

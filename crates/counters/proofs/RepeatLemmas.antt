@@ -1,5 +1,6 @@
 -- uses that repeat the change before them
 use Rattle.std.proofs.Common.{◌≡◌, ℕ, zero, suc, ◌-◌, ◌+◌, ◌<◌, Bool, true, false, cond, ◌&&◌, List, [], ◌∷◌, ◌++◌, Option, Some, drop, get_or, length, length-append, slice_get, refl, sym, ◌∙◌, ap, subst, arith}
+use Rattle.std.proofs.lemmas.Bool.{and_parts}
 use Rattle.bk_num.proofs.ListLemmas.{bytes_self, get-end}
 use Rattle.named_lists.specs.Lists.{ListsOf, items_of, with_item}
 use Rattle.named_lists.proofs.ListLemmas.{items-more, len-more}
@@ -14,11 +15,6 @@ use Rattle.counters.proofs.NumberLemmas.{item-at}
 -- whether the last event stands at a place
 abbrev StandsAt : ℕ → List CounterEvent → Type 0
 StandsAt k events = is_at k (slice_get events (length events - 1)) ≡ true
-
-both : (a b : Bool) → (a && b) ≡ true → (a ≡ true) × (b ≡ true)
-both true true e = (refl, refl)
-both true false e = cc
-both false b e = cc
 
 end-stands : (events : List CounterEvent) (e : CounterEvent) → StandsAt e.at (events ++ e ∷ [])
 end-stands events e =
@@ -39,7 +35,7 @@ change-stands l p h = by (adds_nothing (items_of l p.0) p.1) refl
     more = items-more l p.0 p.0 p.1 h ∙ ap (λ b. items_of l p.0 ++ cond b (p.1 ∷ []) []) (bytes_self p.0)
 
     by : (b : Bool) → adds_nothing (items_of l p.0) p.1 ≡ b → StandsAt p.1.at (items_of (cond b l (with_item l p)) p.0)
-    by true e = (both _ _ e).0
+    by true e = (and_parts _ _ e).0
     by false e = ap (λ v. is_at p.1.at (slice_get v (length v - 1))) more ∙ end-stands (items_of l p.0) p.1
 
 asked-len : (asked : List (List ℕ)) (l : ListsOf CounterEvent) (p : List ℕ × CounterEvent) → length l.names ≡ length l.lists → length (with_changes l (of_asked asked (p ∷ []))).names ≡ length (with_changes l (of_asked asked (p ∷ []))).lists

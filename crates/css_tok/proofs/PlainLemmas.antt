@@ -7,6 +7,7 @@ use Rattle.std.specs.Str.{IsUtf8, IsCharBoundary}
 use Rattle.std.specs.Str.Parse.{IsNumeral, AllDigits, digits_value}
 use Rattle.std.specs.Char.{is_ascii_hexdigit, encode_utf8, digit_value}
 use Rattle.std.specs.List.{prefix_len}
+use Rattle.std.proofs.lemmas.List.{nil_from_length}
 use Rattle.css_tok.specs.declared.lengths.Class.TheVariants as class
 use Rattle.css_tok.specs.Lengths.{unit_len, run_from, run_len, is_newline, newline_len, blank_len, hex_len, escape_len, quoted_len}
 use Rattle.bk_num.specs.Written.{character_of}
@@ -52,10 +53,6 @@ unfolding plain_of plain_from
 plain_escape [] some is = absurd (omega arith)
 plain_escape (b ∷ bs) some is = rw (eq-eqb b 92 is)
 
-empty : (bs : List ℕ) → length bs ≡ 0 → bs ≡ []
-empty [] none = refl
-empty (b ∷ bs) none = absurd (omega arith)
-
 plain_nil : plain_of [] ≡ []
 unfolding plain_of plain_from
 plain_nil = refl
@@ -63,7 +60,7 @@ plain_nil = refl
 -- a text cut where its first `\` is
 pub run_only : (bs front rest : List ℕ) (n : ℕ) → n ≡ run_len class.Plain bs → front ≡ take n bs → rest ≡ drop n bs → length rest ≡ 0 → plain_of bs ≡ front
 run_only bs front rest n is cut left none =
-    let e : drop (run_len class.Plain bs) bs ≡ [] = sym (left ∙ ap (λ k. drop k bs) is) ∙ empty rest none in
+    let e : drop (run_len class.Plain bs) bs ≡ [] = sym (left ∙ ap (λ k. drop k bs) is) ∙ nil_from_length rest none in
     plain_run bs ∙ ap (λ z. take (run_len class.Plain bs) bs ++ z) (ap plain_of e ∙ plain_nil) ∙ append-nil (take (run_len class.Plain bs) bs) ∙ sym (cut ∙ ap (λ k. take k bs) is)
 
 pub rest_slash : (bs rest : List ℕ) (n : ℕ) → n ≡ run_len class.Plain bs → rest ≡ drop n bs → 0 < length rest → get_or rest 0 0 ≡ 92

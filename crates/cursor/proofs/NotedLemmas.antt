@@ -4,14 +4,14 @@ use Rattle.std.specs.Prelude.{OnErr, if◌then◌else◌, nat_eq}
 use Rattle.std.specs.Map.{lookup}
 use Rattle.std.specs.Ordering.{int_eq}
 use Rattle.std.proofs.Math.Dec.{eqb-suc-suc, eqb-suc-zero, eqb-zero-suc}
-use Rattle.std.proofs.lemmas.Bool.{eq-eqb, eqb-true}
+use Rattle.std.proofs.lemmas.Bool.{eq-eqb, eqb-true, and_parts}
 use Rattle.std.proofs.lemmas.Bool.Decides.{Decides-int_eq}
 use Rattle.std.proofs.lemmas.Map.Entries.{lookup_head, lookup_tail}
 use Rattle.seams.proofs.WidthLemmas.{some-same}
 use Rattle.cursor.specs.KeptLines.{LeafAtMeasure, leaf_eq, place_in}
 use Rattle.cursor.specs.LeafPlaces.{at_measure, entries_from, first_in, goes_first, is_free, noted_at}
 use Rattle.cursor.specs.declared.leaf_places.NotedPlace.{NotedPlace}
-use Rattle.cursor.proofs.PlaceLemmas.{both, same_numbers}
+use Rattle.cursor.proofs.PlaceLemmas.{same_numbers}
 
 all_true : (a b c : Bool) → a ≡ true → b ≡ true → c ≡ true → ((a && b) && c) ≡ true
 all_true true true true p q r = refl
@@ -96,10 +96,10 @@ found_other firsts others n i m h = sym (found_in firsts others n i m ∙ ap (λ
 -- a place is noted for a leaf of the main tree, at the measure that it has, or where it has none
 module _ (firsts firsts' : List (Option NotedPlace)) (others : List (LeafAtMeasure × ℕ)) (t i at : ℕ) (m : ℤ) (goes : goes_first firsts (t, i, m) ≡ true) (put : (k : ℕ) → noted_at firsts' k ≡ (if nat_eq k i then Some (record { measure = m; at = at }) else noted_at firsts k)) where
   is_main : t ≡ 0
-  is_main = eqb-true t 0 (both (nat_eq t 0) (is_free (noted_at firsts i) m) goes).0
+  is_main = eqb-true t 0 (and_parts (nat_eq t 0) (is_free (noted_at firsts i) m) goes).0
 
   was_free : is_free (noted_at firsts i) m ≡ true
-  was_free = (both (nat_eq t 0) (is_free (noted_at firsts i) m) goes).1
+  was_free = (and_parts (nat_eq t 0) (is_free (noted_at firsts i) m) goes).1
 
   -- at other measures there is no place
   at_other : (o : Option NotedPlace) (v : ℤ) → is_free o m ≡ true → m ≢ v → at_measure o v ≡ None

@@ -2,7 +2,7 @@
 use Rattle.std.proofs.Common.{◌≡◌, ◌∙◌, ℕ, ℤ, Bool, true, false, ◌&&◌, List, Option, Some, ◌⊎◌, inl, inr, ⊎_elim, slice_get, refl, sym, ap, subst}
 use Rattle.std.specs.Prelude.{if◌then◌else◌, nat_eq}
 use Rattle.std.specs.Ordering.{int_eq}
-use Rattle.std.proofs.lemmas.Bool.{eqb-true}
+use Rattle.std.proofs.lemmas.Bool.{eqb-true, and_parts}
 use Rattle.std.proofs.lemmas.Bool.Decides.{Decides-int_eq}
 use Rattle.boxes.specs.Tree.{Tree}
 use Rattle.boxes.specs.declared.leaf.Leaf.{Leaf}
@@ -12,15 +12,11 @@ use Rattle.line_fill.specs.declared.kept.KeptLeaf.{KeptLeaf}
 use Rattle.seams.proofs.WidthLemmas.{some-same}
 use Rattle.cursor.specs.KeptLines.{LeafAtMeasure, StayPlaced, leaf_eq, lines_with, place_in}
 
-pub both : (a b : Bool) → (a && b) ≡ true → (a ≡ true) × (b ≡ true)
-both true b e = (refl, e)
-both false b e = cc
-
 -- equal numbers and measures
 pub same_numbers : (n i other l : ℕ) (m measure : ℤ) → leaf_eq (n, i, m) (other, l, measure) ≡ true → (n ≡ other) × (i ≡ l) × (m ≡ measure)
 same_numbers n i other l m measure e =
-    let w = both (nat_eq n other && nat_eq i l) (int_eq m measure) e in
-    let v = both (nat_eq n other) (nat_eq i l) w.0 in
+    let w = and_parts (nat_eq n other && nat_eq i l) (int_eq m measure) e in
+    let v = and_parts (nat_eq n other) (nat_eq i l) w.0 in
     (eqb-true n other v.0, eqb-true i l v.1, (Decides-int_eq m measure).0 w.1)
 
 chosen : (b : Bool) (at a : ℕ) (old : Option ℕ) → (if b then Some at else old) ≡ Some a → ((b ≡ true) × (at ≡ a)) ⊎ (old ≡ Some a)

@@ -108,7 +108,7 @@ tour-unfold ps n falls l = by (length ps - n) refl
         let inner : flat_map (tour ps d) (children_of ps n) ≡ tours_of ps (children_of ps n) = tours-cong (tour ps d) (tour_at ps) n ps 0 (λ m h. let f = falls m n h in let w = slice_get_within ps m (Some n) h in tour-same ps d (length ps - (0 + m)) (0 + m) falls (omega arith) (omega arith) (omega arith)) in
         rw inner refl
 
-parent-child : (ps : List (Option ℕ)) (n p : ℕ) → parent_at ps n ≡ Some p → slice_get ps n ≡ Some (Some p)
+pub parent-child : (ps : List (Option ℕ)) (n p : ℕ) → parent_at ps n ≡ Some p → slice_get ps n ≡ Some (Some p)
 parent-child ps n p h = by (slice_get ps n) refl h
   where
     by : (o : Option (Option ℕ)) → slice_get ps n ≡ o → flat o ≡ Some p → o ≡ Some (Some p)

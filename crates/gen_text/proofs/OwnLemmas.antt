@@ -14,7 +14,7 @@ use Rattle.dom.specs.Walk.{children_from, children_of, tour, node_of}
 use Rattle.dom.specs.WalkFields.{tour_at, tours_of, steps_from}
 use Rattle.dom.specs.declared.walk.Step.{Step}
 use Rattle.dom.specs.declared.walk.Step.TheVariants.{Enter, Leave}
-use Rattle.dom.proofs.WalkLemmas.{first-child, no-children, falling, tour-unfold, enter-child, enter-leaf, after-sibling, after-last}
+use Rattle.dom.proofs.WalkLemmas.{first-child, no-children, falling, tour-unfold, enter-child, enter-leaf, after-sibling, after-last, parent-child}
 use Rattle.style.specs.Nodes.{NodeStyles}
 use Rattle.gen_text.specs.declared.own.Ending.{Ending}
 use Rattle.gen_text.specs.declared.own.Ending.TheVariants as ending
@@ -23,13 +23,6 @@ use Rattle.gen_text.specs.Parts.{attribute_text}
 use Rattle.gen_text.proofs.WordLemmas.{added-all, added-append}
 
 -- ---- parents and depths
-
-parent-child : (ps : List (Option ℕ)) (n p : ℕ) → parent_at ps n ≡ Some p → slice_get ps n ≡ Some (Some p)
-parent-child ps n p h = by (slice_get ps n) refl h
-  where
-    by : (o : Option (Option ℕ)) → slice_get ps n ≡ o → flat o ≡ Some p → o ≡ Some (Some p)
-    by None e g = cc
-    by (Some q) e g = ap (λ (o : Option ℕ). Some o) g
 
 parent-below : (nodes : List Node) → IsTree nodes → (n p : ℕ) → parent_at (parents_of nodes) n ≡ Some p → p < n
 parent-below nodes tree n p h = falling nodes tree n p (parent-child (parents_of nodes) n p h)

@@ -8,6 +8,7 @@ use Rattle.std.proofs.lemmas.Option.{slice_get_within}
 use Rattle.std.proofs.lemmas.List.Elements.{filter-append}
 use Rattle.std.specs.Str.{bytes_eq}
 use Rattle.std.specs.Prelude.{String, string_bytes}
+use Rattle.std.proofs.lemmas.Bool.{and_parts, not-true}
 use Rattle.bk_num.specs.declared.values.Pseudo.TheVariants as pseudo
 use Rattle.dom.specs.Nodes.{Node, IsTree}
 use Rattle.dom.specs.Order.{IsFirstOf, has_id, comes_after}
@@ -40,14 +41,6 @@ one_passes p (x ∷ xs) (suc i) n less at passes = by (p x) refl (one_passes p x
 
 -- ---- the first of an id
 
-both : (a b : Bool) → (a && b) ≡ true → (a ≡ true) × (b ≡ true)
-both true b e = (refl, e)
-both false b e = cc
-
-negated : (a : Bool) → not a ≡ true → a ≡ false
-negated true e = cc
-negated false e = refl
-
 -- an element of an id is a node of the document
 within : (nodes : List Node) (id : List ℕ) (n : ℕ) → has_id nodes id n ≡ true → n < length nodes
 within nodes id n has = by (slice_get nodes n) refl
@@ -73,7 +66,7 @@ first-is : (nodes : List Node) (id : List ℕ) (n : ℕ) → is_first nodes id n
 first-is nodes id n e = (parts.0, λ m has. by m has (comes_after nodes n m) refl)
   where
     parts : (has_id nodes id n ≡ true) × (not (is_preceded nodes id n) ≡ true)
-    parts = both (has_id nodes id n) (not (is_preceded nodes id n)) e
+    parts = and_parts (has_id nodes id n) (not (is_preceded nodes id n)) e
 
     by : (m : ℕ) → has_id nodes id m ≡ true → (b : Bool) → comes_after nodes n m ≡ b → comes_after nodes n m ≡ false
     by m has false after = after
@@ -82,7 +75,7 @@ first-is nodes id n e = (parts.0, λ m has. by m has (comes_after nodes n m) ref
         let test = λ (k : ℕ). has_id nodes id k && comes_after nodes n k in
         let holds : test m ≡ true = rw (has, after) refl in
         let some = list_any_at test (numbers_of nodes) m 0 less (subst (λ (k : ℕ). test k ≡ true) (sym at) holds) in
-        let none = negated (is_preceded nodes id n) parts.1 in
+        let none = not-true (is_preceded nodes id n) parts.1 in
         cc
 
 pub first-that : (nodes : List Node) (id : List ℕ) (r : Option ℕ) → IsTree nodes → IsFirstOf nodes id r → r ≡ first_of nodes id

@@ -158,7 +158,3 @@ no_filtered p (x ∷ xs) none = filter_step p x xs ∙ ap₂ (λ b l. cond b (x 
 pub no_emergencies : (text : List ℕ) (spans : List Span) → list_any wraps_anywhere spans ≡ false → [] ≡ emergencies_of text spans
 unfolding emergencies_of
 no_emergencies text spans none = sym (no_filtered (ends_in wraps_anywhere spans) (boundaries_of text) (λ at. ends_nowhere wraps_anywhere spans at none))
-
-pub nil_of : (xs : List ℕ) → length xs ≡ 0 → xs ≡ []
-nil_of [] h = refl
-nil_of (x ∷ xs) h = absurd (omega (arith, h))

@@ -1,7 +1,7 @@
 -- The bytes of a text add what its characters are wide.
-use Rattle.std.proofs.Common.{◌≡◌, ℕ, zero, suc, ◌+◌, ◌-◌, ◌/◌, ◌<◌, ◌≤◌, Bool, true, false, ◌&&◌, ltb, ◌⊎◌, inl, inr, List, [], ◌∷◌, ◌++◌, length, get_or, drop, Option, None, Some, refl, sym, ap, ◌∙◌, arith, add-zero, length-append, length-drop}
+use Rattle.std.proofs.Common.{◌≡◌, ℕ, zero, suc, ◌+◌, ◌-◌, ◌/◌, ◌<◌, ◌≤◌, true, false, ltb, ◌⊎◌, inl, inr, List, [], ◌∷◌, ◌++◌, length, get_or, drop, Option, None, Some, refl, sym, ap, ◌∙◌, arith, add-zero, length-append, length-drop}
 use Rattle.std.specs.Str.{chars, IsUtf8}
-use Rattle.std.proofs.lemmas.Bool.{cases_lt}
+use Rattle.std.proofs.lemmas.Bool.{cases_lt, and_parts}
 use Rattle.std.proofs.lemmas.Bool.Decides.{nat_tests}
 use Rattle.std.proofs.lemmas.List.{get_or-drop, get_or_append_left}
 use Rattle.std.proofs.lemmas.Str.{drop_past_char, length-encode, encodes-chars, scalars-chars}
@@ -86,10 +86,6 @@ shape c = by (cases_lt c 128) (cases_lt c 2048) (cases_lt c 65536)
     by (inr _) (inr l) (inl h) = of3 (224 + c / 4096) (next (c / 64)) (next c) (omega arith) (next_follows (c / 64)) (next_follows c) (three c l h)
     by (inr _) (inr _) (inr l) = of4 (240 + c / 262144) (next (c / 4096)) (next (c / 64)) (next c) (omega arith) (next_follows (c / 4096)) (next_follows (c / 64)) (next_follows c) (four c l)
 
-both : (x y : Bool) → (x && y) ≡ true → (x ≡ true) × (y ≡ true)
-both true y h = (refl, h)
-both false y h = absurd (cc)
-
 -- the bytes of a character after its first one begin no character
 follow : (c k : ℕ) → Shape c → 0 < k → k < length (encode c) → (128 ≤ get_or (encode c) k 0) × (get_or (encode c) k 0 < 192)
 follow c k (of1 h e) low high = absurd (let l = ap length e in omega (arith, l))
@@ -167,7 +163,7 @@ module _ (text : List ℕ) (n c : ℕ) (rest : List ℕ) (s : Shape c) (u : IsUt
 chars_sum : (p : PenView) (text : List ℕ) (n : ℕ) (cs : List ℕ) → scalars cs ≡ true → drop n text ≡ encodes cs → sum_from (byte_width p text 0) n (length (encodes cs)) ≡ widths_from p (last_from text 0 n) cs
 chars_sum p text n [] all e = refl
 chars_sum p text n (c ∷ cs) all e =
-    let split = both (scalar c) (scalars cs) all in
+    let split = and_parts (scalar c) (scalars cs) all in
     let s : Shape c = shape c in
     let u : IsUtf8 (drop n text) = (c ∷ cs, (all, sym e)) in
     let rest : drop (n + length (encode c)) text ≡ encodes cs = rw (length-encode c) (drop_past_char text (encodes cs) n c e) in

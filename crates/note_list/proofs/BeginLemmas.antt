@@ -3,6 +3,7 @@ use Rattle.std.proofs.Common.{◌≡◌, ◌≢◌, ℕ, zero, suc, ◌+◌, ◌
 use Rattle.std.proofs.lemmas.Bool.{cases_lt, eq-eqb, ne_eqb}
 use Rattle.std.proofs.lemmas.Bool.Decides.{eqb_tells}
 use Rattle.std.proofs.lemmas.Option.{slice_get_within}
+use Rattle.std.proofs.Math.Bool.{and-false}
 use Rattle.metrics.specs.Face.{FontFace}
 use Rattle.boxes.specs.Tree.{Tree, IsTree}
 use Rattle.boxes.specs.declared.place.Event.{Event}
@@ -45,10 +46,6 @@ first_of t m is none (suc d) j e =
 
 -- ---- first solids
 
-and_false : (b : Bool) → (b && false) ≡ false
-and_false true = refl
-and_false false = refl
-
 -- a solid is the first of its body if none stands before it
 pub first_is : (t : Tree) (at : Position) (first : Option ℕ) (b : Bool) → first ≡ solid_after t 0 → is_solid_at t.boxes (slice_get t.events at.event) ≡ true → (b ≡ true → first ≡ Some at.event) → (b ≡ false → first ≢ Some at.event) → b ≡ not (is_some (solid_before t at.event))
 first_is t at first true e is hit miss = ap (λ (o : Option ℕ). not (is_some o)) (sym (before_found t 0 at.event (sym e ∙ hit refl)))
@@ -75,7 +72,7 @@ not_first faces t width from s holds none is = by (eqb_tells s.placed_at.event f
     on zero e =
         let here : (from.offset == 0) ≡ true = eq-eqb from.offset 0 e in
         let free : not (is_some (solid_before t from.event)) ≡ false = subst (λ (b : Bool). (b && not (is_some (solid_before t from.event))) ≡ false) here none in
-        ap (λ (o : Option ℕ). s.placed_at.offset == 0 && not (is_some o)) same ∙ ap (λ (b : Bool). s.placed_at.offset == 0 && b) free ∙ and_false (s.placed_at.offset == 0)
+        ap (λ (o : Option ℕ). s.placed_at.offset == 0 && not (is_some o)) same ∙ ap (λ (b : Bool). s.placed_at.offset == 0 && b) free ∙ and-false (s.placed_at.offset == 0)
     on (suc n) e =
         let inside = holds.offset (omega arith) in
         let solid : is_solid_at t.boxes (slice_get t.events from.event) ≡ true = ap (is_solid_at t.boxes) inside.2 in
@@ -129,7 +126,7 @@ none_later faces t width p from [] tree holds none rem = refl
 none_later faces t width p from (s ∷ solids) tree holds none rem =
     let is : IsSolid faces t width from s = rem.1.0 in
     let end : rem.0 ≡ s.end = rem.1.1 in
-    let own : (p.called && is_first t s.placed_at) ≡ false = ap (λ (b : Bool). p.called && b) (not_first faces t width from s holds none is) ∙ and_false p.called in
+    let own : (p.called && is_first t s.placed_at) ≡ false = ap (λ (b : Bool). p.called && b) (not_first faces t width from s holds none is) ∙ and-false p.called in
     ap (λ (b : Bool). b || has_begin (map (noted t p) solids)) own
     ∙ none_later faces t width p s.end solids tree (solid_stands faces t width from s tree holds is) (end_not_first faces t width from s tree holds is) (subst (λ (at : Position). IsRemainder faces t width at solids) end rem.2)
 

@@ -5,6 +5,7 @@ use Rattle.std.proofs.lemmas.Bool.Decides.{eqb_tells}
 use Rattle.std.proofs.lemmas.List.Elements.{All-nil, All-append, All-map}
 use Rattle.std.specs.List.{list_any, range_with_len}
 use Rattle.std.specs.Prelude.{◌&&◌}
+use Rattle.std.proofs.Math.Bool.{or-true}
 use Rattle.metrics.specs.Face.{FontFace}
 use Rattle.boxes.specs.Tree.{Tree}
 use Rattle.boxes.specs.declared.flow.Note.{Note}
@@ -50,13 +51,9 @@ placed_any n bottom (s ∷ list) = ap (λ (b : Bool). (s.note == n) || b) (place
 abbrev pub PlacesNote : ℕ → ℕ → List NotedSolid → Type 0
 PlacesNote n m list = (number : ℕ) → last_begin m (note_rows list) ≤ m + number → list_any (λ (s : NotedSolid). s.note == n) (take number list) ≡ true
 
-either : (b : Bool) → (b || true) ≡ true
-either true = refl
-either false = refl
-
 places_later : (n m : ℕ) (x : NotedSolid) (xs : List NotedSolid) → PlacesNote n (suc m) xs → PlacesNote n m (x ∷ xs)
 places_later n m x xs more zero h = more zero (omega arith)
-places_later n m x xs more (suc k) h = ap (λ (b : Bool). (x.note == n) || b) (more k (omega arith)) ∙ either (x.note == n)
+places_later n m x xs more (suc k) h = ap (λ (b : Bool). (x.note == n) || b) (more k (omega arith)) ∙ or-true (x.note == n)
 
 places_here : (n m : ℕ) (x : NotedSolid) (xs : List NotedSolid) → (x.note == n) ≡ true → x.row.begins ≡ true → PlacesNote n m (x ∷ xs)
 places_here n m x xs is begins zero h = absurd (let e : cond x.row.begins (suc m) 0 ≡ suc m = ap (λ (b : Bool). cond b (suc m) 0) begins in omega arith)

@@ -7,6 +7,7 @@ use Rattle.std.proofs.lemmas.Str.{IsCharBoundary-start}
 use Rattle.std.proofs.lemmas.Bool.{cases_lt, lt-ltb, le-leb}
 use Rattle.std.proofs.lemmas.Bool.Decides.{eqb_tells}
 use Rattle.std.proofs.lemmas.List.{drop-drop}
+use Rattle.std.proofs.Math.Bool.{or-true}
 use Rattle.bk_num.proofs.ListLemmas.{drop-next}
 use Rattle.metrics.specs.Face.{FontFace}
 use Rattle.boxes.specs.Tree.{Tree, IsTree}
@@ -73,16 +74,12 @@ count_more (c ∷ text) a zero less inside start = absurd (omega arith)
 count_more (c ∷ text) zero (suc b) less inside start = rw start (omega arith)
 count_more (c ∷ text) (suc a) (suc b) less inside start = let rest = count_more text a b (omega arith) (omega arith) start in omega arith
 
-or_true : (b : Bool) → (b || true) ≡ true
-or_true true = refl
-or_true false = refl
-
 starts_char : (text : List ℕ) (a : ℕ) → IsCharBoundary text a → a < length text → is_char_start (get_or text a 0) ≡ true
 starts_char text a stands inside = by (cases_lt (get_or text a 0) 128)
   where
     by : (get_or text a 0 < 128) ⊎ (128 ≤ get_or text a 0) → is_char_start (get_or text a 0) ≡ true
     by (inl h) = ap (λ (b : Bool). b || nat_le 192 (get_or text a 0)) (lt-ltb (get_or text a 0) 128 h)
-    by (inr h) = ap (λ (b : Bool). nat_lt (get_or text a 0) 128 || b) (le-leb 192 (get_or text a 0) (stands.1 inside h)) ∙ or_true (nat_lt (get_or text a 0) 128)
+    by (inr h) = ap (λ (b : Bool). nat_lt (get_or text a 0) 128 || b) (le-leb 192 (get_or text a 0) (stands.1 inside h)) ∙ or-true (nat_lt (get_or text a 0) 128)
 
 -- the characters of the leaf of a place that stand before it
 abbrev pub passed : Tree → Position → ℕ

@@ -6,6 +6,7 @@ use Rattle.std.proofs.lemmas.Bool.Decides.{nat_tests}
 use Rattle.std.proofs.lemmas.List.Folds.{list_any_more}
 use Rattle.std.specs.List.Sorted.{IsPartitionPoint, IsPartitionedBy}
 use Rattle.std.proofs.lemmas.Option.{slice_get-get_or, slice_get_within}
+use Rattle.std.proofs.lemmas.Bool.{not-true}
 use Rattle.bk_num.proofs.ListLemmas.{get-push}
 use Rattle.boxes.specs.declared.page.Page.{Page}
 use Rattle.boxes.specs.declared.page.Placed.{Placed}
@@ -136,17 +137,13 @@ from_not_false : (b : Bool) → not b ≡ false → b ≡ true
 from_not_false true e = refl
 from_not_false false e = absurd (cc)
 
-from_not_true : (b : Bool) → not b ≡ true → b ≡ false
-from_not_true true e = absurd (cc)
-from_not_true false e = refl
-
 abbrev pub IsFirstAfter : List Position → Position → ℕ → Type 0
 IsFirstAfter ends at k = IsPartitionPoint (λ e. not (is_before at e) ≡ true) (λ e. not (is_before at e) ≡ false) ends k
 
 pub first_found : (ends : List Position) (at : Position) (k : ℕ) → IsFirstAfter ends at k → k < length ends → Some k ≡ first_place (is_before at) ends
 first_found ends at k point h =
     let d : Position = record { event = 0; offset = 0 } in
-    sym (first_place_is (is_before at) ends k d h (from_not_false (is_before at (get_or ends k d)) (point.1 k d (omega arith) h)) (λ j l. from_not_true (is_before at (get_or ends j d)) (point.0 j d (omega arith) l)))
+    sym (first_place_is (is_before at) ends k d h (from_not_false (is_before at (get_or ends k d)) (point.1 k d (omega arith) h)) (λ j l. not-true (is_before at (get_or ends j d)) (point.0 j d (omega arith) l)))
 
 pub none_found : (ends : List Position) (at : Position) (k : ℕ) → IsFirstAfter ends at k → length ends ≤ k → None ≡ first_place (is_before at) ends
-none_found ends at k point h = sym (first_place_absent (is_before at) ends (λ j d l. from_not_true (is_before at (get_or ends j d)) (point.0 j d (omega arith) (omega arith))))
+none_found ends at k point h = sym (first_place_absent (is_before at) ends (λ j d l. not-true (is_before at (get_or ends j d)) (point.0 j d (omega arith) (omega arith))))

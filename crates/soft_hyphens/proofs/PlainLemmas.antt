@@ -4,6 +4,7 @@ use Rattle.std.specs.List.{All, list_any}
 use Rattle.std.specs.Str.{IsUtf8, chars}
 use Rattle.std.proofs.lemmas.Bool.Decides.{nat_tests}
 use Rattle.std.proofs.lemmas.List.Elements.{All-append, All-drop, All-head, All-map, All-nil, All-take}
+use Rattle.std.proofs.Math.Bool.{and-false}
 use Rattle.hyphen.specs.Points.{is_point}
 use Rattle.soft_hyphens.specs.Hyphenated.{hyphenated}
 use Rattle.soft_hyphens.specs.Words.{are_auto, codes_of, counts, is_put, is_soft, letters_between, letters_in, most_letters, points_with, word_begin, word_end}
@@ -29,14 +30,10 @@ plain-word : (ls : List Letter) → ArePlain ls → (ls ≡ []) ⊎ (are_auto ls
 plain-word [] p = inl refl
 plain-word (l ∷ ls) p = inr (ap (λ (b : Bool). b && are_auto ls) (All-head (λ (l : Letter). l.auto ≡ false) l ls p))
 
-never : (b : Bool) → (b && false) ≡ false
-never true = refl
-never false = refl
-
 -- a word without a character has no point
 none-first : (value : List ℕ → ℕ → ℕ) (place : ℕ) → points_with value [] place ≡ false
 unfolding is_point
-none-first value place = let z : leb 3 (0 - place) ≡ false = grind (arith, nat_tests) in ap (λ (b : Bool). (value [] place % 2 == 1 && (leb 1 place && leb 2 place)) && b) z ∙ never (value [] place % 2 == 1 && (leb 1 place && leb 2 place))
+none-first value place = let z : leb 3 (0 - place) ≡ false = grind (arith, nat_tests) in ap (λ (b : Bool). (value [] place % 2 == 1 && (leb 1 place && leb 2 place)) && b) z ∙ and-false (value [] place % 2 == 1 && (leb 1 place && leb 2 place))
 
 uncounted : (a b c : Bool) → (((a && false) && b) && c) ≡ false
 uncounted true b c = refl
@@ -56,7 +53,7 @@ plain-put value ls k p = by (plain-word word (All-take (λ (l : Letter). l.auto 
     word = letters_between ls from to
 
     by : (word ≡ []) ⊎ (are_auto word ≡ false) → (counts ls from to && points_with value (codes_of word) (k - from)) ≡ false
-    by (inl e) = ap (λ (w : List Letter). counts ls from to && points_with value (codes_of w) (k - from)) e ∙ ap (λ (b : Bool). counts ls from to && b) (none-first value (k - from)) ∙ never (counts ls from to)
+    by (inl e) = ap (λ (w : List Letter). counts ls from to && points_with value (codes_of w) (k - from)) e ∙ ap (λ (b : Bool). counts ls from to && b) (none-first value (k - from)) ∙ and-false (counts ls from to)
     by (inr e) =
         let begins : Bool = from == 0 || not (is_soft (slice_get ls (from - 1))) in
         let after : Bool = not (is_soft (slice_get ls to)) in
@@ -65,7 +62,7 @@ plain-put value ls k p = by (plain-word word (All-take (λ (l : Letter). l.auto 
 
 never-put : (ls : List Letter) (k : ℕ) → is_put (λ word place. false) ls k ≡ false
 unfolding is_put
-never-put ls k = never (counts ls (word_begin ls k) (word_end ls k))
+never-put ls k = and-false (counts ls (word_begin ls k) (word_end ls k))
 
 -- texts of which none is hyphenated stay
 pub plain-stays : (value : List ℕ → ℕ → ℕ) (autos : List Bool) (ts : List (List ℕ)) → list_any (λ auto. auto) autos ≡ false → All IsUtf8 ts → hyphenated (Some (points_with value)) autos ts ≡ ts

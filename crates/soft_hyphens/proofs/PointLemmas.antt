@@ -8,6 +8,7 @@ use Rattle.std.proofs.lemmas.Bool.Decides.{nat_tests}
 use Rattle.std.proofs.lemmas.List.{drop-map, get_or-map, length-map, length-drop, length-take-le, map-append}
 use Rattle.std.proofs.lemmas.List.Elements.{filter-append}
 use Rattle.std.proofs.lemmas.Simd.{map-map}
+use Rattle.std.proofs.Math.Bool.{and-false}
 use Rattle.hyphen.specs.Points.{is_point, offset_of, places_of}
 use Rattle.soft_hyphens.specs.Pass.{offsets_before}
 use Rattle.soft_hyphens.specs.Walk.{IsWordFrom}
@@ -15,10 +16,6 @@ use Rattle.soft_hyphens.specs.Words.{codes_of, counts, is_of_word, is_put, lette
 use Rattle.soft_hyphens.specs.declared.letter.Letter.{Letter}
 use Rattle.soft_hyphens.proofs.OffsetLemmas.{offset-from, offset-lower, offset-within}
 use Rattle.soft_hyphens.proofs.WordLemmas.{begin-is, end-is, put-in-word}
-
-and-false : (b : Bool) → (b && false) ≡ false
-and-false true = refl
-and-false false = refl
 
 low : (a b : ℕ) → b < a → leb a b ≡ false
 low a b h = grind (arith, nat_tests)

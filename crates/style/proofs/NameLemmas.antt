@@ -14,10 +14,6 @@ any-map : {Y : Type 0} (bs : List ℕ) (ks : List (String Y)) → list_any (byte
 any-map bs [] = refl
 any-map bs (k ∷ ks) = ap (λ b. bytes_eq bs (string_bytes k) || b) (any-map bs ks)
 
-pub empty-is : (bs : List ℕ) → length bs ≡ 0 → bs ≡ []
-empty-is [] h = refl
-empty-is (b ∷ bs) h = absurd (omega arith)
-
 -- a text that isn't empty goes among the others as a key does
 pub inserted : {Y : Type 0} (ks new : List (String Y)) (k : String Y) (name : List ℕ) → string_bytes k ≡ name → 0 < length name → new ≡ insert_key string_eq ks k → [] ∷ map (λ s. string_bytes s) new ≡ with_name ([] ∷ map (λ s. string_bytes s) ks) name
 inserted ks new k [] e h g = absurd (omega arith)

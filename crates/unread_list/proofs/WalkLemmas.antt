@@ -9,10 +9,6 @@ use Rattle.unread_list.specs.declared.reader.Lines.{Lines}
 use Rattle.unread_list.specs.declared.part.Step.{Step}
 use Rattle.unread_list.specs.declared.part.State.{State}
 
-pub empty_of : (bs : List ℕ) → length bs ≡ 0 → bs ≡ []
-empty_of [] e = refl
-empty_of (b ∷ bs) e = absurd (omega (arith, e))
-
 tokens_some : (bs : List ℕ) → tokens_of bs ≡ [] → bs ≡ []
 unfolding tokens_of tokens_from
 tokens_some [] e = refl

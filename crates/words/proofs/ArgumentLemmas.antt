@@ -1,8 +1,8 @@
 -- What a parse by a command gives its arguments, from what the parse reads of the command.
-use Rattle.std.proofs.Common.{zero, suc, ◌≡◌, ◌⊎◌, ◌∙◌, ◌<◌, ◌≤◌, ap, ap₂, codes, ◌&&◌, ℕ, Bool, true, false, not, List, [], ◌∷◌, length, map, is_some, Option, Some, None, refl, sym, subst, inl, inr, arith}
+use Rattle.std.proofs.Common.{zero, suc, ◌≡◌, ◌⊎◌, ◌∙◌, ◌<◌, ◌≤◌, ap, ap₂, codes, ◌&&◌, ℕ, true, false, not, List, [], ◌∷◌, length, map, is_some, Option, Some, None, refl, sym, subst, inl, inr, arith}
 use Rattle.std.specs.List.{slice_index_or, list_all}
 use Rattle.std.specs.Str.{bytes_eq}
-use Rattle.std.proofs.lemmas.Bool.{both_ways, eqb-true}
+use Rattle.std.proofs.lemmas.Bool.{both_ways, eqb-true, not-true}
 use Rattle.std.proofs.lemmas.Slice.Eq.{bytes_eq-Decides}
 use Rattle.std.proofs.lemmas.List.{get_or-map, length-map}
 use Rattle.clap.specs.Words.{App, IsParsedFrom, Rule, Text, app_of, found_of, first_value, rule_of}
@@ -24,10 +24,6 @@ none_in (x ∷ xs) h =
     let zero_long : length (x ∷ xs) ≡ 0 = eqb-true (length (x ∷ xs)) 0 h in
     absurd (omega arith)
 
-is_false : (b : Bool) → not b ≡ true → b ≡ false
-is_false true h = cc
-is_false false h = refl
-
 is_none : {X : Type 0} (o : Option X) → not (is_some o) ≡ true → o ≡ None
 is_none None h = refl
 is_none (Some x) h = cc
@@ -40,7 +36,7 @@ plain_arg a simple free =
     let groups = both _ _ ifs.1 in
     let exclusive = both _ _ free in
     let conflicts = both _ _ exclusive.1 in
-    (is_false _ exclusive.0, none_in _ conflicts.0, none_in _ overrides.0, none_in _ groups.0)
+    (not-true _ exclusive.0, none_in _ conflicts.0, none_in _ overrides.0, none_in _ groups.0)
 
 no_delimiter : (a : Arg) → is_simple_arg a ≡ true → a.val_delim ≡ None
 no_delimiter a simple =
@@ -92,7 +88,7 @@ plain_command c app shape simple free negates =
     let others : list_all (λ r. r.is_free) (map rule_of (args_of c)) ≡ true = ap (λ a. list_all (λ r. r.is_free) a.top.rules) shape ∙ free in
     record {
       plain = (all_plain (args_of c) parts.1 others, none_in _ groups.0);
-      globals = is_false _ globals.0;
+      globals = not-true _ globals.0;
       negates = ap (λ a. a.top.subcommand_negates_reqs) shape ∙ negates;
     }
 

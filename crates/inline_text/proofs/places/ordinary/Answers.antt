@@ -3,8 +3,9 @@ use Rattle.std.specs.Char.{len_utf8, encode_utf8}
 use Rattle.std.specs.Str.{chars, IsUtf8}
 use Rattle.std.specs.Str.Iter.{char_indices_offset, char_indices_rest}
 use Rattle.std.proofs.lemmas.Str.{IsUtf8-past_char, chars_past_char, chars-nil, length-encode}
+use Rattle.std.proofs.lemmas.List.{nil_from_length}
 use Rattle.inline_text.specs.Places.{is_opportunity}
-use Rattle.inline_text.proofs.PlaceLemmas.{nil_of, places_after, places_start, places_step}
+use Rattle.inline_text.proofs.PlaceLemmas.{places_after, places_start, places_step}
 use Rattle.inline_text.proofs.places.ordinary.Goals as goal
 
 pub loop-at-init : goal.loop-at-init
@@ -51,5 +52,5 @@ loop-at-preserved c =
 
 pub returns : goal.returns
 returns c =
-    let none : chars (char_indices_rest c.loop-at.at-iterator) ≡ [] = ap chars (nil_of (char_indices_rest c.loop-at.at-iterator) c.in-None.ensures.steps.0) ∙ chars-nil in
+    let none : chars (char_indices_rest c.loop-at.at-iterator) ≡ [] = ap chars (nil_from_length (char_indices_rest c.loop-at.at-iterator) c.in-None.ensures.steps.0) ∙ chars-nil in
     sym (append-nil c.loop-at.places) ∙ ap (λ (l : List ℕ). c.loop-at.places ++ places_after c.args.spans.now c.loop-at.before (char_indices_offset c.loop-at.at-iterator) l) (sym none) ∙ c.loop-at.invariant.goes

@@ -1,9 +1,10 @@
 use Rattle.std.proofs.Common.{◌≡◌, ◌∙◌, ◌++◌, ap, sym, refl, map, append_assoc, append-nil, [], length, ◌<◌, arith, rules}
 use Rattle.std.specs.Prelude.{option_map, option_to_list}
+use Rattle.std.proofs.lemmas.List.{nil_from_length}
 use Rattle.unread_list.specs.Lines.{left_in}
 use Rattle.unread_list.specs.Steps.{placed_in}
 use Rattle.unread_list.specs.Parts.{parts_from}
-use Rattle.unread_list.proofs.WalkLemmas.{begins, empty_of, ends, goes}
+use Rattle.unread_list.proofs.WalkLemmas.{begins, ends, goes}
 use Rattle.unread_list.proofs.sheet.sheet_parts.Goals as goal
 
 pub loop-lines-init : goal.loop-lines-init
@@ -19,5 +20,5 @@ loop-lines-preserved c =
 
 pub returns : goal.returns
 returns c =
-    let none : c.loop-lines.lines.tokens.rest.now ≡ [] = empty_of c.loop-lines.lines.tokens.rest.now (search rules) in
+    let none : c.loop-lines.lines.tokens.rest.now ≡ [] = nil_from_length c.loop-lines.lines.tokens.rest.now (search rules) in
     sym (c.loop-lines.invariant ∙ ap (λ z. map placed_in c.loop-lines.parts.items ++ z) (ends c.loop-lines.lines c.loop-lines.state none) ∙ append-nil (map placed_in c.loop-lines.parts.items))
