@@ -1,5 +1,5 @@
 -- How many notes are called before a place.
-use Rattle.std.proofs.Common.{◌≡◌, ℕ, zero, suc, ◌+◌, ◌-◌, ◌<◌, ◌≤◌, ⊎_elim, Bool, true, false, cond, List, [], ◌∷◌, Option, Some, None, option_map, is_some, length, map, get_or, slice_get, refl, sym, ap, ◌∙◌, subst, arith}
+use Rattle.std.proofs.Common.{◌≡◌, ℕ, zero, suc, ◌+◌, ◌-◌, ◌<◌, ◌≤◌, ⊎_elim, Bool, true, false, cond, List, [], ◌∷◌, Option, Some, option_map, length, map, get_or, slice_get, refl, sym, ap, ◌∙◌, subst, arith}
 use Rattle.std.specs.List.{prefix_len}
 use Rattle.std.specs.List.Sorted.{IsPartitionedBy}
 use Rattle.std.proofs.lemmas.Bool.{cases_lt}
@@ -86,7 +86,3 @@ none_between t (suc d) at to o e within found none = by (is_solid_at t.boxes (sl
     by : (b : Bool) → is_solid_at t.boxes (slice_get t.events at) ≡ b → (solid_after t (suc at) ≡ o → solid_before t to ≡ solid_before t (suc at)) → solid_before t to ≡ solid_before t at
     by true is more = absurd (let low = none at (sym found ∙ solid_itself t at is) in omega arith)
     by false is more = more (sym (solid_step t at false (omega arith) is) ∙ found) ∙ ap (λ (b : Bool). cond b (Some at) (solid_before t at)) is
-
-pub none_of : (o : Option ℕ) → is_some o ≡ false → o ≡ None
-none_of None e = refl
-none_of (Some k) e = absurd (cc)

@@ -259,11 +259,6 @@ whole_none from to low = let none : to - from ≡ 0 = omega arith in ap (λ (k :
 
 -- ---- bounds
 
-pub drop_get : (xs : List NotedSolid) (k : ℕ) (s : NotedSolid) → slice_get xs k ≡ Some s → drop k xs ≡ s ∷ drop (suc k) xs
-drop_get [] k s e = absurd (cc)
-drop_get (x ∷ xs) zero s e = let same : x ≡ s = cc in ap (λ (y : NotedSolid). y ∷ xs) same
-drop_get (x ∷ xs) (suc k) s e = drop_get xs k s e
-
 pub small_at : (xs : List NotedSolid) (k : ℕ) (d : NotedSolid) → k < length xs → All IsSmallNote (note_rows xs) → IsSmallNote (get_or xs k d).row
 small_at [] k d low all = absurd (omega arith)
 small_at (x ∷ xs) zero d low all = all 0 x.row (omega arith)

@@ -5,6 +5,7 @@ use Rattle.std.proofs.lemmas.Bool.{cases_lt, ne_eqb}
 use Rattle.std.proofs.lemmas.Int.{ints, clamps}
 use Rattle.notes.specs.declared.solid.NoteSolid.{NoteSolid}
 use Rattle.bk_num.specs.Limits.{separator}
+use Rattle.bk_num.proofs.ListLemmas.{get-append}
 use Rattle.boxes.specs.declared.page.Placed.{Placed}
 use Rattle.notes.specs.Notes.{IsSmallNote, IsPlaced, IsCarryCount, note_gap, note_height, note_bottom, note_extent, area_height, area_of, placed_bottom, last_begin, must_of, AreaNeverFalls, MustNeverFalls, NeedNeverFalls}
 
@@ -44,15 +45,10 @@ area_never_falls list (suc m) (suc n) less =
     rw (area_suc list m, area_suc list n) (omega (arith, ints))
 
 -- the areas of a prefix are its own
-pub get_prefix : (list more : List NoteSolid) (k : ℕ) → k < length list → slice_get (list ++ more) k ≡ slice_get list k
-get_prefix [] more k less = absurd (omega arith)
-get_prefix (x ∷ xs) more zero less = refl
-get_prefix (x ∷ xs) more (suc k) less = get_prefix xs more k (omega arith)
-
 pub bottom_prefix : (list more : List NoteSolid) (n : ℕ) → n ≤ length list → note_bottom (list ++ more) n ≡ note_bottom list n
 bottom_prefix list more zero low = refl
 bottom_prefix list more (suc n) low =
-    let at = get_prefix list more n (omega arith) in
+    let at = get-append list more n (omega arith) in
     let rest = bottom_prefix list more n (omega arith) in
     ap (λ (z : ℤ). (z +ℤ note_gap (slice_get (list ++ more) n)) +ℤ note_height (slice_get (list ++ more) n)) rest ∙ ap (λ (o : Option NoteSolid). (note_bottom list n +ℤ note_gap o) +ℤ note_height o) at
 

@@ -5,6 +5,7 @@ use Rattle.std.proofs.lemmas.List.{map-append}
 use Rattle.std.proofs.lemmas.Option.{slice_get-map}
 use Rattle.std.specs.List.{All}
 use Rattle.bk_num.specs.declared.ids.NameId.{NameId}
+use Rattle.bk_num.proofs.ListLemmas.{drop-next}
 use Rattle.boxes.specs.Frames.{side_of, is_left}
 use Rattle.boxes.specs.Table.{cell_in, cell_of, row_of}
 use Rattle.boxes.specs.declared.frames.PageKind.{PageKind}
@@ -65,19 +66,13 @@ is_table rules names index name kind = by (slice_get (texts_of names) name.0) re
     by : (o : Option (List ℕ)) → slice_get (texts_of names) name.0 ≡ o → cell_in (row_of (map (row_by rules) (texts_of names)) name) (cell_of index kind) ≡ Some (page_cell rules (text_of names name) (classes_of index kind))
     by o e = ap (λ r. cell_in r (cell_of index kind)) (is o e) ∙ cell_there rules (unwrap_or o []) index kind ∙ ap (λ x. Some (page_cell rules (unwrap_or x []) (classes_of index kind))) (sym e)
 
--- the names from a number on
-names_from : (names : List (List ℕ)) (number : ℕ) (text : List ℕ) → slice_get names number ≡ Some text → drop number names ≡ text ∷ drop (suc number) names
-names_from [] number text e = cc
-names_from (x ∷ names) zero text e = let s : x ≡ text = cc in ap (λ t. t ∷ names) s
-names_from (x ∷ names) (suc number) text e = names_from names number text e
-
 -- the row of one more name
 pub rows_more : {A : Type 0} (f : List ℕ → A) (rows new all : List A) (names : List (List ℕ)) (number : ℕ) (text : List ℕ) (row : A) → slice_get names number ≡ Some text → row ≡ f text
     → new ≡ rows ++ row ∷ [] → rows ++ map f (drop number names) ≡ all → new ++ map f (drop (number + 1) names) ≡ all
 rows_more f rows new all names number text row at is pushed before =
     let n : suc number ≡ number + 1 = omega arith in
     let one : new ≡ rows ++ f text ∷ [] = pushed ∙ ap (λ r. rows ++ r ∷ []) is in
-    let rest : f text ∷ map f (drop (suc number) names) ≡ map f (drop number names) = sym (ap (map f) (names_from names number text at)) in
+    let rest : f text ∷ map f (drop (suc number) names) ≡ map f (drop number names) = sym (ap (map f) (drop-next names number text at)) in
     subst (λ k. new ++ map f (drop k names) ≡ all) n (ap (λ z. z ++ map f (drop (suc number) names)) one ∙ append_assoc rows (f text ∷ []) (map f (drop (suc number) names)) ∙ ap (λ z. rows ++ z) rest ∙ before)
 
 -- the row of no name

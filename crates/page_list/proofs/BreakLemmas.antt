@@ -21,6 +21,7 @@ use Rattle.cursor.specs.Remainder.{SolidView, IsSolid, IsRemainder}
 use Rattle.cursor.proofs.RemLemmas.{Stands, begins_of}
 use Rattle.cursor.proofs.PartLemmas.{solid_itself}
 use Rattle.std.proofs.lemmas.List.{length-map}
+use Rattle.bk_num.proofs.ListLemmas.{get-take}
 use Rattle.boxes.proofs.ListLemmas.{slice_get_at}
 use Rattle.cuts.proofs.CutLemmas.{cut_limit}
 use Rattle.cuts.proofs.PointLemmas.{free_below, limit_within}
@@ -93,13 +94,6 @@ placed_get first (s ∷ xs) (suc k) p e = under (first +ℤ s.height) xs k e
     under bottom (y ∷ ys) zero g = let same : placed_at (bottom +ℤ y.seam.whole_gap) y ≡ p = cc in (y, refl, ap (λ (q : Placed). q.at) (sym same))
     under bottom (y ∷ ys) (suc i) g = under ((bottom +ℤ y.seam.whole_gap) +ℤ y.height) ys i g
 
-take_get : (xs : List SolidView) (count k : ℕ) (v : SolidView) → slice_get (take count xs) k ≡ Some v → (k < count) × (slice_get xs k ≡ Some v)
-take_get [] zero k v e = absurd (cc)
-take_get [] (suc n) k v e = absurd (cc)
-take_get (x ∷ xs) zero k v e = absurd (cc)
-take_get (x ∷ xs) (suc n) zero v e = (omega arith, e)
-take_get (x ∷ xs) (suc n) (suc k) v e = let r = take_get xs n k v e in let l = r.0 in (omega arith, r.1)
-
 -- what the cut of some solids is, whatever the notes are
 pub record Cuts (t : Tree) (height : ℤ) (kept : Bool) (solids : List SolidView) (cut : Cut) (count : ℕ) : Type 0 where
   pub list : NoteLists
@@ -161,7 +155,7 @@ cut_breaks faces flow frame from carried cut st is = by is.solids is.count is.re
     by (x ∷ xs) count r at = record {
       inside = λ k s g.
           let v = placed_get (first_gap from.kept (x ∷ xs)) (take count (x ∷ xs)) (suc k) s (ap (λ (ps : List Placed). slice_get ps (suc k)) (sym at.solids_is) ∙ g) in
-          let got = take_get (x ∷ xs) count (suc k) v.0 v.1 in
+          let got = get-take (x ∷ xs) count (suc k) v.0 v.1 in
           let less = got.0 in
           let low = cut_limit (rows_of t (x ∷ xs)) cut.level count at.best in
           let row : slice_get (rows_of t (x ∷ xs)) (suc k) ≡ Some (row_of t v.0) = slice_get-map (row_of t) (x ∷ xs) (suc k) ∙ ap (option_map (row_of t)) got.1 in
@@ -169,7 +163,7 @@ cut_breaks faces flow frame from carried cut st is = by is.solids is.count is.re
           ap (λ (p : Position). (seam_of t p w).forced) v.2 ∙ sym (ap (λ (i : SeamInfo). i.forced) (seam_at faces t w from.at (x ∷ xs) (suc k) v.0 r got.1)) ∙ free;
       head = λ s g.
           let v = placed_get (first_gap from.kept (x ∷ xs)) (take count (x ∷ xs)) 0 s (ap (λ (ps : List Placed). slice_get ps 0) (sym at.solids_is) ∙ g) in
-          let got = take_get (x ∷ xs) count 0 v.0 v.1 in
+          let got = get-take (x ∷ xs) count 0 v.0 v.1 in
           let same : x ≡ v.0 = (let h = got.1 in cc) in
           ap (λ (p : Position). (seam_of t p w).forced) (v.2 ∙ ap (λ (y : SolidView). y.placed_at) (sym same)) ∙ forced_any t x.placed_at w (pos 0) ∙ sym (ap (λ (i : SeamInfo). i.forced) (seam_next faces t w from.at x st r.1.0 (pos 0)));
       next = λ g.

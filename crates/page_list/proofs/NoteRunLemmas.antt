@@ -15,6 +15,7 @@ use Rattle.boxes.specs.declared.place.Position.{Position}
 use Rattle.cursor.specs.Remainder.{SolidView, IsRemainder}
 use Rattle.cursor.proofs.RemLemmas.{Stands, solid_stands}
 use Rattle.bk_num.specs.Limits.{separator}
+use Rattle.bk_num.proofs.ListLemmas.{drop-next}
 use Rattle.note_list.specs.Calls.{called_before}
 use Rattle.note_list.specs.Conditions.{CanBePaged}
 use Rattle.note_list.specs.Lists.{NotePart, AreNoted, carried_parts, called_parts, left_after, left_of, noted as noted_solid, placed_notes}
@@ -38,17 +39,12 @@ HoldRest notes k (p ∷ parts) list = (note : Note) × (slice_get notes p.note �
     (rest : List (ℕ × Placed)) × HoldRest notes k parts rest × (list ≡ map (λ s. (p.note, s)) solids ++ rest)
 
 -- ---- the notes that are called on a page
-drop_note : (notes : List Note) (k : ℕ) (note : Note) → slice_get notes k ≡ Some note → drop k notes ≡ note ∷ drop (suc k) notes
-drop_note [] k note h = absurd (cc)
-drop_note (x ∷ notes) zero note h = let same : x ≡ note = cc in ap (λ (y : Note). y ∷ notes) same
-drop_note (x ∷ notes) (suc k) note h = drop_note notes k note h
-
 hold_range : (notes : List Note) (n from to : ℕ) (list : List (ℕ × Placed)) → from + n ≡ to → HoldRest notes to (map called_part (range_with_len from n)) list → AreBodies from (drop from notes) list
 hold_range notes zero from to list e h = let same : to ≡ from = omega arith in subst (λ (k : ℕ). AreBodies k (drop k notes) list) same h
 hold_range notes (suc n) from to list e (note, has, solids, next, rest, h, is) =
     let one : from + 1 ≡ suc from = omega arith in
     let more = hold_range notes n (suc from) to rest (omega arith) (subst (λ (k : ℕ). HoldRest notes to (map called_part (range_with_len k n)) rest) one h) in
-    subst (λ (ns : List Note). AreBodies from ns list) (sym (drop_note notes from note has)) (solids, next, rest, more, is)
+    subst (λ (ns : List Note). AreBodies from ns list) (sym (drop-next notes from note has)) (solids, next, rest, more, is)
 
 hold_called : (notes : List Note) (from to : ℕ) (parts : List NotePart) (list : List (ℕ × Placed)) → from ≤ to → HoldRest notes to (parts ++ called_parts from to) list → HoldRest notes from parts list
 hold_called notes from to [] list low h = hold_range notes (to - from) from to list (omega arith) h

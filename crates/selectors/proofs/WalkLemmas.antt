@@ -4,6 +4,7 @@ use Rattle.std.specs.Prelude.{option_map, IfSome, slice_get}
 use Rattle.std.proofs.lemmas.Bool.{cases_Bool}
 use Rattle.std.proofs.lemmas.Option.{slice_get-map, same_Some}
 use Rattle.bk_num.specs.declared.ids.NodeId.{NodeId}
+use Rattle.bk_num.proofs.ListLemmas.{get-take}
 use Rattle.dom.specs.Nodes.{Node, is_at, first_from, parents_of, parent_at, flat, first_child_of, next_under, prev_under, next_of, prev_of, IsTree, HasPlace}
 use Rattle.dom.proofs.DomLemmas.{last-is}
 use Rattle.selectors.specs.Walk.{chain, first_such, beside, siblings_before, prev_element}
@@ -27,18 +28,12 @@ next_in' ps n m (Some p) within e = omega (arith, first_in p (drop (n + 1) ps) (
 pub next_in : (ps : List (Option ℕ)) (n m : ℕ) → n < length ps → next_of ps n ≡ Some m → m < length ps
 next_in ps n m within e = next_in' ps n m (parent_at ps n) within e
 
-taken : (ps : List (Option ℕ)) (n m : ℕ) (x : Option ℕ) → slice_get (take n ps) m ≡ Some x → (m < n) × (slice_get ps m ≡ Some x)
-taken ps zero m x e = absurd (cc)
-taken [] (suc n) m x e = absurd (cc)
-taken (p ∷ ps) (suc n) zero x e = (omega arith, e)
-taken (p ∷ ps) (suc n) (suc m) x e = let h = taken ps n m x e in (omega (arith, h.0), h.1)
-
 prev_in' : (ps : List (Option ℕ)) (n m : ℕ) (o : Option ℕ) → prev_under ps n o ≡ Some m → (m < n) × (parent_at ps m ≡ o)
 prev_in' ps n m None e = absurd (cc)
 prev_in' ps n m (Some p) e =
     let h = last-is p (take n ps) 0 m e in
     let s : m ≡ h.0 = omega (arith, h.1) in
-    let t = taken ps n m (Some p) (subst (λ z. slice_get (take n ps) z ≡ Some (Some p)) (sym s) h.2) in
+    let t = get-take ps n m (Some p) (subst (λ z. slice_get (take n ps) z ≡ Some (Some p)) (sym s) h.2) in
     (t.0, ap flat t.1)
 
 -- the sibling before a node has a lesser number and the same parent

@@ -4,8 +4,8 @@ use mir.Syntax.{w64}
 use Rattle.boxes.specs.declared.page.Placed.{Placed}
 use Rattle.note_list.specs.Lists.{placed_notes}
 use Rattle.note_list.specs.declared.solid.NotedSolid.{NotedSolid}
-use Rattle.note_list.proofs.PartLemmas.{drop_get}
 use Rattle.bk_num.specs.Limits.{separator}
+use Rattle.bk_num.proofs.ListLemmas.{drop-next}
 use Rattle.note_list.proofs.place.place_all.Goals as goal
 
 pub loop-at-preserved : goal.loop-at-preserved
@@ -21,7 +21,7 @@ loop-at-preserved c =
     let some = c.solid_at-solid.ensures.small.some in
     let low = c.loop-at.invariant.low in
     let high = c.loop-at.invariant.high in
-    let rest : drop at solids ≡ s ∷ drop (suc at) solids = drop_get solids at s there in
+    let rest : drop at solids ≡ s ∷ drop (suc at) solids = drop-next solids at s there in
     let bottom : ℤ = c.loop-at.reach.bottom in
     let top_is = c.place_note-top.ensures.top in
     let top : to_z w64 (of_z w64 c.place_note-top.result) ≡ bottom +ℤ s.row.gap = omega (arith, ints) in
