@@ -21,7 +21,7 @@ use Rattle.box_gen.specs.Sites.{leaf_bytes, with_any, with_text}
 use Rattle.box_gen.specs.Trees.{Source, Role, text, hidden, inline, block, note, role_of}
 use Rattle.box_gen.specs.Walk.{Walk, after_step, after_steps, enter_by, enter_node, innermost, leave_by, leave_node, walk}
 
-bytes-push : (ls : List LeafData) (l : LeafData) → leaf_bytes (ls ++ l ∷ []) ≡ leaf_bytes ls + length l.text
+pub bytes-push : (ls : List LeafData) (l : LeafData) → leaf_bytes (ls ++ l ∷ []) ≡ leaf_bytes ls + length l.text
 bytes-push [] l = omega arith
 bytes-push (x ∷ ls) l = let r = bytes-push ls l in omega (arith, r)
 

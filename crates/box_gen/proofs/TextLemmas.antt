@@ -5,6 +5,7 @@ use Rattle.inline_text.specs.Joined.{ends_from}
 use Rattle.inline_text.proofs.EndLemmas.{NextText, next-text}
 use Rattle.inline_text.specs.Space.{Char, appended, collapsed, spelled, placed, squeezed, trimmed, chars_from}
 use Rattle.inline_text.specs.declared.space.TextPart.{TextPart}
+use Rattle.inline_text.proofs.JoinedLemmas.{appended-length}
 use Rattle.soft_hyphens.specs.Words.{Points}
 use Rattle.box_gen.specs.Items.{InlineItem}
 use Rattle.box_gen.specs.Items as item
@@ -18,11 +19,6 @@ drop_step xs i x h e = let n : suc i ≡ i + 1 = omega arith in steps xs i x h e
     steps [] i x h e = absurd (omega arith)
     steps (y ∷ xs) zero x h e = ap (λ z. z ∷ xs) (sym e)
     steps (y ∷ xs) (suc i) x h e = steps xs i x (omega arith) e
-
-appended-length : (ts : List (List ℕ)) (k : ℕ) (s : List ℕ) → length (appended ts k s) ≡ length ts
-appended-length [] k s = refl
-appended-length (t ∷ ts) zero s = refl
-appended-length (t ∷ ts) (suc k) s = ap suc (appended-length ts k s)
 
 placed-length : (ts : List (List ℕ)) (cs : List Char) → length (placed ts cs) ≡ length ts
 placed-length ts [] = refl
@@ -43,7 +39,3 @@ printed-length points items = hyphenated-length points (autos_in items) (collaps
 -- a text ends where the next one begins
 pub ends-step : (ts : List (List ℕ)) (ends : List ℕ) (next at : ℕ) → next < length ends → drop next ends ≡ ends_from at (drop next ts) → NextText ts next at (get_or ends next 0) (drop (next + 1) ends)
 ends-step ts ends next at l h = next-text ts next at (get_or ends next 0) (drop (next + 1) ends) (sym (drop_more ends next 0 l) ∙ h)
-
-pub ends-length : (at : ℕ) (ts : List (List ℕ)) → length (ends_from at ts) ≡ length ts
-ends-length at [] = refl
-ends-length at (t ∷ ts) = ap suc (ends-length (at + length t) ts)

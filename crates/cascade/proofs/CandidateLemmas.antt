@@ -2,8 +2,6 @@
 use Rattle.std.proofs.Common.{◌≡◌, ℕ, suc, zero, ◌+◌, ◌<◌, ◌≤◌, List, [], ◌∷◌, ◌++◌, Option, Some, length, map, take, get_or, slice_get, option_map, refl, sym, ◌∙◌, ap, subst, arith, ◌⊎◌, inl, inr}
 use Rattle.std.proofs.lemmas.Bool.{cases_lt}
 use Rattle.std.specs.List.{fold}
-use Rattle.std.specs.Prelude.{Result, Ok, Err}
-use Rattle.std.specs.Result.{IfOk}
 use Rattle.std.proofs.lemmas.Option.{slice_get-map, slice_get-get_or}
 use Rattle.bk_num.proofs.ListLemmas.{get-take, take-get}
 use Rattle.style.specs.declared.long.Long.{Long}
@@ -129,10 +127,6 @@ applied_at rules i d h = slice_get-map applied_in rules i ∙ ap (option_map app
 
 pub applied_read : (rules : List AppliedDecls) (i : ℕ) (x : AppliedDecls) → i < length rules → x ≡ get_or rules i x → slice_get (map applied_in rules) i ≡ Some (applied_in x)
 applied_read rules i x h e = applied_at rules i x h ∙ ap (λ (y : AppliedDecls). Some (applied_in y)) (sym e)
-
-pub if_ok : {T E : Type 0} (r : Result T E) (P Q : T → Type 0) → ((x : T) → P x → Q x) → IfOk r P → IfOk r Q
-if_ok (Ok x) P Q f h = f x h
-if_ok (Err e) P Q f h = h
 
 -- no rule declares anything
 pub none_declared : (d : Declared) → DeclaredBy [] d → ⊥

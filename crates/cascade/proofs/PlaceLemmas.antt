@@ -6,7 +6,7 @@ use Rattle.std.specs.List.{Contains}
 use Rattle.std.proofs.lemmas.Bool.{cases_lt}
 use Rattle.std.proofs.lemmas.List.{length-map}
 use Rattle.std.proofs.lemmas.List.Elements.{Contains-push, Contains-push_cases, Contains-append_cases, Contains-append_left, Contains-append_right}
-use Rattle.std.proofs.lemmas.Option.{slice_get_within, slice_get_past, slice_get-map, slice_get_read, slice_get-get_or, same_Some}
+use Rattle.std.proofs.lemmas.Option.{slice_get_within, slice_get_past, slice_get-map, slice_get_read, slice_get-get_or}
 use Rattle.bk_num.specs.declared.values.Pseudo.TheVariants as pseudo
 use Rattle.selectors.specs.Selectors.{SelectorView}
 use Rattle.selectors.specs.Match.{Tree, Matches}
@@ -98,9 +98,6 @@ through g f (Some x) = refl
 pub from_get : {A B : Type 0} (g : B → A) (xs : List A) (k : ℕ) (R : B → Type 0) (o : Option B) → MatchOption o (length xs ≤ k) (λ x. (k < length xs) × R x) → IfSome o (λ x. g x ≡ get_or xs k (g x)) → option_map g o ≡ slice_get xs k
 from_get g xs k R None m e = sym (slice_get_past xs k m)
 from_get g xs k R (Some x) m e = let low = m.0 in ap (λ y. Some y) e ∙ sym (slice_get-get_or xs k (g x) low)
-
-pub same_or : {A : Type 0} (xs : List A) (i : ℕ) (d e : A) → i < length xs → get_or xs i d ≡ get_or xs i e
-same_or xs i d e low = same_Some _ _ (sym (slice_get-get_or xs i d low) ∙ slice_get-get_or xs i e low)
 
 -- ---- what is chosen for a node wins
 

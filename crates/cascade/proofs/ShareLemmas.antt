@@ -17,10 +17,6 @@ pub on-ok : {A E P : Type 0} (res : Result A E) → P → OnOk res P
 on-ok (Ok a) p = p
 on-ok (Err a) p = tt
 
-pub then-ok : {A E P Q : Type 0} (res : Result A E) → (P → Q) → OnOk res P → OnOk res Q
-then-ok (Ok a) f p = f p
-then-ok (Err a) f p = tt
-
 like-chosen : (dom : Tree) (ss : List SelectedOf) (matched : Matched) (e n : ℕ) (w : NodeWinners) → IsLike dom matched.rows e n → IsChosenAt dom ss matched e w → IsChosenAt dom ss matched n w
 like-chosen dom ss matched e n w like c row at = subst (λ d. AreChosen ss (places_in matched.groups row) d w) (ap decls_in like.style) (c row (like.groups ∙ at))
 

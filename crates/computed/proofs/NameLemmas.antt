@@ -82,12 +82,9 @@ names-turn names more winners i w rows next r len at added h g =
 
 -- ---- each name has one number
 
-once-more : (names : List (List ℕ)) (name : List ℕ) → AreOnce names → AreOnce (with_name names name)
-once-more = once-with
-
 once-all : (names more : List (List ℕ)) → AreOnce names → AreOnce (with_names names more)
 once-all names [] once = once
-once-all names (name ∷ more) once = once-all (with_name names name) more (once-more names name once)
+once-all names (name ∷ more) once = once-all (with_name names name) more (once-with names name once)
 
 first-once : AreOnce ([] ∷ [])
 first-once zero zero name h g = refl

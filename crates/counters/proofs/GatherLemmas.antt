@@ -1,6 +1,6 @@
 -- events of places, and of counters, put together
 use Rattle.std.proofs.Common.{◌≡◌, ℕ, ◌*◌, List, ◌++◌, Option, None, Some, length, refl, sym, ◌∙◌, ap, append_assoc}
-use Rattle.std.specs.Prelude.{not, codes, OnOk, Result, Ok, Err}
+use Rattle.std.specs.Prelude.{not, codes}
 use Rattle.std.specs.Str.{bytes_eq}
 use Rattle.std.proofs.lemmas.List.{map-append}
 use Rattle.std.proofs.lemmas.List.Elements.{filter-append}
@@ -15,10 +15,6 @@ use Rattle.counters.specs.Gather.{AreSpots, end_after, end_below}
 
 pub placed-append : (p : EventPlace) (xs ys : List (List ℕ × Act)) → placed p (xs ++ ys) ≡ placed p xs ++ placed p ys
 placed-append p xs ys = ap (named p.at p.end) (filter-append (λ c. not (bytes_eq c.0 (codes "page"))) xs ys) ∙ map-append (λ c. (c.0, record { at = p.at; end = p.end; act = c.1 })) (not_page xs) (not_page ys)
-
-pub on-ok : {X E : Type 0} {P Q : Type 0} (r : Result X E) → (P → Q) → OnOk r P → OnOk r Q
-on-ok (Ok x) f p = f p
-on-ok (Err e) f p = p
 
 -- one list of changes more at a place
 pub put : (p : EventPlace) (xs ys : List (List ℕ × Act)) (before middle after : List (List ℕ × CounterEvent)) → middle ≡ before ++ placed p xs → after ≡ middle ++ placed p ys → after ≡ before ++ placed p (xs ++ ys)

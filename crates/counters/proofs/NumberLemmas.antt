@@ -1,10 +1,10 @@
 -- from events and marks to values
-use Rattle.std.proofs.Common.{◌≡◌, ℕ, zero, suc, ◌+◌, ◌<◌, Bool, true, false, cond, List, [], ◌∷◌, ◌++◌, Option, None, Some, length, length-append, slice_get, take, get_or, refl, sym, ◌∙◌, ap, subst, arith, ◌⊎◌, inl, inr}
+use Rattle.std.proofs.Common.{◌≡◌, ℕ, zero, suc, ◌+◌, ◌<◌, Bool, true, false, cond, List, [], ◌∷◌, ◌++◌, Option, None, Some, length, length-append, slice_get, take, refl, sym, ◌∙◌, ap, subst, arith, ◌⊎◌, inl, inr}
 use Rattle.std.specs.Prelude.{slice_index_or, pos}
 use Rattle.std.specs.Str.{bytes_eq}
 use Rattle.std.specs.List.{position}
 use Rattle.std.specs.List.Sorted.{IsNonDecreasingBy}
-use Rattle.std.proofs.lemmas.Option.{slice_get_within, slice_get-get_or}
+use Rattle.std.proofs.lemmas.Option.{slice_get_within}
 use Rattle.bk_num.proofs.ListLemmas.{bytes_same, slice_get_at, get-push, get-keep, get-end}
 use Rattle.bk_num.specs.declared.values.Pseudo.{Pseudo}
 use Rattle.bk_num.specs.declared.values.Pseudo.TheVariants as pseudo
@@ -132,6 +132,3 @@ values-are-those nodes styles spots s c e g n p x =
 
 pub all-nested : (nodes : List Node) (styles : List NodeStyles) (events : List (List ℕ × CounterEvent)) → IsTree nodes → events ≡ document_events nodes styles → AreAllNested events
 all-nested nodes styles events t e x = rw e (events-are-nested nodes styles x t)
-
-pub item-at : {A : Type 0} (xs : List A) (i : ℕ) (x : A) → i < length xs → x ≡ get_or xs i x → slice_get xs i ≡ Some x
-item-at xs i x l e = slice_get-get_or xs i x l ∙ ap (λ y. Some y) (sym e)

@@ -5,12 +5,12 @@ use Rattle.bk_num.proofs.ListLemmas.{bytes_self, get-end}
 use Rattle.named_lists.specs.Lists.{ListsOf, items_of, with_item}
 use Rattle.named_lists.proofs.ListLemmas.{items-more, len-more}
 use Rattle.dom.proofs.DomLemmas.{eqb-self}
+use Rattle.style.proofs.NodeLemmas.{get-last}
 use Rattle.counters.specs.declared.scopes.CounterEvent.{CounterEvent}
 use Rattle.counters.specs.Gather.{adds_nothing, is_at, is_use, with_change, with_changes}
 use Rattle.counters.specs.declared.scopes.Act.{Act}
 use Rattle.counters.specs.Document.{named}
 use Rattle.counters.specs.Log.{is_asked, of_asked}
-use Rattle.counters.proofs.NumberLemmas.{item-at}
 
 -- whether the last event stands at a place
 abbrev StandsAt : ℕ → List CounterEvent → Type 0
@@ -71,7 +71,7 @@ abbrev pub event_of : ℕ → ℕ → List ℕ × Act → List ℕ × CounterEve
 event_of at end x = (x.0, record { at = at; end = end; act = x.1 })
 
 row-step : (asked : List (List ℕ)) (at end : ℕ) (items : List (List ℕ × Act)) (i : ℕ) (x : List ℕ × Act) (l : ListsOf CounterEvent) → i < length items → x ≡ get_or items i x → with_changes l (of_asked asked (named at end (drop i items))) ≡ with_changes l (of_asked asked (event_of at end x ∷ named at end (drop (i + 1) items)))
-row-step asked at end items i x l h e = ap (λ d. with_changes l (of_asked asked (named at end d))) (drop-more items i x (item-at items i x h e))
+row-step asked at end items i x l h e = ap (λ d. with_changes l (of_asked asked (named at end d))) (drop-more items i x (get-last items i x h e))
 
 one-first : (asked : List (List ℕ)) (l : ListsOf CounterEvent) (p : List ℕ × CounterEvent) (more : List (List ℕ × CounterEvent)) → with_changes l (of_asked asked (p ∷ more)) ≡ with_changes (with_changes l (of_asked asked (p ∷ []))) (of_asked asked more)
 one-first asked l p more = by (is_asked asked p.0)

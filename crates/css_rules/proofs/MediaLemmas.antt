@@ -12,6 +12,7 @@ use Rattle.css_rules.specs.Views.{items_in}
 use Rattle.css_tok.specs.declared.kind.CssKind.{CssKind}
 use Rattle.css_tok.specs.declared.kind.CssKind.TheVariants as kind
 use Rattle.css_tok.specs.Marks.{mark, mark_in, closer_of, closer_in, is_gap, is_gap_kind}
+use Rattle.css_tok.proofs.WordLemmas.{and_assoc}
 use Rattle.css_rules.specs.Brackets.{open_after, closes, is_outside}
 use Rattle.css_rules.specs.Parts.{Piece, ends, parts_from, with_tokens}
 use Rattle.css_rules.specs.Media.{is_medium, is_one_medium, is_medium_part, deepest, is_shallow, shallow_parts, is_media_list}
@@ -52,10 +53,6 @@ unfolding seen_after is_medium_part
 part_step seen.Nothing t p = elim (cases_Bool (is_gap t)) [ inl gap ↦ rw gap | inr other ↦ rw other (one_medium t p ∙ first_medium t p) ]
 part_step seen.Medium t p = elim (cases_Bool (is_gap t)) [ inl gap ↦ rw gap | inr other ↦ rw other ]
 part_step seen.Other t p = elim (cases_Bool (is_gap t)) [ inl gap ↦ rw gap | inr other ↦ rw other ]
-
-and_assoc : (a b c : Bool) → (a && (b && c)) ≡ ((a && b) && c)
-and_assoc true b c = refl
-and_assoc false b c = refl
 
 shallow : (a d : ℕ) → a ≤ 1024 → leb (max a d) 1024 ≡ leb d 1024
 shallow a d h = grind (arith, nat_tests)

@@ -4,6 +4,7 @@ use Rattle.std.specs.Prelude.{option_to_list, ◌==◌}
 use Rattle.std.proofs.lemmas.Bool.{cases_Bool}
 use Rattle.css_tok.specs.Tokens.{Item}
 use Rattle.css_tok.specs.Marks.{mark, first_mark, rest_of}
+use Rattle.css_words.proofs.ReadLemmas.{rest_within}
 use Rattle.css_rules.specs.Decls.{Decl, decl_of}
 use Rattle.css_rules.specs.Brackets.{open_after}
 use Rattle.css_rules.specs.Parts.{joined, ends, after_from, past_from, separator}
@@ -31,11 +32,6 @@ past_le s open' (t ∷ ts) = elim (cases_Bool (ends s open' t)) [
   | inr goes ↦ rw goes (omega (arith, past_le s (open_after open' t) ts))
 ]
 
-rest_le : (ts : List Item) → length (rest_of ts) ≤ length ts
-unfolding rest_of
-rest_le [] = omega arith
-rest_le (t ∷ ts) = omega arith
-
 rest_lt : (ts : List Item) (n : ℕ) → length ts ≤ suc n → length (rest_of ts) ≤ n
 unfolding rest_of
 rest_lt [] n h = omega arith
@@ -44,8 +40,8 @@ rest_lt (t ∷ ts) n h = omega arith
 past_end_le : (ts : List Item) → length (past_end ts) ≤ length ts
 unfolding past_end
 past_end_le ts = elim (cases_Bool (first_mark ts == 123)) [
-  | inl block ↦ rw block (omega (arith, past_le stop.BlockPiece [] (rest_of ts), rest_le ts))
-  | inr differs ↦ rw differs (rest_le ts)
+  | inl block ↦ rw block (omega (arith, past_le stop.BlockPiece [] (rest_of ts), rest_within ts))
+  | inr differs ↦ rw differs (rest_within ts)
 ]
 
 at_end_le : (ts : List Item) → length (at_end ts) ≤ length ts
@@ -80,7 +76,7 @@ page_case n t ts h more lead.At here =
     ]
 page_case n t ts h more lead.Content here =
     let less : length (rest_of (piece_end (t ∷ ts))) ≤ n = rest_lt (piece_end (t ∷ ts)) n (omega (arith, piece_end_le (t ∷ ts))) in
-    let within : length (rest_of (piece_end (t ∷ ts))) ≤ length (t ∷ ts) = omega (arith, rest_le (piece_end (t ∷ ts)), piece_end_le (t ∷ ts)) in
+    let within : length (rest_of (piece_end (t ∷ ts))) ≤ length (t ∷ ts) = omega (arith, rest_within (piece_end (t ∷ ts)), piece_end_le (t ∷ ts)) in
     elim (cases_Bool (first_mark (piece_end (t ∷ ts)) == 59)) [
       | inl goes ↦ (let p = more (rest_of (piece_end (t ∷ ts))) less in (option_to_list (decl_of (piece_at (t ∷ ts))) ++ p.0, p.1, p.2, piece t ts p.0 p.1 p.2 here goes p.3, omega (arith, p.4, within)))
       | inr over ↦ (option_to_list (decl_of (piece_at (t ∷ ts))), [], rest_of (piece_end (t ∷ ts)), last t ts here over, within)
@@ -95,10 +91,10 @@ abbrev HasRules : Bool → List Item → Type 0
 HasRules m ts = (rs : List RuleOf) × (ps : List PageOf) × AreRules m ts rs ps
 
 at_case : (n : ℕ) (m : Bool) (t : Item) (ts : List Item) → length ts ≤ n → ((m : Bool) (us : List Item) → length us ≤ n → HasRules m us) → lead_of m t ≡ lead.At → (k : AtKind) → at_kind m t ts ≡ k → HasRules m (t ∷ ts)
-at_case n m t ts h more here at.Media kind = let r = more true (rest_of (at_after m ts)) (omega (arith, rest_le (at_after m ts), at_after_le m ts)) in (r.0, r.1, media m t ts r.0 r.1 here kind r.2)
+at_case n m t ts h more here at.Media kind = let r = more true (rest_of (at_after m ts)) (omega (arith, rest_within (at_after m ts), at_after_le m ts)) in (r.0, r.1, media m t ts r.0 r.1 here kind r.2)
 at_case n m t ts h more here at.Page kind =
     let p = page_within (length (rest_of (at_after m ts))) (rest_of (at_after m ts)) (omega arith) in
-    let r = more m p.2 (omega (arith, p.4, rest_le (at_after m ts), at_after_le m ts)) in
+    let r = more m p.2 (omega (arith, p.4, rest_within (at_after m ts), at_after_le m ts)) in
     (r.0, record { selectors = joined (at_front m ts); decls = p.0; boxes = p.1 } ∷ r.1, page m t ts p.0 p.1 p.2 r.0 r.1 here kind p.3 r.2)
 at_case n m t ts h more here at.Other kind = let r = more (stays m (at_after m ts)) (past_end (at_after m ts)) (omega (arith, past_end_le (at_after m ts), at_after_le m ts)) in (r.0, r.1, other m t ts r.0 r.1 here kind r.2)
 

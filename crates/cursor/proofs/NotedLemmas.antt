@@ -1,6 +1,6 @@
 -- Places that are noted by the numbers of leaves, and the others, as one list of entries.
-use Rattle.std.proofs.Common.{◌≡◌, ◌≢◌, ◌∙◌, ℕ, zero, suc, ◌+◌, ◌<◌, ◌≤◌, ℤ, Bool, true, false, ◌&&◌, List, [], ◌∷◌, ◌++◌, Option, Some, None, Result, Ok, Err, length, replicate, take, slice_set, refl, sym, ap, subst, arith}
-use Rattle.std.specs.Prelude.{OnErr, if◌then◌else◌, nat_eq}
+use Rattle.std.proofs.Common.{◌≡◌, ◌≢◌, ◌∙◌, ℕ, zero, suc, ◌+◌, ◌<◌, ◌≤◌, ℤ, Bool, true, false, ◌&&◌, List, [], ◌∷◌, ◌++◌, Option, Some, None, length, replicate, take, slice_set, refl, sym, ap, subst, arith}
+use Rattle.std.specs.Prelude.{if◌then◌else◌, nat_eq}
 use Rattle.std.specs.Map.{lookup}
 use Rattle.std.specs.Ordering.{int_eq}
 use Rattle.std.proofs.Math.Dec.{eqb-suc-suc, eqb-suc-zero, eqb-zero-suc}
@@ -189,7 +189,3 @@ put_at (x ∷ firsts) (suc i) (suc k) p l = put_at firsts i k p (omega arith) �
 
 pub put_noted : (firsts long : List (Option NotedPlace)) (i : ℕ) (p : NotedPlace) → i < length long → ((k : ℕ) → noted_at long k ≡ noted_at firsts k) → (k : ℕ) → noted_at (slice_set long i (Some p)) k ≡ (if nat_eq k i then Some p else noted_at firsts k)
 put_noted firsts long i p l stays k = put_at long i k p l ∙ ap (λ (o : Option NotedPlace). if nat_eq k i then Some p else o) (stays k)
-
-pub on_err : {T E : Type 0} {P Q : Type 0} → (P → Q) → (r : Result T E) → OnErr r P → OnErr r Q
-on_err f (Ok x) p = p
-on_err f (Err e) p = f p

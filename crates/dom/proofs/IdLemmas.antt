@@ -32,10 +32,10 @@ equal m n = by (m == n) refl
 
 -- ---- one more node
 
-parents-push : (nodes : List Node) (x : Node) → parents_of (nodes ++ x ∷ []) ≡ parents_of nodes ++ x.parent ∷ []
+pub parents-push : (nodes : List Node) (x : Node) → parents_of (nodes ++ x ∷ []) ≡ parents_of nodes ++ x.parent ∷ []
 parents-push nodes x = map-append (λ (n : Node). n.parent) nodes (x ∷ [])
 
-length-parents : (nodes : List Node) → length (parents_of nodes) ≡ length nodes
+pub length-parents : (nodes : List Node) → length (parents_of nodes) ≡ length nodes
 length-parents nodes = length-map nodes (λ (n : Node). n.parent)
 
 way-none : (ps : List (Option ℕ)) (d : ℕ) → way ps d None ≡ []

@@ -20,7 +20,7 @@ abbrev pub IsStep : List Node → ℕ → Option ℕ → Type 0
 IsStep nodes d None = d ≡ 0
 IsStep nodes d (Some n) = (n < length nodes) × (depth_at nodes n ≡ d)
 
-parent-of : (nodes : List Node) (k : ℕ) (n : Node) → slice_get nodes k ≡ Some n → parent_at (parents_of nodes) k ≡ n.parent
+pub parent-of : (nodes : List Node) (k : ℕ) (n : Node) → slice_get nodes k ≡ Some n → parent_at (parents_of nodes) k ≡ n.parent
 parent-of nodes k n h = ap flat (slice_get-map (λ (n : Node). n.parent) nodes k ∙ ap (option_map (λ (n : Node). n.parent)) h)
 
 pub record IsStepUp (nodes : List Node) (d n : ℕ) : Type 0 where

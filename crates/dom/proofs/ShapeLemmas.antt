@@ -110,7 +110,7 @@ element-read (r ∷ rows) (w ∷ whats) (suc k) l h = element-read rows whats k 
 
 -- ---- one more attribute
 
-attributed-element : (key value : List ℕ) (what : NodeData) → is_element (attributed key value what) ≡ is_element what
+pub attributed-element : (key value : List ℕ) (what : NodeData) → is_element (attributed key value what) ≡ is_element what
 attributed-element key value (Element name attrs) = refl
 attributed-element key value (Text text) = refl
 

@@ -9,8 +9,9 @@ use Rattle.cursor.specs.Remainder.{SolidView, IsSolid, IsRemainder}
 use Rattle.cursor.proofs.RemLemmas.{Stands, solid_stands}
 use Rattle.note_list.specs.Calls.{called_before}
 use Rattle.page_list.specs.Cuts.{place_after}
+use Rattle.page_list.proofs.ExistLemmas.{called_within}
 use Rattle.fragment.specs.Reads.{called_by}
-use Rattle.fragment.proofs.PlaceLemmas.{before_end, before_most, by_all, called_grows, called_grows_here, called_is}
+use Rattle.fragment.proofs.PlaceLemmas.{before_end, by_all, called_grows, called_grows_here, called_is}
 
 -- how many notes are called before the place after j solids
 abbrev pub called_at : Tree → List Note → List SolidView → ℕ → ℕ
@@ -51,7 +52,7 @@ module _ (faces : List FontFace) (t : Tree) (w : ℤ) (tree : IsTree t) (notes :
   pub called_first : (from : Position) (xs : List SolidView) → Stands t from → IsRemainder faces t w from xs → (j : ℕ) → called_before t notes from ≤ called_at t notes xs (suc j)
   called_first from [] st r j =
       let all = before_end t notes in
-      let most = before_most t notes from in
+      let most = called_within t notes from in
       omega arith
   called_first from (x ∷ xs) st r j =
       let grows = called_grows faces t w from x tree st r.1.0 notes in

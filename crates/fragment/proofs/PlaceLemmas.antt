@@ -1,5 +1,5 @@
 -- Where solids end, and how many notes are called before.
-use Rattle.std.proofs.Common.{◌≡◌, ◌≢◌, ◌<◌, ◌≤◌, ◌+◌, ℕ, zero, suc, ℤ, Bool, true, false, cond, eqb, is_some, length, List, [], ◌∷◌, Option, None, Some, slice_get, refl, sym, ap, ◌∙◌, subst, arith, ◌⊎◌, inl, inr, ⊎_elim, add-one, nat_lt}
+use Rattle.std.proofs.Common.{◌≡◌, ◌≢◌, ◌<◌, ◌≤◌, ◌+◌, ℕ, zero, suc, ℤ, Bool, true, false, cond, eqb, is_some, length, List, Option, None, Some, slice_get, refl, sym, ap, ◌∙◌, subst, arith, ◌⊎◌, inl, inr, ⊎_elim, add-one, nat_lt}
 use Rattle.std.specs.List.{prefix_len}
 use Rattle.std.proofs.lemmas.Bool.{cases_lt, eq-eqb}
 use Rattle.std.proofs.lemmas.Bool.Decides.{eqb_tells, nat_tests}
@@ -18,6 +18,7 @@ use Rattle.page_seq.specs.Places.{anchor_of, is_before}
 use Rattle.page_seq.proofs.PlaceLemmas.{IsNoLater}
 use Rattle.note_list.specs.Calls.{called_before, end_after as end_behind, end_before}
 use Rattle.page_list.specs.Cuts.{place_after}
+use Rattle.page_list.proofs.CallLemmas.{prefix_more}
 use Rattle.fragment.specs.Reads.{called_by}
 
 abbrev place : ℕ → ℕ → Position
@@ -169,15 +170,6 @@ end_is faces t w from r s tree st first second = by (solid_ends faces t w from r
     by (inr (to, e, less)) = part to e less
 
 -- ---- the notes that are called
-prefix_more : {X : Type 0} (p q : X → Bool) (xs : List X) → ((x : X) → p x ≡ true → q x ≡ true) → prefix_len p xs ≤ prefix_len q xs
-prefix_more p q [] more = omega arith
-prefix_more p q (x ∷ xs) more = by (p x) (q x) refl refl (prefix_more p q xs more)
-  where
-    by : (a b : Bool) → p x ≡ a → q x ≡ b → prefix_len p xs ≤ prefix_len q xs → cond (p x) (1 + prefix_len p xs) 0 ≤ cond (q x) (1 + prefix_len q xs) 0
-    by false b e f low = rw e (omega arith)
-    by true true e f low = rw (e, f) (omega arith)
-    by true false e f low = absurd (let g : false ≡ true = sym f ∙ more x e in cc)
-
 abbrev calls_before : Tree → List Note → Position → ℕ
 calls_before t notes at = prefix_len (λ n. is_before (anchor_of t n.call) at) notes
 
@@ -208,13 +200,6 @@ by_all t notes end none = ap (λ (o : Option ℕ). cond (is_some o) (calls_befor
 -- before the tree's end all are called, and before another place those that are called before the last solid ends
 pub before_end : (t : Tree) (notes : List Note) → called_before t notes (place_after t None) ≡ length notes
 before_end t notes = ap (λ (b : Bool). cond b (length notes) (calls_before t notes (end_before t (place_after t None)))) (eq-eqb (length t.events) (length t.events) refl)
-
-pub before_most : (t : Tree) (notes : List Note) (at : Position) → called_before t notes at ≤ length notes
-before_most t notes at = by (eqb at.event (length t.events)) (prefix_len-le-length (λ n. is_before (anchor_of t n.call) (end_before t at)) notes)
-  where
-    by : (b : Bool) → calls_before t notes (end_before t at) ≤ length notes → cond b (length notes) (calls_before t notes (end_before t at)) ≤ length notes
-    by true low = omega arith
-    by false low = low
 
 pub before_inside : (t : Tree) (notes : List Note) (at : Position) → at.event < length t.events → called_before t notes at ≡ calls_before t notes (end_before t at)
 before_inside t notes at less = ap (λ (b : Bool). cond b (length notes) (calls_before t notes (end_before t at))) (by (eqb_tells at.event (length t.events)))

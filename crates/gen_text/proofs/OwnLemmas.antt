@@ -3,7 +3,7 @@ use Rattle.std.proofs.Common.{◌≡◌, ℕ, zero, suc, ◌+◌, ◌-◌, ◌<�
 use Rattle.std.proofs.lemmas.Bool.{eq-eqb}
 use Rattle.std.proofs.lemmas.Map.Views.{exact_unsigned_eq}
 use Rattle.std.proofs.lemmas.Option.{slice_get-map, slice_get_within}
-use Rattle.std.proofs.lemmas.List.{length-map, drop-drop}
+use Rattle.std.proofs.lemmas.List.{drop-drop}
 use Rattle.std.proofs.lemmas.List.Folds.{list_all-append}
 use Rattle.std.proofs.lemmas.Grind.{flat_map-append}
 use Rattle.std.specs.List.{flat_map, list_all}
@@ -15,6 +15,7 @@ use Rattle.dom.specs.WalkFields.{tour_at, tours_of, steps_from}
 use Rattle.dom.specs.declared.walk.Step.{Step}
 use Rattle.dom.specs.declared.walk.Step.TheVariants.{Enter, Leave}
 use Rattle.dom.proofs.WalkLemmas.{first-child, no-children, falling, tour-unfold, enter-child, enter-leaf, after-sibling, after-last, parent-child}
+use Rattle.dom.proofs.IdLemmas.{length-parents}
 use Rattle.style.specs.Nodes.{NodeStyles}
 use Rattle.gen_text.specs.declared.own.Ending.{Ending}
 use Rattle.gen_text.specs.declared.own.Ending.TheVariants as ending
@@ -174,9 +175,6 @@ record Turn (nodes : List Node) (styles : List NodeStyles) (e : ℕ) (s next : S
   within : node_of next < length nodes
   fewer : length (steps_from (parents_of nodes) (Some next)) < length (steps_from (parents_of nodes) (Some s))
 
-parents-length : (nodes : List Node) → length (parents_of nodes) ≡ length nodes
-parents-length nodes = simp length-map refl
-
 -- past an element that is left out
 turn-out : (nodes : List Node) (styles : List NodeStyles) → IsTree nodes → (e : ℕ) (n : NodeId) (todo r : List Step) → Rest nodes styles e n.0 r → todo ≡ tour_at (parents_of nodes) n.0 ++ r → n.0 < length nodes → is_left_out nodes styles n.0 ≡ true → Turn nodes styles e (Enter n) (Leave n) todo
 turn-out nodes styles tree e n todo r rest is within out = record {
@@ -194,7 +192,7 @@ turn-out nodes styles tree e n todo r rest is within out = record {
     f = kept_text nodes styles e
 
     size : n.0 < length (parents_of nodes)
-    size = let z = parents-length nodes in omega (arith, z, within)
+    size = let z = length-parents nodes in omega (arith, z, within)
 
     text : text_at nodes n.0 ≡ None
     text = no-text nodes n.0 (left-out-element nodes styles n.0 out)
@@ -214,7 +212,7 @@ turn-child nodes styles tree e n todo r c rest is within out first = record {
   more = tour_at ps c ++ (tours_of ps (later ps n.0 c) ++ Leave n ∷ r);
   left = entering (record { 0 = c }) _ (tours_of ps (later ps n.0 c) ++ Leave n ∷ r) (up c _ n.0 r (ap flat child.0) kept (rest-deep nodes styles tree e n.0 r rest) rest refl) refl;
   texts = ap (flat_map f) (is ∙ whole) ∙ ap (λ b. cond b (attribute_text (text_at nodes n.0)) [] ++ flat_map f (tour_at ps c ++ (tours_of ps (later ps n.0 c) ++ Leave n ∷ r))) kept;
-  within = (let w = slice_get_within ps c (Some n.0) child.0 in let z = parents-length nodes in omega (arith, w, z));
+  within = (let w = slice_get_within ps c (Some n.0) child.0 in let z = length-parents nodes in omega (arith, w, z));
   fewer = (let u = ap length (enter-child ps n.0 c (falling nodes tree) size first).1 in omega (arith, u));
 }
   where
@@ -225,7 +223,7 @@ turn-child nodes styles tree e n todo r c rest is within out first = record {
     f = kept_text nodes styles e
 
     size : n.0 < length (parents_of nodes)
-    size = let z = parents-length nodes in omega (arith, z, within)
+    size = let z = length-parents nodes in omega (arith, z, within)
 
     child : (slice_get (parents_of nodes) c ≡ Some (Some n.0)) × (children_of (parents_of nodes) n.0 ≡ c ∷ later (parents_of nodes) n.0 c)
     child = children-step (parents_of nodes) n.0 c first
@@ -253,7 +251,7 @@ turn-leaf nodes styles tree e n todo r rest is within out none = record {
     f = kept_text nodes styles e
 
     size : n.0 < length (parents_of nodes)
-    size = let z = parents-length nodes in omega (arith, z, within)
+    size = let z = length-parents nodes in omega (arith, z, within)
 
     kept : is_kept nodes styles e n.0 ≡ true
     kept = rest-kept nodes styles tree e n.0 r rest ∙ ap (λ b. not b && true) out
@@ -342,7 +340,7 @@ start-within nodes e l = by (first_child_of (parents_of nodes) e) refl
   where
     by : (o : Option ℕ) → first_child_of (parents_of nodes) e ≡ o → node_of (step_to e o) < length nodes
     by None h = l
-    by (Some c) h = let child = children-step (parents_of nodes) e c h in let w = slice_get_within (parents_of nodes) c (Some e) child.0 in let z = parents-length nodes in omega (arith, w, z)
+    by (Some c) h = let child = children-step (parents_of nodes) e c h in let w = slice_get_within (parents_of nodes) c (Some e) child.0 in let z = length-parents nodes in omega (arith, w, z)
 
 pub going_start : (nodes : List Node) (styles : List NodeStyles) (e : ℕ) (s : Step) (old : List ℕ) → e < length nodes → s ≡ step_inside nodes e → Going nodes styles e s ending.Nothing old old
 going_start nodes styles e s old l is = record {

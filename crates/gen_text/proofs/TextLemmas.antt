@@ -42,8 +42,8 @@ one_passes p (x ∷ xs) (suc i) n less at passes = by (p x) refl (one_passes p x
 -- ---- the first of an id
 
 -- an element of an id is a node of the document
-within : (nodes : List Node) (id : List ℕ) (n : ℕ) → has_id nodes id n ≡ true → n < length nodes
-within nodes id n has = by (slice_get nodes n) refl
+pub has_within : (nodes : List Node) (id : List ℕ) (n : ℕ) → has_id nodes id n ≡ true → n < length nodes
+has_within nodes id n has = by (slice_get nodes n) refl
   where
     by : (o : Option Node) → slice_get nodes n ≡ o → n < length nodes
     by None e = let bad : has_id nodes id n ≡ false = rw e refl in cc
@@ -71,7 +71,7 @@ first-is nodes id n e = (parts.0, λ m has. by m has (comes_after nodes n m) ref
     by : (m : ℕ) → has_id nodes id m ≡ true → (b : Bool) → comes_after nodes n m ≡ b → comes_after nodes n m ≡ false
     by m has false after = after
     by m has true after =
-        let (less, at) = number_at nodes m (within nodes id m has) in
+        let (less, at) = number_at nodes m (has_within nodes id m has) in
         let test = λ (k : ℕ). has_id nodes id k && comes_after nodes n k in
         let holds : test m ≡ true = rw (has, after) refl in
         let some = list_any_at test (numbers_of nodes) m 0 less (subst (λ (k : ℕ). test k ≡ true) (sym at) holds) in
@@ -81,7 +81,7 @@ first-is nodes id n e = (parts.0, λ m has. by m has (comes_after nodes n m) ref
 pub first-that : (nodes : List Node) (id : List ℕ) (r : Option ℕ) → IsTree nodes → IsFirstOf nodes id r → r ≡ first_of nodes id
 first-that nodes id None tree h = rw (none_passes (is_first nodes id) (numbers_of nodes) (λ n. let e = h n in rw e refl)) refl
 first-that nodes id (Some n) tree h =
-    let (less, at) = number_at nodes n (within nodes id n h.0) in
+    let (less, at) = number_at nodes n (has_within nodes id n h.0) in
     let heads = one_passes (is_first nodes id) (numbers_of nodes) n n less at (is-first nodes id n h) in
     first-one nodes id (Some n) (Some heads.0) tree h (first-is nodes id heads.0 heads.2) ∙ sym heads.1
 

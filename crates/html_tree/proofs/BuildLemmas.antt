@@ -4,9 +4,10 @@ use Rattle.std.proofs.lemmas.Option.{slice_get_within}
 use Rattle.std.specs.Str.{bytes_eq}
 use Rattle.bk_num.specs.declared.ids.NodeId.{NodeId}
 use Rattle.bk_num.proofs.ListLemmas.{get-keep, get-end}
-use Rattle.dom.specs.Nodes.{Node, NodeData, Element, Text, child_of, is_element_at, is_element_node, is_element, part_of, attributed, changed_at, with_attribute, attribute_at, depth_at}
+use Rattle.dom.specs.Nodes.{Node, Element, Text, child_of, is_element_at, is_element_node, is_element, part_of, attributed, changed_at, with_attribute, attribute_at, depth_at}
 use Rattle.dom.specs.declared.dom.DomErr.{DomErr}
 use Rattle.dom.specs.declared.dom.DomErr.TheVariants.{Nodes, Depth, NoMemory}
+use Rattle.dom.proofs.ShapeLemmas.{attributed-element}
 use Rattle.html_tree.specs.Rules.{Rule, rules, has_name, names_tag, void_names}
 use Rattle.html_tree.specs.Texts.{name_of, text_of}
 use Rattle.html_tree.specs.Tree.{State, name_in, kept, closed_by, after_rule, current, number_of, is_text_under, last_of, longer, appended, new_text, add_text, put, put_all, opened_after, add_element, after_start}
@@ -85,16 +86,12 @@ set-length [] n y = refl
 set-length (x ∷ nodes) zero y = refl
 set-length (x ∷ nodes) (suc n) y = ap suc (set-length nodes n y)
 
-attributed-same : (key value : List ℕ) (what : NodeData) → is_element (attributed key value what) ≡ is_element what
-attributed-same key value (Element name attrs) = refl
-attributed-same key value (Text bytes) = refl
-
 with-element : (nodes : List Node) (n m : ℕ) (key value : List ℕ) → is_element_at (with_attribute nodes n key value) m ≡ is_element_at nodes m
 with-element nodes n m key value = by (slice_get nodes n) refl
   where
     by : (o : Option Node) → slice_get nodes n ≡ o → is_element_at (changed_at (λ a. record a { what = attributed key value a.what }) nodes n o) m ≡ is_element_at nodes m
     by None e = refl
-    by (Some a) e = set-element nodes n m a (record a { what = attributed key value a.what }) e (attributed-same key value a.what)
+    by (Some a) e = set-element nodes n m a (record a { what = attributed key value a.what }) e (attributed-element key value a.what)
 
 with-length : (nodes : List Node) (n : ℕ) (key value : List ℕ) → length (with_attribute nodes n key value) ≡ length nodes
 with-length nodes n key value = by (slice_get nodes n)

@@ -8,12 +8,13 @@ use Rattle.bk_num.specs.declared.ids.NodeId.{NodeId}
 use Rattle.bk_num.proofs.ListLemmas.{get-none, contains-get, get-contains, slice_get_at}
 use Rattle.dom.specs.Nodes.{Node, parents_of, depth_of, flat}
 use Rattle.dom.specs.declared.dom.DomErr.{DomErr}
+use Rattle.dom.proofs.IdLemmas.{length-parents}
 use Rattle.html_tok.specs.Listed.{TokenView, tokens_of}
 use Rattle.html_tree.specs.Tree.{State, current, number_of, after_kind, after_result, after_tokens, nodes_in, begun, tree_of}
 use Rattle.html_tree.specs.Open.{KindCloses, KindOpens, IsStateAt, Closes, Opens, Adds, IsOpenSince, StaysSince, IsParentAt, OpenIsOpened, OpenIsPath, NodesAreAdded, ParentIsLastOpened, TreeIsLastState}
 use Rattle.html_tree.proofs.OrderLemmas.{IsOrdered, ordered-tokens}
 use Rattle.html_tree.proofs.ScopeLemmas.{AreApart, within-contains}
-use Rattle.html_tree.proofs.TokenLemmas.{left, left-within, left-stays, left-not, IsNext, kind-next, next-cases, next-left, opens-next, next-opens, next-keeps, next-more, next-parent, parents-length, IsPath, next-path}
+use Rattle.html_tree.proofs.TokenLemmas.{left, left-within, left-stays, left-not, IsNext, kind-next, next-cases, next-left, opens-next, next-opens, next-keeps, next-more, next-parent, IsPath, next-path}
 
 -- ---- the states of a text
 
@@ -97,9 +98,9 @@ module _ (tokens : List TokenView) where
       by : (length s.nodes < length a.nodes) ⊎ (length a.nodes ≤ length s.nodes) → length a.nodes ≤ length s.nodes
       by (inr m) = m
       by (inl m) =
-          let w = slice_get_at (parents_of a.nodes) (length s.nodes) (let n = parents-length a.nodes in omega (arith, n)) in
+          let w = slice_get_at (parents_of a.nodes) (length s.nodes) (let n = length-parents a.nodes in omega (arith, n)) in
           let k = slice_get_within (parents_of s.nodes) (length s.nodes) w.0 (later-keeps t u a s l g h (length s.nodes) w.0 w.1) in
-          let n = parents-length s.nodes in absurd (omega (arith, k, n))
+          let n = length-parents s.nodes in absurd (omega (arith, k, n))
 
   -- ---- what is open
 

@@ -1,6 +1,5 @@
 -- What one token leaves open, opens and adds.
 use Rattle.std.proofs.Common.{◌≡◌, ◌⊎◌, inl, inr, ℕ, suc, zero, ◌+◌, ◌-◌, ◌<◌, ◌≤◌, Bool, true, false, not, nat_le, List, [], ◌∷◌, ◌++◌, Option, Some, Ok, Err, Contains, fold, map, length, length-append, slice_get, if◌then◌else◌, refl, sym, ◌∙◌, ap, subst, arith, codes}
-use Rattle.std.proofs.lemmas.List.{map-append, length-map}
 use Rattle.std.proofs.lemmas.List.Elements.{Contains-append_left, Contains-append_right, Contains-append_cases}
 use Rattle.std.proofs.lemmas.Option.{slice_get_within, slice_get_past}
 use Rattle.std.specs.Str.{bytes_eq}
@@ -10,6 +9,7 @@ use Rattle.bk_num.proofs.ListLemmas.{get-keep, get-push, get-end, slice_get_at}
 use Rattle.dom.specs.Nodes.{Node, Element, Text, parents_of, child_of, depth_at}
 use Rattle.dom.specs.Answers.{is_below_all}
 use Rattle.dom.specs.declared.dom.DomErr.TheVariants.{Nodes, Depth}
+use Rattle.dom.proofs.IdLemmas.{length-parents, parents-push}
 use Rattle.html_tok.specs.Pieces.{KindView, text, raw, start, close, skip}
 use Rattle.html_tok.specs.Tags.{attributes_of}
 use Rattle.html_tree.specs.Rules.{rules, has_name, void_names}
@@ -89,9 +89,6 @@ parents-are (n ∷ nodes) = ap (λ l. n.parent ∷ l) (parents-are nodes)
 parents-same : (xs ys : List Node) → map shape xs ≡ map shape ys → parents_of ys ≡ parents_of xs
 parents-same xs ys e = parents-are ys ∙ ap (map (λ (z : Shape). z.parent)) (sym e) ∙ sym (parents-are xs)
 
-parents-child : (nodes : List Node) (n : Node) → parents_of (nodes ++ n ∷ []) ≡ parents_of nodes ++ n.parent ∷ []
-parents-child nodes n = map-append (λ (m : Node). m.parent) nodes (n ∷ [])
-
 -- a text goes to the last node or is a new one
 abbrev IsNextText : State → State → Type 0
 IsNextText s next = (next.opened ≡ s.opened) × ((parents_of next.nodes ≡ parents_of s.nodes) ⊎ (parents_of next.nodes ≡ parents_of s.nodes ++ Some (current s.opened) ∷ []))
@@ -107,7 +104,7 @@ text-next (b ∷ bs) s next h = by (is_text_under (current s.opened) (last_of s.
     by false true h = cc
     by false false h =
         let e : next ≡ record s { nodes = s.nodes ++ child_of s.nodes (current s.opened) (Text (b ∷ bs)) ∷ [] } = cc in
-        (ap (λ (x : State). x.opened) e, inr (ap (λ (x : State). parents_of x.nodes) e ∙ parents-child s.nodes (child_of s.nodes (current s.opened) (Text (b ∷ bs)))))
+        (ap (λ (x : State). x.opened) e, inr (ap (λ (x : State). parents_of x.nodes) e ∙ parents-push s.nodes (child_of s.nodes (current s.opened) (Text (b ∷ bs)))))
 
 -- an element is a new node, and opens if it isn't void
 pub record IsNextElement (name : List ℕ) (s next : State) : Type 0 where
@@ -131,7 +128,7 @@ element-next name attrs s next h = by (nat_le most_nodes (length s.nodes)) (is_b
         record {
           parents = ap (λ (x : State). parents_of x.nodes) e
               ∙ parents-same (s.nodes ++ child_of s.nodes (current s.opened) (Element name []) ∷ []) (put_all (length s.nodes) (attributes_of attrs) (s.nodes ++ child_of s.nodes (current s.opened) (Element name []) ∷ [])) (shape-put_all (length s.nodes) (attributes_of attrs) (s.nodes ++ child_of s.nodes (current s.opened) (Element name []) ∷ []))
-              ∙ parents-child s.nodes (child_of s.nodes (current s.opened) (Element name []));
+              ∙ parents-push s.nodes (child_of s.nodes (current s.opened) (Element name []));
           opened = ap (λ (x : State). x.opened) e;
         }
 
@@ -211,9 +208,6 @@ next-opens kind bytes s next (opens_one e p opens) o h =
     let same : record { 0 = length s.nodes } ≡ o = ap (λ n. record { 0 = n }) (sym (opens-next kind s o h)) in
     subst (λ l. Contains l o) (sym e) (Contains-append_right (left kind bytes s) (record { 0 = length s.nodes } ∷ []) o (0, omega arith, same))
 
-pub parents-length : (nodes : List Node) → length (parents_of nodes) ≡ length nodes
-parents-length nodes = length-map nodes (λ (n : Node). n.parent)
-
 -- the nodes that were there keep their parents
 pub next-keeps : (kind : KindView) (bytes : List ℕ) (s next : State) → IsNext kind bytes s next → (k : ℕ) (q : Option ℕ) → slice_get (parents_of s.nodes) k ≡ Some q → slice_get (parents_of next.nodes) k ≡ Some q
 next-keeps kind bytes s next (adds_none e p not) k q h = ap (λ l. slice_get l k) p ∙ h
@@ -221,7 +215,7 @@ next-keeps kind bytes s next (adds_one e p not) k q h = ap (λ l. slice_get l k)
 next-keeps kind bytes s next (opens_one e p opens) k q h = ap (λ l. slice_get l k) p ∙ get-keep (parents_of s.nodes) (Some (current (left kind bytes s)) ∷ []) k q h
 
 one-more : (s next : State) (q : Option ℕ) → parents_of next.nodes ≡ parents_of s.nodes ++ q ∷ [] → length next.nodes ≡ length s.nodes + 1
-one-more s next q p = sym (parents-length next.nodes) ∙ ap length p ∙ length-append (parents_of s.nodes) (q ∷ []) ∙ ap (λ n. n + 1) (parents-length s.nodes)
+one-more s next q p = sym (length-parents next.nodes) ∙ ap length p ∙ length-append (parents_of s.nodes) (q ∷ []) ∙ ap (λ n. n + 1) (length-parents s.nodes)
 
 -- an element that opens is a node more
 pub next-more : (kind : KindView) (bytes : List ℕ) (s next : State) → IsNext kind bytes s next → (o : NodeId) → KindOpens kind s o → length next.nodes ≡ length s.nodes + 1
@@ -236,11 +230,11 @@ next-parent kind bytes s next n k low high = by n
     one : parents_of next.nodes ≡ parents_of s.nodes ++ Some (current (left kind bytes s)) ∷ [] → slice_get (parents_of next.nodes) k ≡ Some (Some (current (left kind bytes s)))
     one p =
         let l = one-more s next (Some (current (left kind bytes s))) p in
-        let e : k ≡ length (parents_of s.nodes) = (let m = parents-length s.nodes in omega (arith, l, m)) in
+        let e : k ≡ length (parents_of s.nodes) = (let m = length-parents s.nodes in omega (arith, l, m)) in
         ap (λ i. slice_get (parents_of next.nodes) i) e ∙ ap (λ x. slice_get x (length (parents_of s.nodes))) p ∙ get-end (parents_of s.nodes) (Some (current (left kind bytes s)))
 
     by : IsNext kind bytes s next → slice_get (parents_of next.nodes) k ≡ Some (Some (current (left kind bytes s)))
-    by (adds_none e p not) = let l = sym (parents-length next.nodes) ∙ ap length p ∙ parents-length s.nodes in absurd (omega (arith, l))
+    by (adds_none e p not) = let l = sym (length-parents next.nodes) ∙ ap length p ∙ length-parents s.nodes in absurd (omega (arith, l))
     by (adds_one e p not) = one p
     by (opens_one e p opens) = one p
 

@@ -1,17 +1,16 @@
 -- Where nodes are numbered in order, the order of their ways is the order of their numbers.
-use Rattle.std.proofs.Common.{◌≡◌, inl, inr, ℕ, zero, suc, ◌+◌, ◌<◌, ◌≤◌, true, false, nat_lt, List, [], ◌∷◌, ◌++◌, Option, None, Some, length, slice_get, option_map, refl, sym, ◌∙◌, ap, arith, append_assoc}
+use Rattle.std.proofs.Common.{◌≡◌, inl, inr, ℕ, zero, suc, ◌+◌, ◌<◌, ◌≤◌, true, false, nat_lt, List, [], ◌∷◌, ◌++◌, Option, None, Some, length, slice_get, refl, sym, ◌∙◌, ap, arith, append_assoc}
 use Rattle.std.proofs.lemmas.Bool.{cases_lt}
 use Rattle.std.proofs.lemmas.Bool.Decides.{nat_tests}
 use Rattle.std.proofs.lemmas.Cmp.{nat_list_cmp_total}
-use Rattle.std.proofs.lemmas.Option.{slice_get-map}
 use Rattle.std.specs.Cmp.Lexicographic.{slice_cmp}
 use Rattle.std.specs.Ordering.{nat_cmp, is_gt, ordering_reverse, ordering_then}
 use Rattle.std.specs.declared.cmp.Ordering.{Ordering}
 use Rattle.std.specs.declared.cmp.Ordering.TheVariants.{Less, Equal, Greater}
 use Rattle.bk_num.proofs.ListLemmas.{slice_get_at}
-use Rattle.dom.specs.Nodes.{Node, parents_of, parent_at, flat, depth_at, depth_of, IsTree, HasPlace}
+use Rattle.dom.specs.Nodes.{Node, parents_of, parent_at, depth_at, depth_of, IsTree, HasPlace}
 use Rattle.dom.specs.Order.{way, way_to, comes_after}
-use Rattle.dom.proofs.OrderLemmas.{after-self}
+use Rattle.dom.proofs.OrderLemmas.{after-self, parent-of}
 use Rattle.html_tree.specs.Order.{AreInOrder}
 
 -- ---- lists of numbers
@@ -49,9 +48,6 @@ record IsChild (nodes : List Node) (n p : ℕ) : Type 0 where
   before : p < n
   depth : node.depth ≡ depth_at nodes p + 1
   path : way_to nodes n ≡ way_to nodes p ++ n ∷ []
-
-parent-of : (nodes : List Node) (k : ℕ) (n : Node) → slice_get nodes k ≡ Some n → parent_at (parents_of nodes) k ≡ n.parent
-parent-of nodes k n h = ap flat (slice_get-map (λ (n : Node). n.parent) nodes k ∙ ap (option_map (λ (n : Node). n.parent)) h)
 
 child : (nodes : List Node) (n : ℕ) → IsTree nodes → 0 < n → n < length nodes → (p : ℕ) × IsChild nodes n p
 child nodes n t some l = by (slice_get_at nodes n l)

@@ -134,7 +134,7 @@ laid-one ts l k s a low high =
       fit = fit-step 0 m k ts l.ends s (length l.bytes) a.fit e high (total-is ts l a.bytes);
     }
 
-appended-length : (ts : List (List ℕ)) (k : ℕ) (s : List ℕ) → length (appended ts k s) ≡ length ts
+pub appended-length : (ts : List (List ℕ)) (k : ℕ) (s : List ℕ) → length (appended ts k s) ≡ length ts
 appended-length [] k s = refl
 appended-length (t ∷ ts) zero s = refl
 appended-length (t ∷ ts) (suc k) s = ap suc (appended-length ts k s)

@@ -20,7 +20,7 @@ pub if_ok : {T E : Type 0} {P Q : T → Type 0} → ((x : T) → P x → Q x) �
 if_ok f (Ok x) p = f x p
 if_ok f (Err e) p = p
 
-on_err : {T E : Type 0} {P Q : Type 0} → (P → Q) → (r : Result T E) → OnErr r P → OnErr r Q
+pub on_err : {T E : Type 0} {P Q : Type 0} → (P → Q) → (r : Result T E) → OnErr r P → OnErr r Q
 on_err f (Ok x) p = p
 on_err f (Err e) p = f p
 

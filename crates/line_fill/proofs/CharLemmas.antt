@@ -1,16 +1,12 @@
 -- Which character a byte begins, and whether it has a width.
-use Rattle.std.proofs.Common.{◌≡◌, ℕ, suc, ◌+◌, ◌-◌, ◌<◌, ◌≤◌, Bool, true, false, cond, ◌||◌, ◌&&◌, ltb, leb, List, [], ◌∷◌, ◌++◌, length, get_or, drop, None, Some, refl, sym, ap, arith, drop-cons}
+use Rattle.std.proofs.Common.{◌≡◌, ℕ, suc, ◌+◌, ◌-◌, ◌<◌, ◌≤◌, Bool, true, false, cond, ◌||◌, ◌&&◌, ltb, leb, List, ◌++◌, length, get_or, drop, None, Some, refl, sym, ap, arith, drop-cons}
 use Rattle.std.specs.Str.{chars, IsUtf8}
 use Rattle.std.specs.Char.{encode_utf8}
 use Rattle.std.proofs.lemmas.Bool.Decides.{nat_tests}
 use Rattle.std.proofs.lemmas.Str.{chars_past_char}
 use Rattle.metrics.specs.Widths.{begun_at, char_at, has_width, is_lead}
+use Rattle.metrics.proofs.WidthLemmas.{first_char}
 use Rattle.line_fill.specs.Stops.{first_wide}
-
-first_char : (b : ℕ) (bs : List ℕ) → b < 128 → get_or (chars (b ∷ bs)) 0 0 ≡ b
-unfolding chars
-first_char b [] h = let e : ltb b 128 ≡ true = grind (arith, nat_tests) in rw e refl
-first_char b (x ∷ xs) h = let e : ltb b 128 ≡ true = grind (arith, nat_tests) in rw e refl
 
 module _ (text : List ℕ) (at : ℕ) where
   pub begun_ascii : at < length text → get_or text at 0 < 128 → begun_at text at ≡ Some (get_or text at 0)

@@ -2,12 +2,12 @@
 use Rattle.std.proofs.Common.{◌≡◌, ◌⊎◌, ℕ, zero, suc, ◌+◌, ◌<◌, ◌≤◌, Bool, true, false, not, ◌==◌, inl, inr, List, [], ◌∷◌, ◌++◌, Option, None, Some, get_or, length, take, map, cond, if◌then◌else◌, nat_lt, position, refl, sym, ◌∙◌, ap, subst, arith, rules}
 use Rattle.std.specs.Prelude.{slice_get, slice_set, codes, IfSome}
 use Rattle.std.proofs.lemmas.Option.{same_Some}
-use Rattle.bk_num.proofs.ListLemmas.{bytes_same, get-push, prefix_len-map, take-next}
+use Rattle.bk_num.proofs.ListLemmas.{bytes_same, get-push, take-next}
 use Rattle.std.specs.List.{Contains, list_all, list_any, slice_split}
 use Rattle.std.specs.Option.{option_to_list}
 use Rattle.std.specs.Str.{bytes_eq}
 use Rattle.std.proofs.lemmas.Bool.{and_parts, cases_eq, or_cases, ltb-true, ltb-false}
-use Rattle.std.proofs.lemmas.List.{take_more, length-map, map-append, get_or-set_same, get_or-set_other}
+use Rattle.std.proofs.lemmas.List.{take_more, map-append, get_or-set_same, get_or-set_other, get_or_default}
 use Rattle.std.proofs.lemmas.List.Elements.{Contains-push_cases, Contains-append_left, Contains-append_right, Contains-push}
 use Rattle.std.proofs.lemmas.List.Folds.{list_all_at}
 use Rattle.css_tok.specs.Lengths.{is_blank}
@@ -288,9 +288,6 @@ keys-more old new ss k x at have keeps here j s h w key =
 
 -- ---- the number of a word
 
-pub position-map : {A B : Type 0} (f : A → B) (test : B → Bool) (xs : List A) → position test (map f xs) ≡ position (λ x. test (f x)) xs
-position-map f test xs = rw (prefix_len-map f (λ x. not (test x)) xs, length-map xs f) refl
-
 pub word-put : (words lists : List (List ℕ)) (w : List ℕ) (place n : ℕ) → Some place ≡ position (bytes_eq w) words → Contains (get_or lists place []) n → IsWordNoted words lists w n
 word-put words lists w place n is has i at = subst (λ z. Contains (get_or lists z []) n) (same_Some place i (is ∙ at)) has
 
@@ -335,13 +332,8 @@ slice-map f [] i x within is = absurd (omega arith)
 slice-map f (y ∷ ys) zero x within is = ap (λ z. Some (f z)) (sym is)
 slice-map f (y ∷ ys) (suc i) x within is = slice-map f ys i x (omega arith) is
 
-default-same : {A : Type 0} (xs : List A) (i : ℕ) (d e : A) → i < length xs → get_or xs i d ≡ get_or xs i e
-default-same [] i d e within = absurd (omega arith)
-default-same (x ∷ xs) zero d e within = refl
-default-same (x ∷ xs) (suc i) d e within = default-same xs i d e (omega arith)
-
 pub item-is : (xs : List (List ℕ)) (i : ℕ) (x : List ℕ) → i < length xs → x ≡ get_or xs i x → x ≡ get_or xs i []
-item-is xs i x within is = is ∙ default-same xs i x [] within
+item-is xs i x within is = is ∙ get_or_default xs i x [] within
 
 pub get-mapped : {A B : Type 0} (f : A → B) (xs : List A) (i : ℕ) (d : A) (e : B) → i < length xs → get_or (map f xs) i e ≡ f (get_or xs i d)
 get-mapped f [] i d e within = absurd (omega arith)

@@ -6,7 +6,7 @@ use Rattle.std.proofs.lemmas.Bool.Decides.{nat_tests}
 use Rattle.std.proofs.lemmas.Str.{chars_past_char}
 use Rattle.metrics.specs.Widths.{is_lead, char_at, begun_at}
 
-first_char : (b : ℕ) (bs : List ℕ) → b < 128 → get_or (chars (b ∷ bs)) 0 0 ≡ b
+pub first_char : (b : ℕ) (bs : List ℕ) → b < 128 → get_or (chars (b ∷ bs)) 0 0 ≡ b
 unfolding chars
 first_char b [] h = let e : ltb b 128 ≡ true = grind (arith, nat_tests) in rw e refl
 first_char b (x ∷ xs) h = let e : ltb b 128 ≡ true = grind (arith, nat_tests) in rw e refl

@@ -209,10 +209,6 @@ are-of-names T pairs = listed-all [] pairs no_lists (record { len = refl; distin
 pub new-named : {T : Type 0} (lists : List (List T)) (i : ℕ) (e : T) → i ≡ length lists → with_new lists e ≡ with_item_at lists i e
 new-named lists i e h = item-end lists e ∙ ap (λ n. with_item_at lists n e) (sym h)
 
-pub on-ok : {X E : Type 0} {P Q : Type 0} (r : Result X E) → (P → Q) → OnOk r P → OnOk r Q
-on-ok (Ok x) f p = f p
-on-ok (Err e) f p = p
-
 -- one name more is one more
 pub longer-key : {Y : Type 0} (ks new : List (String Y)) (k : String Y) (name : List ℕ) → string_bytes k ≡ name → new ≡ insert_key string_eq ks k → list_any (bytes_eq name) (map (λ s. string_bytes s) ks) ≡ false → length new ≡ length ks + 1
 longer-key {Y} ks new k name e g h =

@@ -3,7 +3,6 @@ use Rattle.std.proofs.Common.{◌≡◌, ℕ, zero, suc, ◌+◌, ◌-◌, ◌<�
 use Rattle.std.specs.List.{prefix_len}
 use Rattle.std.specs.List.Sorted.{IsPartitionedBy}
 use Rattle.std.proofs.lemmas.Bool.{cases_lt}
-use Rattle.std.proofs.lemmas.Bool.Decides.{nat_tests}
 use Rattle.std.proofs.lemmas.List.Sums.{prefix_len-le-length, prefix_len_passes, prefix_len_stops}
 use Rattle.std.proofs.lemmas.Option.{slice_get-get_or, slice_get-map, slice_get_within}
 use Rattle.bk_num.proofs.ListLemmas.{slice_get_at}
@@ -11,7 +10,8 @@ use Rattle.boxes.specs.Tree.{Tree}
 use Rattle.boxes.specs.declared.flow.Note.{Note}
 use Rattle.boxes.specs.declared.place.Position.{Position}
 use Rattle.page_seq.specs.Places.{NeverFall, anchor_of, is_before}
-use Rattle.page_seq.proofs.PlaceLemmas.{anchor_lower}
+use Rattle.page_seq.proofs.PlaceLemmas.{anchor_lower, before_lower}
+use Rattle.page_seq.proofs.FinderLemmas.{before_self, before_trans}
 use Rattle.seams.specs.Runs.{is_solid_at, solid_after, solid_before}
 use Rattle.seams.proofs.RunLemmas.{solid_step}
 use Rattle.cursor.proofs.PartLemmas.{solid_itself}
@@ -46,15 +46,6 @@ prefix_at p (x ∷ xs) (suc n) within before after =
     own ∙ ap (λ (b : Bool). cond b (1 + prefix_len p xs) 0) (sym pass)
 
 -- ---- the order of places
-
-pub before_trans : (a b c : Position) → is_before b a ≡ false → is_before c b ≡ false → is_before c a ≡ false
-before_trans a b c f g = grind (arith, nat_tests)
-
-pub before_self : (a : Position) → is_before a a ≡ false
-before_self a = grind (arith, nat_tests)
-
-pub before_lower : (a b c : Position) → is_before b a ≡ false → is_before b c ≡ true → is_before a c ≡ true
-before_lower a b c f g = grind (arith, nat_tests)
 
 pub never_fall : (places : List Position) → NeverFall places → (d i j : ℕ) (a b : Position) → i + d ≡ j → slice_get places i ≡ Some a → slice_get places j ≡ Some b → is_before b a ≡ false
 never_fall places order zero i j a b n e f =

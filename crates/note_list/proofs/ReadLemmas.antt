@@ -12,8 +12,9 @@ use Rattle.note_list.specs.Lists.{note_rows}
 use Rattle.note_list.specs.Reads.{HasReached, IsReadFor, IsReadOf, IsReady, has_begin}
 use Rattle.note_list.specs.declared.list.NoteList.{NoteList}
 use Rattle.notes.specs.declared.reach.Reach.{Reach}
+use Rattle.cuts.proofs.ReachLemmas.{area_least}
 use Rattle.note_list.specs.declared.solid.NotedSolid.{NotedSolid}
-use Rattle.note_list.proofs.RowLemmas.{area_high, area_low, bottom_next, carry_prefix, extent_next, must_kept, must_next, need_past, need_told, reach_of}
+use Rattle.note_list.proofs.RowLemmas.{area_high, bottom_next, carry_prefix, extent_next, must_kept, must_next, need_past, need_told, reach_of}
 
 length_next : {X : Type 0} (xs : List X) (x : X) → length (xs ++ x ∷ []) ≡ suc (length xs)
 length_next [] x = refl
@@ -129,7 +130,7 @@ needed_small l r =
     let w = r.within in
     let within = must_within rows l.own (omega arith) in
     let few = r.few in
-    (subst (λ (z : ℤ). pos 0 ≤ℤ z) (sym r.needed_is) (area_low rows (must_of rows l.own)), subst (λ (z : ℤ). z ≤ℤ pos (2 ^ 60)) (sym r.needed_is) (area_high rows (must_of rows l.own) within (omega arith) r.small))
+    (subst (λ (z : ℤ). pos 0 ≤ℤ z) (sym r.needed_is) (area_least rows (must_of rows l.own)), subst (λ (z : ℤ). z ≤ℤ pos (2 ^ 60)) (sym r.needed_is) (area_high rows (must_of rows l.own) within (omega arith) r.small))
 
 pub own_small : (l : NoteList) → IsReady l → (pos 0 ≤ℤ l.own_area) × (l.own_area ≤ℤ pos (2 ^ 60))
 own_small l r =
@@ -137,11 +138,11 @@ own_small l r =
     let n : length rows ≡ length l.solids.items = length-map l.solids.items (λ x. x.row) in
     let w = r.within in
     let few = r.few in
-    (subst (λ (z : ℤ). pos 0 ≤ℤ z) (sym r.own_is) (area_low rows l.own), subst (λ (z : ℤ). z ≤ℤ pos (2 ^ 60)) (sym r.own_is) (area_high rows l.own (omega arith) (omega arith) r.small))
+    (subst (λ (z : ℤ). pos 0 ≤ℤ z) (sym r.own_is) (area_least rows l.own), subst (λ (z : ℤ). z ≤ℤ pos (2 ^ 60)) (sym r.own_is) (area_high rows l.own (omega arith) (omega arith) r.small))
 
 -- ---- what is told of a list
 
-rows_more : (xs more : List NotedSolid) → note_rows (xs ++ more) ≡ note_rows xs ++ note_rows more
+pub rows_more : (xs more : List NotedSolid) → note_rows (xs ++ more) ≡ note_rows xs ++ note_rows more
 rows_more xs more = map-append (λ (x : NotedSolid). x.row) xs more
 
 begin_of : (n : ℕ) (more : List NotedSolid) (b : Bool) → has_begin more ≡ b → ((b ≡ true) × (n < last_begin n (note_rows more))) ⊎ ((b ≡ false) × (last_begin n (note_rows more) ≡ 0))

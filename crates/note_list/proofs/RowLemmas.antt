@@ -8,6 +8,7 @@ use Rattle.bk_num.specs.Limits.{most_entries}
 use Rattle.notes.specs.declared.solid.NoteSolid.{NoteSolid}
 use Rattle.notes.specs.Notes.{IsCarryCount, IsSmallNote, area_of, last_begin, must_of, note_bottom, note_extent, note_gap, note_height}
 use Rattle.notes.proofs.NoteLemmas.{IsReach, area_never_falls, area_prefix, area_some, must_within, reach_start, reach_step, bottom_prefix, extent_prefix, begin_within}
+use Rattle.cuts.proofs.ReachLemmas.{area_least}
 
 -- ---- bounds
 
@@ -18,9 +19,6 @@ reach_of rows (suc n) h small =
     let own : IsSmallNote there.0 = all-get IsSmallNote rows n there.0 small there.1 in
     let bottom : note_bottom rows (suc n) ≡ (note_bottom rows n +ℤ there.0.gap) +ℤ there.0.height = ap (λ (o : Option NoteSolid). (note_bottom rows n +ℤ note_gap o) +ℤ note_height o) there.1 in
     subst (λ (k : ℕ). IsReach rows k (note_bottom rows (suc n)) (note_extent rows (suc n))) (add-one n) (reach_step rows n there.0 (note_bottom rows n) (note_extent rows n) (note_bottom rows (suc n)) (note_extent rows (suc n)) (reach_of rows n (omega arith) small) there.1 own bottom refl)
-
-pub area_low : (rows : List NoteSolid) (n : ℕ) → pos 0 ≤ℤ area_of rows n
-area_low rows n = area_never_falls rows 0 n (omega arith)
 
 pub area_high : (rows : List NoteSolid) (n : ℕ) → n ≤ length rows → length rows ≤ most_entries → All IsSmallNote rows → area_of rows n ≤ℤ pos (2 ^ 60)
 area_high rows zero h few small = omega (arith, ints)
@@ -112,7 +110,7 @@ carry_prefix list more height c low (inr past) own =
           (λ (i : length list < k). absurd (
           let same : area_of (list ++ more) (length list) ≡ area_of list (length list) = area_prefix list more (length list) (omega arith) in
           let grows = area_never_falls (list ++ more) (length list) k (omega arith) in
-          let least = area_low list (length list) in
+          let least = area_least list (length list) in
           omega (arith, ints)))
           (cases k);
     }

@@ -28,11 +28,6 @@ split p xs ys e = by (list_any p xs) refl (list_any p ys) refl (sym (list_any-ap
     by false f true g h = absurd (let z : (list_any p xs || list_any p ys) ≡ true = rw (f, g) refl in cc)
     by true f b g h = absurd (let z : (list_any p xs || list_any p ys) ≡ true = rw f refl in cc)
 
-pub neither : (a b : Bool) → (a || b) ≡ false → (a ≡ false) × (b ≡ false)
-neither false false e = (refl, refl)
-neither false true e = cc
-neither true b e = cc
-
 -- ---- names that no selector asks for
 
 takes-same : (name other : List ℕ) (o : Option (List ℕ)) → list_any (bytes_eq name) (name_in o) ≡ false → list_any (bytes_eq other) (name_in o) ≡ false → takes_name o name ≡ takes_name o other

@@ -19,10 +19,11 @@ use Rattle.cursor.specs.Remainder.IsContent.{of_line, of_open, of_close}
 use Rattle.cursor.proofs.RemLemmas.{Stands, begins_of, found_of, place, solid_stands, solid_within}
 use Rattle.cursor.proofs.PartLemmas.{before_next, solid_itself}
 use Rattle.page_seq.specs.Places.{NeverFall, anchor_of, is_before}
-use Rattle.page_seq.proofs.PlaceLemmas.{anchor_lower}
+use Rattle.page_seq.proofs.PlaceLemmas.{anchor_lower, before_lower}
+use Rattle.page_seq.proofs.FinderLemmas.{before_later, before_self, before_trans}
 use Rattle.note_list.specs.Calls.{called_before, end_after, end_before, start_place}
 use Rattle.page_list.specs.Cuts.{place_after}
-use Rattle.note_list.proofs.CallLemmas.{before_trans, before_self, before_lower, never_fall}
+use Rattle.note_list.proofs.CallLemmas.{never_fall}
 
 -- ---- prefixes
 prefix_step : (b c : Bool) (m n : ℕ) → (b ≡ true → c ≡ true) → m ≤ n → cond b (1 + m) 0 ≤ cond c (1 + n) 0
@@ -56,9 +57,6 @@ prefix_lacks p xs n x e h lower = by (p x) refl
         absurd (let f : true ≡ false = sym passes ∙ stops in cc)
 
 -- ---- the order of places
-
-pub before_later : (a b c : Position) → is_before c b ≡ false → is_before a b ≡ true → is_before a c ≡ true
-before_later a b c f g = grind (arith, nat_tests)
 
 pub before_not : (a b c : Position) → is_before c b ≡ false → is_before a c ≡ false → is_before a b ≡ false
 before_not a b c f g = grind (arith, nat_tests)

@@ -1,5 +1,5 @@
 -- A page has a cut, and a flow a page list.
-use Rattle.std.proofs.Common.{◌≡◌, ◌≢◌, ◌<◌, ◌≤◌, ◌+◌, ◌-◌, ◌==◌, ◌≤ℤ◌, ◌+ℤ◌, ◌-ℤ◌, ℕ, zero, suc, ℤ, pos, Bool, true, false, cond, eqb, ltb, List, [], ◌∷◌, ◌++◌, Option, None, Some, length, map, take, drop, max, slice_get, refl, sym, ap, ◌∙◌, subst, arith, ◌⊎◌, ⊎_elim, inl, inr, add-one, append_assoc, length-append}
+use Rattle.std.proofs.Common.{◌≡◌, ◌≢◌, ◌<◌, ◌≤◌, ◌+◌, ◌-◌, ◌==◌, ◌≤ℤ◌, ◌+ℤ◌, ◌-ℤ◌, ℕ, zero, suc, ℤ, pos, Bool, true, false, cond, eqb, ltb, List, [], ◌∷◌, ◌++◌, Option, None, Some, length, map, take, drop, max, slice_get, refl, sym, ap, ◌∙◌, subst, arith, ◌⊎◌, ⊎_elim, inl, inr, add-one, length-append}
 use Rattle.std.specs.List.{range_with_len, prefix_len}
 use Rattle.std.proofs.lemmas.Bool.Decides.{eqb_tells}
 use Rattle.std.proofs.lemmas.Int.{ints, by_lt_z}
@@ -37,6 +37,7 @@ use Rattle.note_list.specs.Lists.{NotePart, AreNoted, noted, carried_parts, call
 use Rattle.note_list.specs.Places.{least_of}
 use Rattle.note_list.specs.declared.carried.Carried.{Carried}
 use Rattle.note_list.specs.declared.solid.NotedSolid.{NotedSolid}
+use Rattle.note_list.proofs.NotedLemmas.{noted_join}
 use Rattle.page_list.specs.declared.cut.Cut.{Cut}
 use Rattle.page_list.specs.declared.cut.CutFrom.{CutFrom}
 use Rattle.page_list.specs.Cuts.{IsBestCut, IsFlowCut, IsNotesCut, IsPagePoint, rows_of, first_gap, placed_from, place_after, forced_after, parts_after}
@@ -119,11 +120,6 @@ module _ (faces : List FontFace) (notes : List Note) (trees : AreTrees notes) (w
       let rem = remainder_from faces h.0.note.body w p.at (trees p.note h.0.note h.0.has) h.0.stands in
       let rest = noted_exists parts h.1 in
       (map (noted h.0.note.body p) rem.0 ++ rest.0, (h.0.note, h.0.has, rem.0, rem.1, rest.0, rest.1, refl))
-
-pub noted_join : (faces : List FontFace) (notes : List Note) (w : ℤ) (ps qs : List NotePart) (xs ys : List NotedSolid) → AreNoted faces notes w ps xs → AreNoted faces notes w qs ys → AreNoted faces notes w (ps ++ qs) (xs ++ ys)
-noted_join faces notes w [] qs xs ys a b = subst (λ (l : List NotedSolid). AreNoted faces notes w qs (l ++ ys)) (sym a) b
-noted_join faces notes w (p ∷ ps) qs xs ys (note, has, solids, rem, rest, more, is) b =
-    (note, has, solids, rem, rest ++ ys, noted_join faces notes w ps qs rest ys more b, ap (λ (l : List NotedSolid). l ++ ys) is ∙ append_assoc (map (noted note.body p) solids) rest ys)
 
 abbrev called_part : ℕ → NotePart
 called_part n = record { note = n; at = start_place; called = true }

@@ -121,10 +121,10 @@ both_inside height extent area notes solids some fits above below k d h =
     let s = above k d h in
     (omega (arith, ints), λ j e g. let n = below j e g in omega (arith, ints))
 
-fits_of : (kept : Bool) (rows : List SolidRow) (height : ℤ) (list : NoteLists) (c level j : ℕ) → level ≤ 2 → IsBestCut kept rows height list c level j → Fits kept rows height list c j
-fits_of kept rows height list c level j low (at_level a none point fits best) = fits
-fits_of kept rows height list c level j low (at_loose is none own a point fits best) = absurd (omega arith)
-fits_of kept rows height list c level j low (at_first is none loose own a point best) = absurd (omega arith)
+pub fits_best : (kept : Bool) (rows : List SolidRow) (height : ℤ) (list : NoteLists) (c level j : ℕ) → level ≤ 2 → IsBestCut kept rows height list c level j → Fits kept rows height list c j
+fits_best kept rows height list c level j low (at_level a none point fits best) = fits
+fits_best kept rows height list c level j low (at_loose is none own a point fits best) = absurd (omega arith)
+fits_best kept rows height list c level j low (at_first is none loose own a point best) = absurd (omega arith)
 
 least_is : (level must c carried : ℕ) → level ≤ 2 → least_of level must c carried ≡ must
 least_is zero must c carried low = refl
@@ -141,7 +141,7 @@ room_of list must number extent height fits places = ⊎_elim
 
 pub flow_inside : (faces : List FontFace) (flow : Flow) (frame : Frame) (from : CutFrom) (carried : List Carried) (cut : Cut) → IsTree flow.main → pos 0 ≤ℤ frame.width → IsFlowCut faces flow frame from carried cut → cut.level ≤ 2 → AreInside frame.height cut.notes cut.solids
 flow_inside faces flow frame from carried cut tree wide is low =
-    let fits = fits_of from.kept (rows_of flow.main is.solids) frame.height (λ j. note_rows (is.list j)) is.c cut.level is.count low is.best in
+    let fits = fits_best from.kept (rows_of flow.main is.solids) frame.height (λ j. note_rows (is.list j)) is.c cut.level is.count low is.best in
     let places = subst (λ (n : ℕ). IsPlaced (note_rows (is.list is.count)) n (frame.height -ℤ rows_reach from.kept (rows_of flow.main is.solids) is.count) is.number) (least_is cut.level (must_of (note_rows (is.list is.count)) is.c) is.c (length is.own) low) is.places in
     let fit = room_of (note_rows (is.list is.count)) (must_of (note_rows (is.list is.count)) is.c) is.number (rows_reach from.kept (rows_of flow.main is.solids) is.count) frame.height fits places in
     let tail = tail_least (rows_of flow.main is.solids) (rest_tails flow.main tree frame.width wide faces from.at is.solids is.rest) is.count in

@@ -74,19 +74,19 @@ reach_more at end next pages i page h read reach is =
 
 -- ---- ends never fall
 
-not_before_itself : (at : Position) → is_before at at ≡ false
-not_before_itself at = grind (arith, nat_tests)
+pub before_self : (at : Position) → is_before at at ≡ false
+before_self at = grind (arith, nat_tests)
 
 -- the next end is not before the one that it takes the place of
 no_lower : (end next : Position) (b : Bool) → is_before next next ≡ (is_before next end || b) → is_before next end ≡ false
-no_lower end next b e = by (is_before next end) (sym (not_before_itself next) ∙ e)
+no_lower end next b e = by (is_before next end) (sym (before_self next) ∙ e)
   where
     by : (h : Bool) → false ≡ (h || b) → h ≡ false
     by true f = absurd (cc)
     by false f = refl
 
-not_before-trans : (a b c : Position) → is_before b a ≡ false → is_before c b ≡ false → is_before c a ≡ false
-not_before-trans a b c e f = grind (arith, nat_tests)
+pub before_trans : (a b c : Position) → is_before b a ≡ false → is_before c b ≡ false → is_before c a ≡ false
+before_trans a b c e f = grind (arith, nat_tests)
 
 -- no end is after the furthest one
 abbrev pub NoneAfter : Position → List Position → Type 0
@@ -96,29 +96,29 @@ pub none_after_more : (end next : Position) (b : Bool) (ends : List Position) �
 none_after_more end next b ends none e k a g = by (get-push ends next a k g)
   where
     by : ((k ≡ length ends) × (a ≡ next)) ⊎ (slice_get ends k ≡ Some a) → is_before next a ≡ false
-    by (inl (at, same)) = rw same (not_before_itself next)
-    by (inr old) = not_before-trans a end next (none k a old) (no_lower end next b e)
+    by (inl (at, same)) = rw same (before_self next)
+    by (inr old) = before_trans a end next (none k a old) (no_lower end next b e)
 
 pub never_fall_more : (end next : Position) (b : Bool) (ends : List Position) → NeverFall ends → NoneAfter end ends → is_before next next ≡ (is_before next end || b) → NeverFall (ends ++ next ∷ [])
 never_fall_more end next b ends order none e k a c g h = by (get-push ends next c (suc k) h) (get-push ends next a k g)
   where
     by : ((suc k ≡ length ends) × (c ≡ next)) ⊎ (slice_get ends (suc k) ≡ Some c) → ((k ≡ length ends) × (a ≡ next)) ⊎ (slice_get ends k ≡ Some a) → is_before c a ≡ false
     by (inl (at, same)) (inl (here, other)) = absurd (omega arith)
-    by (inl (at, same)) (inr old) = rw same (not_before-trans a end next (none k a old) (no_lower end next b e))
+    by (inl (at, same)) (inr old) = rw same (before_trans a end next (none k a old) (no_lower end next b e))
     by (inr old) (inl (here, other)) = let w = slice_get_within ends (suc k) c old in absurd (omega arith)
     by (inr old) (inr older) = order k a c older old
 
 -- ---- the first end after a place
 
 no_later_far : (ends : List Position) → NeverFall ends → (n i : ℕ) (d : Position) → i + n < length ends → is_before (get_or ends (i + n) d) (get_or ends i d) ≡ false
-no_later_far ends order zero i d h = rw add-zero (not_before_itself (get_or ends i d))
+no_later_far ends order zero i d h = rw add-zero (before_self (get_or ends i d))
 no_later_far ends order (suc n) i d h =
     let e : i + suc n ≡ suc (i + n) = omega arith in
     let l : i + n < length ends = omega arith in
     let m : suc (i + n) < length ends = omega arith in
-    rw e (not_before-trans (get_or ends i d) (get_or ends (i + n) d) (get_or ends (suc (i + n)) d) (no_later_far ends order n i d l) (order (i + n) (get_or ends (i + n) d) (get_or ends (suc (i + n)) d) (slice_get-get_or ends (i + n) d l) (slice_get-get_or ends (suc (i + n)) d m)))
+    rw e (before_trans (get_or ends i d) (get_or ends (i + n) d) (get_or ends (suc (i + n)) d) (no_later_far ends order n i d l) (order (i + n) (get_or ends (i + n) d) (get_or ends (suc (i + n)) d) (slice_get-get_or ends (i + n) d l) (slice_get-get_or ends (suc (i + n)) d m)))
 
-before_later : (at a b : Position) → is_before b a ≡ false → is_before at a ≡ true → is_before at b ≡ true
+pub before_later : (at a b : Position) → is_before b a ≡ false → is_before at a ≡ true → is_before at b ≡ true
 before_later at a b e f = grind (arith, nat_tests)
 
 -- ends that are passed by a place stand before those that are not

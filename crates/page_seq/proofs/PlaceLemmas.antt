@@ -118,8 +118,8 @@ last_place_late p (x ∷ xs) (suc i) d h is = there_late (p x) (last_place p xs)
 
 -- ---- the order of places
 
-lower : (a b c : Position) → is_before b a ≡ false → is_before b c ≡ true → is_before a c ≡ true
-lower a b c isnt is = grind (arith, nat_tests)
+pub before_lower : (a b c : Position) → is_before b a ≡ false → is_before b c ≡ true → is_before a c ≡ true
+before_lower a b c isnt is = grind (arith, nat_tests)
 
 any_step : (b c r s : Bool) → (b ≡ true → c ≡ true) → (r ≡ true → s ≡ true) → (b || r) ≡ true → (c || s) ≡ true
 any_step true c r s f g e = rw (f refl) refl
@@ -131,7 +131,7 @@ any_more p q [] f e = absurd (cc)
 any_more p q (x ∷ xs) f e = any_step (p x) (q x) (list_any p xs) (list_any q xs) (f x) (any_more p q xs f) e
 
 pub end_lower : (a b : Position) (page : Page) → is_before b a ≡ false → has_end_after b page ≡ true → has_end_after a page ≡ true
-end_lower a b page isnt is = any_more (ends_after b) (ends_after a) page.solids (λ s e. lower a b s.end isnt e) is
+end_lower a b page isnt is = any_more (ends_after b) (ends_after a) page.solids (λ s e. before_lower a b s.end isnt e) is
 
 any_some : {X : Type 0} (p : X → Bool) (xs : List X) → list_any p xs ≡ true → not (length xs == 0) ≡ true
 any_some p [] e = absurd (cc)

@@ -3,6 +3,7 @@ use Rattle.std.proofs.Common.{◌≡◌, ◌<◌, ℕ, zero, suc, ℤ, List, [],
 use Rattle.std.specs.Int.{int_max, int_min}
 use Rattle.std.proofs.lemmas.Int.{ints, clamps}
 use Rattle.std.proofs.lemmas.Bool.{cases_order, lt-ltb, le-ltb, eq-eqb, ne_eqb}
+use Rattle.std.proofs.lemmas.Option.{slice_get-get_or}
 use Rattle.boxes.specs.Tree.{first_of}
 use Rattle.boxes.proofs.ListLemmas.{get-set}
 use Rattle.paint.specs.declared.extent.VerticalExtent.{VerticalExtent}
@@ -194,23 +195,18 @@ outers_step old new at h outers j r e = by h.0.outer h.2
         of (w, there, inl (same, r_is)) = subst (λ (x : Fragment). IsBelow j x.outer) (sym r_is) (outers j to.0 (ap (slice_get old) same ∙ to.1))
         of (w, there, inr (other, r_is)) = subst (λ (x : Fragment). IsBelow j x.outer) (sym r_is) (outers j w there)
 
-get_at : {A : Type 0} (xs : List A) (i : ℕ) (d : A) → i < length xs → slice_get xs i ≡ Some (get_or xs i d)
-get_at [] i d low = absurd (omega arith)
-get_at (x ∷ xs) zero d low = refl
-get_at (x ∷ xs) (suc i) d low = get_at xs i d (omega arith)
-
 -- a box was handed on to the box around it
 pub handed : (old : List Fragment) (at outer : ℕ) (d e f p q w : Fragment) (r : Option VerticalExtent) → at < length old → HaveOuters old → p ≡ get_or old at d → q ≡ get_or old outer e → w ≡ get_or old outer f → p.outer ≡ Some outer → r ≡ join w.reach p.reach → IsHandedOn old at (slice_set old outer (record q { reach = r }))
 handed old at outer d e f p q w r low outers p_is q_is w_is outer_is r_is =
-    let there : slice_get old at ≡ Some p = get_at old at d low ∙ ap (λ (x : Fragment). Some x) (sym p_is) in
+    let there : slice_get old at ≡ Some p = slice_get-get_or old at d low ∙ ap (λ (x : Fragment). Some x) (sym p_is) in
     let below : outer < at = subst (IsBelow at) outer_is (outers at p there) in
-    let around : slice_get old outer ≡ Some q = get_at old outer e (omega arith) ∙ ap (λ (x : Fragment). Some x) (sym q_is) in
-    let two : Some w ≡ Some q = ap (λ (x : Fragment). Some x) w_is ∙ sym (get_at old outer f (omega arith)) ∙ around in
+    let around : slice_get old outer ≡ Some q = slice_get-get_or old outer e (omega arith) ∙ ap (λ (x : Fragment). Some x) (sym q_is) in
+    let two : Some w ≡ Some q = ap (λ (x : Fragment). Some x) w_is ∙ sym (slice_get-get_or old outer f (omega arith)) ∙ around in
     let same : w ≡ q = cc in
     (p, there, subst (λ o. HandsTo old p o (slice_set old outer (record q { reach = r }))) (sym outer_is) (q, around, ap (λ (x : Option VerticalExtent). slice_set old outer (record q { reach = x })) (r_is ∙ ap (λ (x : Fragment). join x.reach p.reach) same)))
 
 -- the outermost box is handed on to none
 pub handed_none : (old : List Fragment) (at : ℕ) (d p : Fragment) → at < length old → p ≡ get_or old at d → p.outer ≡ None → IsHandedOn old at old
 handed_none old at d p low p_is none =
-    let there : slice_get old at ≡ Some p = get_at old at d low ∙ ap (λ (x : Fragment). Some x) (sym p_is) in
+    let there : slice_get old at ≡ Some p = slice_get-get_or old at d low ∙ ap (λ (x : Fragment). Some x) (sym p_is) in
     (p, there, subst (λ o. HandsTo old p o old) (sym none) refl)

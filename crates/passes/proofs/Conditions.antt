@@ -1,5 +1,5 @@
 -- What is asked of a flow that is paged holds of one that is built.
-use Rattle.std.proofs.Common.{◌≡◌, ◌∙◌, ◌+◌, ◌≤◌, ℕ, zero, suc, All, List, [], ◌∷◌, ◌++◌, Some, length, map, slice_get, refl, sym, ap, get_or, subst, arith}
+use Rattle.std.proofs.Common.{◌≡◌, ◌∙◌, ◌+◌, ◌≤◌, ℕ, zero, suc, All, List, [], ◌∷◌, Some, length, map, slice_get, refl, sym, ap, get_or, subst, arith}
 use Rattle.std.proofs.lemmas.List.Sums.{sum_by-cons}
 use Rattle.std.proofs.lemmas.Option.{get_or_from_slice_get, none-some, slice_get-get_or, slice_get_within}
 use Rattle.std.specs.List.{sum_by}
@@ -9,23 +9,19 @@ use Rattle.boxes.specs.Tree.{Tree, IsTree, IsWhole, depth_of}
 use Rattle.boxes.specs.Tree.IsTree.{empty, opened, filled, closed}
 use Rattle.boxes.specs.declared.flow.Flow.{Flow}
 use Rattle.boxes.specs.declared.flow.Note.{Note}
-use Rattle.boxes.specs.declared.leaf.Leaf.{Leaf}
 use Rattle.box_gen.specs.Faces.{AreFaced}
 use Rattle.box_gen.specs.Notes.{IsGoodBody, bytes_in}
 use Rattle.box_gen.specs.Sites.{leaf_bytes}
+use Rattle.box_gen.proofs.ByteLemmas.{bytes-push}
 use Rattle.note_list.specs.Conditions.{CanBeCut, CanBePaged, text_size}
 use Rattle.note_list.proofs.SizeLemmas.{bytes_opened, bytes_filled, bytes_closed}
 use Rattle.page_seq.specs.Places.{NeverFall}
-
-bytes_push : (ls : List Leaf) (l : Leaf) → leaf_bytes (ls ++ l ∷ []) ≡ leaf_bytes ls + length l.text
-bytes_push [] l = omega arith
-bytes_push (x ∷ xs) l = let more = bytes_push xs l in omega arith
 
 -- each leaf of a tree stands in it once
 text_once : (t : Tree) → IsTree t → text_size t.leaves t.events ≡ leaf_bytes t.leaves
 text_once t empty = refl
 text_once t (opened u p tree few place good) = bytes_opened u p ∙ text_once u tree
-text_once t (filled u leaf tree few place good owners) = bytes_filled u leaf tree ∙ ap (λ (n : ℕ). n + length leaf.text) (text_once u tree) ∙ sym (bytes_push u.leaves leaf)
+text_once t (filled u leaf tree few place good owners) = bytes_filled u leaf tree ∙ ap (λ (n : ℕ). n + length leaf.text) (text_once u tree) ∙ sym (bytes-push u.leaves leaf)
 text_once t (closed u b tree few inner) = bytes_closed u b ∙ text_once u tree
 
 -- the body of a note has no more bytes than all notes together

@@ -1,25 +1,17 @@
 -- The elements that page references lead to.
-use Rattle.std.proofs.Common.{◌≡◌, ◌∙◌, ℕ, zero, suc, ◌<◌, Bool, true, false, if◌then◌else◌, List, [], ◌∷◌, Option, Some, None, length, map, get_or, slice_get, sym, ap, subst, arith}
+use Rattle.std.proofs.Common.{◌≡◌, ◌∙◌, ℕ, ◌<◌, Bool, true, false, if◌then◌else◌, List, Option, Some, None, length, map, get_or, slice_get, sym, ap, subst}
 use Rattle.std.proofs.lemmas.List.{get_or-map, length-map}
 use Rattle.std.proofs.lemmas.Option.{get_or_from_slice_get, none-some, slice_get_within}
 use Rattle.std.specs.List.{Contains}
 use Rattle.bk_num.specs.declared.ids.NodeId.{NodeId}
-use Rattle.dom.specs.Nodes.{Node, attribute_in, part_of}
-use Rattle.dom.specs.Order.{IsFirstOf, has_id, is_text}
+use Rattle.dom.specs.Nodes.{Node}
+use Rattle.dom.specs.Order.{IsFirstOf}
 use Rattle.gen_text.specs.References.{AreTargets}
 use Rattle.gen_text.specs.Target.{IsOfId, id_in, address_of, shown_only}
+use Rattle.gen_text.proofs.TextLemmas.{has_within}
 use Rattle.refs.proofs.LawLemmas.{ascend}
 use Rattle.refs.specs.Tables.{NodesAscend}
 use Rattle.style.specs.Nodes.{NodeStyles, is_shown_in}
-
--- an element of an id is one of the document
-has_within : (nodes : List Node) (id : List ℕ) (n : ℕ) → has_id nodes id n ≡ true → n < length nodes
-has_within nodes id n is = slice_within nodes n is
-  where
-    slice_within : (rest : List Node) (k : ℕ) → is_text id (part_of (attribute_in (105 ∷ 100 ∷ [])) (slice_get rest k)) ≡ true → k < length rest
-    slice_within [] k bad = absurd (cc)
-    slice_within (m ∷ rest) zero h = omega arith
-    slice_within (m ∷ rest) (suc k) h = let less = slice_within rest k h in omega arith
 
 found_within : (nodes : List Node) (rows : List NodeStyles) (id : List ℕ) (first : Option ℕ) (t : ℕ) → IsFirstOf nodes id first → Some t ≡ shown_only rows first → t < length nodes
 found_within nodes rows id None t is same = absurd (none-some t (sym same))

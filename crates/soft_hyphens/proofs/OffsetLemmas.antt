@@ -12,14 +12,11 @@ use Rattle.std.proofs.lemmas.List.Folds.{drop_split}
 use Rattle.std.proofs.lemmas.List.Sums.{sum_by-append, sum_by-cons, sum_by_more}
 use Rattle.std.proofs.lemmas.Str.{encodes-chars, IsCharBoundary-start, IsUtf8-between, drop_past_char, len_utf8_ascii}
 use Rattle.hyphen.specs.Points.{letters_of, offset_of, places_of, points_of}
+use Rattle.hyphen.proofs.PointLemmas.{offset_none}
 use Rattle.soft_hyphens.specs.Hyphenated.{encoded}
 use Rattle.soft_hyphens.specs.Known.{word_points}
 use Rattle.soft_hyphens.proofs.PutLemmas.{encoded-std}
 use Rattle.soft_hyphens.proofs.SliceLemmas.{next-boundary}
-
-pub offset-none : (cs : List ℕ) → offset_of cs 0 ≡ 0
-unfolding offset_of
-offset-none cs = refl
 
 pub offset-empty : (k : ℕ) → offset_of [] k ≡ 0
 unfolding offset_of
@@ -73,7 +70,7 @@ offset-lower cs k = ap (sum_by len_utf8) (take-map to_ascii_lowercase k cs) ∙ 
 
 -- at each of its characters
 stands : (text : List ℕ) (at k : ℕ) (cs tail : List ℕ) → IsUtf8 text → IsCharBoundary text at → drop at text ≡ encoded cs ++ tail → IsCharBoundary text (at + offset_of cs k)
-stands text at zero cs tail u b e = subst (IsCharBoundary text) (omega (arith, offset-none cs)) b
+stands text at zero cs tail u b e = subst (IsCharBoundary text) (omega (arith, offset_none cs)) b
 stands text at (suc k) [] tail u b e = subst (IsCharBoundary text) (omega (arith, offset-empty (suc k))) b
 stands text at (suc k) (c ∷ cs) tail u b e =
     let here : drop at text ≡ encode_utf8 c ++ (encoded cs ++ tail) = e ∙ append_assoc (encode_utf8 c) (encoded cs) tail in

@@ -2,7 +2,7 @@
 use Rattle.std.proofs.Common.{◌≡◌, ◌∙◌, ℕ, suc, ◌+◌, ◌≤◌, Bool, true, false, cond, List, [], ◌∷◌, ◌++◌, length, Result, Ok, Err, refl, sym, ap, ap₂, arith, append_assoc}
 use Rattle.std.specs.Char.{encode_utf8}
 use Rattle.std.specs.Str.{chars, encode_utf8_all}
-use Rattle.std.specs.Prelude.{IfOk, OnOk}
+use Rattle.std.specs.Prelude.{OnOk}
 use Rattle.soft_hyphens.specs.Hyphenated.{encoded, put_from, put_in}
 use Rattle.soft_hyphens.specs.Pass.{count_in}
 use Rattle.soft_hyphens.specs.Words.{soft_hyphen}
@@ -43,10 +43,6 @@ put-in-same f g at (t ∷ ts) h =
 pub put-none : (here : ℕ → Bool) (at : ℕ) (cs : List ℕ) → ((k : ℕ) → here k ≡ false) → put_from here at cs ≡ cs
 put-none here at [] h = refl
 put-none here at (c ∷ cs) h = ap₂ (λ (b : Bool) (l : List ℕ). c ∷ cond b (soft_hyphen ∷ l) l) (h (suc at)) (put-none here (suc at) cs h)
-
-pub ok-more : {T E : Type 0} (r : Result T E) (P Q : T → Type 0) → ((x : T) → P x → Q x) → IfOk r P → IfOk r Q
-ok-more (Ok x) P Q f h = f x h
-ok-more (Err e) P Q f h = tt
 
 pub on-ok-more : {T E : Type 0} (r : Result T E) (P Q : Type 0) → (P → Q) → OnOk r P → OnOk r Q
 on-ok-more (Ok x) P Q f h = f h

@@ -7,10 +7,11 @@ use Rattle.std.proofs.Math.Seq.{drop-append_seam, take-append_seam}
 use Rattle.std.proofs.lemmas.Bool.Decides.{nat_tests}
 use Rattle.std.proofs.lemmas.Str.{drop_past_char, len_utf8_bounds, length-encode}
 use Rattle.hyphen.specs.Points.{offset_of}
+use Rattle.hyphen.proofs.PointLemmas.{offset_none}
 use Rattle.soft_hyphens.specs.Hyphenated.{encoded, put_from}
 use Rattle.soft_hyphens.specs.Pass.{offsets_in, soft_bytes, softened}
 use Rattle.soft_hyphens.specs.Words.{soft_hyphen}
-use Rattle.soft_hyphens.proofs.OffsetLemmas.{offset-cons, offset-none}
+use Rattle.soft_hyphens.proofs.OffsetLemmas.{offset-cons}
 use Rattle.soft_hyphens.proofs.SliceLemmas.{slice-grows}
 
 -- the byte offsets of the places after one at which something holds, character by character
@@ -25,7 +26,7 @@ by-chars : (here : ℕ → Bool) (f : ℕ → ℕ) (place at : ℕ) (cs : List �
 by-chars here f place at [] h = refl
 by-chars here f place at (c ∷ cs) h =
     let one : place + 1 ≡ suc place = omega arith in
-    let first : f (suc place) ≡ at + len_utf8 c = ap f (sym one) ∙ h 1 (omega arith) ∙ omega (arith, offset-cons c cs 0, offset-none cs) in
+    let first : f (suc place) ≡ at + len_utf8 c = ap f (sym one) ∙ h 1 (omega arith) ∙ omega (arith, offset-cons c cs 0, offset_none cs) in
     let more : map f (filter here (range_with_len (suc (suc place)) (length cs))) ≡ soft_offsets here (suc place) (at + len_utf8 c) cs =
     by-chars here f (suc place) (at + len_utf8 c) cs
     (λ k l. let e : suc place + k ≡ place + suc k = omega arith in ap f e ∙ h (suc k) (omega (arith, l)) ∙ omega (arith, offset-cons c cs k)) in

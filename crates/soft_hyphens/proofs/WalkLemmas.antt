@@ -10,13 +10,14 @@ use Rattle.std.proofs.lemmas.List.Elements.{All-nil}
 use Rattle.std.proofs.lemmas.Option.{get_or_from_slice_get, slice_get-map, slice_get_past, slice_get_within}
 use Rattle.std.proofs.lemmas.Str.{chars-nil, IsCharBoundary-start, IsUtf8-between, len_utf8_bounds}
 use Rattle.hyphen.specs.Points.{letters_of, offset_of, places_of, points_of}
+use Rattle.hyphen.proofs.PointLemmas.{offset_none}
 use Rattle.soft_hyphens.specs.Known.{word_points}
 use Rattle.soft_hyphens.specs.Pass.{offsets_before}
 use Rattle.soft_hyphens.specs.Walk.{IsIn, IsOver, after_letter, after_other, counts_by, word_text}
 use Rattle.soft_hyphens.specs.Words.{Points, are_auto, codes_of, counts, is_of_word, is_put, is_soft, letters_between, points_with}
 use Rattle.soft_hyphens.specs.declared.letter.Letter.{Letter}
 use Rattle.soft_hyphens.specs.declared.walk.Walk.{Walk}
-use Rattle.soft_hyphens.proofs.OffsetLemmas.{offset-next, offset-none}
+use Rattle.soft_hyphens.proofs.OffsetLemmas.{offset-next}
 use Rattle.soft_hyphens.proofs.PointLemmas.{no-points, second-holds, some-points, word-goes, word-next}
 use Rattle.soft_hyphens.proofs.SliceLemmas.{chars-grow, few-bytes, next-boundary}
 use Rattle.soft_hyphens.proofs.WordLemmas.{none-of-word}
@@ -198,8 +199,8 @@ first_walk = record { at = 0; place = 0; from = 0; first = 0; auto = true; after
 pub begin-over : (points : Points) (ls : List Letter) (text offsets : List ℕ) → offsets ≡ [] → IsOver points ls text first_walk offsets
 begin-over points ls text offsets is = record {
   within = omega arith;
-  at = sym (offset-none (codes_of ls));
-  from = sym (offset-none (codes_of ls));
+  at = sym (offset_none (codes_of ls));
+  from = sym (offset_none (codes_of ls));
   word = record { order = omega arith; all = λ i low high. absurd (omega arith); before = λ i e. absurd (omega (arith, e)) };
   letters = no-text text 0 ∙ sym (ap codes_of (no-letters ls 0));
   auto = sym (ap are_auto (no-letters ls 0));

@@ -1,3 +1,3 @@
-mod NodeLemmas
+pub mod NodeLemmas
 mod NameLemmas
 pub mod RankingLemmas

@@ -1,9 +1,10 @@
 use Rattle.std.proofs.Common.{◌≡◌, ◌∙◌, List, length, ap, sym}
 use Rattle.inline_text.specs.Joined.{Laid}
 use Rattle.inline_text.specs.Space.{collapsed}
+use Rattle.soft_hyphens.proofs.TextLemmas.{ends-length}
 use Rattle.box_gen.specs.declared.inline.ItemMark.{ItemMark}
 use Rattle.box_gen.specs.Runs.{marks_in, parts_in, styles_in}
-use Rattle.box_gen.proofs.TextLemmas.{collapsed-length, ends-length}
+use Rattle.box_gen.proofs.TextLemmas.{collapsed-length}
 use Rattle.box_gen.proofs.leaf.printed.Goals as goal
 
 pub hyphenated-requires : goal.hyphenated-requires

@@ -4,9 +4,10 @@ use Rattle.std.specs.Str.{IsCharBoundary}
 use Rattle.boxes.specs.Contents.{IsGoodSpan}
 use Rattle.inline_text.specs.Joined.{Laid, ends_from, joined}
 use Rattle.soft_hyphens.specs.Words.{Points, points_in}
+use Rattle.soft_hyphens.proofs.TextLemmas.{ends-length}
 use Rattle.box_gen.specs.declared.inline.ItemMark.{ItemMark}
 use Rattle.box_gen.specs.Runs.{marks_in, printed_in, spans_from, styles_in}
-use Rattle.box_gen.proofs.TextLemmas.{ends-length, printed-length}
+use Rattle.box_gen.proofs.TextLemmas.{printed-length}
 use Rattle.box_gen.proofs.LeafLemmas.{good_run, spans_good}
 use Rattle.box_gen.proofs.leaf.run_text.Goals as goal
 

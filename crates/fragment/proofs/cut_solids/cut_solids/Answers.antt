@@ -14,11 +14,11 @@ use Rattle.cuts.specs.Rows.{IsSmallRow, rows_extent, rows_reach, tail_after}
 use Rattle.note_list.specs.Calls.{called_before}
 use Rattle.page_list.specs.Cuts.{first_gap, forced_after, place_after, placed_from, row_of, rows_of}
 use Rattle.page_list.specs.declared.cut.Cut.{Cut}
+use Rattle.page_list.proofs.ExistLemmas.{called_within}
 use Rattle.fragment.specs.CutsAt.{PlacesNotes}
 use Rattle.fragment.specs.Solids.{foot_from}
 use Rattle.fragment.proofs.CutLemmas.{best_of}
 use Rattle.fragment.proofs.FootLemmas.{foot_is}
-use Rattle.fragment.proofs.PlaceLemmas.{before_most}
 use Rattle.fragment.proofs.SolidLemmas.{holds_after, small_rows}
 use Rattle.fragment.proofs.cut_solids.cut_solids.Goals as goal
 use Rattle.fragment.proofs.cut_solids.cut_solids.Goals.{After-place_after-to}
@@ -45,7 +45,7 @@ pub place-requires : goal.place-requires
 place-requires c =
     let d = (goal.at.place-requires c).After-place_after-to in
     let here = ap (called_before c.args.flow.now.main c.args.flow.now.notes) (leaves d) in
-    let most = before_most c.args.flow.now.main c.args.flow.now.notes c.place_after-to.result in
+    let most = called_within c.args.flow.now.main c.args.flow.now.notes c.place_after-to.result in
     let is = c.called_before.ensures in
     let from = c.requires.called c.cut_rows-cut.result.count c.cut_rows-cut.ensures.some in
     let low = c.requires.cut.low in

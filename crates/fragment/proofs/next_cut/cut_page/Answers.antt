@@ -34,12 +34,13 @@ use Rattle.cuts.specs.declared.row.SolidRow.{SolidRow}
 use Rattle.page_list.specs.Cuts.{first_gap, place_after, placed_from, rows_of}
 use Rattle.page_list.specs.declared.cut.CutFrom.{CutFrom}
 use Rattle.page_list.proofs.InsideLemmas.{flow_inside}
+use Rattle.page_list.proofs.ExistLemmas.{called_within}
 use Rattle.fragment.proofs.AheadLemmas.{page_on, page_rows_are, page_size, page_views_are, rows_size, stays_ahead}
 use Rattle.fragment.proofs.CutLemmas.{called_low, end_cut, flow_cut, none_left, room_is}
 use Rattle.fragment.proofs.FlowLemmas.{prefix_between, prefix_few}
 use Rattle.fragment.proofs.KeptLemmas.{cut_held}
 use Rattle.fragment.proofs.LooksLemmas.{looks_at, looks_end}
-use Rattle.fragment.proofs.PlaceLemmas.{before_most, by_all}
+use Rattle.fragment.proofs.PlaceLemmas.{by_all}
 use Rattle.fragment.proofs.SolidLemmas.{all_views, if_ok}
 use Rattle.fragment.proofs.next_cut.cut_page.Given as given
 use Rattle.fragment.proofs.next_cut.cut_page.Goals as goal
@@ -101,7 +102,7 @@ take-requires-clause-called g c =
     let all = all_called g d c.if-count-eq0.true in
     let here : c.prefix.new.notes.called ≡ called_before c.args.flow.now.main c.args.flow.now.notes c.args.from.at =
     (read g d).read.called ∙ ap (λ (vs : List SolidView). called_in c.args.flow.now c.args.from.at (map (λ (s : SolidView). s.end) vs) (length (map (λ (s : SolidView). s.end) vs))) (none_taken (page_views c.prefix.new.ahead c.in_ok-count.count) (read g d).count (empty g d c.if-count-eq0.true)) in
-    let most = before_most c.args.flow.now.main c.args.flow.now.notes c.args.from.at in
+    let most = called_within c.args.flow.now.main c.args.flow.now.notes c.args.from.at in
     omega arith
 
 pub cut_end-requires-clause-all : goal.cut_end-requires-clause-all
@@ -129,7 +130,7 @@ cut_end-requires-clause-cut g c =
 pub cut_end-requires-clause-called : goal.cut_end-requires-clause-called
 cut_end-requires-clause-called g c =
     let here = c.in_ok-notes.ensures.read.called in
-    let most = before_most c.args.flow.now.main c.args.flow.now.notes c.args.from.at in
+    let most = called_within c.args.flow.now.main c.args.flow.now.notes c.args.from.at in
     omega arith
 
 pub returns-then-count-eq0-clause-cut : goal.returns-then-count-eq0-clause-cut

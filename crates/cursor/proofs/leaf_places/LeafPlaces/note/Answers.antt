@@ -1,11 +1,11 @@
 use Rattle.std.proofs.Common.{◌≡◌, ◌∙◌, ◌++◌, ℕ, List, Option, Some, sym, ap, subst, FitsSigned, w64}
 use Rattle.std.specs.Prelude.{if◌then◌else◌, OnOk}
 use Rattle.std.proofs.lemmas.Int.{to_z-of_z}
-use Rattle.line_fill.proofs.AskLemmas.{if_ok}
+use Rattle.line_fill.proofs.AskLemmas.{if_ok, on_err}
 use Rattle.cursor.specs.KeptLines.{LeafAtMeasure, leaf_eq, place_in}
 use Rattle.cursor.specs.LeafPlaces.{entries_from}
 use Rattle.cursor.specs.declared.leaf_places.NotedPlace.{NotedPlace}
-use Rattle.cursor.proofs.NotedLemmas.{noted_first, noted_other, on_err}
+use Rattle.cursor.proofs.NotedLemmas.{noted_first, noted_other}
 use Rattle.cursor.proofs.leaf_places.LeafPlaces.note.Goals as goal
 
 pub returns-then-goes_first-clause-noted : goal.returns-then-goes_first-clause-noted

@@ -1,6 +1,6 @@
 use Rattle.std.proofs.Common.{◌∙◌, sym}
 use Rattle.std.specs.Str.{bytes_eq}
-use Rattle.match_table.proofs.IndexLemmas.{position-map}
+use Rattle.dom.proofs.NameLemmas.{position-map}
 use Rattle.match_table.proofs.index.Words.number.Goals as goal
 
 pub returns-clause-value : goal.returns-clause-value
