@@ -1,10 +1,11 @@
 -- what stands at a place of a list, after changes of the list
-use Rattle.std.proofs.Common.{◌≡◌, ◌∙◌, ℕ, suc, zero, ◌+◌, ◌<◌, ◌≤◌, List, [], ◌∷◌, ◌++◌, Option, None, Some, Bool, true, false, cond, All, is_some, length, map, take, drop, slice_get, slice_set, refl, ap, subst, arith, ◌⊎◌, inl, inr}
-use Rattle.std.specs.List.{Contains, prefix_len}
+use Rattle.std.proofs.Common.{◌≡◌, ◌∙◌, ℕ, suc, zero, ◌+◌, ◌<◌, ◌≤◌, List, [], ◌∷◌, ◌++◌, Option, None, Some, Bool, true, false, cond, All, is_some, length, map, take, drop, slice_get, slice_set, refl, ap, subst, arith, ◌⊎◌, inl, inr, get_or, filter, flat_map, append-nil, append_assoc, add-one, sym}
+use Rattle.std.specs.List.{Contains, prefix_len, AllZip, range_with_len}
 use Rattle.std.specs.Option.{option_map}
 use Rattle.std.specs.Str.{bytes_eq}
 use Rattle.std.proofs.lemmas.Option.{slice_get-get_or, slice_get-map, slice_get_within, get_or_from_slice_get}
 use Rattle.std.proofs.lemmas.Slice.Eq.{bytes_eq-Decides}
+use Rattle.std.proofs.lemmas.List.{map-append}
 
 -- one more at the end: the new one, or one of before
 pub get-push : {A : Type 0} (xs : List A) (y x : A) (k : ℕ) → slice_get (xs ++ y ∷ []) k ≡ Some x → ((k ≡ length xs) × (x ≡ y)) ⊎ (slice_get xs k ≡ Some x)
@@ -151,3 +152,95 @@ bytes_self xs = (bytes_eq-Decides xs xs).1 refl
 pub none-is : {A : Type 0} (o : Option A) → is_some o ≡ false → o ≡ None
 none-is None h = refl
 none-is (Some x) h = absurd cc
+
+-- ---- one more value
+
+pub length-more : {A : Type 0} (xs : List A) (x : A) → length (xs ++ x ∷ []) ≡ suc (length xs)
+length-more [] x = refl
+length-more (y ∷ xs) x = ap (λ n. suc n) (length-more xs x)
+
+pub map-more : {A B : Type 0} (f : A → B) (old new : List A) (x : A) → new ≡ old ++ x ∷ [] → map f new ≡ map f old ++ f x ∷ []
+map-more f old new x e = ap (map f) e ∙ map-append f old (x ∷ [])
+
+pub pairs-more : {A B : Type 0} (R : A → B → Type 0) (xs : List A) (ys : List B) (x : A) (y : B) → AllZip R xs ys → R x y → AllZip R (xs ++ x ∷ []) (ys ++ y ∷ [])
+pairs-more R [] [] x y h r = (r, tt)
+pairs-more R [] (b ∷ bs) x y h r = absurd h
+pairs-more R (a ∷ rest) [] x y h r = absurd h
+pairs-more R (a ∷ rest) (b ∷ bs) x y h r = (h.0, pairs-more R rest bs x y h.1 r)
+
+pub contains-first : {A : Type 0} (x : A) (xs : List A) → Contains (x ∷ xs) x
+contains-first x xs = (0, omega arith, refl)
+
+pub contains-more : {A : Type 0} (x : A) (xs : List A) (y : A) → Contains xs y → Contains (x ∷ xs) y
+contains-more x xs y h = (suc h.0, omega (arith, h.1), h.2)
+
+pub range-more : (a n : ℕ) → range_with_len a (suc n) ≡ range_with_len a n ++ (a + n) ∷ []
+range-more a zero = let e : a ≡ a + 0 = omega arith in ap (λ x. x ∷ []) e
+range-more a (suc n) = let e : (a + 1) + n ≡ a + suc n = omega arith in ap (λ l. a ∷ l) (range-more (a + 1) n ∙ ap (λ x. range_with_len (a + 1) n ++ x ∷ []) e)
+
+-- what is joined of one more number
+pub flat-more : {A : Type 0} (f : ℕ → List A) (a n : ℕ) → flat_map f (range_with_len a (suc n)) ≡ flat_map f (range_with_len a n) ++ f (a + n)
+flat-more f a zero = let e : a ≡ a + zero = omega arith in append-nil (f a) ∙ ap f e
+flat-more {A} f a (suc n) =
+    let e : (a + 1) + n ≡ a + suc n = omega arith in
+    let rest : List A = flat_map f (range_with_len (a + 1) n) in
+    ap (λ z. f a ++ z) (flat-more f (a + 1) n) ∙ sym (append_assoc (f a) rest (f ((a + 1) + n))) ∙ ap (λ k. (f a ++ rest) ++ f k) e
+
+pub flat-next : {A : Type 0} (f : ℕ → List A) (n : ℕ) → flat_map f (range_with_len 0 (n + 1)) ≡ flat_map f (range_with_len 0 n) ++ f n
+flat-next f n =
+    let more : n + 1 ≡ suc n = omega arith in
+    let e : 0 + n ≡ n = omega arith in
+    ap (λ k. flat_map f (range_with_len 0 k)) more ∙ flat-more f 0 n ∙ ap (λ k. flat_map f (range_with_len 0 n) ++ f k) e
+
+-- ---- what stays and what is left
+
+pub length-slice_set : {A : Type 0} (xs : List A) (i : ℕ) (y : A) → length (slice_set xs i y) ≡ length xs
+length-slice_set [] i y = refl
+length-slice_set (x ∷ xs) zero y = refl
+length-slice_set (x ∷ xs) (suc i) y = ap (λ n. suc n) (length-slice_set xs i y)
+
+pub get-taken : {A : Type 0} (xs : List A) (n k : ℕ) → k < n → slice_get (take n xs) k ≡ slice_get xs k
+get-taken xs zero k l = absurd (omega (arith, l))
+get-taken [] (suc n) k l = refl
+get-taken (x ∷ xs) (suc n) zero l = refl
+get-taken (x ∷ xs) (suc n) (suc k) l = get-taken xs n k (omega (arith, l))
+
+pub get-drop : {A : Type 0} (xs : List A) (n k : ℕ) → slice_get (drop n xs) k ≡ slice_get xs (n + k)
+get-drop xs zero k = let e : k ≡ 0 + k = omega arith in ap (slice_get xs) e
+get-drop [] (suc n) k = refl
+get-drop (x ∷ xs) (suc n) k = let e : suc (n + k) ≡ suc n + k = omega arith in get-drop xs n k ∙ ap (slice_get (x ∷ xs)) e
+
+-- more values than there are
+pub take-past : {A : Type 0} (xs : List A) (n : ℕ) → length xs ≤ n → take n xs ≡ xs
+take-past [] zero h = refl
+take-past [] (suc n) h = refl
+take-past (x ∷ xs) zero h = absurd (omega arith)
+take-past (x ∷ xs) (suc n) h = ap (λ l. x ∷ l) (take-past xs n (omega arith))
+
+pub take-more : {A : Type 0} (xs : List A) (k : ℕ) (x : A) → slice_get xs k ≡ Some x → take (k + 1) xs ≡ take k xs ++ x ∷ []
+take-more xs k x h = ap (λ n. take n xs) (add-one k) ∙ take-next xs k x h
+
+pub drop-more : {A : Type 0} (xs : List A) (k : ℕ) (x : A) → k < length xs → x ≡ get_or xs k x → drop k xs ≡ x ∷ drop (k + 1) xs
+drop-more xs k x l e = let s : suc k ≡ k + 1 = omega arith in drop-next xs k x (slice_get-get_or xs k x l ∙ ap (λ y. Some y) (sym e)) ∙ ap (λ n. x ∷ drop n xs) s
+
+-- what holds at each place holds of each value
+pub all-from : {A : Type 0} (P : A → Type 0) (xs : List A) → ((k : ℕ) (x : A) → slice_get xs k ≡ Some x → P x) → All P xs
+all-from P xs h k d less = h k (get_or xs k d) (slice_get-get_or xs k d less)
+
+pub map-same : {A B : Type 0} (f g : A → B) (xs : List A) → ((x : A) → f x ≡ g x) → map f xs ≡ map g xs
+map-same f g [] h = refl
+map-same f g (x ∷ xs) h = ap (λ y. y ∷ map f xs) (h x) ∙ ap (λ ys. g x ∷ ys) (map-same f g xs h)
+
+pub filter-none : {A : Type 0} (p : A → Bool) (xs : List A) → ((x : A) → p x ≡ false) → filter p xs ≡ []
+filter-none p [] none = refl
+filter-none p (x ∷ xs) none = rw (none x) (filter-none p xs none)
+
+pub contains-filter : {A : Type 0} (p : A → Bool) (xs : List A) (x : A) → p x ≡ true → Contains xs x → Contains (filter p xs) x
+contains-filter p [] x t h = absurd (omega (arith, h.1))
+contains-filter {A} p (y ∷ xs) x t (k, l, e) = by k l e (p y) refl (λ j m g. contains-filter p xs x t (j, m, g))
+  where
+    by : (k : ℕ) → k < length (y ∷ xs) → get_or (y ∷ xs) k x ≡ x → (b : Bool) → p y ≡ b → ((j : ℕ) → j < length xs → get_or xs j x ≡ x → Contains (filter p xs) x) → Contains (cond b (y ∷ filter p xs) (filter p xs)) x
+    by zero l e true f again = (0, omega arith, e)
+    by zero l e false f again = let z = ap p e in cc
+    by (suc j) l e true f again = let r = again j (omega arith) e in (suc r.0, omega (arith, r.1), r.2)
+    by (suc j) l e false f again = again j (omega arith) e

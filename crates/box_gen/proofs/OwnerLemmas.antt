@@ -3,6 +3,7 @@ use Rattle.std.proofs.Common.{◌≡◌, ℕ, zero, suc, ◌==◌, Bool, true, f
 use Rattle.std.specs.List.{All, Contains}
 use Rattle.std.proofs.lemmas.List.Elements.{All-nil, All-cons, All-head, All-tail, All-weaker}
 use Rattle.std.proofs.lemmas.Bool.Decides.{nat_tests}
+use Rattle.bk_num.proofs.ListLemmas.{contains-more}
 use Rattle.boxes.specs.Contents.{IsGoodSpan}
 use Rattle.boxes.specs.declared.leaf.Lead.{Lead}
 use Rattle.box_gen.specs.Flow.{without}
@@ -16,9 +17,6 @@ OwnedBy os ls = All (λ (l : Lead). Contains os l.owner) ls
 
 abbrev pub IsGoodLead : Lead → Type 0
 IsGoodLead l = IsGoodSpan l.span
-
-contains-more : (b x : ℕ) (os : List ℕ) → Contains os x → Contains (b ∷ os) x
-contains-more b x os (k, l, e) = (suc k, omega arith, e)
 
 contains-rest : (b x : ℕ) (os : List ℕ) → (x == b) ≡ false → Contains (b ∷ os) x → Contains os x
 contains-rest b x os n (zero, l, e) = absurd (grind (arith, nat_tests))
@@ -41,7 +39,7 @@ all-shut P b (l ∷ ls) h = by (l.owner == b) (All-head P l ls h) (all-shut P b 
     by false g r = All-cons P l (without (Some b) ls) g r
 
 pub owned-more : (b : ℕ) (os : List ℕ) (ls : List Lead) → OwnedBy os ls → OwnedBy (b ∷ os) ls
-owned-more b os ls h = All-weaker (IsOwned os) (IsOwned (b ∷ os)) (λ l c. contains-more b l.owner os c) ls h
+owned-more b os ls h = All-weaker (IsOwned os) (IsOwned (b ∷ os)) (λ l c. contains-more b os l.owner c) ls h
 
 pub all-append : {A : Type 0} (P : A → Type 0) (ls ms : List A) → All P ls → All P ms → All P (ls ++ ms)
 all-append P [] ms a b = b

@@ -1,10 +1,10 @@
 -- Places of elements and notes, one after the other.
 use Rattle.std.proofs.Common.{◌≡◌, ◌∙◌, ◌<◌, ◌+◌, ℕ, suc, Bool, true, false, cond, not, List, [], ◌∷◌, ◌++◌, append_assoc, drop, filter, get_or, length, map, refl, ap, arith}
+use Rattle.bk_num.proofs.ListLemmas.{drop-more}
 use Rattle.boxes.specs.declared.flow.Start.{Start}
 use Rattle.boxes.specs.declared.place.Position.{Position}
 use Rattle.box_gen.specs.Flow.{Built, calls_of, note_starts, notes_by, own_starts, starts_in_note}
 use Rattle.box_gen.specs.Trees.{Source, is_note_element}
-use Rattle.box_gen.proofs.TextLemmas.{drop_step}
 
 pub calls-cons : (src : Source) (a : Start) (rest : List Start) → calls_of src (a ∷ rest) ≡ calls_of src (a ∷ []) ++ calls_of src rest
 calls-cons src a rest = by (is_note_element src a.node.0)
@@ -26,7 +26,7 @@ goes-on old now one more all e g = ap (λ l. l ++ more) e ∙ append_assoc old o
 
 -- the notes from one on
 pub notes-step : (calls : List Position) (k : ℕ) (c : Position) (b : Built) (bodies : List Built) → k < length calls → c ≡ get_or calls k c → notes_by (drop k calls) (b ∷ bodies) ≡ notes_by (c ∷ []) (b ∷ []) ++ notes_by (drop (k + 1) calls) bodies
-notes-step calls k c b bodies l e = ap (λ (x : List Position). notes_by x (b ∷ bodies)) (drop_step calls k c l e)
+notes-step calls k c b bodies l e = ap (λ (x : List Position). notes_by x (b ∷ bodies)) (drop-more calls k c l e)
 
 pub starts-step : (k : ℕ) (b : Built) (bodies : List Built) → note_starts k (b ∷ bodies) ≡ starts_in_note k b.starts ++ note_starts (k + 1) bodies
 starts-step k b bodies = let e : suc k ≡ k + 1 = omega arith in ap (λ (n : ℕ). starts_in_note k b.starts ++ note_starts n bodies) e

@@ -1,5 +1,5 @@
 -- Lists that a loop passes, and the number of collapsed texts.
-use Rattle.std.proofs.Common.{◌≡◌, ◌∙◌, ℕ, zero, suc, ◌+◌, ◌<◌, true, false, List, [], ◌∷◌, map, length, drop, get_or, refl, sym, ap, arith, Option}
+use Rattle.std.proofs.Common.{◌≡◌, ◌∙◌, ℕ, suc, ◌+◌, ◌<◌, true, false, List, [], ◌∷◌, map, length, drop, get_or, refl, sym, ap, Option}
 use Rattle.std.proofs.lemmas.List.{drop_more, length-map}
 use Rattle.inline_text.specs.Joined.{ends_from}
 use Rattle.inline_text.proofs.EndLemmas.{NextText, next-text}
@@ -11,14 +11,6 @@ use Rattle.box_gen.specs.Items.{InlineItem}
 use Rattle.box_gen.specs.Items as item
 use Rattle.box_gen.specs.Runs.{autos_in, printed_in, parts_in, marks_in, styles_in}
 use Rattle.box_gen.proofs.HyphenLemmas.{hyphenated-length}
-
-pub drop_step : {A : Type 0} (xs : List A) (i : ℕ) (x : A) → i < length xs → x ≡ get_or xs i x → drop i xs ≡ x ∷ drop (i + 1) xs
-drop_step xs i x h e = let n : suc i ≡ i + 1 = omega arith in steps xs i x h e ∙ ap (λ k. x ∷ drop k xs) n
-  where
-    steps : {A : Type 0} (xs : List A) (i : ℕ) (x : A) → i < length xs → x ≡ get_or xs i x → drop i xs ≡ x ∷ drop (suc i) xs
-    steps [] i x h e = absurd (omega arith)
-    steps (y ∷ xs) zero x h e = ap (λ z. z ∷ xs) (sym e)
-    steps (y ∷ xs) (suc i) x h e = steps xs i x (omega arith) e
 
 placed-length : (ts : List (List ℕ)) (cs : List Char) → length (placed ts cs) ≡ length ts
 placed-length ts [] = refl

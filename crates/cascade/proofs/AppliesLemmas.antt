@@ -1,8 +1,8 @@
 -- What is listed for a node is what applies to it.
 use Rattle.std.proofs.Common.{◌≡◌, ℕ, suc, zero, ◌+◌, ◌==◌, Bool, true, false, List, [], ◌∷◌, Option, None, Some, length, map, option_map, slice_get, cond, refl, sym, ◌∙◌, ap, subst, arith, ◌⊎◌, inl, inr}
-use Rattle.bk_num.proofs.ListLemmas.{contains-get, get-contains, contains-none, contains-one, contains-map}
+use Rattle.bk_num.proofs.ListLemmas.{contains-get, get-contains, contains-none, contains-one, contains-map, contains-first, contains-more}
 use Rattle.std.specs.List.{Contains, filter_map, cons_option}
-use Rattle.std.proofs.lemmas.List.Elements.{Contains-push, Contains-append_left, Contains-append_right, Contains-append_cases}
+use Rattle.std.proofs.lemmas.List.Elements.{Contains-append_left, Contains-append_right, Contains-append_cases}
 use Rattle.std.proofs.lemmas.Option.{slice_get-map, same_Some}
 use Rattle.bk_num.specs.declared.values.Pseudo.{Pseudo}
 use Rattle.bk_num.specs.declared.values.Pseudo.TheVariants as pseudo
@@ -18,12 +18,6 @@ use Rattle.cascade.specs.Selected.{SelectedOf, offered, offered_by, selected_by,
 
 -- ---- elements of lists
 
-here : {A : Type 0} (x : A) (xs : List A) → Contains (x ∷ xs) x
-here x xs = Contains-append_left (x ∷ []) xs x (Contains-push [] x)
-
-beyond : {A : Type 0} (x : A) (xs : List A) (y : A) → Contains xs y → Contains (x ∷ xs) y
-beyond x xs y h = Contains-append_right (x ∷ []) xs y h
-
 of_map : {A B : Type 0} (f : A → B) (xs : List A) (y : B) → Contains (map f xs) y → (x : A) × Contains xs x × (f x ≡ y)
 of_map {A = A} f xs y h = let g = contains-get (map f xs) y h in by (slice_get xs g.0) refl (sym (slice_get-map f xs g.0) ∙ g.1)
   where
@@ -36,12 +30,12 @@ of_filter h [] y c = absurd (contains-none y c)
 of_filter {A = A} {B = B} h (x ∷ xs) y c = by (h x) refl c (λ d. of_filter h xs y d)
   where
     by : (o : Option B) → h x ≡ o → Contains (cons_option o (filter_map h xs)) y → (Contains (filter_map h xs) y → (z : A) × Contains xs z × (h z ≡ Some y)) → (z : A) × Contains (x ∷ xs) z × (h z ≡ Some y)
-    by None e c rest = let r = rest c in (r.0, beyond x xs r.0 r.1, r.2)
+    by None e c rest = let r = rest c in (r.0, contains-more x xs r.0 r.1, r.2)
     by (Some z) e c rest = of (Contains-append_cases (z ∷ []) (filter_map h xs) y c)
       where
         of : Contains (z ∷ []) y ⊎ Contains (filter_map h xs) y → (w : A) × Contains (x ∷ xs) w × (h w ≡ Some y)
-        of (inl a) = (x, here x xs, e ∙ ap (λ v. Some v) (contains-one z y a))
-        of (inr b) = let r = rest b in (r.0, beyond x xs r.0 r.1, r.2)
+        of (inl a) = (x, contains-first x xs, e ∙ ap (λ v. Some v) (contains-one z y a))
+        of (inr b) = let r = rest b in (r.0, contains-more x xs r.0 r.1, r.2)
 
 in_filter : {A B : Type 0} (h : A → Option B) (xs : List A) (x : A) (y : B) → Contains xs x → h x ≡ Some y → Contains (filter_map h xs) y
 in_filter h [] x y c e = absurd (contains-none x c)
@@ -49,11 +43,11 @@ in_filter {B = B} h (w ∷ xs) x y c e = by (Contains-append_cases (w ∷ []) xs
   where
     kept : (o : Option B) → Contains (filter_map h xs) y → Contains (cons_option o (filter_map h xs)) y
     kept None b = b
-    kept (Some z) b = beyond z (filter_map h xs) y b
+    kept (Some z) b = contains-more z (filter_map h xs) y b
 
     first : (o : Option B) → o ≡ Some y → Contains (cons_option o (filter_map h xs)) y
     first None i = cc
-    first (Some z) i = subst (λ v. Contains (z ∷ filter_map h xs) v) (same_Some _ _ i) (here z (filter_map h xs))
+    first (Some z) i = subst (λ v. Contains (z ∷ filter_map h xs) v) (same_Some _ _ i) (contains-first z (filter_map h xs))
 
     by : Contains (w ∷ []) x ⊎ Contains xs x → (Contains xs x → Contains (filter_map h xs) y) → Contains (cons_option (h w) (filter_map h xs)) y
     by (inl a) rest = first (h w) (ap h (contains-one w x a) ∙ e)
@@ -223,7 +217,7 @@ in_rules dom sheets ss n places p all found a j d own (inr r) =
     let same : style_rule (style_decls dom n) ≡ a = ap (λ w. record { weight = w; decls = style_decls dom n }) (sym r.weight) ∙ ap (λ ds. record { weight = a.weight; decls = ds }) (sym r.decls) in
     let element : is_same p pseudo.Element ≡ true = ap (λ q. is_same q pseudo.Element) r.element in
     Contains-append_right (filter_map (named_at ss p) places) (style_rules (style_decls dom n) p) a
-    (subst (λ b. Contains (cond b (style_rule (style_decls dom n) ∷ []) []) a) (sym element) (subst (λ x. Contains (style_rule (style_decls dom n) ∷ []) x) same (here (style_rule (style_decls dom n)) [])))
+    (subst (λ b. Contains (cond b (style_rule (style_decls dom n) ∷ []) []) a) (sym element) (subst (λ x. Contains (style_rule (style_decls dom n) ∷ []) x) same (contains-first (style_rule (style_decls dom n)) [])))
 
 -- ---- the same winners
 

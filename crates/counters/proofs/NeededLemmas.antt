@@ -5,7 +5,7 @@ use Rattle.std.specs.Str.{bytes_eq}
 use Rattle.std.proofs.lemmas.Bool.{eqb-true, and_parts}
 use Rattle.std.proofs.lemmas.Bool.Decides.{Decides-int_eq, nat_tests}
 use Rattle.std.proofs.Math.IntN.{+ℤ_idr}
-use Rattle.bk_num.proofs.ListLemmas.{bytes_same}
+use Rattle.bk_num.proofs.ListLemmas.{bytes_same, map-same}
 use Rattle.named_lists.specs.Lists.{ListsOf, no_lists, with_item, items_of, of_name}
 use Rattle.named_lists.proofs.ListLemmas.{distinct-more, items-more, len-more, of-one, of_name-append}
 use Rattle.counters.specs.declared.scopes.Act.{Act}
@@ -175,10 +175,6 @@ alike-run (e ∷ more) k at h g nested covers a =
     by true t false u same other = rw t (other (with_event h e) (with_event g e) covered (kept-alike h g e a))
     by false t true u same other = same h g covers a
     by false t false u same other = rw (past-none k e more t nested.1, t, past-none k e (needed (Some e.at) more) t (needed-each (IsAfter e) (Some e.at) more nested.1)) a
-
-map-same : {A B : Type 0} (f g : A → B) (xs : List A) → ((x : A) → f x ≡ g x) → map f xs ≡ map g xs
-map-same f g [] h = refl
-map-same f g (x ∷ xs) h = ap (λ y. y ∷ map f xs) (h x) ∙ ap (λ ys. g x ∷ ys) (map-same f g xs h)
 
 alike-values : (k : ℕ) (h g : History) → Alike h g → values_in k h ≡ values_in k g
 alike-values k h g a = ap (λ v. or_zero (reverse v)) (ap (λ s. map (value_of h.increments) (holding k s)) a.0 ∙ map-same (value_of h.increments) (value_of g.increments) (holding k g.scopes) (λ s. ap (λ v. s.number +ℤ v) (a.1 s.id)))

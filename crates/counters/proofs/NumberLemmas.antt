@@ -1,5 +1,5 @@
 -- from events and marks to values
-use Rattle.std.proofs.Common.{◌≡◌, ℕ, zero, suc, ◌+◌, ◌<◌, Bool, true, false, cond, List, [], ◌∷◌, ◌++◌, Option, None, Some, length, length-append, slice_get, take, refl, sym, ◌∙◌, ap, subst, arith, ◌⊎◌, inl, inr}
+use Rattle.std.proofs.Common.{◌≡◌, ℕ, zero, suc, ◌+◌, ◌<◌, Bool, true, false, cond, List, [], ◌∷◌, ◌++◌, Option, None, Some, length, length-append, slice_get, refl, sym, ◌∙◌, ap, subst, arith, ◌⊎◌, inl, inr}
 use Rattle.std.specs.Prelude.{slice_index_or, pos}
 use Rattle.std.specs.Str.{bytes_eq}
 use Rattle.std.specs.List.{position}
@@ -75,11 +75,6 @@ in-order events l h a i es g =
     subst (IsNonDecreasingBy (λ e. e.at)) (sym n.1) (nested-sorted (needed None (of_name events n.0)) (needed-nested None (of_name events n.0) (h n.0)))
 
 -- ---- marks of each list
-
-pub take-more : {A : Type 0} (xs : List A) (i : ℕ) (x : A) → slice_get xs i ≡ Some x → take (i + 1) xs ≡ take i xs ++ x ∷ []
-take-more [] i x g = cc
-take-more (y ∷ ys) zero x g = let h : y ≡ x = cc in rw h refl
-take-more (y ∷ ys) (suc i) x g = (let z : suc i + 1 ≡ suc (i + 1) = omega arith in ap (λ n. take n (y ∷ ys)) z) ∙ ap (λ r. y ∷ r) (take-more ys i x g)
 
 pub marks-more : (lists : List (List CounterEvent)) (all : List (List ScopeMark)) (l : List CounterEvent) (m : List ScopeMark) → AreMarksOf lists all → AreMarks m → AreMarked l m → AreMarksOf (lists ++ l ∷ []) (all ++ m ∷ [])
 marks-more lists all l m a are marked = record {

@@ -5,6 +5,7 @@ use Rattle.std.specs.List.{position, prefix_len}
 use Rattle.std.proofs.lemmas.Bool.{eq-eqb}
 use Rattle.std.proofs.lemmas.Map.Views.{exact_unsigned_eq}
 use Rattle.std.proofs.lemmas.Bool.Decides.{nat_tests}
+use Rattle.bk_num.proofs.ListLemmas.{length-slice_set}
 use Rattle.named_lists.proofs.ListLemmas.{first, position-first}
 use Rattle.dom.specs.Nodes.{Node, IsTree}
 use Rattle.dom.specs.Walk.{node_of, steps_of}
@@ -106,11 +107,6 @@ passed-few nodes s before rest number spots t e p =
     let count = p.count in
     omega (arith, few, most, all, sum, count)
 
-length-set : {A : Type 0} (xs : List A) (i : ℕ) (y : A) → length (slice_set xs i y) ≡ length xs
-length-set [] i y = refl
-length-set (x ∷ xs) zero y = refl
-length-set (x ∷ xs) (suc i) y = ap (λ n. suc n) (length-set xs i y)
-
 pub passed-more : (nodes : List Node) (s : Step) (before rest : List Step) (number : ℕ) (spots : List Spot) (old : Spot) → before ≡ s ∷ rest → number + 1 < 2 ^ 28 → node_of s < length nodes → slice_get spots (node_of s) ≡ Some old → Passed nodes before number spots → Passed nodes rest (number + 1) (slice_set spots (node_of s) (stepped number s old))
 passed-more nodes s before rest number spots old e l w g p = record {
   done = p.done ++ s ∷ [];
@@ -118,7 +114,7 @@ passed-more nodes s before rest number spots old e l w g p = record {
   count = (let z = length-append p.done (s ∷ []) in let c = p.count in omega arith);
   few = l;
   spots = subst (λ (k : ℕ). AreSpots (p.done ++ s ∷ []) (slice_set spots (node_of s) (stepped k s old))) (sym p.count) (spots-more p.done s spots old p.spots g (let z = p.len in omega arith));
-  len = length-set spots (node_of s) (stepped number s old) ∙ p.len;
+  len = length-slice_set spots (node_of s) (stepped number s old) ∙ p.len;
 }
 
 pub passed-end : (nodes : List Node) (number : ℕ) (spots : List Spot) → Passed nodes [] number spots → AreSpots (steps_of nodes) spots × (number ≡ length (steps_of nodes)) × AreSmall spots

@@ -1,9 +1,9 @@
 -- How much of a page is read.
-use Rattle.std.proofs.Common.{◌≡◌, ℕ, zero, suc, ◌+◌, ◌-◌, ◌<◌, ◌≤◌, ◌⊎◌, inl, inr, ℤ, ◌≤ℤ◌, ◌<ℤ◌, List, [], ◌∷◌, ◌++◌, Option, Some, None, Bool, true, false, length, get_or, slice_get, take, arith, refl, sym, ◌∙◌, ap, subst, length-append, append-nil, append_assoc}
+use Rattle.std.proofs.Common.{◌≡◌, ℕ, zero, suc, ◌+◌, ◌-◌, ◌<◌, ◌≤◌, ◌⊎◌, inl, inr, ℤ, ◌≤ℤ◌, ◌<ℤ◌, List, [], ◌∷◌, ◌++◌, Option, Some, None, Bool, true, false, length, get_or, slice_get, take, arith, refl, sym, ◌∙◌, ap, subst, append-nil, append_assoc}
 use Rattle.std.proofs.lemmas.Bool.{cases_lt}
 use Rattle.std.proofs.lemmas.Int.{ints, clamps}
 use Rattle.std.proofs.lemmas.Option.{slice_get_within}
-use Rattle.bk_num.proofs.ListLemmas.{get-push}
+use Rattle.bk_num.proofs.ListLemmas.{get-push, length-more}
 use Rattle.cuts.specs.Prefixes.{is_break}
 use Rattle.cuts.specs.Rows.{rows_bottom, rows_extent}
 use Rattle.cuts.specs.Short.{AreParted, IsOver, IsQuiet, ReadsFew, count_of, short_by}
@@ -11,9 +11,6 @@ use Rattle.std.proofs.lemmas.Option.{slice_get_cases}
 use Rattle.cuts.specs.declared.row.SolidRow.{SolidRow}
 use Rattle.cuts.proofs.AppendLemmas.{bottom-append}
 use Rattle.cuts.proofs.ReachLemmas.{extent-mono}
-
-len : (rows : List SolidRow) (r : SolidRow) → length (rows ++ r ∷ []) ≡ suc (length rows)
-len rows r = let l = length-append rows (r ∷ []) in omega (arith, l)
 
 over_back : (kept : Bool) (height : ℤ) (rows : List SolidRow) (r : SolidRow) (m : ℕ) → m < length rows → IsOver kept (rows ++ r ∷ []) height m → IsOver kept rows height m
 over_back kept height rows r m l o = (l, subst (λ (b : ℤ). height <ℤ b) (bottom-append kept rows (r ∷ []) (suc m) (omega arith)) o.1)
@@ -52,7 +49,7 @@ quiet_more kept height rows r q fits = λ m k x o l h e. by m k x o l h (get-pus
 
 pub short_missed : (kept : Bool) (height : ℤ) (widest : ℕ) (rows : List SolidRow) (r : SolidRow) (left left' : ℕ) → left' + 1 ≤ left → short_by kept height widest rows (Some left) → short_by kept height widest (rows ++ r ∷ []) (Some left')
 short_missed kept height widest rows r left left' less s =
-    let n = len rows r in
+    let n = length-more rows r in
     let a = s.1 in
     let b = s.2 in
     (s.0, omega (arith, n, a), omega (arith, n, b), quiet_push kept height rows r s.0 (omega (arith, a)) s.3)
@@ -66,7 +63,7 @@ short_passed kept height widest rows (r ∷ more) left left' count s =
     (short_passed kept height widest (rows ++ r ∷ []) more (length more + left') left' refl (short_missed kept height widest rows r left (length more + left') (omega (arith, count)) s))
 
 pub short_miss : (kept : Bool) (height : ℤ) (widest : ℕ) (rows : List SolidRow) (r : SolidRow) (least : ℕ) → least ≤ widest → short_by kept height widest rows None → short_by kept height widest (rows ++ r ∷ []) (Some (least - 1))
-short_miss kept height widest rows r least few s = let n = len rows r in (length rows, omega (arith, n), omega (arith, n), quiet_push kept height rows r (length rows) (omega arith) s)
+short_miss kept height widest rows r least few s = let n = length-more rows r in (length rows, omega (arith, n), omega (arith, n), quiet_push kept height rows r (length rows) (omega arith) s)
 
 pub short_going : (kept : Bool) (height : ℤ) (widest : ℕ) (rows : List SolidRow) (r : SolidRow) → (is_break r ≡ true → 0 < length rows → rows_extent kept rows (length rows) ≤ℤ height) → short_by kept height widest rows None → short_by kept height widest (rows ++ r ∷ []) None
 short_going kept height widest rows r fits s = quiet_more kept height rows r s fits

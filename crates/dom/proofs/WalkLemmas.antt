@@ -5,6 +5,7 @@ use Rattle.std.proofs.lemmas.Option.{slice_get-map, slice_get_within}
 use Rattle.std.proofs.lemmas.List.{length-map}
 use Rattle.std.specs.List.{flat_map}
 use Rattle.std.proofs.Math.Seq.{drop-nil}
+use Rattle.bk_num.proofs.ListLemmas.{get-drop}
 use Rattle.dom.specs.Nodes.{Node, is_at, first_from, next_under, next_of, parents_of, parent_at, flat, IsTree, HasPlace}
 use Rattle.dom.specs.Walk.{children_from, children_of, tour}
 use Rattle.dom.specs.WalkFields.{tour_at, tours_of, after, after_at}
@@ -166,12 +167,6 @@ drop-drop : (qs : List (Option ℕ)) (i j : ℕ) → drop i (drop j qs) ≡ drop
 drop-drop [] i j = rw (drop-nil {A = Option ℕ} j, drop-nil {A = Option ℕ} i, drop-nil {A = Option ℕ} (j + i)) refl
 drop-drop (q ∷ qs) i zero = let e : 0 + i ≡ i = omega arith in rw e refl
 drop-drop (q ∷ qs) i (suc j) = let e : suc j + i ≡ suc (j + i) = omega arith in rw e (drop-drop qs i j)
-
-get-drop : (qs : List (Option ℕ)) (j i : ℕ) → slice_get (drop j qs) i ≡ slice_get qs (j + i)
-get-drop [] zero i = refl
-get-drop [] (suc j) i = refl
-get-drop (q ∷ qs) zero i = let e : 0 + i ≡ i = omega arith in rw e refl
-get-drop (q ∷ qs) (suc j) i = let e : suc j + i ≡ suc (j + i) = omega arith in rw e (get-drop qs j i)
 
 -- after a node with a later sibling is left, that is entered
 pub leave-sibling : (ps : List (Option ℕ)) (n p s : ℕ) → AreFalling ps → parent_at ps n ≡ Some p → first_from p (drop (n + 1) ps) (n + 1) ≡ Some s → (s < length ps) × (after_at ps n ≡ tour_at ps s ++ after_at ps s)

@@ -2,10 +2,10 @@
 use Rattle.std.proofs.Common.{◌≡◌, ℕ, zero, suc, ◌+◌, ◌-◌, ◌<◌, ◌≤◌, ℤ, Bool, cond, eqb, List, [], ◌∷◌, ◌++◌, Some, None, slice_get, length, length-append, length-drop, map, take, drop, ◌⊎◌, inl, inr, refl, sym, ap, ◌∙◌, subst, arith}
 use Rattle.std.specs.Option.{option_map}
 use Rattle.std.proofs.lemmas.Bool.{cases_lt, eq-eqb}
-use Rattle.std.proofs.lemmas.List.{drop_all, drop-map, length-map, length-take-le, map-append, take-append-le, take-map}
+use Rattle.std.proofs.lemmas.List.{drop_all, drop-map, length-map, length-take-le, map-append, take-append-le, take-map, drop-drop, drop-append-le}
 use Rattle.std.proofs.lemmas.Option.{get_or_from_slice_get, slice_get-map, slice_get_within}
 use Rattle.std.proofs.lemmas.List.Elements.{All-drop, All-head, All-nil, All-push, All-tail}
-use Rattle.bk_num.proofs.ListLemmas.{get-take}
+use Rattle.bk_num.proofs.ListLemmas.{get-take, get-drop}
 use Rattle.boxes.proofs.ListLemmas.{get-end, slice_get_at, take_get}
 use Rattle.boxes.specs.Tree.{Tree, Holds, IsTree}
 use Rattle.boxes.specs.declared.flow.Note.{Note}
@@ -213,28 +213,17 @@ pub record IsPassed (t : Tree) (a : Ahead) (k m : ℕ) : Type 0 where
   pub joined : AreJoined (rows_of t more)
   pub within : k + m ≤ length (page_of a)
 
-pub get_drop : {X : Type 0} (xs : List X) (n k : ℕ) → slice_get (drop n xs) k ≡ slice_get xs (n + k)
-get_drop xs zero k = ap (slice_get xs) (let e : k ≡ 0 + k = omega arith in e)
-get_drop [] (suc n) zero = refl
-get_drop [] (suc n) (suc k) = refl
-get_drop (x ∷ xs) (suc n) k = get_drop xs n k ∙ ap (slice_get (x ∷ xs)) (let e : suc (n + k) ≡ suc n + k = omega arith in e)
-
-drop_twice : {X : Type 0} (xs : List X) (n k : ℕ) → drop k (drop n xs) ≡ drop (n + k) xs
-drop_twice xs zero k = ap (λ (i : ℕ). drop i xs) (let e : k ≡ 0 + k = omega arith in e)
-drop_twice [] (suc n) k = drop_all k [] (omega arith) ∙ sym (drop_all (suc n + k) [] (omega arith))
-drop_twice (x ∷ xs) (suc n) k = drop_twice xs n k ∙ ap (λ (i : ℕ). drop i (x ∷ xs)) (let e : suc (n + k) ≡ suc n + k = omega arith in e)
-
 -- of some rows those from a number on are known to go on with their leaf
 pub joined_rest : (joined : JoinedLines) (rows : List SolidRow) (first count from : ℕ) → AreJoinedWithin joined rows → first + count ≤ joined.to → joined.from ≤ first + from → AreJoined (drop from (take count (drop first rows)))
 joined_rest joined rows first count from is far low k r e =
-    let there = get-take (drop first rows) count (from + k) r (sym (get_drop (take count (drop first rows)) from k) ∙ e) in
+    let there = get-take (drop first rows) count (from + k) r (sym (get-drop (take count (drop first rows)) from k) ∙ e) in
     let inside = there.0 in
-    is.are (first + (from + k)) r (omega (arith, low)) (omega (arith, far, inside)) (sym (get_drop rows first (from + k)) ∙ there.1)
+    is.are (first + (from + k)) r (omega (arith, low)) (omega (arith, far, inside)) (sym (get-drop rows first (from + k)) ∙ there.1)
 
 -- behind the last one there is none
 pub joined_none : (xs : List SolidRow) (count : ℕ) → AreJoined (drop count (take count xs))
 joined_none xs count k r e =
-    let there = get-take xs count (count + k) r (sym (get_drop (take count xs) count k) ∙ e) in
+    let there = get-take xs count (count + k) r (sym (get-drop (take count xs) count k) ∙ e) in
     let inside = there.0 in
     absurd (omega (arith, inside))
 
@@ -250,7 +239,7 @@ module _ (faces : List FontFace) (t : Tree) (width : ℤ) (kept : List KeptLeaf)
 
   pub page_row : (k : ℕ) (s : SolidView) (r : SolidRow) → slice_get (page_of a) k ≡ Some s → slice_get a.rows.items (a.first + k) ≡ Some r → r ≡ row_of t s
   page_row k s r e there =
-      let at : slice_get (map solid_view a.solids.items) (a.first + k) ≡ Some s = sym (get_drop (map solid_view a.solids.items) a.first k) ∙ e in
+      let at : slice_get (map solid_view a.solids.items) (a.first + k) ≡ Some s = sym (get-drop (map solid_view a.solids.items) a.first k) ∙ e in
       let row : slice_get a.rows.items (a.first + k) ≡ Some (row_of t s) = ap (λ (rs : List SolidRow). slice_get rs (a.first + k)) is.rows ∙ slice_get-map (row_of t) (map solid_view a.solids.items) (a.first + k) ∙ ap (option_map (row_of t)) at in
       let same : Some r ≡ Some (row_of t s) = sym there ∙ row in cc
 
@@ -276,7 +265,7 @@ module _ (faces : List FontFace) (t : Tree) (width : ℤ) (kept : List KeptLeaf)
           ap (λ (rs : List SolidRow). take m (drop (a.first + k) rs)) is.rows
           ∙ ap (take m) (drop-map (row_of t) (a.first + k) (map solid_view a.solids.items))
           ∙ take-map (row_of t) m (drop (a.first + k) (map solid_view a.solids.items))
-          ∙ ap (λ (vs : List SolidView). rows_of t (take m vs)) (sym (drop_twice (map solid_view a.solids.items) a.first k))
+          ∙ ap (λ (vs : List SolidView). rows_of t (take m vs)) (sym (drop-drop k a.first (map solid_view a.solids.items)))
 
 -- ---- a page's next solid
 pub record IsStep (faces : List FontFace) (t : Tree) (width : ℤ) (kept : List KeptLeaf) (from : Position) (old new : Ahead) (k : ℕ) : Type 0 where
@@ -309,17 +298,12 @@ past_none [] (suc k) l = refl
 past_none (x ∷ xs) zero l = absurd (omega arith)
 past_none (x ∷ xs) (suc k) l = past_none xs k (omega arith)
 
-drop_push : {X : Type 0} (xs : List X) (x : X) (n : ℕ) → n ≤ length xs → drop n (xs ++ x ∷ []) ≡ drop n xs ++ x ∷ []
-drop_push xs x zero l = refl
-drop_push [] x (suc n) l = absurd (omega arith)
-drop_push (y ∷ xs) x (suc n) l = drop_push xs x n (omega arith)
-
 -- with the next solid
 pub page_grows : (a b : Ahead) (s : Solid) → a.first ≤ length a.solids.items → b.solids.items ≡ a.solids.items ++ s ∷ [] → b.first ≡ a.first → page_of b ≡ page_of a ++ solid_view s ∷ []
 page_grows a b s within solids first =
     let size : length (map solid_view a.solids.items) ≡ length a.solids.items = length-map a.solids.items solid_view in
     ap (λ (n : ℕ). drop n (map solid_view b.solids.items)) first ∙ ap (λ (xs : List Solid). drop a.first (map solid_view xs)) solids ∙ ap (drop a.first) (map-append solid_view a.solids.items (s ∷ []))
-    ∙ drop_push (map solid_view a.solids.items) (solid_view s) a.first (omega (arith, within, size))
+    ∙ drop-append-le a.first (map solid_view a.solids.items) (solid_view s ∷ []) (omega (arith, within, size))
 
 -- the last one is at its own number, and there the page ends
 pub page_last : (a b : Ahead) (s : SolidView) (n : ℕ) → page_of b ≡ page_of a ++ s ∷ [] → n ≡ length (page_of a) → slice_get (page_of b) n ≡ Some s
@@ -347,7 +331,7 @@ module _ (faces : List FontFace) (t : Tree) (width : ℤ) (kept : List KeptLeaf)
   page_begun at a s is there here wide =
       let view : slice_get (map solid_view a.solids.items) a.first ≡ Some (solid_view s) = slice_get-map solid_view a.solids.items a.first ∙ ap (option_map solid_view) there in
       let zero_at : a.first + 0 ≡ a.first = omega arith in
-      let head : slice_get (page_of a) 0 ≡ Some (solid_view s) = get_drop (map solid_view a.solids.items) a.first 0 ∙ ap (slice_get (map solid_view a.solids.items)) zero_at ∙ view in
+      let head : slice_get (page_of a) 0 ≡ Some (solid_view s) = get-drop (map solid_view a.solids.items) a.first 0 ∙ ap (slice_get (map solid_view a.solids.items)) zero_at ∙ view in
       let own : AreAhead faces t a.width kept s.placed_at (page_of a) = ahead_from faces t a.width kept is.0 (page_of a) 0 (solid_view s) is.1.are head in
       record {
         wide = wide;
@@ -379,7 +363,7 @@ module _ (faces : List FontFace) (t : Tree) (width : ℤ) (kept : List KeptLeaf)
       views = map solid_view a.solids.items
 
       same : page_of b ≡ drop (b.first - a.first) (page_of a)
-      same = ap (λ (xs : List Solid). drop b.first (map solid_view xs)) solids ∙ ap (λ (n : ℕ). drop n views) (let n : b.first ≡ a.first + (b.first - a.first) = omega (arith, low) in n) ∙ sym (drop_twice views a.first (b.first - a.first))
+      same = ap (λ (xs : List Solid). drop b.first (map solid_view xs)) solids ∙ ap (λ (n : ℕ). drop n views) (let n : b.first ≡ a.first + (b.first - a.first) = omega (arith, low) in n) ∙ sym (drop-drop (b.first - a.first) a.first views)
 
       with_place : (at : Position) → AreAhead faces t width kept at (drop (b.first - a.first) (page_of a)) → IsAhead faces t kept b
       with_place at are = (

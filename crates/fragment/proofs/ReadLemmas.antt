@@ -1,8 +1,8 @@
 -- The notes of a page, as its solids are read.
-use Rattle.std.proofs.Common.{◌≡◌, ◌<◌, ◌≤◌, ℕ, zero, suc, ℤ, All, length, length-append, List, [], ◌∷◌, ◌++◌, refl, sym, ap, ◌∙◌, subst, arith, append-nil, append_assoc, ⊎_elim}
+use Rattle.std.proofs.Common.{◌≡◌, ◌<◌, ◌≤◌, ℕ, zero, suc, ℤ, All, length, List, [], ◌∷◌, ◌++◌, refl, sym, ap, ◌∙◌, subst, arith, append-nil, append_assoc, ⊎_elim}
 use Rattle.std.proofs.lemmas.Bool.{cases_lt}
 use Rattle.std.proofs.lemmas.List.Elements.{All-nil, All-push}
-use Rattle.bk_num.proofs.ListLemmas.{get-append}
+use Rattle.bk_num.proofs.ListLemmas.{get-append, length-more}
 use Rattle.metrics.specs.Face.{FontFace}
 use Rattle.boxes.specs.declared.flow.Flow.{Flow}
 use Rattle.boxes.specs.declared.frames.Frame.{Frame}
@@ -41,9 +41,6 @@ read_start faces flow frame at carried p ready held l called none = record {
 }
 
 -- ---- with one more solid
-size_more : {X : Type 0} (xs : List X) (x : X) → length (xs ++ x ∷ []) ≡ suc (length xs)
-size_more xs x = let size = length-append xs (x ∷ []) in omega arith
-
 pub called_last : (flow : Flow) (at : Position) (ends : List Position) (end : Position) → called_in flow at (ends ++ end ∷ []) (suc (length ends)) ≡ called_by flow.main flow.notes end
 called_last flow at ends end = ap (called_or flow.main flow.notes (called_before flow.main flow.notes at)) (get-end ends end)
 
@@ -82,7 +79,7 @@ module _ (faces : List FontFace) (flow : Flow) (frame : Frame) (at : Position) (
   told_more : (j : ℕ) → j < length (ends ++ end ∷ []) → (notes : List NotedSolid) → AreNoted faces flow.notes frame.width (parts_to flow at carried (called_in flow at (ends ++ end ∷ []) (suc j))) notes →
       Tells frame.height (area_after q.areas.items (suc j)) (area_of (note_rows notes) (must_of (note_rows notes) q.list.own))
   told_more j less notes n =
-      let size = size_more ends end in
+      let size = length-more ends end in
       let count = r.count in
       subst (λ (xs : List ℤ). Tells frame.height (area_after xs (suc j)) (area_of (note_rows notes) (must_of (note_rows notes) q.list.own))) (sym pushed)
       (⊎_elim
@@ -106,11 +103,11 @@ module _ (faces : List FontFace) (flow : Flow) (frame : Frame) (at : Position) (
     owned = r.owned;
     carries = rw own r.carries;
     low = let l = r.low in omega arith;
-    called = called ∙ sym (called_last flow at ends end) ∙ sym (ap (called_in flow at (ends ++ end ∷ [])) (size_more ends end));
+    called = called ∙ sym (called_last flow at ends end) ∙ sym (ap (called_in flow at (ends ++ end ∷ [])) (length-more ends end));
     list = r.list ++ more_is.0;
     listed = listed_more;
     read = more_is.2;
-    count = ap (λ (xs : List ℤ). length xs) pushed ∙ size_more p.areas.items area ∙ ap suc r.count ∙ sym (size_more ends end);
+    count = ap (λ (xs : List ℤ). length xs) pushed ∙ length-more p.areas.items area ∙ ap suc r.count ∙ sym (length-more ends end);
     small = subst (All IsArea) (sym pushed) (All-push IsArea p.areas.items area r.small small);
     told = told_more;
   }

@@ -1,5 +1,5 @@
 -- The steps of a page list.
-use Rattle.std.proofs.Common.{◌≡◌, ◌<◌, ◌≤◌, ◌+◌, ℕ, suc, is_some, Bool, true, false, List, [], ◌∷◌, ◌++◌, Option, Some, None, All, ◌==◌, ◌⊎◌, inl, inr, get_or, slice_get, length, length-append, append-nil, append_assoc, refl, sym, ap, ◌∙◌, subst, arith}
+use Rattle.std.proofs.Common.{◌≡◌, ◌<◌, ◌≤◌, ◌+◌, ℕ, suc, is_some, Bool, true, false, List, [], ◌∷◌, ◌++◌, Option, Some, None, All, ◌==◌, ◌⊎◌, inl, inr, slice_get, length, length-append, append-nil, append_assoc, refl, sym, ap, ◌∙◌, subst, arith}
 use Rattle.metrics.specs.Face.{FontFace}
 use Rattle.bk_num.specs.declared.ids.NameId.{NameId}
 use Rattle.boxes.specs.Steps.{IsRun}
@@ -21,7 +21,7 @@ use Rattle.page_list.specs.Pages.IsStep.{blank, noted}
 use Rattle.note_list.specs.Calls.{called_before, start_place}
 use Rattle.note_list.specs.Conditions.{AreCarried, IsHeld}
 use Rattle.std.proofs.lemmas.List.Elements.{All-nil}
-use Rattle.std.proofs.lemmas.Option.{none-some, slice_get-get_or, slice_get_past}
+use Rattle.std.proofs.lemmas.Option.{none-some, slice_get_past}
 use Rattle.std.proofs.lemmas.Bool.{cases_lt, eqb-true}
 use Rattle.boxes.specs.declared.flow.Note.{Note}
 use Rattle.fragment.specs.Runs.{Leads}
@@ -120,9 +120,6 @@ none_carried f at = record {
 
 pub start_holds : (t : Tree) → Holds t start_place
 start_holds t = record { within = omega arith; offset = λ o. absurd (omega arith) }
-
-pub all_of : {X : Type 0} (P : X → Type 0) (xs : List X) → ((k : ℕ) (x : X) → slice_get xs k ≡ Some x → P x) → All P xs
-all_of P xs h k d less = h k (get_or xs k d) (slice_get-get_or xs k d less)
 
 -- what holds of each note before one, and of that one, holds of each before the next
 pub one_note : (P : Note → Type 0) (notes : List Note) (at : ℕ) (m : Note) → slice_get notes at ≡ Some m → P m → ((k : ℕ) (n : Note) → k < at → slice_get notes k ≡ Some n → P n) → (k : ℕ) (n : Note) → k < at + 1 → slice_get notes k ≡ Some n → P n

@@ -4,10 +4,9 @@ use Rattle.std.proofs.lemmas.Bool.{cases_lt, eq-eqb}
 use Rattle.std.proofs.lemmas.Bool.Decides.{eqb_tells}
 use Rattle.std.proofs.lemmas.Option.{get_or_from_slice_get, slice_get_within}
 use Rattle.std.proofs.Math.ListN.{get_or-map}
-use Rattle.std.proofs.lemmas.List.{length-map}
+use Rattle.std.proofs.lemmas.List.{length-map, drop-drop}
 use Rattle.boxes.proofs.TreeFacts.{few_events}
 use Rattle.std.proofs.lemmas.List.Elements.{All-map}
-use Rattle.std.proofs.Math.Seq.{drop-nil}
 use Rattle.bk_num.proofs.ListLemmas.{drop-next}
 use Rattle.metrics.specs.Face.{FontFace}
 use Rattle.boxes.specs.Tree.{Tree, IsTree, Holds}
@@ -57,15 +56,10 @@ size_mono leaves (Opens b ∷ es) (suc j) = size_mono leaves es j
 size_mono leaves (Closes b ∷ es) (suc j) = size_mono leaves es j
 size_mono leaves (Leaf l ∷ es) (suc j) = let h = size_mono leaves es j in omega arith
 
-pub drop_drop : (es : List Event) (j i : ℕ) → drop i (drop j es) ≡ drop (j + i) es
-drop_drop es zero i = ap (λ (n : ℕ). drop n es) (omega arith)
-drop_drop [] (suc j) i = drop-nil i ∙ sym (drop-nil (suc j + i))
-drop_drop (x ∷ es) (suc j) i = drop_drop es j i ∙ ap (λ (n : ℕ). drop n (x ∷ es)) (let n : suc (j + i) ≡ suc j + i = omega arith in n)
-
 pub size_later : (leaves : List LeafData) (es : List Event) (j k : ℕ) → j ≤ k → text_size leaves (drop k es) ≤ text_size leaves (drop j es)
 size_later leaves es j k low =
     let n : j + (k - j) ≡ k = omega arith in
-    let e : drop (k - j) (drop j es) ≡ drop k es = drop_drop es j (k - j) ∙ ap (λ (m : ℕ). drop m es) n in
+    let e : drop (k - j) (drop j es) ≡ drop k es = drop-drop (k - j) j es ∙ ap (λ (m : ℕ). drop m es) n in
     subst (λ (xs : List Event). text_size leaves xs ≤ text_size leaves (drop j es)) e (size_mono leaves (drop j es) (k - j))
 
 pub size_here : (t : Tree) (k l : ℕ) (leaf : LeafData) → slice_get t.events k ≡ Some (Leaf l) → slice_get t.leaves l ≡ Some leaf → text_size t.leaves (drop k t.events) ≡ length leaf.text + text_size t.leaves (drop (suc k) t.events)

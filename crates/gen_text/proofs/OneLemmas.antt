@@ -3,16 +3,10 @@ use Rattle.std.proofs.Common.{◌≡◌, ◌⊎◌, inl, inr, ℕ, zero, suc, �
 use Rattle.std.specs.List.{Contains}
 use Rattle.std.specs.List.Sorted.{IsStrictlyIncreasing}
 use Rattle.bk_num.specs.declared.ids.NodeId.{NodeId}
-use Rattle.bk_num.proofs.ListLemmas.{contains-none}
+use Rattle.bk_num.proofs.ListLemmas.{contains-none, contains-first, contains-more}
 use Rattle.dom.specs.Nodes.{Node}
 use Rattle.style.specs.Nodes.{NodeStyles}
 use Rattle.gen_text.specs.References.{AreTargets}
-
-here : (x : ℕ) (xs : List ℕ) → Contains (x ∷ xs) x
-here x xs = (0, omega arith, refl)
-
-there : (x : ℕ) (xs : List ℕ) (t : ℕ) → Contains xs t → Contains (x ∷ xs) t
-there x xs t (k, less, is) = (suc k, omega (arith, less), is)
 
 cases : (x : ℕ) (xs : List ℕ) (t : ℕ) → Contains (x ∷ xs) t → (x ≡ t) ⊎ Contains xs t
 cases x xs t (zero, less, is) = inl is
@@ -36,14 +30,14 @@ abbrev Within : List ℕ → List ℕ → Type 0
 Within xs ys = (t : ℕ) → Contains xs t → Contains ys t
 
 head_least : (x y : ℕ) (xs ys : List ℕ) → IsStrictlyIncreasing (x ∷ xs) → Within (y ∷ ys) (x ∷ xs) → x ≤ y
-head_least x y xs ys up within = by (cases x xs y (within y (here y ys)))
+head_least x y xs ys up within = by (cases x xs y (within y (contains-first y ys)))
   where
     by : (x ≡ y) ⊎ Contains xs y → x ≤ y
     by (inl same) = omega (arith, same)
     by (inr later) = let below = head_below x xs up y later in omega (arith, below)
 
 rest_within : (x y : ℕ) (xs ys : List ℕ) → x ≡ y → IsStrictlyIncreasing (x ∷ xs) → Within (x ∷ xs) (y ∷ ys) → Within xs ys
-rest_within x y xs ys same up within t h = by (cases y ys t (within t (there x xs t h)))
+rest_within x y xs ys same up within t h = by (cases y ys t (within t (contains-more x xs t h)))
   where
     by : (y ≡ t) ⊎ Contains ys t → Contains ys t
     by (inl e) = let below = head_below x xs up t h in absurd (omega (arith, below, e, same))
@@ -51,8 +45,8 @@ rest_within x y xs ys same up within t h = by (cases y ys t (within t (there x x
 
 one : (xs ys : List ℕ) → IsStrictlyIncreasing xs → IsStrictlyIncreasing ys → Within xs ys → Within ys xs → xs ≡ ys
 one [] [] up down f g = refl
-one [] (y ∷ ys) up down f g = absurd (contains-none y (g y (here y ys)))
-one (x ∷ xs) [] up down f g = absurd (contains-none x (f x (here x xs)))
+one [] (y ∷ ys) up down f g = absurd (contains-none y (g y (contains-first y ys)))
+one (x ∷ xs) [] up down f g = absurd (contains-none x (f x (contains-first x xs)))
 one (x ∷ xs) (y ∷ ys) up down f g =
     let less = head_least x y xs ys up g in
     let more = head_least y x ys xs down f in

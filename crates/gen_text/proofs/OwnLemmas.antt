@@ -8,6 +8,7 @@ use Rattle.std.proofs.lemmas.List.Folds.{list_all-append}
 use Rattle.std.proofs.lemmas.Grind.{flat_map-append}
 use Rattle.std.specs.List.{flat_map, list_all}
 use Rattle.bk_num.specs.declared.ids.NodeId.{NodeId}
+use Rattle.bk_num.proofs.ListLemmas.{get-drop}
 use Rattle.dom.specs.Nodes.{Node, NodeData, Element, Text, is_at, flat, first_from, next_under, next_of, first_child_of, parents_of, parent_at, depth_of, depth_at, is_element, is_element_node, is_element_at, text_in, part_of, text_at, IsTree, HasPlace}
 use Rattle.dom.specs.Order.{way}
 use Rattle.dom.specs.Walk.{children_from, children_of, tour, node_of}
@@ -111,12 +112,6 @@ nothing-below nodes styles tree e (suc d) n l h = rw h (flat_map-append (kept_te
 -- a node's later siblings
 abbrev pub later : List (Option ℕ) → ℕ → ℕ → List ℕ
 later ps p n = children_from p (drop (n + 1) ps) (n + 1)
-
-get-drop : (qs : List (Option ℕ)) (j i : ℕ) → slice_get (drop j qs) i ≡ slice_get qs (j + i)
-get-drop [] zero i = refl
-get-drop [] (suc j) i = refl
-get-drop (q ∷ qs) zero i = let e : 0 + i ≡ i = omega arith in rw e refl
-get-drop (q ∷ qs) (suc j) i = let e : suc j + i ≡ suc (j + i) = omega arith in rw e (get-drop qs j i)
 
 -- the next sibling, and those after it
 later-step : (ps : List (Option ℕ)) (p n s : ℕ) → first_from p (drop (n + 1) ps) (n + 1) ≡ Some s → (slice_get ps s ≡ Some (Some p)) × (later ps p n ≡ s ∷ later ps p s)

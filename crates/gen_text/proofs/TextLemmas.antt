@@ -10,6 +10,7 @@ use Rattle.std.specs.Str.{bytes_eq}
 use Rattle.std.specs.Prelude.{String, string_bytes}
 use Rattle.std.proofs.lemmas.Bool.{and_parts, not-true}
 use Rattle.bk_num.specs.declared.values.Pseudo.TheVariants as pseudo
+use Rattle.bk_num.proofs.ListLemmas.{filter-none}
 use Rattle.dom.specs.Nodes.{Node, IsTree}
 use Rattle.dom.specs.Order.{IsFirstOf, has_id, comes_after}
 use Rattle.dom.proofs.OrderLemmas.{first-one}
@@ -22,10 +23,6 @@ use Rattle.gen_text.specs.Texts.{TextSource, assigned_by, assigned_of, is_asked,
 use Rattle.gen_text.specs.Target.{IsOfId, TargetIsThat, address_of, id_in, shown_only, numbers_of, is_preceded, is_first, first_of, shown_of}
 
 -- ---- the first that passes a test
-
-none_passes : (p : ℕ → Bool) (xs : List ℕ) → ((n : ℕ) → p n ≡ false) → filter p xs ≡ []
-none_passes p [] none = refl
-none_passes p (x ∷ xs) none = rw (none x) (none_passes p xs none)
 
 abbrev Heads : (ℕ → Bool) → List ℕ → Type 0
 Heads p xs = (y : ℕ) × (slice_get (filter p xs) 0 ≡ Some y) × (p y ≡ true)
@@ -79,7 +76,7 @@ first-is nodes id n e = (parts.0, λ m has. by m has (comes_after nodes n m) ref
         cc
 
 pub first-that : (nodes : List Node) (id : List ℕ) (r : Option ℕ) → IsTree nodes → IsFirstOf nodes id r → r ≡ first_of nodes id
-first-that nodes id None tree h = rw (none_passes (is_first nodes id) (numbers_of nodes) (λ n. let e = h n in rw e refl)) refl
+first-that nodes id None tree h = rw (filter-none (is_first nodes id) (numbers_of nodes) (λ n. let e = h n in rw e refl)) refl
 first-that nodes id (Some n) tree h =
     let (less, at) = number_at nodes n (has_within nodes id n h.0) in
     let heads = one_passes (is_first nodes id) (numbers_of nodes) n n less at (is-first nodes id n h) in

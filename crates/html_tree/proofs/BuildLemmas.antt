@@ -3,7 +3,7 @@ use Rattle.std.proofs.Common.{◌≡◌, ℕ, suc, zero, ◌+◌, ◌-◌, ◌<�
 use Rattle.std.proofs.lemmas.Option.{slice_get_within}
 use Rattle.std.specs.Str.{bytes_eq}
 use Rattle.bk_num.specs.declared.ids.NodeId.{NodeId}
-use Rattle.bk_num.proofs.ListLemmas.{get-keep, get-end}
+use Rattle.bk_num.proofs.ListLemmas.{get-keep, get-end, length-slice_set}
 use Rattle.dom.specs.Nodes.{Node, Element, Text, child_of, is_element_at, is_element_node, is_element, part_of, attributed, changed_at, with_attribute, attribute_at, depth_at}
 use Rattle.dom.specs.declared.dom.DomErr.{DomErr}
 use Rattle.dom.specs.declared.dom.DomErr.TheVariants.{Nodes, Depth, NoMemory}
@@ -81,11 +81,6 @@ set-element (x ∷ nodes) zero (suc m) a y h e = refl
 set-element (x ∷ nodes) (suc n) zero a y h e = refl
 set-element (x ∷ nodes) (suc n) (suc m) a y h e = set-element nodes n m a y h e
 
-set-length : (nodes : List Node) (n : ℕ) (y : Node) → length (slice_set nodes n y) ≡ length nodes
-set-length [] n y = refl
-set-length (x ∷ nodes) zero y = refl
-set-length (x ∷ nodes) (suc n) y = ap suc (set-length nodes n y)
-
 with-element : (nodes : List Node) (n m : ℕ) (key value : List ℕ) → is_element_at (with_attribute nodes n key value) m ≡ is_element_at nodes m
 with-element nodes n m key value = by (slice_get nodes n) refl
   where
@@ -98,7 +93,7 @@ with-length nodes n key value = by (slice_get nodes n)
   where
     by : (o : Option Node) → length (changed_at (λ a. record a { what = attributed key value a.what }) nodes n o) ≡ length nodes
     by None = refl
-    by (Some a) = set-length nodes n (record a { what = attributed key value a.what })
+    by (Some a) = length-slice_set nodes n (record a { what = attributed key value a.what })
 
 put-element : (n : ℕ) (nodes : List Node) (a : List ℕ × List ℕ) (m : ℕ) → is_element_at (put n nodes a) m ≡ is_element_at nodes m
 put-element n nodes a m = by (is_some (attribute_at nodes n (name_of a.0)))

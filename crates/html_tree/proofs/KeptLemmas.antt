@@ -6,7 +6,7 @@ use Rattle.std.proofs.lemmas.List.{length-take, length-take-le, take_more, get_o
 use Rattle.std.proofs.lemmas.List.Sums.{fold-append}
 use Rattle.std.proofs.lemmas.Option.{slice_get_within, get_or_from_slice_get}
 use Rattle.bk_num.specs.declared.ids.NodeId.{NodeId}
-use Rattle.bk_num.proofs.ListLemmas.{get-take, get-end, get-append, none-is}
+use Rattle.bk_num.proofs.ListLemmas.{get-take, get-end, get-append, none-is, take-past}
 use Rattle.dom.specs.Nodes.{Node, NodeData, Element, Text, name_at, part_of, child_of, attributed, changed_at, attribute_at}
 use Rattle.html_tree.specs.Rules.{Rule, rules, has_name, names_tag}
 use Rattle.html_tree.specs.Texts.{name_of, text_of}
@@ -29,12 +29,6 @@ pub rules-more : (name : List ℕ) (nodes : List Node) (opened : List NodeId) (i
 rules-more name nodes opened i r e =
     ap (fold (after_rule name nodes) opened) (take_more rules i r (slice_get_within rules i r e) ∙ ap (λ x. take i rules ++ x ∷ []) (get_or_from_slice_get rules i r r e))
     ∙ fold-append (after_rule name nodes) opened (take i rules) (r ∷ [])
-
-take-past : {A : Type 0} (xs : List A) (i : ℕ) → length xs ≤ i → take i xs ≡ xs
-take-past [] zero h = refl
-take-past [] (suc i) h = refl
-take-past (x ∷ xs) zero h = absurd (omega arith)
-take-past (x ∷ xs) (suc i) h = ap (λ l. x ∷ l) (take-past xs i (omega arith))
 
 pub rules-all : (i : ℕ) → 8 ≤ i → take i rules ≡ rules
 rules-all i h = take-past rules i (let n = rules-long in omega (arith, h, n))
@@ -122,11 +116,6 @@ none-closed name nodes opened r h = by (names_tag r name)
     by : (b : Bool) → opened ≡ (if b then closed_by (has_name r.closes) (has_name r.scope) nodes opened else opened)
     by true = closed-none (has_name r.closes) (has_name r.scope) nodes opened (none-is (kept (has_name r.closes) (has_name r.scope) nodes opened (length opened)) h)
     by false = refl
-
-pub set-long : (flags : List Bool) (k : ℕ) (flag : Bool) → length (slice_set flags k flag) ≡ length flags
-set-long [] k flag = refl
-set-long (f ∷ flags) zero flag = refl
-set-long (f ∷ flags) (suc k) flag = ap suc (set-long flags k flag)
 
 -- a flag set, beside the others
 pub set-one : (flags : List Bool) (k i : ℕ) (flag wanted : Bool) → i ≤ k → k < length flags → (i < k → get_or flags i false ≡ wanted) → (i ≡ k → flag ≡ wanted) → get_or (slice_set flags k flag) i false ≡ wanted

@@ -1,11 +1,10 @@
 -- The states before each token of a text, and what is open in them.
 use Rattle.std.proofs.Common.{◌≡◌, ◌⊎◌, inl, inr, ℕ, suc, zero, ◌+◌, ◌-◌, ◌<◌, ◌≤◌, List, [], ◌∷◌, ◌++◌, Option, None, Some, Result, Ok, Err, IfOk, Contains, length, option_map, take, slice_get, refl, sym, ◌∙◌, ap, subst, arith}
 use Rattle.std.proofs.lemmas.Bool.{cases_lt}
-use Rattle.std.proofs.lemmas.List.{take_more}
-use Rattle.std.proofs.lemmas.Option.{slice_get_within, slice_get-map, get_or_from_slice_get}
+use Rattle.std.proofs.lemmas.Option.{slice_get_within, slice_get-map}
 use Rattle.std.proofs.Math.Seq.{take-length}
 use Rattle.bk_num.specs.declared.ids.NodeId.{NodeId}
-use Rattle.bk_num.proofs.ListLemmas.{get-none, contains-get, get-contains, slice_get_at}
+use Rattle.bk_num.proofs.ListLemmas.{get-none, contains-get, get-contains, slice_get_at, take-more}
 use Rattle.dom.specs.Nodes.{Node, parents_of, depth_of, flat}
 use Rattle.dom.specs.declared.dom.DomErr.{DomErr}
 use Rattle.dom.proofs.IdLemmas.{length-parents}
@@ -32,9 +31,6 @@ tokens-more (x ∷ tokens) t s = by (after_kind x.kind x.slice s) (tokens-more t
     by (Ok m) rest = rest m
     by (Err e) rest = refl
 
-take-step : (tokens : List TokenView) (t : ℕ) (token : TokenView) → slice_get tokens t ≡ Some token → take (t + 1) tokens ≡ take t tokens ++ token ∷ []
-take-step tokens t token h = take_more tokens t token (slice_get_within tokens t token h) ∙ ap (λ x. take t tokens ++ x ∷ []) (get_or_from_slice_get tokens t token token h)
-
 take-none : (tokens : List TokenView) (t : ℕ) → slice_get tokens t ≡ None → take (suc t) tokens ≡ take t tokens
 take-none [] zero h = refl
 take-none [] (suc t) h = refl
@@ -49,7 +45,7 @@ pub record IsStep (tokens : List TokenView) (t : ℕ) (token : TokenView) (after
 
 module _ (tokens : List TokenView) where
   state-step : (t : ℕ) (token : TokenView) (s : State) → slice_get tokens t ≡ Some token → IsStateAt tokens (suc t) s → IsStep tokens t token s
-  state-step t token s e h = by (after_tokens (take t tokens) begun) refl (sym (tokens-more (take t tokens) token begun) ∙ sym (ap (λ l. after_tokens l begun) (take-step tokens t token e)) ∙ ap (λ i. after_tokens (take i tokens) begun) (let n : t + 1 ≡ suc t = omega arith in n) ∙ h)
+  state-step t token s e h = by (after_tokens (take t tokens) begun) refl (sym (tokens-more (take t tokens) token begun) ∙ sym (ap (λ l. after_tokens l begun) (take-more tokens t token e)) ∙ ap (λ i. after_tokens (take i tokens) begun) (let n : t + 1 ≡ suc t = omega arith in n) ∙ h)
     where
       by : (r : Result State DomErr) → after_tokens (take t tokens) begun ≡ r → after_result r (after_kind token.kind token.slice) ≡ Ok s → IsStep tokens t token s
       by (Ok m) b k = record { state = m; before = b; next = kind-next token.kind token.slice m s k }

@@ -8,12 +8,8 @@ use Rattle.std.proofs.lemmas.Bool.Decides.{nat_tests}
 use Rattle.std.proofs.lemmas.List.{map-append}
 use Rattle.std.proofs.lemmas.List.Elements.{filter-append}
 use Rattle.std.proofs.lemmas.List.Sums.{sum_by_more}
+use Rattle.bk_num.proofs.ListLemmas.{range-more}
 use Rattle.hyphen.specs.Points.{is_point, letters_of, offset_of, places_of, points_of}
-
--- n numbers and the next
-range_more : (a n : ℕ) → range_with_len a (suc n) ≡ range_with_len a n ++ (a + n) ∷ []
-range_more a zero = let e : a + 0 ≡ a = omega arith in rw e refl
-range_more a (suc n) = let e : (a + 1) + n ≡ a + suc n = omega arith in rw (range_more (a + 1) n, e) refl
 
 nothing_more : (l : List ℕ) → l ++ [] ≡ l
 nothing_more [] = refl
@@ -24,7 +20,7 @@ places_more : (p : ℕ → Bool) (n : ℕ) → filter p (range_with_len 0 (n + 1
 places_more p n =
     let up : n + 1 ≡ suc n = add-one n in
     let front = filter p (range_with_len 0 n) in
-    ap (λ (m : ℕ). filter p (range_with_len 0 m)) up ∙ ap (filter p) (range_more 0 n) ∙ filter-append p (range_with_len 0 n) ((0 + n) ∷ []) ∙ ap (λ (l : List ℕ). front ++ l) last
+    ap (λ (m : ℕ). filter p (range_with_len 0 m)) up ∙ ap (filter p) (range-more 0 n) ∙ filter-append p (range_with_len 0 n) ((0 + n) ∷ []) ∙ ap (λ (l : List ℕ). front ++ l) last
   where
     last : filter p ((0 + n) ∷ []) ≡ (if p n then n ∷ [] else [])
     last = let e : 0 + n ≡ n = omega arith in ap (λ (m : ℕ). filter p (m ∷ [])) e

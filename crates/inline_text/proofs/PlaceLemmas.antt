@@ -1,5 +1,5 @@
 -- The places of a text: one character more, and that they ascend at characters.
-use Rattle.std.proofs.Common.{◌≡◌, ◌∙◌, ℕ, zero, suc, ◌+◌, ◌<◌, ◌≤◌, Bool, true, false, cond, ◌&&◌, ◌||◌, nat_lt, nat_le, List, [], ◌∷◌, ◌++◌, length, map, drop, refl, sym, ap, ap₂, subst, arith, length-append, length-drop}
+use Rattle.std.proofs.Common.{◌≡◌, ℕ, zero, suc, ◌+◌, ◌<◌, ◌≤◌, Bool, true, false, cond, ◌&&◌, ◌||◌, nat_lt, nat_le, List, [], ◌∷◌, ◌++◌, length, map, drop, refl, sym, ap, subst, arith, length-append, length-drop}
 use Rattle.std.specs.Char.{len_utf8, encode_utf8}
 use Rattle.std.specs.Prelude.{encode_utf8_all}
 use Rattle.std.specs.List.{All, filter, list_any}
@@ -9,6 +9,7 @@ use Rattle.std.proofs.Math.Utf8.{scalar, scalars}
 use Rattle.std.proofs.lemmas.List.Elements.{All-nil, All-cons, All-head, All-tail, All-filter, All-weaker, All-map}
 use Rattle.std.proofs.lemmas.List.Kept.{IsStrictlyIncreasing-filter}
 use Rattle.std.proofs.lemmas.Str.{len_utf8_bounds, length-encode, length-le-encodes, drop_past_char, IsCharBoundary-from_drop, encodes-chars, scalars-chars}
+use Rattle.bk_num.proofs.ListLemmas.{filter-none}
 use Rattle.unicode_segmentation.specs.Grapheme.{graphemes, is_grapheme_break}
 use Rattle.unicode_segmentation.specs.Segments.{Rule, cut, prepend, segments, with_offsets}
 use Rattle.unicode_segmentation.proofs.SegmentsLemmas.{IsPieceOf, All-IsPieceOf}
@@ -151,10 +152,6 @@ ends_nowhere p (s ∷ spans) at none = by (p s) (ends_nowhere p spans at) none
     by true rest h = absurd (cc)
     by false rest h = rest h
 
-no_filtered : (p : ℕ → Bool) (xs : List ℕ) → ((x : ℕ) → p x ≡ false) → filter p xs ≡ []
-no_filtered p [] none = refl
-no_filtered p (x ∷ xs) none = filter_step p x xs ∙ ap₂ (λ b l. cond b (x ∷ []) [] ++ l) (none x) (no_filtered p xs none)
-
 pub no_emergencies : (text : List ℕ) (spans : List Span) → list_any wraps_anywhere spans ≡ false → [] ≡ emergencies_of text spans
 unfolding emergencies_of
-no_emergencies text spans none = sym (no_filtered (ends_in wraps_anywhere spans) (boundaries_of text) (λ at. ends_nowhere wraps_anywhere spans at none))
+no_emergencies text spans none = sym (filter-none (ends_in wraps_anywhere spans) (boundaries_of text) (λ at. ends_nowhere wraps_anywhere spans at none))

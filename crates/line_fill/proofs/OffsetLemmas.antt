@@ -3,6 +3,7 @@ use Rattle.std.proofs.Common.{◌≡◌, ℕ, zero, suc, ◌+◌, ◌-◌, ◌<�
 use Rattle.std.specs.List.{Contains, filter}
 use Rattle.std.proofs.lemmas.Bool.Decides.{nat_tests}
 use Rattle.std.proofs.lemmas.List.{length-map}
+use Rattle.bk_num.proofs.ListLemmas.{contains-more}
 use Rattle.metrics.specs.Face.{FontFace}
 use Rattle.boxes.specs.declared.leaf.Leaf.{Leaf}
 use Rattle.total_fit.specs.Plans.{IsBest}
@@ -14,9 +15,6 @@ use Rattle.line_fill.proofs.LineLemmas.{stop-after}
 -- a place is the last one, or one of a list between two places
 abbrev IsNamed : List ℕ → ℕ → ℕ → ℕ → Type 0
 IsNamed xs from stop q = (q ≡ stop) ⊎ ((from < q) × (q < stop) × Contains xs q)
-
-contains-more : (x : ℕ) (xs : List ℕ) (q : ℕ) → Contains xs q → Contains (x ∷ xs) q
-contains-more x xs q (k, l, e) = (suc k, omega arith, e)
 
 named-cons : (x : ℕ) (xs : List ℕ) (from stop q : ℕ) → IsNamed xs from stop q → IsNamed (x ∷ xs) from stop q
 named-cons x xs from stop q (inl e) = inl e

@@ -4,6 +4,7 @@ use Rattle.std.specs.List.{flat_map, range_with_len}
 use Rattle.bk_io.specs.Sink.{AppendsAllOrPrefix}
 use Rattle.bk_io.specs.declared.sink.Failed.{Failed}
 use Rattle.bk_num.specs.declared.name.NoMem.{NoMem}
+use Rattle.bk_num.proofs.ListLemmas.{flat-next}
 use Rattle.boxes.specs.declared.page.Page.{Page}
 use Rattle.listing.specs.Pages.{head_record, page_records}
 use Rattle.listing.specs.Records.{book_record, end_record, item_record}
@@ -13,7 +14,7 @@ use Rattle.margin_box.specs.declared.items.MarginText.{MarginText}
 use Rattle.paint.specs.Views.{items_in}
 use Rattle.paint.specs.declared.item.ItemRef.{ItemRef}
 use Rattle.listing.specs.Printed.{Print, head_at, items_at, listing_of, margins_of, page_bytes}
-use Rattle.listing.proofs.Numbers.{flat-next, page_is}
+use Rattle.listing.proofs.Numbers.{page_is}
 
 pub printed_is : (p : Print) (pages : List Page) (place : ℕ) (page : Page) (head : PageHead) (items : List ItemRef) (texts : List MarginText) →
     slice_get pages place ≡ Some page → head_record head ≡ head_at p pages place page → items_in p.faces items ≡ items_at p place →

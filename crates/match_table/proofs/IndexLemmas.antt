@@ -2,7 +2,7 @@
 use Rattle.std.proofs.Common.{◌≡◌, ◌⊎◌, ℕ, zero, suc, ◌+◌, ◌<◌, ◌≤◌, Bool, true, false, not, ◌==◌, inl, inr, List, [], ◌∷◌, ◌++◌, Option, None, Some, get_or, length, take, map, cond, if◌then◌else◌, nat_lt, position, refl, sym, ◌∙◌, ap, subst, arith, rules}
 use Rattle.std.specs.Prelude.{slice_get, slice_set, codes, IfSome}
 use Rattle.std.proofs.lemmas.Option.{same_Some}
-use Rattle.bk_num.proofs.ListLemmas.{bytes_same, get-push, take-next}
+use Rattle.bk_num.proofs.ListLemmas.{bytes_same, get-push, take-next, contains-filter}
 use Rattle.std.specs.List.{Contains, list_all, list_any, slice_split}
 use Rattle.std.specs.Option.{option_to_list}
 use Rattle.std.specs.Str.{bytes_eq}
@@ -20,7 +20,7 @@ use Rattle.selectors.specs.declared.types.Compound.{Compound}
 use Rattle.selectors.specs.Selectors.{SelectorView}
 use Rattle.selectors.specs.Fits.{fits_compound, fits_plain, passes_test, value_passes, has_type}
 use Rattle.selectors.specs.Match.{Tree, Matches, Reaches, fits, fits_part}
-use Rattle.match_table.proofs.WordLemmas.{word-among-parts, word-some, contains-filter}
+use Rattle.match_table.proofs.WordLemmas.{word-among-parts, word-some}
 use Rattle.match_table.specs.Index.{words_at, words_in, IsWordNoted, IsKeyBy, by_id, by_class, by_type, IsKey, last_part, word_of, number_of, rarer, IsRarest, KeepsWords, HasWord, HaveWords, HasKeys, HaveKeys, IsNumberIn, IsNumberFor, IsKeyNumber, IsNoted, AreNoted, Keeps}
 
 -- ---- noting the words of a node

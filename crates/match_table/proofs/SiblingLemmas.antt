@@ -4,6 +4,7 @@ use Rattle.std.proofs.lemmas.Option.{same_Some}
 use Rattle.std.specs.Prelude.{is_some, slice_get}
 use Rattle.std.proofs.lemmas.Bool.{cases_Bool, cases_eq, true≢false}
 use Rattle.std.proofs.lemmas.Map.Views.{exact_unsigned_eq}
+use Rattle.bk_num.proofs.ListLemmas.{get-taken, get-drop}
 use Rattle.dom.specs.Nodes.{Node, is_at, first_of, first_from, last_from, parents_of, parent_at, flat, next_under, prev_under, next_of, prev_of}
 use Rattle.dom.proofs.DomLemmas.{last-low, last-next, eqb-self}
 use Rattle.selectors.specs.Walk.{chain, first_such, beside, siblings_before, siblings_after}
@@ -15,17 +16,6 @@ use Rattle.selectors.proofs.WalkLemmas.{prev_in, Row, chain_row}
 child-at : (o : Option (Option ℕ)) (p : ℕ) → flat o ≡ Some p → o ≡ Some (Some p)
 child-at None p e = cc
 child-at (Some q) p e = ap (λ z. Some z) e
-
-get-take : {A : Type 0} (xs : List A) (n m : ℕ) → m < n → slice_get (take n xs) m ≡ slice_get xs m
-get-take xs zero m h = absurd (omega (arith, h))
-get-take [] (suc n) m h = refl
-get-take (x ∷ xs) (suc n) zero h = refl
-get-take (x ∷ xs) (suc n) (suc m) h = get-take xs n m (omega (arith, h))
-
-get-drop : {A : Type 0} (xs : List A) (n i : ℕ) → slice_get (drop n xs) i ≡ slice_get xs (n + i)
-get-drop xs zero i = let e : i ≡ 0 + i = omega arith in ap (slice_get xs) e
-get-drop [] (suc n) i = refl
-get-drop (x ∷ xs) (suc n) i = let e : suc (n + i) ≡ suc n + i = omega arith in get-drop xs n i ∙ ap (slice_get (x ∷ xs)) e
 
 at-least : (o : Option ℕ) (m : ℕ) → ((l : ℕ) → o ≡ Some l → m ≤ l) → (k : ℕ) × (first_of o (Some m) ≡ Some k) × (m ≤ k)
 at-least None m low = (m, refl, omega arith)
@@ -39,7 +29,7 @@ last-found p qs m at =
 
 prev-found : (ps : List (Option ℕ)) (n m p : ℕ) → m < n → parent_at ps n ≡ Some p → parent_at ps m ≡ Some p → (k : ℕ) × (prev_of ps n ≡ Some k) × (m ≤ k)
 prev-found ps n m p before here there =
-    let h = last-found p (take n ps) m (get-take ps n m before ∙ child-at (slice_get ps m) p there) in
+    let h = last-found p (take n ps) m (get-taken ps n m before ∙ child-at (slice_get ps m) p there) in
     (h.0, ap (prev_under ps n) here ∙ h.1, h.2)
 
 -- the first child from a place on is no later than another that lies there

@@ -5,6 +5,7 @@ use Rattle.std.specs.List.{AllZip}
 use Rattle.std.proofs.lemmas.List.{map-append, take_more}
 use Rattle.std.proofs.lemmas.Option.{none-some, same_Some, slice_get-map, slice_get-get_or}
 use Rattle.bk_num.specs.Limits.{most_file_bytes}
+use Rattle.bk_num.proofs.ListLemmas.{pairs-more}
 use Rattle.bk_io.specs.Reads.{HasTextFault, IsTextOf}
 use Rattle.bk_io.specs.Shelf.{Told, IfHolds}
 use Rattle.bk_io.specs.declared.read_text.TextErr.{TextErr}
@@ -17,19 +18,13 @@ use Rattle.named_files.specs.declared.fault.FileFault.{FileFault}
 use Rattle.named_files.specs.declared.file.FileOf.{FileOf}
 use Rattle.named_files.specs.declared.file.FileOf.TheVariants as file
 
-pairs_push : {A B : Type 0} (R : A → B → Type 0) (xs : List A) (ys : List B) (x : A) (y : B) → AllZip R xs ys → R x y → AllZip R (xs ++ x ∷ []) (ys ++ y ∷ [])
-pairs_push R [] [] x y h r = (r, tt)
-pairs_push R [] (b ∷ bs) x y h r = absurd h
-pairs_push R (a ∷ rest) [] x y h r = absurd h
-pairs_push R (a ∷ rest) (b ∷ bs) x y h r = (h.0, pairs_push R rest bs x y h.1 r)
-
 -- one more text
 pub next_pair : {B : Type 0} (R : List ℕ → B → Type 0) (names : List (Bor (List ℕ))) (i : ℕ) (d : Bor (List ℕ)) (ts : List B) (t : B) → i < length names →
     AllZip R (map (λ (n : Bor (List ℕ)). n.now) (take i names)) ts → R (get_or names i d).now t → AllZip R (map (λ (n : Bor (List ℕ)). n.now) (take (i + 1) names)) (ts ++ t ∷ [])
 next_pair R names i d ts t within before here =
     let more : map (λ (n : Bor (List ℕ)). n.now) (take (i + 1) names) ≡ map (λ (n : Bor (List ℕ)). n.now) (take i names) ++ (get_or names i d).now ∷ [] =
     ap (map (λ (n : Bor (List ℕ)). n.now)) (take_more names i d within) ∙ map-append (λ (n : Bor (List ℕ)). n.now) (take i names) (get_or names i d ∷ []) in
-    subst (λ z. AllZip R z (ts ++ t ∷ [])) (sym more) (pairs_push R (map (λ (n : Bor (List ℕ)). n.now) (take i names)) ts (get_or names i d).now t before here)
+    subst (λ z. AllZip R z (ts ++ t ∷ [])) (sym more) (pairs-more R (map (λ (n : Bor (List ℕ)). n.now) (take i names)) ts (get_or names i d).now t before here)
 
 -- the name at a place
 pub name_is : (names : List (Bor (List ℕ))) (i : ℕ) (d : Bor (List ℕ)) → i < length names → slice_get (map (λ (n : Bor (List ℕ)). n.now) names) i ≡ Some (get_or names i d).now

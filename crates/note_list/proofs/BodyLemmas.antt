@@ -162,12 +162,6 @@ take_next xs k d low = ap (λ (n : ℕ). take n xs) (add-one k) ∙ by xs k low
     by (y ∷ ys) zero h = refl
     by (y ∷ ys) (suc n) h = ap (λ (zs : List Carried). y ∷ zs) (by ys n (omega arith))
 
-pub take_end : (xs : List Carried) (k : ℕ) → length xs ≤ k → take k xs ≡ xs
-take_end [] zero h = refl
-take_end [] (suc k) h = refl
-take_end (x ∷ xs) zero h = absurd (omega arith)
-take_end (x ∷ xs) (suc k) h = ap (λ (zs : List Carried). x ∷ zs) (take_end xs k (omega arith))
-
 -- nothing is read where there are no parts
 pub calls_none : (faces : List FontFace) (notes : List Note) (width height : ℤ) (l : NoteList) → Calls faces notes width height [] l l
 calls_none faces notes width height l list r = ([], refl, subst (λ (xs : List NotedSolid). IsReadOf height xs l) (sym (append-nil list)) r)

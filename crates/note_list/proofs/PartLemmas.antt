@@ -7,7 +7,7 @@ use Rattle.std.proofs.lemmas.Int.{ints}
 use Rattle.std.proofs.lemmas.List.{append-nil, append_assoc, length-map, map-append}
 use Rattle.std.proofs.lemmas.List.Elements.{All-append, All-cons, All-nil}
 use Rattle.std.proofs.lemmas.List.FromFn.{map-range_with_len_more}
-use Rattle.bk_num.proofs.ListLemmas.{slice_get_at, all-get, head-same, tail-same}
+use Rattle.bk_num.proofs.ListLemmas.{slice_get_at, all-get, head-same, tail-same, get-taken}
 use Rattle.metrics.specs.Face.{FontFace}
 use Rattle.boxes.specs.declared.flow.Note.{Note}
 use Rattle.boxes.specs.declared.page.Placed.{Placed}
@@ -277,12 +277,6 @@ near_notes k bottom (s ∷ list) few low high small =
 
 -- ---- a page's list
 
-get_taken : (xs : List NotedSolid) (n k : ℕ) → k < n → slice_get (take n xs) k ≡ slice_get xs k
-get_taken xs zero k low = absurd (omega arith)
-get_taken [] (suc n) k low = refl
-get_taken (x ∷ xs) (suc n) zero low = refl
-get_taken (x ∷ xs) (suc n) (suc k) low = get_taken xs n k (omega arith)
-
 length_taken : (xs : List NotedSolid) (n : ℕ) → n ≤ length xs → length (take n xs) ≡ n
 length_taken xs zero h = refl
 length_taken [] (suc n) h = absurd (omega arith)
@@ -292,7 +286,7 @@ length_taken (x ∷ xs) (suc n) h = ap suc (length_taken xs n (omega arith))
 pub last_taken : (xs : List NotedSolid) (k : ℕ) → k < length xs → slice_get (take (suc k) xs) (length (take (suc k) xs) - 1) ≡ slice_get xs k
 last_taken xs k low =
     let size : length (take (suc k) xs) - 1 ≡ k = (let n = length_taken xs (suc k) (omega arith) in omega arith) in
-    ap (λ (n : ℕ). slice_get (take (suc k) xs) n) size ∙ get_taken xs (suc k) k (omega arith)
+    ap (λ (n : ℕ). slice_get (take (suc k) xs) n) size ∙ get-taken xs (suc k) k (omega arith)
 
 parts_held : (notes : List Note) (carried : List Carried) (from to : ℕ) → All (IsHeld notes) carried → to ≤ length notes → All (λ p. IsHeld notes (start_of p)) (carried_parts carried ++ called_parts from to)
 parts_held notes carried from to held within = All-append (λ (p : NotePart). IsHeld notes (start_of p)) (carried_parts carried) (called_parts from to) (carried_held notes carried held) (called_held notes from to within)
@@ -320,7 +314,7 @@ left_told faces notes width carried from to list read number held up below order
         let there = slice_get_at read k (omega arith) in
         let s : NotedSolid = there.0 in
         let last : slice_get (take (suc k) read) (length (take (suc k) read) - 1) ≡ Some s = last_taken read k (omega arith) ∙ there.1 in
-        let at : slice_get list k ≡ Some s = sym (get_taken list (suc k) k (omega arith)) ∙ ap (λ (xs : List NotedSolid). slice_get xs k) e ∙ get_taken read (suc k) k (omega arith) ∙ there.1 in
+        let at : slice_get list k ≡ Some s = sym (get-taken list (suc k) k (omega arith)) ∙ ap (λ (xs : List NotedSolid). slice_get xs k) e ∙ get-taken read (suc k) k (omega arith) ∙ there.1 in
         let end : IsHeld notes (record { note = s.note; at = s.end }) = all-get (λ (x : NotedSolid). IsHeld notes (record { note = x.note; at = x.end })) read k s ends there.1 in
         ap (left_after_last notes carried from to) last
         ∙ ap (λ (cs : List Carried). left_part notes (record { note = s.note; at = s.end }) ++ flat_map (left_from notes (suc s.note)) cs) (sym starts)

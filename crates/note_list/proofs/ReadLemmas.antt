@@ -5,6 +5,7 @@ use Rattle.std.proofs.lemmas.Int.{clamps, ints}
 use Rattle.std.proofs.lemmas.List.{length-map, map-append}
 use Rattle.std.proofs.lemmas.List.Elements.{All-push}
 use Rattle.bk_num.specs.Limits.{most_entries}
+use Rattle.bk_num.proofs.ListLemmas.{length-more}
 use Rattle.notes.specs.declared.solid.NoteSolid.{NoteSolid}
 use Rattle.notes.specs.Notes.{IsCarryCount, IsSmallNote, area_of, last_begin, must_of, note_bottom, note_extent}
 use Rattle.notes.proofs.NoteLemmas.{IsReach, area_prefix, area_some, must_within}
@@ -15,10 +16,6 @@ use Rattle.notes.specs.declared.reach.Reach.{Reach}
 use Rattle.cuts.proofs.ReachLemmas.{area_least}
 use Rattle.note_list.specs.declared.solid.NotedSolid.{NotedSolid}
 use Rattle.note_list.proofs.RowLemmas.{area_high, bottom_next, carry_prefix, extent_next, must_kept, must_next, need_past, need_told, reach_of}
-
-length_next : {X : Type 0} (xs : List X) (x : X) → length (xs ++ x ∷ []) ≡ suc (length xs)
-length_next [] x = refl
-length_next (y ∷ xs) x = ap suc (length_next xs x)
 
 -- the bounds of what is read
 pub ready_reach : (l : NoteList) → IsReady l → IsReach (note_rows l.solids.items) (length l.solids.items) l.reach.bottom l.reach.extent
@@ -49,7 +46,7 @@ module _ (old : NoteList) (s : NotedSolid) (r : IsReady old) where
   rows_are = map-append (λ (x : NotedSolid). x.row) xs (s ∷ [])
 
   at_end : (f : List NoteSolid → ℕ → ℤ) → f (note_rows more) (length more) ≡ f (rows ++ s.row ∷ []) (suc (length rows))
-  at_end f = ap (λ (rs : List NoteSolid). f rs (length more)) rows_are ∙ ap (f (rows ++ s.row ∷ [])) (length_next xs s ∙ ap suc (sym count))
+  at_end f = ap (λ (rs : List NoteSolid). f rs (length more)) rows_are ∙ ap (f (rows ++ s.row ∷ [])) (length-more xs s ∙ ap suc (sym count))
 
   at_all : (f : List NoteSolid → ℕ → ℤ) → f rows (length xs) ≡ f rows (length rows)
   at_all f = ap (f rows) (sym count)
@@ -67,7 +64,7 @@ module _ (old : NoteList) (s : NotedSolid) (r : IsReady old) where
 
   area_more : (new : Reach) → HasReached more new → pos 512 +ℤ new.extent ≡ area_of (note_rows more) (suc (length rows))
   area_more new h =
-      let last : length more ≡ suc (length rows) = length_next xs s ∙ ap suc (sym count) in
+      let last : length more ≡ suc (length rows) = length-more xs s ∙ ap suc (sym count) in
       ap (λ (e : ℤ). pos 512 +ℤ e) h.extent ∙ ap (λ (n : ℕ). pos 512 +ℤ note_extent (note_rows more) n) last ∙ sym (area_some (note_rows more) (suc (length rows)) (omega arith))
 
   needed_more : (new : Reach) (needed : ℤ) → HasReached more new → (b : Bool) → s.row.begins ≡ b → (b ≡ true → needed ≡ pos 512 +ℤ new.extent) → (b ≡ false → needed ≡ old.needed) → needed ≡ area_of (note_rows more) (must_of (note_rows more) old.own)
@@ -83,7 +80,7 @@ module _ (old : NoteList) (s : NotedSolid) (r : IsReady old) where
 
   ready_by : (new : NoteList) → new.solids.items ≡ more → IsSmallNote s.row → length xs < most_entries → HasReached more new.reach → new.own ≡ old.own → new.own_area ≡ old.own_area → new.needed ≡ area_of (note_rows more) (must_of (note_rows more) old.own) → IsReady new
   ready_by new items small few reached own own_area needed =
-      let len = length_next xs s in
+      let len = length-more xs s in
       let w = r.within in
       record {
         few = subst (λ (ys : List NotedSolid). length ys ≤ most_entries) (sym items) (omega arith);
@@ -119,7 +116,7 @@ reach_high old s bottom extent r small few b e =
 pub area_next : (old : NoteList) (s : NotedSolid) (items : List NotedSolid) (bottom extent : ℤ) → IsReady old → items ≡ old.solids.items ++ s ∷ [] → bottom ≡ (old.reach.bottom +ℤ s.row.gap) +ℤ s.row.height → extent ≡ int_max old.reach.extent bottom → pos 512 +ℤ extent ≡ area_of (note_rows items) (length items)
 area_next old s items bottom extent r e b x =
     let reached = reached_more old s r (record { bottom = bottom; extent = extent }) b x in
-    let last : length (old.solids.items ++ s ∷ []) ≡ suc (length (note_rows old.solids.items)) = length_next old.solids.items s ∙ ap suc (sym (count old s r)) in
+    let last : length (old.solids.items ++ s ∷ []) ≡ suc (length (note_rows old.solids.items)) = length-more old.solids.items s ∙ ap suc (sym (count old s r)) in
     subst (λ (ys : List NotedSolid). pos 512 +ℤ extent ≡ area_of (note_rows ys) (length ys)) (sym e) (area_more old s r (record { bottom = bottom; extent = extent }) reached ∙ ap (area_of (note_rows (old.solids.items ++ s ∷ []))) (sym last))
 
 -- areas that are kept are within 2^60

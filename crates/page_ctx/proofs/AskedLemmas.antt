@@ -4,7 +4,7 @@ use Rattle.std.specs.Prelude.{fold}
 use Rattle.std.specs.Str.{bytes_eq}
 use Rattle.std.specs.List.{cons_option, list_any}
 use Rattle.std.proofs.lemmas.List.Folds.{list_any-append}
-use Rattle.bk_num.proofs.ListLemmas.{bytes_same}
+use Rattle.bk_num.proofs.ListLemmas.{bytes_same, map-same}
 use Rattle.boxes.specs.declared.table.PageCell.{PageCell}
 use Rattle.boxes.specs.declared.table.PageRow.{PageRow}
 use Rattle.css_page.specs.declared.rules.PageRule.{PageRule}
@@ -76,10 +76,6 @@ unasked : (rules : List PageRule) (keys : List (List ℕ)) (name : List ℕ) →
 unasked rules keys name k e = (none-left name (all_asked rules) [] (ap (list_any (bytes_eq name)) (sym k) ∙ e)).1
 
 -- ---- rows and boxes of the same rules
-
-map-same : {A B : Type 0} (f g : A → B) (xs : List A) → ((x : A) → f x ≡ g x) → map f xs ≡ map g xs
-map-same f g [] h = refl
-map-same f g (x ∷ xs) h = ap (λ y. y ∷ map f xs) (h x) ∙ ap (λ ys. g x ∷ ys) (map-same f g xs h)
 
 abbrev with_cells : List PageCell → PageRow
 with_cells cells = record { cells = cells }

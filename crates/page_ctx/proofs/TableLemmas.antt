@@ -1,7 +1,6 @@
 -- Six cells a name, and the table that they make.
 use Rattle.std.proofs.Common.{◌≡◌, ◌<◌, ℕ, zero, suc, ◌+◌, ◌==◌, Bool, true, false, List, [], ◌∷◌, ◌++◌, append_assoc, Option, None, Some, option_map, length, map, drop, slice_get, unwrap_or, refl, sym, ◌∙◌, ap, subst, arith}
 use Rattle.std.proofs.lemmas.Bool.{eqb-true}
-use Rattle.std.proofs.lemmas.List.{map-append}
 use Rattle.std.proofs.lemmas.Option.{slice_get-map}
 use Rattle.std.specs.List.{All}
 use Rattle.bk_num.specs.declared.ids.NameId.{NameId}
@@ -78,10 +77,6 @@ rows_more f rows new all names number text row at is pushed before =
 -- the row of no name
 pub rows_first : {A : Type 0} (f : List ℕ → A) (new : List A) (names : List (List ℕ)) (row : A) → row ≡ f [] → new ≡ [] ++ row ∷ [] → new ++ map f (drop 1 names) ≡ map f (texts_of names)
 rows_first f new names row is pushed = ap (λ z. z ++ map f (drop 1 names)) (pushed ∙ ap (λ r. r ∷ []) is)
-
--- one more, as contracts see it
-pub push_in : {A B : Type 0} (h : A → B) (rows new : List A) (row : A) → new ≡ rows ++ row ∷ [] → map h new ≡ map h rows ++ h row ∷ []
-push_in h rows new row e = ap (map h) e ∙ map-append h rows (row ∷ [])
 
 -- by two equal values
 pub both : {A B C : Type 0} (f : A → B → C) {a b : A} {x y : B} → a ≡ b → x ≡ y → f a x ≡ f b y

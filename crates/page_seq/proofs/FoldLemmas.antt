@@ -1,7 +1,8 @@
 -- Lists of frames, page by page.
-use Rattle.std.proofs.Common.{◌≡◌, ◌<◌, ◌+◌, ℕ, zero, suc, List, [], ◌∷◌, ◌++◌, length, get_or, take, max, sym, ap, ◌∙◌, append_assoc, append-nil, arith}
+use Rattle.std.proofs.Common.{◌≡◌, ◌<◌, ◌+◌, ℕ, List, [], ◌∷◌, ◌++◌, length, get_or, take, max, sym, ap, ◌∙◌, arith}
 use Rattle.std.specs.List.{flat_map, range_with_len}
 use Rattle.std.proofs.lemmas.List.{take_more}
+use Rattle.bk_num.proofs.ListLemmas.{flat-next}
 use Rattle.boxes.specs.declared.page.Page.{Page}
 use Rattle.page_seq.specs.Folds.{greatest_level}
 
@@ -12,20 +13,6 @@ level_push (x ∷ frames) f = let e = level_push frames f in grind arith
 -- the greatest level with one more
 pub level_more : (frames : List Page) (i : ℕ) (d frame : Page) (level : ℕ) → i < length frames → frame ≡ get_or frames i d → level ≡ greatest_level (take i frames) → max frame.level level ≡ greatest_level (take (i + 1) frames)
 level_more frames i d frame level h at is = let l = ap (λ (p : Page). p.level) at in let e = ap greatest_level (take_more frames i d h) ∙ level_push (take i frames) (get_or frames i d) in grind arith
-
--- one place more
-flat-more : (f : ℕ → List Page) (a n : ℕ) → flat_map f (range_with_len a (suc n)) ≡ flat_map f (range_with_len a n) ++ f (a + n)
-flat-more f a zero = let e : a ≡ a + zero = omega arith in append-nil (f a) ∙ ap f e
-flat-more f a (suc n) =
-    let e : (a + 1) + n ≡ a + suc n = omega arith in
-    let rest : List Page = flat_map f (range_with_len (a + 1) n) in
-    ap (λ (z : List Page). f a ++ z) (flat-more f (a + 1) n) ∙ sym (append_assoc (f a) rest (f ((a + 1) + n))) ∙ ap (λ (k : ℕ). (f a ++ rest) ++ f k) e
-
-flat-next : (f : ℕ → List Page) (n : ℕ) → flat_map f (range_with_len 0 (n + 1)) ≡ flat_map f (range_with_len 0 n) ++ f n
-flat-next f n =
-    let more : n + 1 ≡ suc n = omega arith in
-    let e : 0 + n ≡ n = omega arith in
-    ap (λ (k : ℕ). flat_map f (range_with_len 0 k)) more ∙ flat-more f 0 n ∙ ap (λ (k : ℕ). flat_map f (range_with_len 0 n) ++ f k) e
 
 -- a page more
 pub page_more : (f : ℕ → List Page) (n : ℕ) (old new : List Page) (page : Page) → old ≡ flat_map f (range_with_len 0 n) → new ≡ old ++ page ∷ [] → page ∷ [] ≡ f n → new ≡ flat_map f (range_with_len 0 (n + 1))

@@ -4,6 +4,7 @@ use Rattle.std.specs.List.{flat_map, range_with_len}
 use Rattle.std.proofs.lemmas.Bool.{eq-eqb, ne_eqb}
 use Rattle.std.proofs.lemmas.Grind.{flat_map-append}
 use Rattle.std.proofs.lemmas.List.{take_more}
+use Rattle.bk_num.proofs.ListLemmas.{range-more}
 use Rattle.metrics.specs.Face.{FontFace}
 use Rattle.boxes.specs.Tree.{Tree, open_before}
 use Rattle.boxes.specs.declared.flow.Note.{Note}
@@ -22,14 +23,10 @@ use Rattle.boxes.specs.declared.span.Content.{Content}
 
 -- ---- numbers in a row
 
-range_push : (a n : ℕ) → range_with_len a (suc n) ≡ range_with_len a n ++ (a + n) ∷ []
-range_push a zero = let e : a ≡ a + 0 = omega arith in ap (λ (x : ℕ). x ∷ []) e
-range_push a (suc n) = let e : (a + 1) + n ≡ a + suc n = omega arith in ap (λ (l : List ℕ). a ∷ l) (range_push (a + 1) n ∙ ap (λ (x : ℕ). range_with_len (a + 1) n ++ x ∷ []) e)
-
 flat_push : (g : ℕ → List Item) (n : ℕ) → flat_map g (range_with_len 0 (suc n)) ≡ flat_map g (range_with_len 0 n) ++ g n
 flat_push g n =
     let e : 0 + n ≡ n = omega arith in
-    ap (flat_map g) (range_push 0 n) ∙ flat_map-append g (range_with_len 0 n) ((0 + n) ∷ []) ∙ ap (λ (l : List Item). flat_map g (range_with_len 0 n) ++ l) (append-nil (g (0 + n)) ∙ ap g e)
+    ap (flat_map g) (range-more 0 n) ∙ flat_map-append g (range_with_len 0 n) ((0 + n) ∷ []) ∙ ap (λ (l : List Item). flat_map g (range_with_len 0 n) ++ l) (append-nil (g (0 + n)) ∙ ap g e)
 
 -- nothing comes after a number
 flat_to : (g : ℕ → List Item) (number k next : ℕ) → next ≡ suc number + k → ((n : ℕ) → number < n → g n ≡ []) → flat_map g (range_with_len 0 next) ≡ flat_map g (range_with_len 0 number) ++ g number

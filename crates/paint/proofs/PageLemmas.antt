@@ -1,11 +1,11 @@
 -- The rectangles of a page, by the boxes that were met and by the events that open them.
-use Rattle.std.proofs.Common.{◌≡◌, ◌<◌, ◌≤◌, ℕ, zero, suc, ℤ, ◌+◌, ◌-◌, nat_lt, List, [], ◌∷◌, ◌++◌, Option, None, Some, Bool, true, false, cond, not, ◌&&◌, ◌||◌, ◌==◌, length, get_or, slice_get, refl, sym, ap, ap₂, ◌∙◌, subst, arith, ◌⊎◌, inl, inr}
+use Rattle.std.proofs.Common.{◌≡◌, ◌<◌, ◌≤◌, ℕ, zero, suc, ℤ, ◌+◌, ◌-◌, nat_lt, List, [], ◌∷◌, ◌++◌, Option, None, Some, Bool, true, false, cond, not, ◌&&◌, ◌||◌, ◌==◌, length, slice_get, refl, sym, ap, ap₂, ◌∙◌, subst, arith, ◌⊎◌, inl, inr}
 use Rattle.std.specs.Option.{ForSome, option_or}
 use Rattle.std.specs.List.{All, filter, flat_map, list_any, range_with_len}
 use Rattle.std.proofs.lemmas.Bool.{cases_order, cases_eq, cases_lt, le-ltb, lt-ltb, eq-eqb, ne_eqb}
 use Rattle.std.proofs.lemmas.Int.{ints}
-use Rattle.std.proofs.lemmas.Option.{slice_get-get_or}
 use Rattle.bk_num.specs.Limits.{most_open}
+use Rattle.bk_num.proofs.ListLemmas.{all-from}
 use Rattle.boxes.specs.Tree.{Tree, IsTree, depth_of, open_before, first_of, is_opening}
 use Rattle.boxes.specs.declared.item.Item.{Item}
 use Rattle.boxes.specs.declared.place.Event.{Event}
@@ -505,11 +505,8 @@ merged_inner t m solids parts new r g rest =
     let at : IsAt t m new r = at_same t m parts new r (places_bare parts new rest) g.is_at in
     record { places = at.on.places; are = at.on.are; inner_is = at.on.inner_is }
 
-pub all_from : {A : Type 0} (P : A → Type 0) (xs : List A) → ((j : ℕ) (x : A) → slice_get xs j ≡ Some x → P x) → All P xs
-all_from P xs each = λ k d low. each k (get_or xs k d) (slice_get-get_or xs k d low)
-
 pub reached_boxes : (t : Tree) → IsTree t → (m : ℤ) (parts : List Fragment) → HaveOpened t m parts → All (λ p. p.number < length t.boxes) parts
-reached_boxes t tree m parts opened = all_from (λ p. p.number < length t.boxes) parts (λ j p there. box_there t tree p.event p.number (opened j p there).opens)
+reached_boxes t tree m parts opened = all-from (λ p. p.number < length t.boxes) parts (λ j p there. box_there t tree p.event p.number (opened j p there).opens)
 
 pub reached_wide : (t : Tree) (m : ℤ) (p : Fragment) → depth_of t.events ≤ most_open → IsOpened t m p → IsWide p.around
 reached_wide t m p few is =

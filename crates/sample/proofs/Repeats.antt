@@ -1,7 +1,8 @@
 -- What is done once more, and lists made of a range.
-use Rattle.std.proofs.Common.{◌≡◌, ◌∙◌, ℕ, zero, suc, ◌+◌, ◌<◌, List, [], ◌∷◌, ◌++◌, length, refl, sym, ap, arith, append_assoc, append-nil}
+use Rattle.std.proofs.Common.{◌≡◌, ◌∙◌, ℕ, zero, suc, ◌+◌, ◌<◌, List, [], ◌∷◌, ◌++◌, length, refl, sym, ap, arith, append_assoc}
 use Rattle.std.specs.Fn.{iterate}
 use Rattle.std.specs.List.{flat_map, join_with_byte, range_with_len}
+use Rattle.bk_num.proofs.ListLemmas.{flat-more}
 
 iterate-next : {A : Type 0} (h : A → A) (n : ℕ) (x : A) → iterate h (suc n) x ≡ h (iterate h n x)
 iterate-next h zero x = refl
@@ -21,15 +22,8 @@ join-more c (part ∷ other ∷ parts) next h =
     ap (λ (z : List ℕ). part ++ (c ∷ z)) (join-more c (other ∷ parts) next (omega arith)) ∙
     sym (append_assoc part (c ∷ join_with_byte c (other ∷ parts)) (c ∷ next))
 
-flat-next : (f : ℕ → List ℕ) (a n : ℕ) → flat_map f (range_with_len a (suc n)) ≡ flat_map f (range_with_len a n) ++ f (a + n)
-flat-next f a zero = let e : a ≡ a + zero = omega arith in append-nil (f a) ∙ ap f e
-flat-next f a (suc n) =
-    let e : (a + 1) + n ≡ a + suc n = omega arith in
-    let rest : List ℕ = flat_map f (range_with_len (a + 1) n) in
-    ap (λ (z : List ℕ). f a ++ z) (flat-next f (a + 1) n) ∙ sym (append_assoc (f a) rest (f ((a + 1) + n))) ∙ ap (λ (k : ℕ). (f a ++ rest) ++ f k) e
-
-pub flat-more : (f : ℕ → List ℕ) (n : ℕ) → flat_map f (range_with_len 1 (n + 1)) ≡ flat_map f (range_with_len 1 n) ++ f (n + 1)
-flat-more f n =
+pub flat-one-more : (f : ℕ → List ℕ) (n : ℕ) → flat_map f (range_with_len 1 (n + 1)) ≡ flat_map f (range_with_len 1 n) ++ f (n + 1)
+flat-one-more f n =
     let more : n + 1 ≡ suc n = omega arith in
     let e : 1 + n ≡ n + 1 = omega arith in
-    ap (λ (k : ℕ). flat_map f (range_with_len 1 k)) more ∙ flat-next f 1 n ∙ ap (λ (k : ℕ). flat_map f (range_with_len 1 n) ++ f k) e
+    ap (λ (k : ℕ). flat_map f (range_with_len 1 k)) more ∙ flat-more f 1 n ∙ ap (λ (k : ℕ). flat_map f (range_with_len 1 n) ++ f k) e

@@ -4,19 +4,13 @@ use Rattle.std.specs.List.{AllZip, filter_map, flat_map}
 use Rattle.std.proofs.lemmas.List.{append-nil, map-append, take_more}
 use Rattle.std.proofs.lemmas.Grind.{flat_map-append}
 use Rattle.std.proofs.lemmas.Option.{get_or_from_slice_get, slice_get_within}
+use Rattle.bk_num.proofs.ListLemmas.{pairs-more}
 use Rattle.css_tok.specs.Tokens.{tokens_of}
 use Rattle.css_rules.specs.Sheet.{HaveOneReading}
 use Rattle.css_page.specs.Rules.{rule_of}
 use Rattle.css_page.specs.declared.rules.PageRule.{PageRule}
 use Rattle.sheets.specs.Sources.{Source, author_source, authors_of, ArePageRulesOf, ArePageRules}
 use Rattle.sheets.specs.Laws.{PageRulesAreOne}
-
--- one more pair
-pub pairs_push : {A B : Type 0} (R : A → B → Type 0) (xs : List A) (ys : List B) (x : A) (y : B) → AllZip R xs ys → R x y → AllZip R (xs ++ x ∷ []) (ys ++ y ∷ [])
-pairs_push R [] [] x y h r = (r, tt)
-pairs_push R [] (b ∷ bs) x y h r = absurd h
-pairs_push R (a ∷ rest) [] x y h r = absurd h
-pairs_push R (a ∷ rest) (b ∷ bs) x y h r = (h.0, pairs_push R rest bs x y h.1 r)
 
 abbrev IsOf : Source → List PageRule → Type 0
 IsOf s l = ArePageRulesOf s.text l
@@ -29,7 +23,7 @@ pages-none = record { lists = []; each = tt; is = refl }
 pages-push : (sources : List Source) (s : Source) (rules more : List PageRule) → ArePageRules sources rules → ArePageRulesOf s.text more → ArePageRules (sources ++ s ∷ []) (rules ++ more)
 pages-push sources s rules more h g = record {
   lists = h.lists ++ more ∷ [];
-  each = pairs_push IsOf sources h.lists s more h.each g;
+  each = pairs-more IsOf sources h.lists s more h.each g;
   is = ap (λ l. l ++ more) h.is ∙ ap (λ l. flat_map (λ l. l) h.lists ++ l) (sym (append-nil more)) ∙ sym (flat_map-append (λ l. l) h.lists (more ∷ []));
 }
 

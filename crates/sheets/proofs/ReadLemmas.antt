@@ -6,7 +6,7 @@ use Rattle.std.proofs.Math.Seq.{drop-cons}
 use Rattle.std.proofs.lemmas.Bool.Decides.{nat_tests}
 use Rattle.std.proofs.lemmas.List.{drop_all, get_or-append-add, length-map, take_all}
 use Rattle.std.proofs.lemmas.Option.{get_or_from_slice_get, slice_get-map, slice_get_read, slice_get_within}
-use Rattle.bk_num.proofs.ListLemmas.{get-keep}
+use Rattle.bk_num.proofs.ListLemmas.{get-keep, pairs-more}
 use Rattle.bk_num.specs.Limits.{most_rules, most_sheets}
 use Rattle.css_tok.specs.Tokens.{tokens_of}
 use Rattle.css_rules.specs.Pages.{PageOf}
@@ -14,7 +14,7 @@ use Rattle.css_rules.specs.Sheet.{RuleOf, IsSheet, rule_count, HaveOneReading}
 use Rattle.sheets.specs.Sheets.{Sheet, author_texts}
 use Rattle.sheets.specs.Readings.{SheetOf, AreReadings, has_many}
 use Rattle.css_page.specs.declared.rules.PageRule.{PageRule}
-use Rattle.sheets.proofs.PageLemmas.{authors-next, pairs_push}
+use Rattle.sheets.proofs.PageLemmas.{authors-next}
 use Rattle.sheets.specs.Sources.{has_many_rules, author_source, default_source, authors_of, sources_of, ArePageRules, IsReadFrom, IsAuthorOf, AreFew, AreRead}
 use Rattle.sheets.specs.declared.read.Sheets.{Sheets}
 use Rattle.sheets.specs.declared.read.SheetsErr.{SheetsErr}
@@ -61,7 +61,7 @@ module _ (texts : List (List ℕ)) (i : ℕ) (text : List ℕ) (is : slice_get t
 
   -- the sheets read so far, and one more
   pub read-next : (read : List ReadSheet) (s : ReadSheet) → AllZip IsReadFrom (sources_of (take i texts)) read → IsReadFrom (author_source text) s → AllZip IsReadFrom (sources_of (take (i + 1) texts)) (read ++ s ∷ [])
-  read-next read s before one = rw (ap (λ l. default_source ∷ l) (authors-next texts text i is)) (pairs_push IsReadFrom (sources_of (take i texts)) read (author_source text) s before one)
+  read-next read s before one = rw (ap (λ l. default_source ∷ l) (authors-next texts text i is)) (pairs-more IsReadFrom (sources_of (take i texts)) read (author_source text) s before one)
 
 pub left-end : (reading : List ℕ → SheetOf) (texts : List (List ℕ)) (i : ℕ) → length texts ≤ i → IsLeft reading texts i → list_any (has_many_rules reading) texts ≡ false
 left-end reading texts i h left = let none : drop i texts ≡ [] = drop_all i texts h in sym left ∙ ap (list_any (has_many_rules reading)) none

@@ -1,11 +1,11 @@
 use Rattle.std.proofs.Common.{◌≡◌, ◌∙◌, ◌+◌, ◌<◌, ◌∷◌, ◌++◌, [], ℕ, List, length, drop, get_or, ap, arith}
+use Rattle.bk_num.proofs.ListLemmas.{drop-more}
 use Rattle.boxes.specs.declared.leaf.Span.{Span}
 use Rattle.box_gen.specs.declared.inline.InlineStart.{InlineStart}
 use Rattle.box_gen.specs.declared.inline.ItemMark.{ItemMark}
 use Rattle.box_gen.specs.declared.inline.ItemMark.TheVariants.{Text, Start}
 use Rattle.box_gen.specs.Runs.{span_between, styles_in}
 use Rattle.box_gen.proofs.FillLemmas.{IsFilled, fill-start, fill-text, filled-as}
-use Rattle.box_gen.proofs.TextLemmas.{drop_step}
 use Rattle.box_gen.proofs.leaf.fill.Goals.{in-Text+in_ok-push_span-in-Text, in-Start+in_ok-push_start-in-Start}
 use Rattle.box_gen.proofs.leaf.fill.Goals as goal
 
@@ -20,7 +20,7 @@ loop-mark-preserved c =
     let spans : List Span = c.loop-mark.spans.items in
     let starts : List InlineStart = c.loop-mark.starts.items in
     let f : IsFilled marks ends c.args.spans.now.items c.args.starts.now.items i next at spans starts = record { each = inv.each; short = inv.short; stops = inv.ends; filled = inv.spans; noted = inv.starts } in
-    let here : drop i marks ≡ c.mark-item.result ∷ drop (i + 1) marks = drop_step marks i c.mark-item.result c.loop-mark-test.true c.mark-item.is in
+    let here : drop i marks ≡ c.mark-item.result ∷ drop (i + 1) marks = drop-more marks i c.mark-item.result c.loop-mark-test.true c.mark-item.is in
     let g : IsFilled marks ends c.args.spans.now.items c.args.starts.now.items (i + 1) c.match-mark.next c.match-mark.at c.match-mark.spans.items c.match-mark.starts.items = elim c.match-mark.branch [
       | in-Text+in_ok-push_span-in-Text w ↦
           let mark : drop i marks ≡ Text w.in-Text.style ∷ drop (i + 1) marks = here ∙ ap (λ (m : ItemMark). m ∷ drop (i + 1) marks) w.in-Text.is in

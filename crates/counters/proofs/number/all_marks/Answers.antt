@@ -1,9 +1,10 @@
 use Rattle.std.proofs.Common.{◌<◌, length, take, sym, subst, arith}
 use Rattle.std.specs.List.Sorted.{IsNonDecreasingBy}
+use Rattle.bk_num.proofs.ListLemmas.{take-more}
 use Rattle.style.proofs.NodeLemmas.{get-last}
 use Rattle.counters.specs.Chains.{AreMarked}
 use Rattle.counters.specs.declared.scopes.CounterEvent.{CounterEvent}
-use Rattle.counters.proofs.NumberLemmas.{marks-more, take-more}
+use Rattle.counters.proofs.NumberLemmas.{marks-more}
 use Rattle.counters.proofs.number.all_marks.Goals as goal
 
 pub marks_of-requires : goal.marks_of-requires

@@ -1,7 +1,8 @@
 use Rattle.std.proofs.Common.{◌≡◌, Some, false, slice_get, get_or, sym, ◌∙◌, ap, arith}
+use Rattle.bk_num.proofs.ListLemmas.{length-slice_set}
 use Rattle.html_tree.specs.Rules.{rules, rule_of}
 use Rattle.html_tree.specs.Scopes.{has_within}
-use Rattle.html_tree.proofs.KeptLemmas.{rules-within, set-one, set-long}
+use Rattle.html_tree.proofs.KeptLemmas.{rules-within, set-one}
 use Rattle.html_tree.proofs.scopes.scopes_within.Goals as goal
 
 pub loop-row-preserved : goal.loop-row-preserved
@@ -9,7 +10,7 @@ loop-row-preserved c =
     let t = c.loop-row-test.true in
     let n = c.loop-row.invariant.long in
     record {
-      long = set-long c.loop-row.scopes c.loop-row.row c.has_within.result ∙ n;
+      long = length-slice_set c.loop-row.scopes c.loop-row.row c.has_within.result ∙ n;
       done = λ i r l e. set-one c.loop-row.scopes c.loop-row.row i c.has_within.result (has_within r c.args.name.now (get_or c.args.outer i false)) (omega (arith, l)) (omega (arith, n, t)) (λ m. c.loop-row.invariant.done i r m e) (λ at.
           let z : Some (rule_of c.row_at.result.now) ≡ Some r = sym c.row_at.ensures ∙ ap (slice_get rules) (sym at) ∙ e in
           let same : rule_of c.row_at.result.now ≡ r = cc in

@@ -1,10 +1,11 @@
 use Rattle.std.proofs.Common.{◌≡◌, ◌++◌, ◌∷◌, [], ◌∙◌, Some, ap, map}
+use Rattle.bk_num.proofs.ListLemmas.{map-more}
 use Rattle.page_ctx.specs.Cells.{cell_by}
 use Rattle.page_ctx.specs.Settings.{PageSettingOf, setting_in, page_setting}
 use Rattle.page_ctx.specs.Winners.{applied_in, applied_to, candidate_in, page_declared}
 use Rattle.page_ctx.specs.Groups.{all_own, declared_at}
 use Rattle.page_ctx.specs.Margins.{box_in, boxes_by, cells_in, margin_style, style_among}
-use Rattle.page_ctx.proofs.TableLemmas.{both, push_in}
+use Rattle.page_ctx.proofs.TableLemmas.{both}
 use Rattle.page_ctx.proofs.KeptLemmas.{boxes-kept, cell-kept, kept_boxes, kept_page, setting-kept}
 use Rattle.page_ctx.proofs.resolve.add_page.Goals as goal
 
@@ -34,4 +35,4 @@ returns-clause-boxes c =
     ∙ ap (λ (s : PageSettingOf). boxes_by (style_among s (declared_at (map (map candidate_in) c.as_slice-2.result.now) (map applied_in c.deref-4.result.now)))) setting
     ∙ both (λ k r. boxes_by (style_among (page_setting (page_declared (applied_to name c.args.classes rules))) (declared_at k r))) kept last
     ∙ boxes-kept name c.args.classes rules in
-    push_in (map box_in) c.args.boxes.now c.push.new.self _ c.in_ok-push.ensures.ok ∙ ap (λ z. cells_in c.args.boxes.now ++ z ∷ []) found
+    map-more (map box_in) c.args.boxes.now c.push.new.self _ c.in_ok-push.ensures.ok ∙ ap (λ z. cells_in c.args.boxes.now ++ z ∷ []) found

@@ -1,5 +1,6 @@
 use Rattle.std.proofs.Common.{◌≡◌, ◌∙◌, ◌-◌, ℕ, List, Some, length, slice_get, sym, ap, subst}
 use Rattle.std.proofs.lemmas.Option.{get_or_from_slice_get, slice_get_within}
+use Rattle.bk_num.proofs.ListLemmas.{all-from}
 use Rattle.boxes.specs.Clones.{open_through}
 use Rattle.boxes.specs.Tree.{Tree, open_before}
 use Rattle.boxes.specs.declared.page.Placed.{Placed}
@@ -9,7 +10,7 @@ use Rattle.paint.specs.Clones.{last_solid, parted_behind, run_behind}
 use Rattle.paint.specs.Order.{StandsIn}
 use Rattle.paint.specs.Parts.{AreOpenSomewhere, IsInnermost}
 use Rattle.paint.specs.declared.parts.Fragment.{Fragment}
-use Rattle.paint.proofs.PageLemmas.{all_from, reached_near}
+use Rattle.paint.proofs.PageLemmas.{reached_near}
 use Rattle.paint.proofs.ThroughLemmas.{behind_open, last_get, through_open}
 use Rattle.paint.proofs.again.close_again.Goals as goal
 
@@ -44,4 +45,4 @@ close_all-requires-clause-opened c =
     subst (AreOpenSomewhere t) is (through_open t c.count-count.ensures.tree c.run_behind-from.result.0 c.run_behind-from.result.1 c.run_behind-from.ensures.order c.run_behind-from.ensures.within)
 
 pub returns-in_default-clause-near : goal.returns-in_default-clause-near
-returns-in_default-clause-near c = all_from IsNearPart c.args.parts.now.items (reached_near c.args.tree.now c.count-count.ensures.tree c.args.origin.now.width c.args.solids.now c.args.parts.now.items c.requires.depth c.requires.near c.requires.reached)
+returns-in_default-clause-near c = all-from IsNearPart c.args.parts.now.items (reached_near c.args.tree.now c.count-count.ensures.tree c.args.origin.now.width c.args.solids.now c.args.parts.now.items c.requires.depth c.requires.near c.requires.reached)

@@ -1,9 +1,9 @@
 use Rattle.std.proofs.Common.{◌<◌, ◌∙◌, ℕ, List, Option, length, slice_get, sym, ap, subst, arith}
 use Rattle.std.proofs.lemmas.Option.{slice_get_within}
+use Rattle.bk_num.proofs.ListLemmas.{all-from}
 use Rattle.paint.specs.Bounds.{IsNearPart}
 use Rattle.paint.specs.declared.parts.Fragment.{Fragment}
 use Rattle.paint.proofs.ClosingLemmas.{IsClosing, IsNext, closing_start, closing_step, next_left, next_of, next_unclosed, places_left}
-use Rattle.paint.proofs.PageLemmas.{all_from}
 use Rattle.paint.proofs.again.close_all.Goals as goal
 
 pub loop-next-init : goal.loop-next-init
@@ -64,4 +64,4 @@ loop-next-preserved c =
     (λ p there. c.outer_at-next.ensures p (ap (λ (l : List Fragment). slice_get l c.in-Some.place) c.deref.ensures.value ∙ there))
 
 pub returns-clause-near : goal.returns-clause-near
-returns-clause-near c = all_from IsNearPart c.loop-next.parts.items c.loop-next.invariant.near
+returns-clause-near c = all-from IsNearPart c.loop-next.parts.items c.loop-next.invariant.near

@@ -1,12 +1,13 @@
 use Rattle.std.proofs.Common.{◌≡◌, ◌<◌, ◌∙◌, ℕ, false, List, length, sym, ap, subst}
 use Rattle.std.specs.List.{All, flat_map, list_any}
+use Rattle.bk_num.proofs.ListLemmas.{all-from}
 use Rattle.boxes.specs.Tree.{Tree}
 use Rattle.paint.specs.Bounds.{IsNearPart}
 use Rattle.paint.specs.Parts.{clones_at, part_rects}
 use Rattle.paint.specs.declared.parts.Fragment.{Fragment}
 use Rattle.paint.proofs.GatherLemmas.{opened_same}
 use Rattle.paint.proofs.OrderLemmas.{order_stands}
-use Rattle.paint.proofs.PageLemmas.{all_from, closed_rects, reached_boxes, reached_near}
+use Rattle.paint.proofs.PageLemmas.{closed_rects, reached_boxes, reached_near}
 use Rattle.paint.proofs.SlicedLemmas.{sliced_rects}
 use Rattle.paint.proofs.again.stand_again.Goals as goal
 
@@ -40,4 +41,4 @@ pub returns-clause-there : goal.returns-clause-there
 returns-clause-there c = reached_boxes c.args.tree.now c.count-count.ensures.tree c.args.origin.now.width c.args.parts.now.items c.requires.reached.met.opened
 
 pub returns-clause-near : goal.returns-clause-near
-returns-clause-near c = all_from IsNearPart c.args.parts.now.items (reached_near c.args.tree.now c.count-count.ensures.tree c.args.origin.now.width c.args.solids.now c.args.parts.now.items c.requires.depth c.requires.near c.requires.reached)
+returns-clause-near c = all-from IsNearPart c.args.parts.now.items (reached_near c.args.tree.now c.count-count.ensures.tree c.args.origin.now.width c.args.solids.now c.args.parts.now.items c.requires.depth c.requires.near c.requires.reached)

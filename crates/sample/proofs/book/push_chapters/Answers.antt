@@ -3,7 +3,7 @@ use Rattle.sample.specs.Html.{chapter, chapter_of}
 use Rattle.sample.specs.Words.{words_end}
 use Rattle.sample.proofs.Appended.{appended}
 use Rattle.sample.proofs.ChapterLemmas.{chapter-end, chapter_of-next}
-use Rattle.sample.proofs.Repeats.{flat-more}
+use Rattle.sample.proofs.Repeats.{flat-one-more}
 use Rattle.sample.proofs.WordLemmas.{words_end-none}
 use Rattle.sample.proofs.book.push_chapters.Goals as goal
 
@@ -21,6 +21,6 @@ loop-before-preserved c =
     record {
       text = appended _ _ _ _ _ c.loop-before.invariant.text
           (c.in_ok-push_chapter.ensures.text ∙ ap (λ (y : ℕ). next (chapter (before + 1) y)) c.loop-before.invariant.state ∙ ap next (sym (chapter_of-next n before)))
-          ∙ ap (λ (z : List ℕ). string_bytes c.args.out.now ++ z) (sym (flat-more (chapter_of n) before));
+          ∙ ap (λ (z : List ℕ). string_bytes c.args.out.now ++ z) (sym (flat-one-more (chapter_of n) before));
       state = c.in_ok-push_chapter.ensures.state ∙ ap (words_end 212) c.loop-before.invariant.state ∙ chapter-end n before;
     }

@@ -1,10 +1,11 @@
 use Rattle.std.proofs.Common.{◌≡◌, ◌++◌, ◌<◌, [], List, All, get_or, take, sym, ap, ◌∙◌, subst}
 use Rattle.std.specs.List.{flat_map}
+use Rattle.bk_num.proofs.ListLemmas.{take-past}
 use Rattle.note_list.specs.Conditions.{IsAtSolid, IsHeld, NotesAscend}
 use Rattle.note_list.specs.Left.{left_part}
 use Rattle.note_list.specs.Lists.{AreNoted, carried_parts}
 use Rattle.note_list.specs.declared.carried.Carried.{Carried}
-use Rattle.note_list.proofs.BodyLemmas.{take_end, take_next}
+use Rattle.note_list.proofs.BodyLemmas.{take_next}
 use Rattle.note_list.proofs.PartLemmas.{left_held, left_stands, push_next}
 use Rattle.note_list.proofs.SettledLemmas.{settled_ascends, settled_below, settled_goes, settled_lists}
 use Rattle.note_list.proofs.carried.CarriedNotes.settled.Goals as goal
@@ -22,7 +23,7 @@ loop-part-preserved c =
 
 -- all of them
 made : (c : After-loop-part) → c.loop-part.left ≡ flat_map (left_part c.args.flow.now.notes) c.args.parts.now
-made c = c.loop-part.invariant ∙ ap (λ (xs : List Carried). flat_map (left_part c.args.flow.now.notes) xs) (take_end c.args.parts.now c.loop-part.part-index c.loop-part-test.false)
+made c = c.loop-part.invariant ∙ ap (λ (xs : List Carried). flat_map (left_part c.args.flow.now.notes) xs) (take-past c.args.parts.now c.loop-part.part-index c.loop-part-test.false)
 
 pub returns-clause-held : goal.returns-clause-held
 returns-clause-held c = subst (All (IsHeld c.args.flow.now.notes)) (sym (made c)) (left_held c.args.flow.now.notes _ (settled_goes c.args.flow.now.notes c.args.parts.now c.requires.held))

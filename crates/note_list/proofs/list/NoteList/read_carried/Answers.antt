@@ -1,12 +1,12 @@
 use Rattle.std.proofs.Common.{◌≤◌, List, length, subst, arith}
-use Rattle.bk_num.proofs.ListLemmas.{all-get}
+use Rattle.bk_num.proofs.ListLemmas.{all-get, take-past}
 use Rattle.cursor.proofs.AskLemmas.{keeps_all, keeps_twice}
 use Rattle.cursor.proofs.StepLemmas.{takes_none, takes_twice}
 use Rattle.note_list.specs.Conditions.{IsHeld}
 use Rattle.note_list.specs.Lists.{carried_parts}
 use Rattle.note_list.specs.declared.carried.Carried.{Carried}
 use Rattle.note_list.proofs.KnownLemmas.{known_more}
-use Rattle.note_list.proofs.BodyLemmas.{Calls, calls_none, carry_next, carry_rest, take_end}
+use Rattle.note_list.proofs.BodyLemmas.{Calls, calls_none, carry_next, carry_rest}
 use Rattle.note_list.proofs.list.NoteList.read_carried.Goals as goal
 
 pub loop-at-init : goal.loop-at-init
@@ -46,7 +46,7 @@ returns-clause-list g c =
     let end = c.loop-at-test.false in
     let size = c.len-at-end.ensures in
     let all : length c.args.carried.now ≤ c.loop-at.at = omega arith in
-    subst (λ (cs : List Carried). Calls c.args.faces.now c.args.flow.now.notes c.args.frame.width c.args.frame.height (carried_parts cs) c.args.self.now c.loop-at.self) (take_end c.args.carried.now c.loop-at.at all) c.loop-at.invariant.calls
+    subst (λ (cs : List Carried). Calls c.args.faces.now c.args.flow.now.notes c.args.frame.width c.args.frame.height (carried_parts cs) c.args.self.now c.loop-at.self) (take-past c.args.carried.now c.loop-at.at all) c.loop-at.invariant.calls
 
 pub returns-in_err-read-clause-keeps : goal.returns-in_err-read-clause-keeps
 returns-in_err-read-clause-keeps g c = keeps_twice c.args.lines.now.kept c.loop-at.lines.kept c.read.new.lines.kept c.loop-at.invariant.keeps c.read.ensures.keeps
