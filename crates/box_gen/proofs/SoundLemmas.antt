@@ -1,6 +1,6 @@
 -- Each step of the walk over a document may be taken.
 use Rattle.std.proofs.Common.{◌≡◌, ◌∙◌, ℕ, ◌-◌, ◌==◌, Bool, true, false, cond, not, ◌&&◌, ◌||◌, is_some, IsTrue, List, [], ◌∷◌, ◌++◌, Option, None, Some, length, map, refl, sym, ap, subst, arith, append_assoc, inl, inr}
-use Rattle.std.specs.Prelude.{option_map, slice_get}
+use Rattle.std.specs.Prelude.{slice_get}
 use Rattle.std.specs.List.{All}
 use Rattle.std.proofs.lemmas.Bool.{eq-eqb}
 use Rattle.std.proofs.lemmas.Map.Views.{exact_unsigned_eq}
@@ -13,9 +13,8 @@ use Rattle.boxes.specs.declared.leaf.Lead.{Lead}
 use Rattle.boxes.specs.declared.leaf.Leaf.{Leaf as LeafData}
 use Rattle.boxes.specs.declared.place.Event.TheVariants.{Opens}
 use Rattle.boxes.specs.Tree.{Tree, first_of, innermost_of, is_leaf, last_event, takes_box, takes_leaf, with_box, with_leaf}
-use Rattle.std.proofs.lemmas.Option.{slice_get-get_or, slice_get-map}
-use Rattle.dom.specs.Nodes.{Node, HasPlace, IsTree, flat, is_element_at, is_element_node, root, parent_at, parents_of, text_at}
-use Rattle.dom.proofs.WalkLemmas.{root-parent}
+use Rattle.dom.specs.Nodes.{IsTree, root, parents_of, text_at}
+use Rattle.dom.proofs.WalkLemmas.{root-element}
 use Rattle.dom.specs.Walk.{steps_of}
 use Rattle.dom.specs.declared.walk.Step.{Step}
 use Rattle.dom.specs.declared.walk.Step.TheVariants.{Enter, Leave}
@@ -285,15 +284,6 @@ can-walk src E s (node n kids more) g bs x os rest all r p h c =
     subst (CanTo src E (walk g bs None)) (sym (steps-more n kids more rest)) (can-node src E s n kids g bs x os (steps_in more ++ rest) all p.0 h k (role_of src n) refl p.1 m)
 
 -- ---- a whole document
-
-pub root-element : (nodes : List Node) → IsTree nodes → is_element_at nodes 0 ≡ true
-root-element nodes t = by (slice_get nodes 0) refl (root-parent nodes t)
-  where
-    by : (o : Option Node) → slice_get nodes 0 ≡ o → parent_at (parents_of nodes) 0 ≡ None → is_element_node o ≡ true
-    by None e p = let w = slice_get-get_or nodes 0 root t.some in cc
-    by (Some n) e p =
-        let q : n.parent ≡ None = sym (ap flat (slice_get-map (λ (n : Node). n.parent) nodes 0 ∙ ap (option_map (λ (n : Node). n.parent)) e)) ∙ p in
-        (subst (λ o. HasPlace nodes 0 n o) q (t.placed 0 n e)).2
 
 no-inline : (src : Source) (u : Style) → role_of src 0 ≡ inline u → ⊥
 no-inline src u e = by (slice_get src.styles 0) (text_at src.nodes 0) e

@@ -5,6 +5,7 @@ use Rattle.bk_num.specs.declared.values.Pseudo.TheVariants as pseudo
 use Rattle.boxes.specs.declared.place.Event.TheVariants.{Closes}
 use Rattle.boxes.specs.Tree.{IsWhole, takes_leaf}
 use Rattle.dom.specs.Nodes.{Node, NodeData, Element, Text, IsTree, is_element, is_element_node, parents_of, part_of, text_in}
+use Rattle.dom.proofs.WalkLemmas.{root-element}
 use Rattle.style.specs.declared.style.Style.{Style}
 use Rattle.style.specs.Nodes.{NodeStyles, is_shown_in, style_of}
 use Rattle.style.specs.Styles.{initial_style}
@@ -14,7 +15,6 @@ use Rattle.box_gen.specs.Sources.{IsRootShown}
 use Rattle.box_gen.specs.Trees.{Source, Forest, below, Role, hidden, block, element_role, role_by, role_of, shown_role}
 use Rattle.box_gen.proofs.DepthLemmas.{built-gathered}
 use Rattle.box_gen.proofs.FlowLemmas.{opens-gathered, run-none}
-use Rattle.box_gen.proofs.SoundLemmas.{root-element}
 use Rattle.box_gen.proofs.TreeLemmas.{opens, opens-opened, opens-run, opens-shut, shut-ends}
 use Rattle.box_gen.proofs.Gathering.{gather_node, gathered}
 

@@ -4,6 +4,7 @@ use Rattle.bk_num.proofs.ListLemmas.{get-none}
 use Rattle.std.proofs.lemmas.Option.{slice_get-map, slice_get_within, same_Some}
 use Rattle.bk_num.specs.declared.values.Pseudo.TheVariants as pseudo
 use Rattle.dom.specs.Nodes.{Node, IsTree, parents_of, parent_at, name_at}
+use Rattle.dom.proofs.WalkLemmas.{parent-below}
 use Rattle.style.specs.Nodes.{NodeStyles, style_of, style_at, is_shown_in, is_in_note_in}
 use Rattle.style.specs.Styles.{initial_style}
 use Rattle.style.specs.declared.style.Style.{Style}
@@ -14,7 +15,6 @@ use Rattle.cascade.specs.declared.sheet.ReadSheet.{ReadSheet}
 use Rattle.cascade.specs.declared.table.NodeWinners.{NodeWinners}
 use Rattle.computed.specs.Applied.{computed_style, inline_display}
 use Rattle.computed.specs.Walk.{IsStyle, HasPseudo, IsElement, IsNode, AreStyles, style_above, root_above, font_of, is_shown_below, is_note_below, is_in_note_below, is_displayed, is_generated, parent_row}
-use Rattle.computed.proofs.WalkLemmas.{falls}
 
 -- ---- lists by their places
 
@@ -211,7 +211,7 @@ module _ (names more : List (List ℕ)) (rows others : List NodeStyles) where
       where
         low : IsSameAbove (parent_at (parents_of dom) k)
         low p e =
-            let l = falls dom tree k p e in
+            let l = parent-below dom tree k p e in
             (before p l, before 0 (omega arith))
 
         by : (o p : Option NodeStyles) (w : Option NodeWinners) → slice_get rows k ≡ o → slice_get others k ≡ p → slice_get winners k ≡ w → Same k

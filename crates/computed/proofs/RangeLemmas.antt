@@ -11,6 +11,7 @@ use Rattle.bk_num.specs.declared.sides.Sides.{Sides}
 use Rattle.bk_num.specs.declared.values.Pseudo.{Pseudo}
 use Rattle.bk_num.specs.declared.values.Pseudo.TheVariants as pseudo
 use Rattle.dom.specs.Nodes.{Node, IsTree, parents_of, parent_at, name_at}
+use Rattle.dom.proofs.WalkLemmas.{parent-below}
 use Rattle.style.specs.Nodes.{NodeStyles, style_in, style_of, style_at}
 use Rattle.style.specs.Initial.{medium_width}
 use Rattle.style.specs.Longs.{side_long}
@@ -35,7 +36,6 @@ use Rattle.computed.specs.declared.values.LengthUse.TheVariants as use_of
 use Rattle.computed.specs.Lengths.{border_in, chosen_length, length_for, length_in}
 use Rattle.computed.specs.Walk.{IsStyle, HasPseudo, IsElement, IsNode, AreStyles, style_above, root_above, parent_row}
 use Rattle.computed.proofs.OneLemmas.{past_within}
-use Rattle.computed.proofs.WalkLemmas.{falls}
 
 -- ---- what is kept, by the sides of a box
 
@@ -289,7 +289,7 @@ module _ (names : List (List ℕ)) (rows : List NodeStyles) where
     in_range_step k before r e = by (slice_get winners k) refl
       where
         low : (p : ℕ) → parent_at (parents_of dom) k ≡ Some p → IsInRangeAt p
-        low p f = before p (falls dom tree k p f)
+        low p f = before p (parent-below dom tree k p f)
 
         by : (o : Option NodeWinners) → slice_get winners k ≡ o → IsRowInRange r
         by None f = absurd (past_within winners rows k r (full ∙ sym x.count) f e)

@@ -3,6 +3,7 @@ use Rattle.std.proofs.Common.{◌≡◌, ◌∙◌, ℕ, ℤ, zero, suc, ◌<◌
 use Rattle.std.proofs.lemmas.Option.{same_Some}
 use Rattle.dom.specs.NameLists.{AreOnce}
 use Rattle.dom.specs.Nodes.{Node, IsTree, parents_of, parent_at, name_at}
+use Rattle.dom.proofs.WalkLemmas.{parent-below}
 use Rattle.style.specs.Nodes.{NodeStyles}
 use Rattle.style.specs.declared.style.Style.{Style}
 use Rattle.style.specs.declared.long.Long.{Long}
@@ -13,7 +14,6 @@ use Rattle.computed.specs.Walk.{IsStyle, HasPseudo, IsElement, IsNode, AreStyles
 use Rattle.computed.specs.Laws.{StylesAreOne}
 use Rattle.computed.proofs.NameLemmas.{are-once, one-number}
 use Rattle.computed.proofs.OneLemmas.{same_places, past_within, one_winners, unnamed, unnamed_node, one_list, same_below}
-use Rattle.computed.proofs.WalkLemmas.{falls}
 
 -- ---- the names that are given don't depend on their numbers
 
@@ -84,7 +84,7 @@ module _ (names : List (List ℕ)) (once : AreOnce names) (rows others : List No
     turn k before = by (slice_get rows k) (slice_get others k) (slice_get winners k) refl refl refl
       where
         low : (p : ℕ) → parent_at (parents_of dom) k ≡ Some p → SameAt p
-        low p e = before p (falls dom tree k p e)
+        low p e = before p (parent-below dom tree k p e)
 
         by : (o p : Option NodeStyles) (w : Option NodeWinners) → slice_get rows k ≡ o → slice_get others k ≡ p → slice_get winners k ≡ w → SameAt k
         by None None w h g i = h ∙ sym g

@@ -1,9 +1,10 @@
 -- Rows of nodes, and names that grow.
-use Rattle.std.proofs.Common.{◌≡◌, ℕ, ℤ, ◌+◌, ◌<◌, ◌≤◌, Bool, true, false, List, [], ◌∷◌, ◌++◌, Option, None, Some, Result, Ok, Err, OnOk, is_some, length, length-append, option_map, unwrap_or, slice_get, refl, sym, ◌∙◌, ap, subst, arith, ◌⊎◌, inl, inr}
-use Rattle.std.proofs.lemmas.Option.{slice_get-map, slice_get_within, same_Some}
+use Rattle.std.proofs.Common.{◌≡◌, ℕ, ℤ, ◌+◌, ◌<◌, ◌≤◌, Bool, true, false, List, [], ◌∷◌, ◌++◌, Option, None, Some, Result, Ok, Err, OnOk, is_some, length, length-append, unwrap_or, slice_get, refl, sym, ◌∙◌, ap, subst, arith, ◌⊎◌, inl, inr}
+use Rattle.std.proofs.lemmas.Option.{slice_get_within, same_Some}
 use Rattle.std.specs.Option.{option_to_list}
 use Rattle.bk_num.proofs.ListLemmas.{get-push, get-before}
-use Rattle.dom.specs.Nodes.{Node, IsTree, HasPlace, parents_of, parent_at, name_at, flat}
+use Rattle.dom.specs.Nodes.{Node, IsTree, parents_of, parent_at, name_at}
+use Rattle.dom.proofs.WalkLemmas.{parent-below}
 use Rattle.style.specs.Nodes.{NodeStyles, change_last, own_style}
 use Rattle.style.specs.declared.style.Style.{Style}
 use Rattle.style.specs.declared.long.Long.{Long}
@@ -89,23 +90,11 @@ node-keep : (names more : List (List ℕ)) → Extends names more → (rows : Li
 node-keep names more e rows row parent low false w r h = h
 node-keep names more e rows row parent low true w r h = element-keep names more e rows row parent low w r h
 
--- a node's parent comes before it
-pub falls : (nodes : List Node) → IsTree nodes → (k p : ℕ) → parent_at (parents_of nodes) k ≡ Some p → p < k
-falls nodes tree k p h = by (slice_get nodes k) refl (ap flat (sym (slice_get-map (λ n. n.parent) nodes k)) ∙ h)
-  where
-    place : (n : Node) (q : Option ℕ) → HasPlace nodes k n q → q ≡ Some p → p < k
-    place n None hp e = cc
-    place n (Some q) hp e = let s : q ≡ p = cc in let l = hp.0 in omega arith
-
-    by : (o : Option Node) → slice_get nodes k ≡ o → flat (option_map (λ n. n.parent) o) ≡ Some p → p < k
-    by None e g = cc
-    by (Some n) e g = place n n.parent (tree.placed k n e) g
-
 pub nodes-turn : (names more : List (List ℕ)) (nodes : List Node) (winners : List NodeWinners) (i : ℕ) (w : NodeWinners) (rows next : List NodeStyles) → IsTree nodes → slice_get winners i ≡ Some w → length rows ≡ i → AreNodes names nodes winners rows → Extends names more → Adds names more nodes i w rows next → AreNodes more nodes winners next
 nodes-turn names more nodes winners i w rows next tree at len all e adds k v r hw hr = by (get-push rows adds.row r k (subst (λ l. slice_get l k ≡ Some r) adds.added hr))
   where
     low : k ≤ i → (p : ℕ) → parent_at (parents_of nodes) k ≡ Some p → p < length rows
-    low l p h = let f = falls nodes tree k p h in omega arith
+    low l p h = let f = parent-below nodes tree k p h in omega arith
 
     by : ((k ≡ length rows) × (r ≡ adds.row)) ⊎ (slice_get rows k ≡ Some r) → IsNode more next (parent_at (parents_of nodes) k) (is_some (name_at nodes k)) v r
     by (inl (here, same)) =

@@ -5,8 +5,8 @@ use Rattle.std.proofs.lemmas.Option.{slice_get-map, slice_get_within}
 use Rattle.std.proofs.lemmas.List.{length-map}
 use Rattle.std.specs.List.{flat_map}
 use Rattle.std.proofs.Math.Seq.{drop-nil}
-use Rattle.bk_num.proofs.ListLemmas.{get-drop}
-use Rattle.dom.specs.Nodes.{Node, is_at, first_from, next_under, next_of, parents_of, parent_at, flat, IsTree, HasPlace}
+use Rattle.bk_num.proofs.ListLemmas.{get-drop, slice_get_at}
+use Rattle.dom.specs.Nodes.{Node, is_at, first_from, next_under, next_of, parents_of, parent_at, flat, IsTree, HasPlace, is_element_at, is_element_node}
 use Rattle.dom.specs.Walk.{children_from, children_of, tour}
 use Rattle.dom.specs.WalkFields.{tour_at, tours_of, after, after_at}
 use Rattle.dom.specs.declared.walk.Step.{Step}
@@ -116,6 +116,10 @@ parent-child ps n p h = by (slice_get ps n) refl h
     by None e g = cc
     by (Some q) e g = ap (λ (o : Option ℕ). Some o) g
 
+-- a node's parent comes before it
+pub parent-below : (nodes : List Node) → IsTree nodes → (n p : ℕ) → parent_at (parents_of nodes) n ≡ Some p → p < n
+parent-below nodes tree n p h = falling nodes tree n p (parent-child (parents_of nodes) n p h)
+
 after-same : (ps : List (Option ℕ)) (d e n : ℕ) → AreFalling ps → n < d → n < e → after ps d n (parent_at ps n) ≡ after ps e n (parent_at ps n)
 unfolding after
 after-same ps zero e n falls a b = absurd (omega arith)
@@ -193,6 +197,16 @@ root-parent nodes t = by (parent_at (parents_of nodes) 0) refl
     by : (o : Option ℕ) → parent_at (parents_of nodes) 0 ≡ o → o ≡ None
     by None h = refl
     by (Some p) h = let f = falling nodes t 0 p (parent-child (parents_of nodes) 0 p h) in absurd (omega arith)
+
+pub root-element : (nodes : List Node) → IsTree nodes → is_element_at nodes 0 ≡ true
+root-element nodes t = by (slice_get_at nodes 0 t.some)
+  where
+    of : (x : Node) (o : Option ℕ) → slice_get nodes 0 ≡ Some x → HasPlace nodes 0 x o → is_element_at nodes 0 ≡ true
+    of x None e h = ap is_element_node e ∙ h.2
+    of x (Some p) e h = let below = h.0 in absurd (omega (arith, below))
+
+    by : ((x : Node) × (slice_get nodes 0 ≡ Some x)) → is_element_at nodes 0 ≡ true
+    by (x, e) = of x x.parent e (t.placed 0 x e)
 
 append-none : (steps : List Step) → steps ++ [] ≡ steps
 append-none [] = refl

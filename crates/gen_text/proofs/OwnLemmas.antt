@@ -1,6 +1,6 @@
 -- the walk below an element, past what is left out
 use Rattle.std.proofs.Common.{◌≡◌, ℕ, zero, suc, ◌+◌, ◌-◌, ◌<◌, ◌≤◌, ◌==◌, Bool, true, false, not, cond, ◌&&◌, List, [], ◌∷◌, ◌++◌, Option, None, Some, drop, length, slice_get, option_map, refl, sym, ◌∙◌, ap, subst, arith, append_assoc, append-nil, length-append}
-use Rattle.std.proofs.lemmas.Bool.{eq-eqb}
+use Rattle.std.proofs.lemmas.Bool.{eq-eqb, and_parts}
 use Rattle.std.proofs.lemmas.Map.Views.{exact_unsigned_eq}
 use Rattle.std.proofs.lemmas.Option.{slice_get-map, slice_get_within}
 use Rattle.std.proofs.lemmas.List.{drop-drop}
@@ -15,7 +15,7 @@ use Rattle.dom.specs.Walk.{children_from, children_of, tour, node_of}
 use Rattle.dom.specs.WalkFields.{tour_at, tours_of, steps_from}
 use Rattle.dom.specs.declared.walk.Step.{Step}
 use Rattle.dom.specs.declared.walk.Step.TheVariants.{Enter, Leave}
-use Rattle.dom.proofs.WalkLemmas.{first-child, no-children, falling, tour-unfold, enter-child, enter-leaf, after-sibling, after-last, parent-child}
+use Rattle.dom.proofs.WalkLemmas.{first-child, no-children, falling, tour-unfold, enter-child, enter-leaf, after-sibling, after-last, parent-child, parent-below}
 use Rattle.dom.proofs.IdLemmas.{length-parents}
 use Rattle.style.specs.Nodes.{NodeStyles}
 use Rattle.gen_text.specs.declared.own.Ending.{Ending}
@@ -25,9 +25,6 @@ use Rattle.gen_text.specs.Parts.{attribute_text}
 use Rattle.gen_text.proofs.WordLemmas.{added-all, added-append}
 
 -- ---- parents and depths
-
-parent-below : (nodes : List Node) → IsTree nodes → (n p : ℕ) → parent_at (parents_of nodes) n ≡ Some p → p < n
-parent-below nodes tree n p h = falling nodes tree n p (parent-child (parents_of nodes) n p h)
 
 -- a node is one deeper than its parent
 depth-child : (nodes : List Node) → IsTree nodes → (n p : ℕ) → parent_at (parents_of nodes) n ≡ Some p → depth_at nodes n ≡ depth_at nodes p + 1
@@ -52,12 +49,8 @@ no-text nodes n h = by (slice_get nodes n) refl h
     by None e h = refl
     by (Some k) e h = of k.what h
 
-and-left : (a b : Bool) → (a && b) ≡ true → a ≡ true
-and-left true b h = refl
-and-left false b h = h
-
 left-out-element : (nodes : List Node) (styles : List NodeStyles) (n : ℕ) → is_left_out nodes styles n ≡ true → is_element_at nodes n ≡ true
-left-out-element nodes styles n h = and-left (is_element_at nodes n) _ h
+left-out-element nodes styles n h = (and_parts (is_element_at nodes n) _ h).0
 
 -- ---- what is kept
 

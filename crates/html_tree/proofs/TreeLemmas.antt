@@ -3,12 +3,12 @@ use Rattle.std.proofs.Common.{◌≡◌, ◌&&◌, ℕ, ◌+◌, ◌-◌, ◌<�
 use Rattle.std.proofs.lemmas.Bool.Decides.{nat_tests}
 use Rattle.bk_num.specs.declared.ids.NodeId.{NodeId}
 use Rattle.bk_num.specs.Limits.{most_nodes}
-use Rattle.bk_num.proofs.ListLemmas.{slice_get_at}
-use Rattle.dom.specs.Nodes.{Node, NodeData, Element, Text, IsTree, HasPlace, child_of, depth_at, depth_of, is_element, is_element_at, is_element_node, attribute_at, changed_at, with_attribute}
+use Rattle.dom.specs.Nodes.{Node, NodeData, Element, Text, IsTree, child_of, depth_at, depth_of, is_element, is_element_at, is_element_node, attribute_at, changed_at, with_attribute}
 use Rattle.dom.specs.Answers.{is_below_all}
 use Rattle.dom.specs.declared.dom.DomErr.TheVariants.{Nodes, Depth}
 use Rattle.dom.proofs.DomLemmas.{reach-new, sound-root, tree-push}
 use Rattle.dom.proofs.ShapeLemmas.{shape, shape-with, tree-same}
+use Rattle.dom.proofs.WalkLemmas.{root-element}
 use Rattle.html_tok.specs.Tags.{attributes_of}
 use Rattle.html_tree.specs.Built.{AreElements}
 use Rattle.html_tree.specs.Order.{TextsAreTrees}
@@ -23,16 +23,6 @@ use Rattle.html_tree.proofs.StepLemmas.{keeps-tree}
 record IsStanding (s : State) : Type 0 where
   tree : IsTree s.nodes
   elements : AreElements s.nodes s.opened
-
-root-element : (nodes : List Node) → IsTree nodes → is_element_at nodes 0 ≡ true
-root-element nodes t = by (slice_get_at nodes 0 t.some)
-  where
-    of : (x : Node) (o : Option ℕ) → slice_get nodes 0 ≡ Some x → HasPlace nodes 0 x o → is_element_at nodes 0 ≡ true
-    of x None e h = ap is_element_node e ∙ h.2
-    of x (Some p) e h = let below = h.0 in absurd (omega (arith, below))
-
-    by : ((x : Node) × (slice_get nodes 0 ≡ Some x)) → is_element_at nodes 0 ≡ true
-    by (x, e) = of x x.parent e (t.placed 0 x e)
 
 -- no element is deeper than 200
 shallow : (nodes : List Node) (p : ℕ) → IsTree nodes → is_element_at nodes p ≡ true → depth_at nodes p ≤ 200

@@ -9,6 +9,7 @@ use Rattle.std.proofs.Math.Utf8.{scalar, scalars}
 use Rattle.std.proofs.lemmas.List.Elements.{All-nil, All-cons, All-head, All-tail, All-filter, All-weaker, All-map}
 use Rattle.std.proofs.lemmas.List.Kept.{IsStrictlyIncreasing-filter}
 use Rattle.std.proofs.lemmas.Str.{len_utf8_bounds, length-encode, length-le-encodes, drop_past_char, IsCharBoundary-from_drop, encodes-chars, scalars-chars}
+use Rattle.std.proofs.lemmas.Bool.{and_parts}
 use Rattle.bk_num.proofs.ListLemmas.{filter-none}
 use Rattle.unicode_segmentation.specs.Grapheme.{graphemes, is_grapheme_break}
 use Rattle.unicode_segmentation.specs.Segments.{Rule, cut, prepend, segments, with_offsets}
@@ -67,14 +68,10 @@ joints_rise p before at (c ∷ cs) = by (p (record { before = before; next = c; 
       up = r.up;
     }
 
-and_right : (a b : Bool) → (a && b) ≡ true → b ≡ true
-and_right true b h = h
-and_right false b h = absurd (cc)
-
 -- each joint stands where a character begins
 joints_stand : (p : Joint → Bool) (text : List ℕ) (before at : ℕ) (cs : List ℕ) → at ≤ length text → drop at text ≡ encode_utf8_all cs → scalars cs ≡ true → All (IsCharBoundary text) (map (λ (j : Joint). j.at) (filter p (joints_after before at cs)))
 joints_stand p text before at [] within e s = All-nil (IsCharBoundary text)
-joints_stand p text before at (c ∷ cs) within e s = by (p (record { before = before; next = c; at = at })) (joints_stand p text c (at + len_utf8 c) cs inside (drop_past_char text (encode_utf8_all cs) at c e) (and_right (scalar c) (scalars cs) s))
+joints_stand p text before at (c ∷ cs) within e s = by (p (record { before = before; next = c; at = at })) (joints_stand p text c (at + len_utf8 c) cs inside (drop_past_char text (encode_utf8_all cs) at c e) ((and_parts (scalar c) (scalars cs) s).1))
   where
     inside : at + len_utf8 c ≤ length text
     inside = omega (arith, length-drop at text, ap length e, length-append (encode_utf8 c) (encode_utf8_all cs), length-encode c, within)

@@ -207,7 +207,3 @@ word-next ls at fails = record {
   all = λ i low high. absurd (omega arith);
   before = λ i e. let is : i ≡ at = omega arith in ap (λ (j : ℕ). is_of_word (get_or (codes_of ls) j 0)) is ∙ fails;
 }
-
-pub second-holds : (a b : Bool) → (a && b) ≡ true → b ≡ true
-second-holds true b h = h
-second-holds false b h = cc

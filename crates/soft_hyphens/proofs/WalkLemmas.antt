@@ -9,6 +9,7 @@ use Rattle.std.proofs.lemmas.List.{get_or-drop, get_or_past, length-drop, length
 use Rattle.std.proofs.lemmas.List.Elements.{All-nil}
 use Rattle.std.proofs.lemmas.Option.{get_or_from_slice_get, slice_get-map, slice_get_past, slice_get_within}
 use Rattle.std.proofs.lemmas.Str.{chars-nil, IsCharBoundary-start, IsUtf8-between, len_utf8_bounds}
+use Rattle.std.proofs.lemmas.Bool.{and_parts}
 use Rattle.hyphen.specs.Points.{letters_of, offset_of, places_of, points_of}
 use Rattle.hyphen.proofs.PointLemmas.{offset_none}
 use Rattle.soft_hyphens.specs.Known.{word_points}
@@ -18,7 +19,7 @@ use Rattle.soft_hyphens.specs.Words.{Points, are_auto, codes_of, counts, is_of_w
 use Rattle.soft_hyphens.specs.declared.letter.Letter.{Letter}
 use Rattle.soft_hyphens.specs.declared.walk.Walk.{Walk}
 use Rattle.soft_hyphens.proofs.OffsetLemmas.{offset-next}
-use Rattle.soft_hyphens.proofs.PointLemmas.{no-points, second-holds, some-points, word-goes, word-next}
+use Rattle.soft_hyphens.proofs.PointLemmas.{no-points, some-points, word-goes, word-next}
 use Rattle.soft_hyphens.proofs.SliceLemmas.{chars-grow, few-bytes, next-boundary}
 use Rattle.soft_hyphens.proofs.WordLemmas.{none-of-word}
 
@@ -153,7 +154,7 @@ counts-are points ls text w soft offsets o is = rw (sym o.auto, o.before, is) re
 
 -- it isn't long
 few-letters : (n : ℕ) (a b d : Bool) → (leb 5 n && (((leb n 64 && a) && b) && d)) ≡ true → n ≤ 64
-few-letters n a b d h = by (leb n 64) refl (second-holds (leb 5 n) (((leb n 64 && a) && b) && d) h)
+few-letters n a b d h = by (leb n 64) refl ((and_parts (leb 5 n) (((leb n 64 && a) && b) && d) h).1)
   where
     by : (t : Bool) → leb n 64 ≡ t → (((t && a) && b) && d) ≡ true → n ≤ 64
     by true e k = grind (arith, nat_tests)
@@ -178,7 +179,7 @@ ends-without value ls text w soft offsets may o is stop =
 pub ends-with : (value : List ℕ → ℕ → ℕ) (ls : List Letter) (text : List ℕ) (w : Walk) (soft : Bool) (offsets : List ℕ) → (leb 5 (w.place - w.first) && counts_by w soft) ≡ true → IsOver (points_with value) ls text w offsets → is_soft (slice_get ls w.place) ≡ soft → is_of_word (get_or (codes_of ls) w.place 0) ≡ false → offsets ++ map (λ (p : ℕ). w.from + p) (word_points value (word_text text w)) ≡ offsets_before (is_put (points_with value) ls) (codes_of ls) (w.place + 1)
 unfolding points_of letters_of
 ends-with value ls text w soft offsets may o is stop =
-    let counted : counts ls w.first w.place ≡ true = counts-are (points_with value) ls text w soft offsets o is ∙ second-holds (leb 5 (w.place - w.first)) (counts_by w soft) may in
+    let counted : counts ls w.first w.place ≡ true = counts-are (points_with value) ls text w soft offsets o is ∙ (and_parts (leb 5 (w.place - w.first)) (counts_by w soft) may).1 in
     ap₂ (λ (x cs : List ℕ). x ++ map (λ (p : ℕ). w.from + p) (map (offset_of (map to_ascii_lowercase cs)) (places_of value (map to_ascii_lowercase cs) 2 3))) o.put o.letters
     ∙ sym (some-points value ls w.first w.place o.word o.within stop w.from o.from counted)
 
