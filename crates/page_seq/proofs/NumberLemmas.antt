@@ -1,16 +1,16 @@
 -- The values of resets page by page, and the numbers that they give.
-use Rattle.std.proofs.Common.{◌≡◌, ◌<◌, ℕ, ◌+◌, ◌^◌, ◌==◌, ℤ, pos, neg_ℤ, ◌≤ℤ◌, ◌+ℤ◌, Bool, true, false, cond, List, [], ◌∷◌, ◌++◌, Option, None, Some, option_map, unwrap_or, length, map, take, drop, get_or, slice_set, refl, sym, ◌∙◌, ap, subst, arith, add-one, drop-cons}
+use Rattle.std.proofs.Common.{◌≡◌, ◌<◌, ℕ, ◌+◌, ◌^◌, ◌==◌, ℤ, pos, neg_ℤ, ◌≤ℤ◌, ◌+ℤ◌, Bool, true, false, cond, List, [], ◌∷◌, ◌++◌, Option, None, Some, option_map, unwrap_or, length, map, take, drop, get_or, slice_set, refl, sym, ◌∙◌, ap, subst, arith, add-one, drop-cons, suc}
 use Rattle.std.specs.List.{All, AllByRecursion, filter, last_or}
 use Rattle.std.proofs.lemmas.List.{take_more, get_or-map, length-map}
 use Rattle.std.proofs.lemmas.List.Elements.{recursion_from_All}
 use Rattle.std.proofs.lemmas.Int.{ints}
-use Rattle.std.proofs.lemmas.List.FromFn.{fill_by_all, get_or-map-range_with_len}
+use Rattle.std.proofs.lemmas.List.FromFn.{fill_by_all, get_or-map-range_with_len, length-map-range_with_len}
 use Rattle.std.proofs.lemmas.Grind.{common_steps}
 use Rattle.boxes.specs.Tree.{Tree}
 use Rattle.boxes.specs.declared.flow.Reset.{Reset}
 use Rattle.boxes.specs.declared.page.Page.{Page}
 use Rattle.page_seq.specs.Places.{page_of}
-use Rattle.page_seq.specs.Numbers.{IsSmallReset, last_value, value_on, values_of, numbers_after}
+use Rattle.page_seq.specs.Numbers.{IsSmallReset, last_value, value_on, values_of, numbers_after, numbers_of}
 
 abbrev value_of : Reset → ℤ
 value_of r = r.value
@@ -82,3 +82,11 @@ number_at t pages resets numbers i n d h is read =
     read ∙ (ap (λ (ns : List ℕ). get_or ns i n) is
     ∙ (get_or-map (page_of t pages) (map (λ (r : Reset). r.at) resets) i d.at n (rw length-map h)
     ∙ ap (page_of t pages) (get_or-map (λ (r : Reset). r.at) resets i d d.at h)))
+
+-- there are as many numbers as pages
+length-after : (values : List (Option ℤ)) (before : ℤ) → length (numbers_after before values) ≡ length values
+length-after [] before = refl
+length-after (v ∷ values) before = ap suc (length-after values _)
+
+pub numbers-many : (t : Tree) (pages : List Page) (resets : List Reset) → length (numbers_of t pages resets) ≡ length pages
+numbers-many t pages resets = length-after (values_of t pages resets) _ ∙ length-map-range_with_len (value_on t pages resets) 0 (length pages)

@@ -1,16 +1,14 @@
 -- What holds of all tables.
-use Rattle.std.proofs.Common.{◌≡◌, ◌<◌, ◌≤◌, ◌+◌, ◌-◌, ◌+ℤ◌, ◌==◌, ℕ, zero, suc, ℤ, pos, Bool, true, false, List, [], ◌∷◌, Option, None, Some, length, map, slice_get, get_or, take, unwrap_or, refl, sym, ◌∙◌, ap, subst, inl, inr, ◌⊎◌, arith}
+use Rattle.std.proofs.Common.{◌≡◌, ◌<◌, ◌≤◌, ◌+◌, ◌-◌, ◌==◌, ℕ, zero, suc, ℤ, pos, Bool, true, false, List, [], ◌∷◌, Option, None, Some, length, map, slice_get, get_or, take, unwrap_or, refl, sym, ◌∙◌, ap, subst, inl, inr, ◌⊎◌, arith}
 use Rattle.std.specs.List.Sorted.{IsStrictlyIncreasing}
 use Rattle.std.proofs.lemmas.Bool.{cases_order, eq-eqb}
 use Rattle.std.proofs.lemmas.Bool.Decides.{nat_tests}
 use Rattle.std.proofs.lemmas.List.{get_or-map, length-map}
-use Rattle.std.proofs.lemmas.List.FromFn.{length-map-range_with_len}
 use Rattle.std.proofs.lemmas.List.Sorted.{IsNonDecreasingBy-from_default}
 use Rattle.std.proofs.lemmas.Option.{slice_get-get_or}
 use Rattle.bk_num.specs.declared.ids.NodeId.{NodeId}
 use Rattle.boxes.specs.declared.flow.Flow.{Flow}
 use Rattle.boxes.specs.declared.flow.Note.{Note}
-use Rattle.boxes.specs.declared.flow.Reset.{Reset}
 use Rattle.boxes.specs.declared.flow.Start.{Start}
 use Rattle.boxes.specs.declared.page.Page.{Page}
 use Rattle.boxes.specs.declared.place.Position.{Position}
@@ -18,9 +16,10 @@ use Rattle.boxes.specs.Tree.{Tree}
 use Rattle.gen_text.specs.Table.{number_in}
 use Rattle.gen_text.specs.declared.table.Entry.{Entry}
 use Rattle.page_seq.specs.Noted.{begins_on, has_note}
-use Rattle.page_seq.specs.Numbers.{numbers_after, numbers_of, value_on, values_of}
+use Rattle.page_seq.specs.Numbers.{numbers_of}
 use Rattle.page_seq.specs.Places.{anchor_of, has_solid, last_page, last_place, page_of}
 use Rattle.page_seq.proofs.PlaceLemmas.{first_place_some, last_place_within, no_page, page_at_within}
+use Rattle.page_seq.proofs.NumberLemmas.{numbers-many}
 use Rattle.refs.specs.Begins.{page_in_note, page_of_note, page_of_start, page_within}
 use Rattle.refs.specs.Differences.{AreDifferences, IsFirstDifference}
 use Rattle.refs.specs.Tables.{ElementsHavePages, ReferencesFindNumbers, TablesHaveNodes, TargetsAscend, entry_of, number_from, start_of}
@@ -112,20 +111,13 @@ within_there : (flow : Flow) (pages : List Page) (s : Start) (note : Option ℕ)
 within_there flow pages s None some = page_there flow.main pages s.at some
 within_there flow pages s (Some n) some = in_note_there flow pages s n (slice_get flow.notes n) some
 
-length-numbers_after : (before : ℤ) (values : List (Option ℤ)) → length (numbers_after before values) ≡ length values
-length-numbers_after before [] = refl
-length-numbers_after before (v ∷ values) = ap (λ n. suc n) (length-numbers_after (unwrap_or v (before +ℤ pos 1)) values)
-
-length-numbers_of : (t : Tree) (pages : List Page) (resets : List Reset) → length (numbers_of t pages resets) ≡ length pages
-length-numbers_of t pages resets = length-numbers_after (pos 0) (values_of t pages resets) ∙ length-map-range_with_len (value_on t pages resets) 0 (length pages)
-
 get-unwrap : (numbers : List ℤ) (k : ℕ) → k < length numbers → slice_get numbers k ≡ Some (unwrap_or (slice_get numbers k) (pos 0))
 get-unwrap numbers k h = let e = slice_get-get_or numbers k (pos 0) h in e ∙ sym (ap (λ (o : Option ℤ). Some (unwrap_or o (pos 0))) e)
 
 pub have_pages : ElementsHavePages
 have_pages = λ flow pages s some.
     let there = within_there flow pages s s.note some in
-    let size = length-numbers_of flow.main pages flow.resets in
+    let size = numbers-many flow.main pages flow.resets in
     let within : page_of_start flow pages s < length (numbers_of flow.main pages flow.resets) = omega arith in
     get-unwrap (numbers_of flow.main pages flow.resets) (page_of_start flow pages s) within
 

@@ -1,5 +1,5 @@
 use Rattle.std.proofs.Common.{◌∙◌, ap, length}
-use Rattle.listing.proofs.Numbers.{numbers-many}
+use Rattle.page_seq.proofs.NumberLemmas.{numbers-many}
 use Rattle.listing.proofs.pages.margins_of.Goals as goal
 
 pub returns-clause-can : goal.returns-clause-can
