@@ -7,6 +7,5 @@ pub mod Names
 pub mod Numbers
 pub mod Ranges
 pub mod Sides
-pub mod Tables
 pub mod Units
 pub mod Written

@@ -12,7 +12,8 @@ use Rattle.cursor.proofs.RemLemmas.{solid_within}
 use Rattle.note_list.specs.Calls.{start_place}
 use Rattle.page_list.proofs.PlaceLemmas.{lines_there}
 use Rattle.page_list.specs.Noted.{AreBodies, HoldsNotes, notes_of}
-use Rattle.page_list.specs.Parted.{AreNextSolids, HoldsAll, IsLineThere, IsNextSolid, IsPart, solids_of}
+use Rattle.page_seq.specs.Owners.{solids_of}
+use Rattle.page_list.specs.Parted.{AreNextSolids, HoldsAll, IsLineThere, IsNextSolid, IsPart}
 use Rattle.page_list.specs.Parted.IsPart.{line, upper, lower}
 use Rattle.paint.specs.Bounds.{IsBoundedPage}
 use Rattle.paint.specs.Order.{AreInOrder, AreNotesInOrder, IsPageOf, StandsIn, StandsInNote}

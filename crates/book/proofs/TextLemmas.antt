@@ -21,7 +21,8 @@ use Rattle.boxes.specs.declared.place.Position.{Position}
 use Rattle.seams.specs.Runs.{is_solid_at}
 use Rattle.cursor.proofs.RemLemmas.{Stands, place}
 use Rattle.cursor.proofs.PartLemmas.{solid_itself}
-use Rattle.page_list.specs.Parted.{IsPart, IsPartOfLeaf, IsNextSolid, AreNextSolids, HoldsAll, solids_of}
+use Rattle.page_seq.specs.Owners.{solids_of}
+use Rattle.page_list.specs.Parted.{IsPart, IsPartOfLeaf, IsNextSolid, AreNextSolids, HoldsAll}
 use Rattle.page_list.specs.Parted.IsPart.{line, upper, lower}
 use Rattle.page_list.proofs.NextLemmas.{start_stands}
 use Rattle.page_list.proofs.LeafTexts.{told, told_by, texts, texts_found, texts_here, texts_none, tree_texts, offset_same, edge_begins}

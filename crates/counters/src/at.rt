@@ -1,8 +1,6 @@
 //! The values of counters at the places of a document.
 
 ghost use Rattle.std.specs.Prelude.{◌≡◌, ◌+◌, ◌*◌, ◌<◌, ◌++◌, [], ◌∷◌, pos, IfOk, OnOk, Some, None, option_map, map, slice_get};
-ghost use Rattle.std.specs.Str.{bytes_eq};
-ghost use Rattle.std.specs.List.{position};
 ghost use Rattle.std.specs.String.{string_bytes};
 ghost use Rattle.named_lists.specs.Lists.{of_name};
 ghost use Rattle.counters.specs.At.{AreAllMarks, AreAllNested, AreSmall, IsSmall, KeepAsked, counter_values, marks_by, place_in, values_of_marks};
@@ -17,6 +15,7 @@ use bk_num::items::Items;
 use bk_num::name::NoMem;
 use bk_num::values::Pseudo;
 use indexmap::IndexSet;
+use named_lists::lists::number_of;
 use std::alloc::Global;
 use std::marker::Model;
 
@@ -92,20 +91,13 @@ impl CounterAt {
         let Some(place) = place_of(&self.spots, node, pseudo) else {
             return zero(alloc);
         };
-        let number = index_of(&self.names, name);
+        let number = number_of(&self.names, name);
         let mut likely = number.unwrap_or(0);
         if is_asked(&self.asked, &mut likely, name) {
             return marked_values(alloc, &self.lists, number, place);
         }
         logged_values(alloc, &self.rows, name, place)
     }
-}
-
-/// The number of a counter.
-fn index_of(names: &IndexSet<String>, name: &str) -> Option<usize>
-    ensures { result ≡ position (bytes_eq name.now) (map (λ k. string_bytes k) names.now.keys) }
-{
-    names.get_index_of(name)
 }
 
 /// The marks of a counter.

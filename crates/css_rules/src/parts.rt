@@ -45,8 +45,9 @@ fn is_stop(stop: Stop, mark: u8) -> bool
     }
 }
 
+/// Whether a token ends a part of a sheet (css-syntax-3, 5.3).
 #[tactic(auto, unfolding(crate::specs::Parts::ends))]
-fn ends(stop: Stop, open: &OpenBrackets, token: &CssToken<'_>) -> bool
+pub fn ends(stop: Stop, open: &OpenBrackets, token: &CssToken<'_>) -> bool
     ensures { result ≡ spec.ends stop open.now (item_in token.now) }
 {
     open.is_outside() && is_stop(stop, token.mark())

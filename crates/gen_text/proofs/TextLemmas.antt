@@ -19,7 +19,8 @@ use Rattle.style.specs.declared.content.Part.TheVariants as part
 use Rattle.style.specs.Nodes.{NodeStyles}
 use Rattle.gen_text.specs.Content.{Place, PrintsPart, PrintsParts, printed_by, text_of, TextIsThat}
 use Rattle.gen_text.specs.Parts.{reference_text}
-use Rattle.gen_text.specs.Texts.{TextSource, assigned_by, assigned_of, is_asked, place_at}
+use Rattle.counters.specs.Log.{is_asked}
+use Rattle.gen_text.specs.Texts.{TextSource, assigned_by, assigned_of, place_at}
 use Rattle.gen_text.specs.Target.{IsOfId, TargetIsThat, address_of, id_in, shown_only, numbers_of, is_preceded, is_first, first_of, shown_of}
 
 -- ---- the first that passes a test

@@ -1,8 +1,6 @@
 -- What the pseudo-elements of a document print, and what its elements assign to named strings (CSS 2.1, 12.1 and 12.2;
 -- css-gcpm-3).
 use Rattle.std.specs.Prelude.{ℕ, Bool, ◌&&◌, not, if◌then◌else◌, List, [], Option, None, Some, filter, map, slice_get, ℤ}
-use Rattle.std.specs.List.{list_any}
-use Rattle.std.specs.Str.{bytes_eq}
 use Rattle.std.specs.String.{string_bytes}
 use Rattle.bk_num.specs.declared.values.Pseudo.{Pseudo}
 use Rattle.bk_num.specs.declared.values.Pseudo.TheVariants as pseudo
@@ -14,6 +12,7 @@ use Rattle.style.specs.Nodes.{NodeStyles, style_at, is_shown_in, is_in_note_in}
 use Rattle.gen_text.specs.declared.table.Entry.{Entry}
 use Rattle.gen_text.specs.declared.texts.Texts.{Texts}
 use Rattle.gen_text.specs.Content.{Place, place_of, text_of}
+use Rattle.counters.specs.Log.{is_asked}
 
 -- what texts are generated from: the document, its styles, the values of a counter at an element or a pseudo-element,
 -- the outermost scope first, the numbers of pages, and the names of the strings that pages ask for
@@ -76,10 +75,6 @@ assigns r = is_shown_in r && not (is_in_note_in r)
 -- the named strings that an element sets
 abbrev pub sets_at : List NodeStyles → ℕ → List (List ℕ × List Part)
 sets_at styles n = if assigns (slice_get styles n) then sets_of (style_at styles n pseudo.Element) else []
-
--- whether pages ask for the string of a name
-abbrev pub is_asked : List (List ℕ) → List ℕ → Bool
-is_asked asked name = list_any (bytes_eq name) asked
 
 -- a name with the text of its content
 abbrev pub assigned_by : Place → List ℕ × List Part → List ℕ × List ℕ

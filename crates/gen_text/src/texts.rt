@@ -5,7 +5,8 @@ ghost use Rattle.std.specs.Prelude.{◌≡◌, ◌<◌, ◌++◌, ◌∷◌, [],
 ghost use Rattle.std.specs.String.{string_bytes};
 ghost use Rattle.bk_num.specs.declared.values.Pseudo.TheVariants as pseudo;
 ghost use Rattle.gen_text.specs.Content.{text_of};
-ghost use Rattle.gen_text.specs.Texts.{assigned_of, assigned_strings, assigns, content_of, content_of_some, generated_text, is_asked, place_at, source_in};
+ghost use Rattle.counters.specs.Log.{is_asked};
+ghost use Rattle.gen_text.specs.Texts.{assigned_of, assigned_strings, assigns, content_of, content_of_some, generated_text, place_at, source_in};
 ghost use Rattle.style.specs.Nodes.{style_at};
 
 use crate::eval::eval;

@@ -71,7 +71,7 @@ none_from n left right a (suc m) value small h = rw (fails, none_from n left rig
     fails : is_point n left right value a ≡ false
     fails = not_here n left right a value small (omega arith)
 
-pub no_places : (letters : List ℕ) (left right : ℕ) (value : List ℕ → ℕ → ℕ) → length letters < left + right → places_of value letters left right ≡ []
+no_places : (letters : List ℕ) (left right : ℕ) (value : List ℕ → ℕ → ℕ) → length letters < left + right → places_of value letters left right ≡ []
 unfolding places_of
 no_places letters left right value small = none_from (length letters) left right 0 (length letters) (value letters) small (omega arith)
 
@@ -80,10 +80,6 @@ unfolding points_of
 no_points word left right value small = ap (map (offset_of (letters_of word))) (no_places (letters_of word) left right value small)
 
 -- the whole word
-pub places_end : (value : List ℕ → ℕ → ℕ) (letters lowered places : List ℕ) (left right place : ℕ) → lowered ≡ letters → place ≡ length lowered → places ≡ filter (is_point (length lowered) left right (value lowered)) (range_with_len 0 place) → places ≡ places_of value letters left right
-unfolding places_of
-places_end value letters lowered places left right place is all so_far = so_far ∙ rw (all, is) refl
-
 pub points_end : (value : List ℕ → ℕ → ℕ) (word letters points : List ℕ) (left right place : ℕ) → letters ≡ letters_of word → place ≡ length letters → points ≡ map (offset_of letters) (filter (is_point (length letters) left right (value letters)) (range_with_len 0 place)) → points ≡ points_of value word left right
 unfolding points_of places_of
 points_end value word letters points left right place is all so_far = so_far ∙ rw (all, is) refl

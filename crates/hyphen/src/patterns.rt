@@ -5,7 +5,7 @@ ghost use Rattle.std.specs.Char.{to_ascii_lowercase};
 ghost use Rattle.bk_num.specs.Limits.{most_text_bytes};
 ghost use Rattle.hyphen.specs.Fields.{two_values};
 ghost use Rattle.hyphen.specs.Pattern.{value_of};
-ghost use Rattle.hyphen.specs.Points.{letters_of, places_of, points_of};
+ghost use Rattle.hyphen.specs.Points.{letters_of, points_of};
 ghost use Rattle.hyphen.specs.Pieces.{pieces_from};
 
 use crate::pattern::Pattern;
@@ -84,33 +84,6 @@ impl Patterns {
         Ok(values)
     }
 
-    /// The points of a word, where it may be hyphenated, in order: how many characters stand before each. These are at
-    /// least `left`, and at least `right` stand after it.
-    pub fn places(
-        &self,
-        alloc: Global,
-        word: &[char],
-        left: u32,
-        right: u32,
-    ) -> Result<Vec<u32>, NoMem>
-        requires { length word.now ≤ most_text_bytes }
-        ensures { IfOk result (λ v. v.items ≡
-            places_of (value_in self.now) (map to_ascii_lowercase word.now) left right) }
-    {
-        let lowered = lowered(alloc, word)?;
-        let mut places = Vec::new(alloc);
-        if lowered.len() < left as usize + right as usize {
-            return Ok(places);
-        }
-        let values = self.values(alloc, &lowered)?;
-        for place in 0..lowered.len() {
-            if is_point(values[place], place, lowered.len() - place, left, right) {
-                places.push(place as u32)?;
-            }
-        }
-        Ok(places)
-    }
-
     /// The points of a word, where it may be hyphenated: offsets in bytes, in order. At least `left`
     /// characters stand before a point, and `right` after it.
     pub fn points(
@@ -147,13 +120,6 @@ fn letters(alloc: Global, word: &str) -> Result<Vec<char>, NoMem>
     ensures few { IfOk result (λ v. length v.items ≤ length word.now) }
 {
     Ok(word.chars().map(|c| c.to_ascii_lowercase()).collect(alloc)?)
-}
-
-/// Letters, those of ASCII in lower case.
-fn lowered(alloc: Global, word: &[char]) -> Result<Vec<char>, NoMem>
-    ensures { IfOk result (λ v. v.items ≡ map to_ascii_lowercase word.now) }
-{
-    Ok(word.iter().map(|c| c.to_ascii_lowercase()).collect(alloc)?)
 }
 
 /// Whether a place is a point, by its value and how many letters stand before it and after.

@@ -52,7 +52,7 @@ module _ (faces : List FontFace) (leaf : Leaf) (span : Span) (here : (k : ℕ) �
           (λ (l : length leaf.text ≤ to). inl (grind (arith, nat_tests)))
           (cases_lt to (length leaf.text))
 
-      by : (w x y z : Bool) → (w ≡ false) ⊎ (z ≡ false) → cond (w && x && y && z) (hyphen_width (pen_of faces span)) 0 ≡ cond (w && x && y && z) (hyphen_in faces (span_at leaf.spans (to - 2))) 0
+      by : (w x y z : Bool) → (w ≡ false) ⊎ (z ≡ false) → cond (w && (x && y && z)) (hyphen_width (pen_of faces span)) 0 ≡ cond (w && (x && y && z)) (hyphen_in faces (span_at leaf.spans (to - 2))) 0
       by false x y z h = refl
       by true false y z h = refl
       by true true false z h = refl
@@ -64,7 +64,7 @@ no_hyphen : (faces : List FontFace) (leaf : Leaf) (to : ℕ) → (get_or leaf.te
 unfolding hyphen_at is_hyphened
 no_hyphen faces leaf to (inl h) = let e : eqb (get_or leaf.text (to - 1) 0) 173 ≡ false = grind (arith, nat_tests) in rw e (by (ltb to (length leaf.text)) (leb 2 to) (eqb (get_or leaf.text (to - 2) 0) 194))
   where
-    by : (x y z : Bool) → cond (x && y && z && false) (hyphen_in faces (span_at leaf.spans (to - 2))) 0 ≡ 0
+    by : (x y z : Bool) → cond (x && (y && z && false)) (hyphen_in faces (span_at leaf.spans (to - 2))) 0 ≡ 0
     by false y z = refl
     by true false z = refl
     by true true false = refl

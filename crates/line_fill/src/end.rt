@@ -12,6 +12,7 @@ ghost use Rattle.metrics.specs.Widths.{hyphen_width};
 use crate::found::Found;
 use crate::line_width::{LineWidth, pass_stretch};
 use crate::places::{after, count_up_to, emergencies, is_place, mark};
+use bk_num::chars::ends_soft_hyphen;
 use boxes::leaf::{Leaf, Span};
 use metrics::{Faces, Pen};
 
@@ -44,7 +45,7 @@ fn is_any(stops: bool, ordinary: bool, emergency: bool) -> bool
 pub(crate) fn is_hyphened(bytes: &[u8], to: usize) -> bool
     ensures { result ≡ is_hyphened bytes.now to }
 {
-    to < bytes.len() && 2 <= to && bytes[to - 2] == 194 && bytes[to - 1] == 173
+    to < bytes.len() && ends_soft_hyphen(bytes, to)
 }
 
 /// The width of the hyphen that is shown at a place, 0 where none is.
@@ -161,7 +162,7 @@ pub(crate) fn line_end(faces: &Faces, leaf: &Leaf, room: LineRoom) -> usize
 }
 
 /// How many bytes a leaf's text has: where its last span ends.
-pub(crate) fn text_len(leaf: &Leaf) -> u32
+pub fn text_len(leaf: &Leaf) -> u32
     requires { IsGoodLeaf leaf.now }
     ensures { result ≡ length leaf.now.text }
 {

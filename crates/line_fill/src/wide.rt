@@ -4,30 +4,7 @@ ghost use Rattle.std.specs.Prelude.{◌≡◌, ◌-◌, ◌<◌, ◌≤◌, ◌&
 ghost use Rattle.metrics.specs.Widths.{begun_at, char_at, has_width, is_lead};
 ghost use Rattle.line_fill.specs.Stops.{first_wide};
 
-use bk_num::chars::{SOFT_HYPHEN, ZERO_WIDTH_SPACE};
-
-/// The character that a byte begins, if it begins one.
-fn begun_at(text: &str, at: usize) -> Option<char>
-    requires { at < length text.now }
-    ensures { result ≡ begun_at text.now at }
-{
-    let byte = text.as_bytes()[at];
-    if byte < 128 {
-        return Some(byte as char);
-    }
-    if byte < 192 {
-        return None;
-    }
-    text[at..].chars().next()
-}
-
-/// Whether a character has a width.
-#[tactic(auto, unfolding(metrics::specs::Widths::has_width))]
-fn has_width(c: char) -> bool
-    ensures { result ≡ has_width c }
-{
-    !matches!(c, SOFT_HYPHEN | ZERO_WIDTH_SPACE | '\n')
-}
+use metrics::pen::{begun_at, has_width};
 
 /// Whether a byte of a text begins a character that has a width.
 fn is_wide(text: &str, at: usize) -> bool

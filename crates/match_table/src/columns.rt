@@ -9,10 +9,10 @@ ghost use Rattle.match_table.specs.Columns.{IsCell, AreCells};
 use bk_num::ids::NodeId;
 use bk_num::name::NoMem;
 use selectors::document::TypedDocument;
-use selectors::matching::{count, fitting, joins_by};
+use selectors::matching::{count, fitting, joins_by, parent_of};
 use selectors::sets::{has, union, with};
 use selectors::types::{Join, Selector};
-use selectors::walk::{parent, prev_element};
+use selectors::walk::prev_element;
 use std::alloc::Global;
 
 /// What reaches a node of a selector's compounds, what reaches a node that it lies in, and what an earlier element
@@ -70,15 +70,6 @@ fn prev(document: &TypedDocument<'_>, node: NodeId) -> Option<NodeId>
     prev_element(dom, node)
 }
 
-/// The parent of a node, which has a lesser number.
-fn outer(document: &TypedDocument<'_>, node: NodeId) -> Option<NodeId>
-    requires { node.0 < length document.now }
-    ensures value { option_map (λ n. n.0) result ≡ parent_of document.now node.0 }
-    ensures below { IfSome result (λ p. p.0 < node.0) }
-{
-    parent(document.dom(), node)
-}
-
 /// What reaches a node, by the cells of the nodes before it.
 fn reach_node(
     document: &TypedDocument<'_>,
@@ -91,7 +82,7 @@ fn reach_node(
     requires cells { AreCells document.now selector.now cells.now }
     ensures { IsCell document.now selector.now node.0 result }
 {
-    let outer = cell_of(cells, outer(document, node));
+    let outer = cell_of(cells, parent_of(document, node));
     let beside = cell_of(cells, prev(document, node));
     let above = union(outer.above, outer.reach);
     let before = union(beside.before, beside.reach);

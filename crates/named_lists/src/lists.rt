@@ -45,8 +45,8 @@ fn list_at<T>(lists: &[Items<T>], index: Option<usize>) -> &[T]
     }
 }
 
-/// The number of a name.
-fn number_of(names: &IndexSet<String>, name: &str) -> Option<usize>
+/// The number of a name in a set.
+pub fn number_of(names: &IndexSet<String>, name: &str) -> Option<usize>
     ensures { result ≡ position (bytes_eq name.now) (map (λ k. string_bytes k) names.now.keys) }
 {
     names.get_index_of(name)

@@ -19,7 +19,8 @@ use Rattle.page_list.specs.Cuts.{IsFlowCut, first_gap, placed_below, placed_from
 use Rattle.page_list.specs.Pages.IsStep.{blank, flows, noted}
 use Rattle.boxes.specs.Frames.{PageFrames}
 use Rattle.page_list.specs.Pages.{IsEnded, IsPaged, IsStep, State, name_at, start_of}
-use Rattle.page_list.specs.Parted.{AreNextSolids, HoldsAll, solids_of}
+use Rattle.page_seq.specs.Owners.{solids_of}
+use Rattle.page_list.specs.Parted.{AreNextSolids, HoldsAll}
 use Rattle.page_list.proofs.NextLemmas.{next_of, same_solids}
 use Rattle.page_list.proofs.StateLemmas.{Stays, stays_start, stays_step}
 

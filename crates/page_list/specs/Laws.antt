@@ -14,7 +14,8 @@ use Rattle.page_list.specs.Noted.{BeginInTime, HoldsNotes}
 use Rattle.boxes.specs.Frames.{HaveWidths, PageFrames}
 use Rattle.page_list.specs.Pages.{IsPaged}
 use Rattle.page_seq.specs.FoldLaws.{AreNumbered}
-use Rattle.page_list.specs.Parted.{HoldsAll, HoldsBreaks, HoldsEdges, HoldsText, IsLineThere, solids_of}
+use Rattle.page_seq.specs.Owners.{solids_of}
+use Rattle.page_list.specs.Parted.{HoldsAll, HoldsBreaks, HoldsEdges, HoldsText, IsLineThere}
 
 -- the main tree's solids stand on the pages each once and in order: all edges, and lines that part the text of each
 -- leaf

@@ -87,10 +87,6 @@ edge_by Line = []
 abbrev pub HoldsEdges : Tree → List Placed → Type 0
 HoldsEdges t solids = flat_map (λ p. edge_by p.kind) solids ≡ edges_among t.boxes t.events
 
--- the solids of all pages, in order
-abbrev pub solids_of : List Page → List Placed
-solids_of pages = flat_map (λ p. p.solids) pages
-
 -- the text of a leaf, the empty one where none is
 abbrev pub text_of : Option LeafData → List ℕ
 text_of None = []

@@ -14,7 +14,8 @@ use Rattle.paint.specs.declared.extent.VerticalExtent.{VerticalExtent}
 use Rattle.paint.specs.declared.parts.Fragment.{Fragment}
 use Rattle.paint.specs.declared.parts.Reached.{Reached}
 use Rattle.paint.specs.Fragments.{join, here, boxes_at, boxes_with, extent_of}
-use Rattle.paint.specs.Parts.{AddsSolid, AreMarksOf, ArePlaces, AscendTo, Extends, HaveBy, HaveNone, HaveOpened, HaveSolids, IsAt, IsBelow, IsFresh, IsGrown, IsOpened, Mark, any_event, bare_of, end_by, is_at, is_closing, over_marks, place_of, solids_by, spine_of, with_solid}
+use Rattle.seams.specs.Runs.{is_closing}
+use Rattle.paint.specs.Parts.{AddsSolid, AreMarksOf, ArePlaces, AscendTo, Extends, HaveBy, HaveNone, HaveOpened, HaveSolids, IsAt, IsBelow, IsFresh, IsGrown, IsOpened, Mark, any_event, bare_of, end_by, is_at, over_marks, place_of, solids_by, spine_of, with_solid}
 use Rattle.paint.proofs.PartLemmas.{first_within, get-map-back, places_grown, spine_push, spine_size}
 use Rattle.paint.proofs.ReachLemmas.{get-map, join_assoc, join_none, map-set}
 

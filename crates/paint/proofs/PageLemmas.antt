@@ -22,7 +22,7 @@ use Rattle.paint.specs.declared.item.SolidOrigin.{SolidOrigin}
 use Rattle.boxes.specs.declared.span.Content.{Content}
 use Rattle.paint.specs.declared.parts.Fragment.{Fragment}
 use Rattle.paint.specs.declared.parts.Reached.{Reached}
-use Rattle.seams.specs.Runs.{events_in, is_solid_at, run_end, run_start, solid_before}
+use Rattle.seams.specs.Runs.{events_in, is_solid_at, run_end, run_start, solid_before, is_closing}
 use Rattle.seams.specs.Runs as runs
 use Rattle.paint.specs.Bounds.{IsNearExtent, IsNearPart, IsNearSolid}
 use Rattle.paint.specs.Clones.{first_solid, foot_edge, head_edge, parted_before, run_before, upper_again, with_lower, with_upper}
@@ -31,7 +31,7 @@ use Rattle.paint.specs.Items.{for_some}
 use Rattle.paint.specs.Opens.{IsWide, content_along}
 use Rattle.paint.specs.Order.{AreInOrder}
 use Rattle.paint.specs.Pages.{opened_by, opened_rects, rects_at, rects_of}
-use Rattle.paint.specs.Parts.{AreClosedAgain, AreGathered, AreMarks, AreMarksOf, AreMerged, AreMet, ArePlaces, AreReached, AscendTo, HaveFrom, HaveOpened, IsAt, IsBelow, IsInnermost, IsOpened, Mark, any_event, bare, bare_of, begin_of, is_at, is_closing, over_marks, own_rects, part_head, part_rects, place_of, reaches, solids_by, spine_of, with_foot, with_head}
+use Rattle.paint.specs.Parts.{AreClosedAgain, AreGathered, AreMarks, AreMarksOf, AreMerged, AreMet, ArePlaces, AreReached, AscendTo, HaveFrom, HaveOpened, IsAt, IsBelow, IsInnermost, IsOpened, Mark, any_event, bare, bare_of, begin_of, is_at, over_marks, own_rects, part_head, part_rects, place_of, reaches, solids_by, spine_of, with_foot, with_head}
 use Rattle.paint.specs.Rects.{fragment_rects}
 use Rattle.paint.proofs.BoundLemmas.{extent_near}
 use Rattle.paint.proofs.GatherLemmas.{ascend_same, at_same, places_bare, same_place}

@@ -3,7 +3,7 @@ use Rattle.std.specs.Prelude.{ℕ, pos, ◌+ℤ◌, ◌-ℤ◌, List, [], ◌∷
 use Rattle.std.specs.List.{flat_map, range_with_len}
 use Rattle.std.specs.Option.{option_or}
 use Rattle.bk_num.specs.Units.{floor_div}
-use Rattle.bk_num.specs.declared.values.Color.{Color}
+use Rattle.bk_num.specs.Colors.{black}
 use Rattle.metrics.specs.Face.{FontFace}
 use Rattle.bk_num.specs.Limits.{separator}
 use Rattle.boxes.specs.Tree.{Tree, open_before}
@@ -64,10 +64,6 @@ flow_origin f = record { left = f.left; top = f.top; width = f.width }
 -- the note area stands at the frame's foot, and the notes' solids count from its top
 abbrev pub area_origin : Frame → List (ℕ × Placed) → SolidOrigin
 area_origin f notes = record { left = f.left; top = (f.top +ℤ f.height) -ℤ placed_height notes; width = f.width }
-
--- the colour of the separator
-abbrev pub black : Color
-black = record { red = 0; green = 0; blue = 0 }
 
 -- where the separator stands: it is as wide as a third of the frame, 64 units high, and begins in the middle of its
 -- room

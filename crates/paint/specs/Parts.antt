@@ -21,6 +21,7 @@ use Rattle.paint.specs.declared.item.SolidOrigin.{SolidOrigin}
 use Rattle.boxes.specs.declared.span.Content.{Content}
 use Rattle.paint.specs.declared.parts.Fragment.{Fragment}
 use Rattle.paint.specs.declared.parts.Reached.{Reached}
+use Rattle.seams.specs.Runs.{is_closing}
 
 -- the upper edge that a box has again that was met: if it opens before an event
 abbrev pub part_head : ℕ → Fragment → BoxProps → Option VerticalExtent
@@ -255,13 +256,6 @@ AreMarksOf spine es (s ∷ solids) (m ∷ marks) =
 -- a test that each event passes
 abbrev pub any_event : Option Event → Bool
 any_event e = true
-
--- whether an event closes a box
-abbrev pub is_closing : Option Event → Bool
-is_closing None = false
-is_closing (Some (Opens b)) = false
-is_closing (Some (Closes b)) = true
-is_closing (Some (Leaf l)) = false
 
 -- the solids whose event passes a test
 abbrev pub solids_by : (Option Event → Bool) → List Event → List Placed → List Placed

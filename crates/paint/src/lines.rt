@@ -1,6 +1,6 @@
 //! Items of lines.
 
-ghost use Rattle.std.specs.Prelude.{◌≡◌, ◌∷◌, [], ◌^◌, ◌+ℤ◌, ◌==◌, if◌then◌else◌, map, length, OnOk};
+ghost use Rattle.std.specs.Prelude.{◌≡◌, ◌∷◌, [], ◌^◌, ◌+ℤ◌, ◌==◌, if◌then◌else◌, map, OnOk};
 ghost use Rattle.bk_num.specs.Numbers.{IsWithin};
 ghost use Rattle.boxes.specs.Contents.{IsGoodLeaf};
 ghost use Rattle.boxes.specs.Tree.{open_before};
@@ -23,7 +23,7 @@ use boxes::leaf::Leaf;
 use boxes::line::Line;
 use boxes::page::Placed;
 use boxes::span::Content;
-use line_fill::line_between;
+use line_fill::{line_between, text_len};
 use line_place::extent::line_height;
 use line_place::runs::runs;
 use std::alloc::Global;
@@ -120,17 +120,6 @@ fn baseline_of(canvas: &Canvas<'_>, s: &Placed, leaf: &Leaf, line: Line) -> i64
         (extent_of canvas.now.faces.now leaf.now line.from line.to).baseline) }
 {
     canvas.origin.top + s.top + line_height(canvas.faces, leaf, line).baseline
-}
-
-/// How many bytes a leaf's text has: where its last span ends.
-fn text_len(leaf: &Leaf) -> u32
-    requires { IsGoodLeaf leaf.now }
-    ensures { result ≡ length leaf.now.text }
-{
-    match leaf.spans.as_slice().last() {
-        Some(span) => span.to,
-        None => 0,
-    }
 }
 
 /// Where a placed line ends: inside its leaf, or with it.

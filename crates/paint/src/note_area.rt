@@ -18,19 +18,13 @@ use crate::rects::push_rect;
 use crate::trees::push_tree;
 use bk_num::limits::SEPARATOR;
 use bk_num::name::NoMem;
-use bk_num::values::Color;
+use bk_num::values::BLACK;
 use boxes::flow::Note;
 use boxes::frames::Frame;
 use boxes::page::{Placed, PlacedNote};
 use metrics::Faces;
 use notes::area::placed_height;
 use std::alloc::Global;
-
-const BLACK: Color = Color {
-    red: 0,
-    green: 0,
-    blue: 0,
-};
 
 /// The height of the note area in which solids are placed, in units.
 fn area_height(notes: &[PlacedNote]) -> i64

@@ -8,6 +8,7 @@ ghost use Rattle.selectors.specs.Specificity.{is_pseudo};
 
 use crate::short::Few;
 use crate::simple::{all_tests, is_function, next_test};
+use crate::specificity::is_pseudo;
 use crate::types::{Compound, Join, Plain, Selector, SelectorList, Test};
 use bk_num::name::{Name, NoMem};
 use bk_num::values::Pseudo;
@@ -276,12 +277,6 @@ fn combinator(reader: &mut Reader<'_>) -> Result<Option<Join>, Unread>
     } else {
         Err(Unread::NoReading)
     }
-}
-
-fn is_pseudo(pseudo: Pseudo) -> bool
-    ensures { result ≡ is_pseudo pseudo }
-{
-    !matches!(pseudo, Pseudo::Element)
 }
 
 /// The combinator and the compound that follow, or none at the end of the selector.

@@ -106,7 +106,7 @@ fn wanted_prev(document: &TypedDocument<'_>, node: NodeId, wanted: u16) -> Optio
 }
 
 /// The parent of a node, which has a lesser number.
-fn parent_of(document: &TypedDocument<'_>, node: NodeId) -> Option<NodeId>
+pub fn parent_of(document: &TypedDocument<'_>, node: NodeId) -> Option<NodeId>
     requires { node.0 < length document.now }
     ensures value { option_map (λ n. n.0) result ≡ parent_of document.now node.0 }
     ensures below { IfSome result (λ p. p.0 < node.0) }

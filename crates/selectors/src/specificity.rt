@@ -97,7 +97,8 @@ fn in_parts(count: Count, parts: &[Compound]) -> u32
     total
 }
 
-fn is_pseudo(pseudo: Pseudo) -> bool
+/// Whether a pseudo-element is named, and not the element itself.
+pub(crate) fn is_pseudo(pseudo: Pseudo) -> bool
     ensures { result ≡ spec.is_pseudo pseudo }
 {
     !matches!(pseudo, Pseudo::Element)

@@ -18,7 +18,8 @@ fn is_style_name(name: Option<&str>) -> bool
     }
 }
 
-fn media_of(dom: &Dom, node: NodeId) -> &str
+/// The media list of an element; none is empty.
+pub fn media_of(dom: &Dom, node: NodeId) -> &str
     requires { node.0 < length dom.now }
     ensures { result.now ≡ media_of dom.now node.0 }
 {

@@ -10,4 +10,5 @@ pub mod laws;
 mod list;
 pub mod read;
 
+pub use elements::media_of;
 pub use list::{ElementSheet, list_sheets};

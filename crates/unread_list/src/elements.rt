@@ -14,6 +14,7 @@ use bk_num::name::NoMem;
 use css_rules::media::media_read;
 use dom::Dom;
 use gen_text::target::id_of;
+use sheets::media_of;
 use std::alloc::Global;
 
 /// Why an element does nothing.
@@ -37,16 +38,6 @@ pub enum Idle {
 pub struct IdleElement {
     pub element: NodeId,
     pub why: Idle,
-}
-
-fn media_of(dom: &Dom, node: NodeId) -> &str
-    requires { node.0 < length dom.now }
-    ensures { result.now ≡ media_of dom.now node.0 }
-{
-    match dom.attr(node, "media") {
-        Some(media) => media,
-        None => "",
-    }
 }
 
 /// Whether the media list of a `style` element is read.

@@ -12,7 +12,7 @@ ghost use Rattle.unread_list.specs.Lines as spec;
 use crate::reader::Lines;
 use bk_num::name::NoMem;
 use css_rules::brackets::OpenBrackets;
-use css_rules::parts::{PartEnd, Stop};
+use css_rules::parts::{PartEnd, Stop, ends};
 use css_tok::tokens::{CssToken, CssTokens};
 use std::alloc::Global;
 
@@ -51,27 +51,6 @@ impl<'a> Lines<'a> {
         let line = self.line + feeds(token.slice);
         *self = Lines { tokens, line };
         Some(token)
-    }
-}
-
-#[tactic(auto, unfolding(css_rules::specs::Parts::ends))]
-fn ends(stop: Stop, brackets: &OpenBrackets, token: &CssToken<'_>) -> bool
-    ensures { result ≡ parts.ends stop brackets.now (item_in token.now) }
-{
-    brackets.is_outside() && is_stop(stop, token.mark())
-}
-
-fn is_stop(stop: Stop, mark: u8) -> bool
-    ensures { result ≡ parts.is_stop stop mark }
-{
-    match stop {
-        Stop::Piece => mark == b';',
-        Stop::BlockPiece => mark == b';' || mark == b'}',
-        Stop::Prelude => mark == b'{',
-        Stop::InnerPrelude => mark == b'{' || mark == b'}',
-        Stop::AtRule => mark == b';' || mark == b'{',
-        Stop::InnerAtRule => mark == b';' || mark == b'{' || mark == b'}',
-        Stop::Comma => mark == b',',
     }
 }
 

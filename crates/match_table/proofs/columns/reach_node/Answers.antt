@@ -7,7 +7,7 @@ use Rattle.match_table.proofs.columns.reach_node.Goals as goal
 
 pub returns : goal.returns
 returns c =
-    let outer : IsOuter c.args.document.now c.args.selector.now c.args.node.0 c.cell_of-outer.result = outer-from c.args.document.now c.args.selector.now c.args.cells.now c.args.node.0 c.outer.result c.cell_of-outer.result c.requires.cells c.outer.ensures.value c.cell_of-outer.ensures.none c.cell_of-outer.ensures.some in
+    let outer : IsOuter c.args.document.now c.args.selector.now c.args.node.0 c.cell_of-outer.result = outer-from c.args.document.now c.args.selector.now c.args.cells.now c.args.node.0 c.parent_of.result c.cell_of-outer.result c.requires.cells c.parent_of.ensures.value c.cell_of-outer.ensures.none c.cell_of-outer.ensures.some in
     let beside : IsBeside c.args.document.now c.args.selector.now c.args.node.0 c.cell_of-beside.result = beside-from c.args.document.now c.args.selector.now c.args.cells.now c.args.node.0 c.prev.result c.cell_of-beside.result c.requires.cells c.prev.ensures.value c.cell_of-beside.ensures.none c.cell_of-beside.ensures.some in
     let inside = λ (k : ℕ). inside-is c.args.document.now c.args.selector.now c.args.node.0 c.cell_of-outer.result k c.union-above.result (c.union-above.ensures k) outer in
     let later = λ (k : ℕ). later-is c.args.document.now c.args.selector.now c.args.node.0 c.cell_of-beside.result k c.union-before.result (c.union-before.ensures k) beside in

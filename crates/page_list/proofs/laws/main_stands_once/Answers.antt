@@ -1,4 +1,4 @@
-use Rattle.page_list.specs.Parted.{solids_of}
+use Rattle.page_seq.specs.Owners.{solids_of}
 use Rattle.page_list.proofs.PartLemmas.{paged_parts}
 use Rattle.page_list.proofs.TextLemmas.{parted_text, parted_edges}
 use Rattle.page_list.proofs.laws.main_stands_once.Goals as goal
