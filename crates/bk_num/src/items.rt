@@ -94,12 +94,4 @@ impl Text {
     {
         self.text.as_str()
     }
-
-    /// The string. It takes no memory.
-    pub fn into_string(self) -> String
-        ensures { string_bytes result ≡ self }
-    {
-        let Text { text } = self;
-        text
-    }
 }

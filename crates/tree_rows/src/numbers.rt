@@ -92,10 +92,10 @@ fn list(alloc: Global, numbers: &str) -> Result<String, AllocError> {
     format!(in alloc; "{:?}", list.as_slice())
 }
 
-/// A text, after it was taken out and put back.
+/// A text, after it was made from a string.
 fn text(alloc: Global, text: &str) -> Result<String, AllocError> {
     let text = Text::of(String::from_str(alloc, text)?);
-    Ok(Text::of(text.into_string()).into_string())
+    String::from_str(alloc, text.as_str())
 }
 
 /// A name, and whether its copy is equal to it.
