@@ -3,7 +3,7 @@
 use crate::answers::unknown;
 use crate::pages;
 use bk_num::decimal::Decimal;
-use bk_num::items::{Items, Text};
+use bk_num::items::Items;
 use bk_num::length::Len;
 use bk_num::name::NoMem;
 use bk_num::px::Px;
@@ -77,16 +77,6 @@ fn list_back(alloc: Global, part: &str) -> Result<String, NoMem> {
     Ok(answer)
 }
 
-/// A text as a slice, and as it is given back.
-fn text_back(alloc: Global, part: &str) -> Result<String, NoMem> {
-    let text = Text::of(String::from_str(alloc, part)?);
-    let mut answer = String::new(alloc);
-    answer.push_str(text.as_str())?;
-    answer.push_str(", ")?;
-    answer.push_str(text.into_string().as_str())?;
-    Ok(answer)
-}
-
 fn printed(alloc: Global, number: i64) -> Result<String, NoMem> {
     Ok(format!(in alloc; "{number}")?)
 }
@@ -104,7 +94,6 @@ pub(crate) fn answer(alloc: Global, parts: &[&str]) -> Result<String, NoMem> {
         "empty before" => pages::empty_before(alloc, first, second),
         "line parts" => line_parts(alloc, first, second, part(parts, 3) == "hyphen"),
         "list" => list_back(alloc, first),
-        "text" => text_back(alloc, first),
         _ => unknown(alloc),
     }
 }

@@ -1,5 +1,5 @@
 -- Each piece of a text has at least a byte, lies within it, and ends where the text may be cut.
-use Rattle.std.proofs.Common.{◌≡◌, ℕ, zero, suc, ◌+◌, ◌-◌, ◌<◌, ◌≤◌, Bool, true, false, not, cond, List, [], ◌∷◌, Option, None, Some, option_map, length, drop, get_or, eqb, nat_eq, ◌==◌, refl, ap, sym, ◌∙◌, arith, subst, length-drop, codes, slice_index, lit<}
+use Rattle.std.proofs.Common.{◌≡◌, ℕ, zero, suc, ◌+◌, ◌-◌, ◌<◌, ◌≤◌, Bool, true, false, not, cond, List, [], ◌∷◌, Option, None, Some, option_map, length, drop, get_or, eqb, nat_eq, ◌&&◌, ◌||◌, ◌==◌, refl, ap, sym, ◌∙◌, arith, subst, length-drop, codes, slice_index, lit<}
 use Rattle.std.proofs.lemmas.List.{get_or-drop, length-take-le}
 use Rattle.std.specs.List.{position_or_len, before_first, starts_with}
 use Rattle.std.specs.Str.{IsCharBoundary, IsUtf8}

@@ -96,10 +96,7 @@ unfoldable pub patterns_from : ℕ → List (List ℕ) → Result (List Pattern)
 patterns_from n [] = Ok []
 patterns_from n (line ∷ rest) = with_entry n (entry_of (chars line)) (patterns_from (n + 1) rest)
 
--- the lines, which end with LF; a CR before it is dropped, and the last may lack it
-unfoldable pub lines_of : List ℕ → List (List ℕ)
-lines_of text = lines text
-
--- the patterns of a text, or the number of the first line that has no reading
+-- the patterns of a text, or the number of the first line that has no reading; lines end with LF, and a CR before it is
+-- dropped
 unfoldable pub patterns_of : List ℕ → Result (List Pattern) ℕ
-patterns_of text = patterns_from 1 (lines_of text)
+patterns_of text = patterns_from 1 (lines text)
