@@ -13,7 +13,7 @@ use Rattle.boxes.specs.declared.page.Page.{Page}
 use Rattle.boxes.specs.declared.page.Placed.{Placed}
 use Rattle.boxes.specs.declared.table.PageRow.{PageRow}
 use Rattle.columns.specs.Columns.{AreColumns, column_frames}
-use Rattle.columns.specs.Near.{near_frame}
+use Rattle.columns.proofs.NearLemmas.{near_frame}
 use Rattle.gen_text.specs.declared.table.Entry.{Entry}
 use Rattle.metrics.specs.Face.{FontFace}
 use Rattle.note_list.specs.Places as note

@@ -22,10 +22,10 @@ use Rattle.book.specs.Expect.{IsGiven, IsRefused}
 use Rattle.book.specs.Document.{grid_of}
 use Rattle.book.specs.FilesView.{listed_texts}
 use Rattle.book.specs.Refusals.{file_refusal}
-use Rattle.book.specs.Run.{IsFaultOf, IsOfFiles, KeepsFaults, Stops, StopsAt, patterns_named, sheets_from, text_of, texts_named}
+use Rattle.book.specs.Run.{IsFaultOf, IsOfFiles, KeepsFaults, Stops, patterns_named, sheets_from, text_of, texts_named}
 use Rattle.book.specs.declared.outcome.Outcome.{Outcome}
 use Rattle.book.specs.declared.outcome.Outcome.TheVariants as out
-use Rattle.book.proofs.Stopping.{after_given, later_bind, later_names, later_text, stops_at, stops_at_html, stops_at_metrics, stops_at_patterns, stops_at_sheets, stops_in, texts_given}
+use Rattle.book.proofs.Stopping.{StopsAt, after_given, later_bind, later_names, later_text, stops_at, stops_at_html, stops_at_metrics, stops_at_patterns, stops_at_sheets, stops_in, texts_given}
 
 -- a text of a file is the one that is expected
 given_text : (f : FileOf) (told : Told) (t : String Global) → IsTextOf told most_file_bytes t → IsGiven (text_of f told) (unmarked (string_bytes t))

@@ -22,7 +22,7 @@ use Rattle.named_files.specs.Names.{IsNoLater}
 use Rattle.book.specs.Request.{Task, files, chapters}
 use Rattle.words.specs.Asked.{FormatWords}
 use Rattle.book.specs.Document.{Texts, Document, document_of, faces_expected, grid_of, nodes_expected, patterns_expected, points_expected, sheets_expected}
-use Rattle.book.specs.Run.{text_of, StopsAt, Stops, Ends, ComesBefore, IsReadBefore, IsUnforeseen, Meets, PutsOnlyABook, Writes, document_for, patterns_named, sheets_from, texts_for, texts_named, HasFileCause, HasReadCause, HasTaskCause, HasWordsCause, IsOfBook, IsOfFiles, IsOfTexts, IsOfWords, KeepsFaults}
+use Rattle.book.specs.Run.{text_of, Stops, Ends, ComesBefore, IsReadBefore, IsUnforeseen, Meets, PutsOnlyABook, Writes, document_for, patterns_named, sheets_from, texts_for, texts_named, HasFileCause, HasReadCause, HasTaskCause, HasWordsCause, IsOfBook, IsOfFiles, IsOfTexts, IsOfWords, KeepsFaults}
 use Rattle.book.specs.declared.document.Output.TheVariants as output
 use Rattle.named_files.specs.declared.file.FileOf.{FileOf}
 use Rattle.named_files.specs.declared.file.FileOf.TheVariants as file
@@ -105,6 +105,10 @@ stops_unforeseen : {A : Type 0} (f : FileOf) (e : Expect A) (o : Outcome) → La
 stops_unforeseen f free o l u = tt
 stops_unforeseen f (refused p) o l u = inr (unforeseen_before f p o l u)
 stops_unforeseen f (given x) o l u = elim u [ inl e ↦ rw e tt | inr e ↦ rw e tt ]
+
+-- the read of a file stops with the refusal that is expected, or as no input explains
+abbrev pub StopsAt : FileOf → Expect (List ℕ) → Outcome → Type 0
+StopsAt f e o = IsRefused e o ⊎ ((o ≡ out.ReadFault f) ⊎ (o ≡ out.NoMemory))
 
 pub stops_at : {B : Type 0} (f : FileOf) (e : Expect (List ℕ)) (o : Outcome) (k : List ℕ → Expect B) → Later f e → ((x : List ℕ) → Later f (k x)) → StopsAt f e o → Stops (e >>= k) o
 stops_at f free o k l h s = tt

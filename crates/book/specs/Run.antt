@@ -196,10 +196,6 @@ abbrev pub KeepsFaults : ℕ → ℕ → Outcome → Type 0
 KeepsFaults before now (out.ReadFault f) = Unit {0}
 KeepsFaults before now o = now ≡ before
 
--- the read of a file stops with the refusal that is expected, or as no input explains
-abbrev pub StopsAt : FileOf → Expect (List ℕ) → Outcome → Type 0
-StopsAt f e o = IsRefused e o ⊎ ((o ≡ out.ReadFault f) ⊎ (o ≡ out.NoMemory))
-
 -- what stops the reads of files is of one that is named, and no put
 abbrev pub IsOfFiles : FormatWords → (List ℕ → Told) → ℕ → ℕ → Option (List ℕ) → Outcome → Type 0
 IsOfFiles names told before now last (out.ReadFault f) = IsFaultOf (name_of names f) told before now last

@@ -1,6 +1,7 @@
 -- What is gathered in one walk: the steps into nodes and out of them, and events by their counters' names.
 use Rattle.std.specs.Prelude.{◌≡◌, ℕ, Bool, false, if◌then◌else◌, ◌&&◌, ◌==◌, ◌+◌, ◌-◌, ◌*◌, List, [], ◌∷◌, Option, None, Some, fold, length, slice_get, pos}
 use Rattle.std.specs.Ordering.{int_eq}
+use Rattle.dom.specs.Nodes.{first_of}
 use Rattle.dom.specs.declared.walk.Step.{Step}
 use Rattle.dom.specs.declared.walk.Step.TheVariants.{Enter, Leave}
 use Rattle.named_lists.specs.Lists.{ListsOf, AreDistinct, items_of, of_name, with_item}
@@ -22,15 +23,10 @@ spot_at (Some s) = s
 abbrev pub AreSpots : List Step → List Spot → Type 0
 AreSpots steps spots = (n : ℕ) → spot_at (slice_get spots n) ≡ record { into = into steps n; out = out_of steps n }
 
--- the first of two that is there
-abbrev pub or_else : Option ℕ → Option ℕ → Option ℕ
-or_else None b = b
-or_else (Some a) b = Some a
-
 -- a spot with a step more
 abbrev pub stepped : ℕ → Step → Spot → Spot
-stepped i (Enter n) s = record { into = or_else s.into (Some i); out = s.out }
-stepped i (Leave n) s = record { into = s.into; out = or_else s.out (Some i) }
+stepped i (Enter n) s = record { into = first_of s.into (Some i); out = s.out }
+stepped i (Leave n) s = record { into = s.into; out = first_of s.out (Some i) }
 
 -- the number after the last place within a node that is left by this step
 abbrev pub end_after : ℕ → Option ℕ → ℕ

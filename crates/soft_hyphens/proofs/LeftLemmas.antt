@@ -5,11 +5,11 @@ use Rattle.std.specs.Str.{chars, IsCharBoundary, IsUtf8}
 use Rattle.std.proofs.lemmas.Str.{IsUtf8-between}
 use Rattle.inline_text.specs.Joined.{Laid, joined, laid_texts}
 use Rattle.soft_hyphens.specs.Hyphenated.{encoded, put_from, put_in}
-use Rattle.soft_hyphens.specs.Pass.{chars_in, laid_after, offsets_in, softened}
+use Rattle.soft_hyphens.specs.Pass.{chars_in, offsets_in, softened}
 use Rattle.soft_hyphens.proofs.OffsetLemmas.{spelled}
 use Rattle.soft_hyphens.proofs.SliceLemmas.{BeginAt, IsNext}
 use Rattle.soft_hyphens.proofs.SoftLemmas.{IsCut, all-offsets, cut-is, soft_offsets, softened-is}
-use Rattle.soft_hyphens.proofs.TextLemmas.{after-none, after-one}
+use Rattle.soft_hyphens.proofs.TextLemmas.{after-none, after-one, laid_after}
 
 -- the texts from a number on, which begin at an offset, with the offsets that are left
 pub record IsLeft (here : ℕ → Bool) (ts : List (List ℕ)) (made : Laid) (i at : ℕ) (rest : List ℕ) : Type 0 where

@@ -4,7 +4,6 @@ use Rattle.std.specs.Char.{encode_utf8}
 use Rattle.std.specs.Str.{chars, encode_utf8_all}
 use Rattle.std.specs.Prelude.{OnOk}
 use Rattle.soft_hyphens.specs.Hyphenated.{encoded, put_from, put_in}
-use Rattle.soft_hyphens.specs.Pass.{count_in}
 use Rattle.soft_hyphens.specs.Words.{soft_hyphen}
 
 -- UTF-8 as std has it
@@ -33,6 +32,11 @@ put-same : (f g : ℕ → Bool) (at : ℕ) (cs : List ℕ) → ((k : ℕ) → k 
 put-same f g at [] h = refl
 put-same f g at (c ∷ cs) h =
     ap₂ (λ (b : Bool) (l : List ℕ). c ∷ cond b (soft_hyphen ∷ l) l) (h (suc at) (omega arith)) (put-same f g (suc at) cs (λ k l. h k (omega arith)))
+
+-- how many characters some texts have
+abbrev count_in : List (List ℕ) → ℕ
+count_in [] = 0
+count_in (t ∷ ts) = length (chars t) + count_in ts
 
 pub put-in-same : (f g : ℕ → Bool) (at : ℕ) (ts : List (List ℕ)) → ((k : ℕ) → k ≤ at + count_in ts → f k ≡ g k) → put_in f at ts ≡ put_in g at ts
 put-in-same f g at [] h = refl

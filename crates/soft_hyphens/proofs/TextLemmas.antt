@@ -4,7 +4,7 @@ use Rattle.std.specs.Str.{chars}
 use Rattle.std.proofs.lemmas.List.{map-append}
 use Rattle.std.proofs.lemmas.Simd.{map-map}
 use Rattle.inline_text.specs.Joined.{Laid, ends_from, joined, laid_on, reached, repeated}
-use Rattle.soft_hyphens.specs.Pass.{chars_in, laid_after}
+use Rattle.soft_hyphens.specs.Pass.{chars_in}
 use Rattle.soft_hyphens.specs.Words.{codes_of, letters_in}
 use Rattle.soft_hyphens.specs.declared.letter.Letter.{Letter}
 
@@ -12,6 +12,10 @@ abbrev made : List ℕ → List ℕ → Laid
 made x y = record { bytes = x; ends = y }
 
 -- ---- what is laid
+
+-- more texts after those that are complete
+abbrev pub laid_after : Laid → List (List ℕ) → Laid
+laid_after l ts = record { bytes = l.bytes ++ joined ts; ends = l.ends ++ ends_from (length l.bytes) ts }
 
 pub after-one : (l : Laid) (t : List ℕ) (ts : List (List ℕ)) → laid_after (laid_after l (t ∷ [])) ts ≡ laid_after l (t ∷ ts)
 after-one l t ts =

@@ -3,10 +3,11 @@ use Rattle.std.specs.Prelude.{◌≡◌, ℕ, List, Option, option_map, String, 
 use Rattle.std.specs.Global.{Global}
 use Rattle.std.specs.HashMap.{HashMap, get_by_text}
 use Rattle.hyphen.specs.Points as places
+use Rattle.soft_hyphens.specs.Words.{least_before, least_after}
 
 -- the points of a word that is given as text, by the values of its places: how many bytes stand before each
 abbrev pub word_points : (List ℕ → ℕ → ℕ) → List ℕ → List ℕ
-word_points value word = places.points_of value word 2 3
+word_points value word = places.points_of value word least_before least_after
 
 -- the points that are known of a word
 abbrev pub points_of : {S : Type 0} → HashMap (String Global) (Vec ℕ Global) S → List ℕ → Option (List ℕ)

@@ -1,25 +1,15 @@
 -- What passes over the texts of a run keep.
-use Rattle.std.specs.Prelude.{ℕ, ◌+◌, Bool, List, [], ◌∷◌, ◌++◌, map, filter, length}
+use Rattle.std.specs.Prelude.{ℕ, Bool, List, [], ◌∷◌, ◌++◌, map, filter, length}
 use Rattle.std.specs.Char.{encode_utf8}
 use Rattle.std.specs.List.{range_with_len, slice_range}
 use Rattle.std.specs.Str.{chars}
 use Rattle.hyphen.specs.Points.{offset_of}
-use Rattle.inline_text.specs.Joined.{Laid, ends_from, joined}
 use Rattle.soft_hyphens.specs.Words.{soft_hyphen}
 use Rattle.soft_hyphens.specs.declared.letter.Letter.{Letter}
-
--- more texts after those that are complete
-abbrev pub laid_after : Laid → List (List ℕ) → Laid
-laid_after l ts = record { bytes = l.bytes ++ joined ts; ends = l.ends ++ ends_from (length l.bytes) ts }
 
 -- characters with whether they are hyphenated
 abbrev pub letters_with : Bool → List ℕ → List Letter
 letters_with auto cs = map (λ c. record { code = c; auto = auto }) cs
-
--- how many characters some texts have
-abbrev pub count_in : List (List ℕ) → ℕ
-count_in [] = 0
-count_in (t ∷ ts) = length (chars t) + count_in ts
 
 -- the characters of some texts
 abbrev pub chars_in : List (List ℕ) → List ℕ

@@ -29,9 +29,17 @@ is_of_word c =
 abbrev pub Points : Type 0
 Points = List ℕ → ℕ → Bool
 
--- the points of patterns, with at least 2 characters before and 3 after
+-- how many characters stand before a point at least
+abbrev pub least_before : ℕ
+least_before = 2
+
+-- how many characters stand after a point at least
+abbrev pub least_after : ℕ
+least_after = 3
+
+-- the points of patterns, with so many characters before and after
 abbrev pub points_with : (List ℕ → ℕ → ℕ) → Points
-points_with value word place = is_point (length word) 2 3 (value (map to_ascii_lowercase word)) place
+points_with value word place = is_point (length word) least_before least_after (value (map to_ascii_lowercase word)) place
 
 -- those of patterns that are given; none else
 abbrev pub points_in : Option Patterns → Option Points

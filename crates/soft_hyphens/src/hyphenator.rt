@@ -18,8 +18,8 @@ const LEFT: u32 = 2;
 /// How many characters stand after a point at least.
 const RIGHT: u32 = 3;
 
-/// How many bytes a word has at least that is kept: one with fewer has no point.
-const LEAST_BYTES: usize = 5;
+/// How many letters a word has at least that has a point, and so how many bytes: those before it and those after it.
+pub(crate) const LEAST_LETTERS: usize = 5;
 
 /// How many bytes a word has at most that is kept: one that counts has 64 characters.
 const MOST_BYTES: usize = 256;
@@ -62,7 +62,7 @@ fn asked(alloc: Global, patterns: &Patterns, word: &str) -> Result<Vec<u32>, NoM
 fn is_kept(word: &str) -> bool
     ensures { result ≡ (nat_le 5 (length word.now) && nat_le (length word.now) 256) }
 {
-    LEAST_BYTES <= word.len() && word.len() <= MOST_BYTES
+    LEAST_LETTERS <= word.len() && word.len() <= MOST_BYTES
 }
 
 /// Keeps a word with its points, unless it is known, or too short or too long to have any.

@@ -13,15 +13,12 @@ ghost use Rattle.soft_hyphens.specs.Walk.{IsIn, IsOver, after_letter, after_othe
 ghost use Rattle.soft_hyphens.specs.Words.{codes_of, is_of_word, is_put, is_soft, letters_in, points_with, soft_hyphen};
 ghost use Rattle.soft_hyphens.specs.declared.letter.Letter.{Letter};
 
-use crate::hyphenator::Hyphenator;
+use crate::hyphenator::{Hyphenator, LEAST_LETTERS};
 use crate::letter::Letter;
 use crate::texts::piece;
 use crate::word::is_of_word;
 use bk_num::name::NoMem;
 use std::alloc::Global;
-
-/// How many characters a word has at least that is hyphenated: 2 stand before a point, and 3 after it.
-const LEAST_LETTERS: usize = 5;
 
 /// How many characters a word has at most that is hyphenated.
 const MOST_LETTERS: usize = 64;

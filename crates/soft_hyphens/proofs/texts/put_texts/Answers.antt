@@ -6,10 +6,10 @@ use Rattle.std.proofs.lemmas.List.Elements.{All-drop}
 use Rattle.std.proofs.lemmas.List.Sums.{prefix_len-le-length}
 use Rattle.std.proofs.lemmas.Str.{IsCharBoundary-start}
 use Rattle.inline_text.specs.Joined.{Laid}
-use Rattle.soft_hyphens.specs.Pass.{laid_after, softened}
+use Rattle.soft_hyphens.specs.Pass.{softened}
 use Rattle.soft_hyphens.proofs.LeftLemmas.{IsLeft, count_at, left-first, left-next, left-none}
 use Rattle.soft_hyphens.proofs.SliceLemmas.{BeginAt, IsNext, begin-first, next-is, no-texts}
-use Rattle.soft_hyphens.proofs.TextLemmas.{reached-one}
+use Rattle.soft_hyphens.proofs.TextLemmas.{reached-one, laid_after}
 use Rattle.soft_hyphens.proofs.texts.put_texts.Goals as goal
 
 pub loop-index-init : goal.loop-index-init

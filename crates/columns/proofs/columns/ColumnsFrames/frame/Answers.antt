@@ -1,6 +1,6 @@
 use Rattle.std.proofs.Common.{subst, sym}
 use Rattle.columns.specs.Columns.{IsNearFrame}
-use Rattle.columns.specs.Near.{near_frame}
+use Rattle.columns.proofs.NearLemmas.{near_frame}
 use Rattle.columns.proofs.columns.ColumnsFrames.frame.Goals as goal
 
 pub column_of-requires-clause-near : goal.column_of-requires-clause-near
