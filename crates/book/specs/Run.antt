@@ -11,7 +11,7 @@ use Rattle.passes.specs.Passes.{unsettled, long, many}
 use Rattle.sheets.specs.Readings.{SheetOf, AreReadings}
 use Rattle.sample.specs.Html.{html_of}
 use Rattle.sample.specs.Texts.{css_text, metrics_text}
-use Rattle.book.specs.Expect.{Expect, free, refused, given, ◌>>=◌, IsRefused}
+use Rattle.book.specs.Expect.{Expect, free, refused, given, ◌>>=◌}
 use Rattle.named_files.specs.Names.{IsNoLater, name_of}
 use Rattle.book.specs.Request.{Task, files, chapters, asked}
 use Rattle.words.specs.Asked.{FormatWords}
