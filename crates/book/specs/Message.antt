@@ -45,7 +45,9 @@ unfoldable pub texts_of : Outcome → List (List ℕ)
 texts_of (out.Done pages passes) =
     codes "bookfmt: " ∷ decimal pages ∷ codes " pages, " ∷ decimal passes ∷ codes " passes\n" ∷ []
 texts_of (out.NotRead kind) =
-    codes "bookfmt: usage: bookfmt format [--passes N] [--columns N] [--gap PX] [--patterns FILE] METRICS HTML [CSS ...] or bookfmt sample N\n" ∷ []
+    codes "bookfmt: usage: bookfmt "
+    ∷ codes "format [--passes N] [--columns N] [--gap PX] [--patterns FILE] METRICS HTML [CSS ...]"
+    ∷ codes " or bookfmt sample N\n" ∷ []
 texts_of (out.ReadFault f) = codes "bookfmt: cannot read " ∷ (file_words f).0 ∷ (file_words f).1 ∷ codes "\n" ∷ []
 texts_of (out.TooLarge f) =
     codes "bookfmt: " ∷ (file_words f).0 ∷ (file_words f).1 ∷ codes " has more than " ∷ decimal most_file_bytes

@@ -18,9 +18,9 @@ use itoa::Buffer;
 use metrics::MetricsWhy;
 use named_files::{FileOf, file_words};
 
-/// How the program is called.
-const USAGE: &str =
-    "bookfmt: usage: bookfmt format [--passes N] [--columns N] [--gap PX] [--patterns FILE] METRICS HTML [CSS ...] or bookfmt sample N\n";
+/// How the program is called for a book.
+const FORMAT_USAGE: &str =
+    "format [--passes N] [--columns N] [--gap PX] [--patterns FILE] METRICS HTML [CSS ...]";
 
 #[tactic(auto, unfolding(crate::specs::Message::why_text))]
 fn why_text(why: MetricsWhy) -> &'static str
@@ -215,7 +215,14 @@ pub fn put_message<E: Sink>(err: &mut E, outcome: &Outcome) -> Result<(), Failed
 {
     match outcome {
         Outcome::Done { pages, passes } => put_pages_line(err, *pages, *passes),
-        Outcome::NotRead { .. } => put_texts(err, &[USAGE]),
+        Outcome::NotRead { .. } => put_texts(
+            err,
+            &[
+                "bookfmt: usage: bookfmt ",
+                FORMAT_USAGE,
+                " or bookfmt sample N\n",
+            ],
+        ),
         Outcome::ReadFault { file } => put_unread_line(err, *file),
         Outcome::TooLarge { file } => put_bytes_line(
             err,

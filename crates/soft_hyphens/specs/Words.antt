@@ -39,7 +39,8 @@ least_after = 3
 
 -- the points of patterns, with so many characters before and after
 abbrev pub points_with : (List ℕ → ℕ → ℕ) → Points
-points_with value word place = is_point (length word) least_before least_after (value (map to_ascii_lowercase word)) place
+points_with value word place =
+    is_point (length word) least_before least_after (value (map to_ascii_lowercase word)) place
 
 -- those of patterns that are given; none else
 abbrev pub points_in : Option Patterns → Option Points
