@@ -12,9 +12,9 @@ use Rattle.page_ctx.specs.declared.classes.PageClasses.{PageClasses}
 use Rattle.page_ctx.specs.declared.weight.PageWeight.{PageWeight}
 use Rattle.page_ctx.specs.Selectors.{asks, takes_classes}
 use Rattle.page_ctx.specs.Index.{RuleSelectorOf, of_rule, selectors_from, own_selectors}
-use Rattle.page_ctx.specs.Weights.{is_above, greater, specificity}
+use Rattle.page_ctx.specs.Weights.{is_above, greater, greatest_such, specificity, with_selector}
 use Rattle.page_ctx.specs.Winners.{AppliedPageRuleOf, NumberedRule, applied_by, numbered_by, weight_at, other_than, rule_with}
-use Rattle.page_ctx.specs.Groups.{all_own, greatest_own, with_own}
+use Rattle.page_ctx.specs.Groups.{all_own, is_own}
 
 -- the rules that are done, and the one that selectors come of
 pub record Going : Type 0 where
@@ -79,18 +79,18 @@ abbrev own : Option (List ℕ) → RuleSelectorOf → Bool
 own asked e = asks asked e.selector.name
 
 of-rule : (asked : Option (List ℕ)) (c : PageClasses) (n : ℕ) (r : PageRule) (g : Going) → IsBefore n g.last → (best : Option PageWeight) (ss : List PageSelector)
-    → fold (with_one c) (at n r g best) (filter (own asked) (map (of_rule n r) ss)) ≡ at n r g (fold (with_own asked c) best ss)
+    → fold (with_one c) (at n r g best) (filter (own asked) (map (of_rule n r) ss)) ≡ at n r g (fold (with_selector (is_own asked c)) best ss)
 of-rule asked c n r g b best [] = refl
 of-rule asked c n r g b best (s ∷ ss) = taken (λ o. of-rule asked c n r g b o ss) (asks asked s.name)
   where
     More : Type 0
-    More = (o : Option PageWeight) → fold (with_one c) (at n r g o) (filter (own asked) (map (of_rule n r) ss)) ≡ at n r g (fold (with_own asked c) o ss)
+    More = (o : Option PageWeight) → fold (with_one c) (at n r g o) (filter (own asked) (map (of_rule n r) ss)) ≡ at n r g (fold (with_selector (is_own asked c)) o ss)
 
-    classed : More → (t : Bool) → fold (with_one c) (cond t (with_taken (at n r g best) (of_rule n r s)) (at n r g best)) (filter (own asked) (map (of_rule n r) ss)) ≡ at n r g (fold (with_own asked c) (cond t (greater best (specificity s)) best) ss)
+    classed : More → (t : Bool) → fold (with_one c) (cond t (with_taken (at n r g best) (of_rule n r s)) (at n r g best)) (filter (own asked) (map (of_rule n r) ss)) ≡ at n r g (fold (with_selector (is_own asked c)) (cond t (greater best (specificity s)) best) ss)
     classed more true = ap (λ z. fold (with_one c) z (filter (own asked) (map (of_rule n r) ss))) (one-taken n r g b best s) ∙ more (greater best (specificity s))
     classed more false = more best
 
-    taken : More → (t : Bool) → fold (with_one c) (at n r g best) (cond t (of_rule n r s ∷ filter (own asked) (map (of_rule n r) ss)) (filter (own asked) (map (of_rule n r) ss))) ≡ at n r g (fold (with_own asked c) (cond (t && takes_classes s c) (greater best (specificity s)) best) ss)
+    taken : More → (t : Bool) → fold (with_one c) (at n r g best) (cond t (of_rule n r s ∷ filter (own asked) (map (of_rule n r) ss)) (filter (own asked) (map (of_rule n r) ss))) ≡ at n r g (fold (with_selector (is_own asked c)) (cond (t && takes_classes s c) (greater best (specificity s)) best) ss)
     taken more true = classed more (takes_classes s c)
     taken more false = more best
 
@@ -101,7 +101,7 @@ of-rules asked c n g b (r ∷ rules) =
     ap (λ z. all_rules (fold (with_one c) g z)) (filter-append (own asked) (map (of_rule n r) r.selectors) (selectors_from (n + 1) rules))
     ∙ ap all_rules (fold-append (with_one c) g (filter (own asked) (map (of_rule n r) r.selectors)) (filter (own asked) (selectors_from (n + 1) rules)))
     ∙ ap (λ z. all_rules (fold (with_one c) z (filter (own asked) (selectors_from (n + 1) rules)))) (of-rule asked c n r g b None r.selectors)
-    ∙ by (λ h e. of-rules asked c (n + 1) h e rules) (greatest_own asked c r.selectors)
+    ∙ by (λ h e. of-rules asked c (n + 1) h e rules) (greatest_such (is_own asked c) r.selectors)
   where
     by : ((h : Going) → IsBefore (n + 1) h.last → all_rules (fold (with_one c) h (filter (own asked) (selectors_from (n + 1) rules))) ≡ all_rules h ++ all_own asked c rules)
         → (o : Option PageWeight) → all_rules (fold (with_one c) (at n r g o) (filter (own asked) (selectors_from (n + 1) rules))) ≡ all_rules g ++ cons_option (option_map (applied_by r) o) (all_own asked c rules)

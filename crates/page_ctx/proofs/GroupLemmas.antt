@@ -14,9 +14,9 @@ use Rattle.page_ctx.specs.declared.classes.PageClasses.{PageClasses}
 use Rattle.page_ctx.specs.declared.property.PageProperty.{PageProperty}
 use Rattle.page_ctx.specs.declared.weight.PageWeight.{PageWeight}
 use Rattle.page_ctx.specs.Selectors.{is_for, is_for_each, takes_classes, takes_name}
-use Rattle.page_ctx.specs.Weights.{ranks_of, is_above, of_decl, specificity, greater, is_named, with_selector}
+use Rattle.page_ctx.specs.Weights.{ranks_of, is_above, of_decl, specificity, greater, greatest_such, is_for, is_named, with_selector}
 use Rattle.page_ctx.specs.Winners.{AppliedPageRuleOf, Declared, applied_by, applied_to, block_declared, box_declared, declared_by, decls_of, is_of, longs_of, of_page, page_declared, rule_declared, winner, winning, with_declared}
-use Rattle.page_ctx.specs.Groups.{all_own, greatest_own, with_own}
+use Rattle.page_ctx.specs.Groups.{all_own, is_own}
 use Rattle.page_ctx.proofs.WeightLemmas.{same-weight}
 
 -- ---- the greater of two, the later of equal ones
@@ -212,7 +212,7 @@ abbrev Steps : Option PageWeight → Option PageWeight → Option PageWeight →
 Steps d n e = IsOf true n × IsOf false e × (d ≡ option_or n e)
 
 stepped : (name : List ℕ) (c : PageClasses) (n e : Option PageWeight) (s : PageSelector) → IsOf true n → IsOf false e
-    → Steps (with_selector name c (option_or n e) s) (with_own (Some name) c n s) (with_own None c e s)
+    → Steps (with_selector (is_for name c) (option_or n e) s) (with_selector (is_own (Some name) c) n s) (with_selector (is_own None c) e s)
 stepped name c n e s h g = by s.name refl
   where
     asked : (m : List ℕ) → s.name ≡ Some m → (a : Bool) → Steps (cond a (greater (option_or n e) (specificity s)) (option_or n e)) (cond a (greater n (specificity s)) n) e
@@ -229,16 +229,16 @@ stepped name c n e s h g = by s.name refl
     by (Some m) k = asked m k (bytes_eq m name && takes_classes s c)
 
 record Greatest (name : List ℕ) (c : PageClasses) (ss : List PageSelector) (n e : Option PageWeight) : Type 0 where
-  named : IsOf true (fold (with_own (Some name) c) n ss)
-  unnamed : IsOf false (fold (with_own None c) e ss)
-  whole : fold (with_selector name c) (option_or n e) ss ≡ option_or (fold (with_own (Some name) c) n ss) (fold (with_own None c) e ss)
+  named : IsOf true (fold (with_selector (is_own (Some name) c)) n ss)
+  unnamed : IsOf false (fold (with_selector (is_own None c)) e ss)
+  whole : fold (with_selector (is_for name c)) (option_or n e) ss ≡ option_or (fold (with_selector (is_own (Some name) c)) n ss) (fold (with_selector (is_own None c)) e ss)
 
 greatest-of : (name : List ℕ) (c : PageClasses) (ss : List PageSelector) (n e : Option PageWeight) → IsOf true n → IsOf false e → Greatest name c ss n e
 greatest-of name c [] n e h g = record { named = h; unnamed = g; whole = refl }
 greatest-of name c (s ∷ ss) n e h g =
     let step = stepped name c n e s h g in
-    let rest = greatest-of name c ss (with_own (Some name) c n s) (with_own None c e s) step.0 step.1 in
-    record { named = rest.named; unnamed = rest.unnamed; whole = ap (λ z. fold (with_selector name c) z ss) step.2 ∙ rest.whole }
+    let rest = greatest-of name c ss (with_selector (is_own (Some name) c) n s) (with_selector (is_own None c) e s) step.0 step.1 in
+    record { named = rest.named; unnamed = rest.unnamed; whole = ap (λ z. fold (with_selector (is_for name c)) z ss) step.2 ∙ rest.whole }
 
 -- ---- all rules
 
@@ -254,7 +254,7 @@ rules-whole p f d name c [] = whole-nil p
 rules-whole p f d name c (r ∷ rules) =
     let best = greatest-of name c r.selectors None None tt tt in
     subst (λ o. Whole p (flat_map f (cons_option (option_map (applied_by r) o) (applied_to name c rules))) (flat_map f (all_own None c (r ∷ rules))) (flat_map f (all_own (Some name) c (r ∷ rules)))) (sym best.whole)
-    (by (rules-whole p f d name c rules) (greatest_own (Some name) c r.selectors) (greatest_own None c r.selectors) best.named best.unnamed)
+    (by (rules-whole p f d name c rules) (greatest_such (is_own (Some name) c) r.selectors) (greatest_such (is_own None c) r.selectors) best.named best.unnamed)
   where
     by : Whole p (flat_map f (applied_to name c rules)) (flat_map f (all_own None c rules)) (flat_map f (all_own (Some name) c rules)) → (n e : Option PageWeight) → IsOf true n → IsOf false e
         → Whole p (flat_map f (cons_option (option_map (applied_by r) (option_or n e)) (applied_to name c rules))) (flat_map f (cons_option (option_map (applied_by r) e) (all_own None c rules)))

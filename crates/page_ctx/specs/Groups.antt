@@ -1,8 +1,8 @@
 -- Selectors by groups: those that ask for a name, and those that ask for none (css-page-3, 3 and 4). Of declarations of
 -- equal importance one of a selector with a name wins over one of a selector without, so of the latter no more than the
 -- winners need be kept.
-use Rattle.std.specs.Prelude.{◌≡◌, ℕ, ◌&&◌, List, [], ◌∷◌, ◌++◌, Option, None, option_map, map, get_or, if◌then◌else◌}
-use Rattle.std.specs.List.{fold, filter_map, range_with_len}
+use Rattle.std.specs.Prelude.{◌≡◌, ℕ, ◌&&◌, List, [], ◌∷◌, ◌++◌, Option, None, map, get_or, if◌then◌else◌}
+use Rattle.std.specs.List.{filter_map, range_with_len}
 use Rattle.bk_num.specs.declared.sides.BoxSide.TheVariants as side
 use Rattle.css_page.specs.declared.rules.PageRule.{PageRule}
 use Rattle.css_page.specs.declared.selectors.PageSelector.{PageSelector}
@@ -11,31 +11,22 @@ use Rattle.css_rules.specs.MarginBoxes.{margin_box_count}
 use Rattle.page_ctx.specs.declared.classes.PageClasses.{PageClasses}
 use Rattle.page_ctx.specs.declared.property.PageProperty.{PageProperty}
 use Rattle.page_ctx.specs.declared.property.PageProperty.TheVariants as property
-use Rattle.page_ctx.specs.declared.weight.PageWeight.{PageWeight}
+use Rattle.page_ctx.specs.declared.weight.PageWeight.{}
 use Rattle.page_ctx.specs.declared.groups.EachWinners.{EachWinners}
 use Rattle.page_ctx.specs.declared.groups.PageWinners.{PageWinners}
 use Rattle.page_ctx.specs.declared.groups.GroupedRules.{GroupedRules}
 use Rattle.page_ctx.specs.Index.{IsIndex}
 use Rattle.page_ctx.specs.Selectors.{asks, takes_classes}
 use Rattle.page_ctx.specs.Tables.{page_1, a_left_page, a_right_page, as_blank}
-use Rattle.page_ctx.specs.Weights.{greater, specificity}
-use Rattle.page_ctx.specs.Winners.{AppliedPageRuleOf, Declared, applied_by, box_declared, candidate_in, page_declared, winner}
+use Rattle.page_ctx.specs.Winners.{AppliedPageRuleOf, Declared, all_such, box_declared, candidate_in, page_declared, winner}
 
--- with the specificity of one more selector, if it asks for this name, or for none, and takes pages of these classes
-abbrev pub with_own : Option (List ℕ) → PageClasses → Option PageWeight → PageSelector → Option PageWeight
-with_own asked c best s = if asks asked s.name && takes_classes s c then greater best (specificity s) else best
-
--- the greatest specificity of these selectors
-abbrev pub greatest_own : Option (List ℕ) → PageClasses → List PageSelector → Option PageWeight
-greatest_own asked c selectors = fold (with_own asked c) None selectors
-
--- a rule with that specificity, if it has such a selector
-abbrev pub applied_own : Option (List ℕ) → PageClasses → PageRule → Option AppliedPageRuleOf
-applied_own asked c r = option_map (applied_by r) (greatest_own asked c r.selectors)
+-- whether a selector asks for this name, or for none, and takes pages of these classes
+abbrev pub is_own : Option (List ℕ) → PageClasses → PageSelector → Bool
+is_own asked c s = asks asked s.name && takes_classes s c
 
 -- the rules that have such selectors, in their order
 abbrev pub all_own : Option (List ℕ) → PageClasses → List PageRule → List AppliedPageRuleOf
-all_own asked c rules = filter_map (applied_own asked c) rules
+all_own asked c rules = all_such (is_own asked c) rules
 
 -- all 14 properties
 abbrev pub all_properties : List PageProperty

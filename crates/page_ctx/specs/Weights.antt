@@ -35,13 +35,21 @@ abbrev pub greater : Option PageWeight → PageWeight → Option PageWeight
 greater None w = Some w
 greater (Some v) w = if is_above w v then Some w else Some v
 
--- with the specificity of one more selector, if it takes the page
-abbrev pub with_selector : List ℕ → PageClasses → Option PageWeight → PageSelector → Option PageWeight
-with_selector name c best s = if takes s name c then greater best (specificity s) else best
+-- with the specificity of one more selector, if it is such
+abbrev pub with_selector : (PageSelector → Bool) → Option PageWeight → PageSelector → Option PageWeight
+with_selector is best s = if is s then greater best (specificity s) else best
 
--- the greatest specificity of the selectors that take a page; none where none does
+-- the greatest specificity of the selectors that are such; none where none is
+abbrev pub greatest_such : (PageSelector → Bool) → List PageSelector → Option PageWeight
+greatest_such is selectors = fold (with_selector is) None selectors
+
+-- whether a selector takes a page
+abbrev pub is_for : List ℕ → PageClasses → PageSelector → Bool
+is_for name c s = takes s name c
+
+-- the greatest specificity of the selectors that take a page
 abbrev pub greatest : List ℕ → PageClasses → List PageSelector → Option PageWeight
-greatest name c selectors = fold (with_selector name c) None selectors
+greatest name c selectors = greatest_such (is_for name c) selectors
 
 -- the weight of a selector that takes a page, above which is that of none of these
 pub record IsGreatest (name : List ℕ) (c : PageClasses) (selectors : List PageSelector) (w : PageWeight) : Type 0 where

@@ -5,6 +5,7 @@ use Rattle.std.specs.List.{fold, flat_map, filter_map}
 use Rattle.bk_num.specs.Sides.{place_of}
 use Rattle.bk_num.specs.declared.sides.BoxSide.TheVariants as side
 use Rattle.css_page.specs.declared.rules.PageRule.{PageRule}
+use Rattle.css_page.specs.declared.selectors.PageSelector.{PageSelector}
 use Rattle.css_page.specs.declared.values.PageDecl.{PageDecl}
 use Rattle.css_page.specs.declared.values.PageLong.{PageLong}
 use Rattle.css_page.specs.declared.values.PageLong.TheVariants as long
@@ -15,7 +16,7 @@ use Rattle.page_ctx.specs.declared.weight.PageWeight.{PageWeight}
 use Rattle.page_ctx.specs.declared.applied.AppliedPageRule.{AppliedPageRule}
 use Rattle.page_ctx.specs.declared.winner.PageCandidate.{PageCandidate}
 use Rattle.page_ctx.specs.Index.{RuleSelectorOf}
-use Rattle.page_ctx.specs.Weights.{is_above, greater, greatest, of_decl, specificity}
+use Rattle.page_ctx.specs.Weights.{is_above, greater, greatest_such, is_for, of_decl, specificity}
 
 -- a declared value, with what decides
 pub record Declared : Type 0 where
@@ -39,9 +40,13 @@ applied_in a = record { weight = a.weight; rule = a.rule.now }
 abbrev pub applied_by : PageRule → PageWeight → AppliedPageRuleOf
 applied_by r w = record { weight = w; rule = r }
 
--- a rule with its specificity, if it is for a page
-abbrev pub applied : List ℕ → PageClasses → PageRule → Option AppliedPageRuleOf
-applied name c r = option_map (applied_by r) (greatest name c r.selectors)
+-- a rule with the greatest specificity of its selectors that are such, if one is
+abbrev pub applied : (PageSelector → Bool) → PageRule → Option AppliedPageRuleOf
+applied is r = option_map (applied_by r) (greatest_such is r.selectors)
+
+-- the rules that have such a selector, in their order
+abbrev pub all_such : (PageSelector → Bool) → List PageRule → List AppliedPageRuleOf
+all_such is rules = filter_map (applied is) rules
 
 -- a rule that is for a page, with its number
 pub record NumberedRule : Type 0 where
@@ -72,7 +77,7 @@ rule_with last e = option_map (numbered_by e.number e.rule) (greater (weight_at 
 
 -- the rules that are for a page, in their order
 abbrev pub applied_to : List ℕ → PageClasses → List PageRule → List AppliedPageRuleOf
-applied_to name c rules = filter_map (applied name c) rules
+applied_to name c rules = all_such (is_for name c) rules
 
 -- a declared value with a weight
 abbrev pub declared_by : PageWeight → PageLong → Declared
