@@ -53,6 +53,7 @@ fn answer<F: Shelf, O: Sink, E: Sink, L: Ledger>(
     match words {
         Ok(words) => run(alloc, &words, shelf, out, err, steps),
         Err(outcome) => {
+            // a fault of standard error has no other place to be told
             let _ = put_message(err, &outcome);
             outcome
         }

@@ -38,6 +38,7 @@ fn left_in(canvas: &Canvas<'_>, opens: &[OpenBox], at: u32, owner: u32) -> i64
 {
     // named by the clauses alone
     let _canvas = canvas;
+    // and so is the event
     let _at = at;
     left_of(opens, owner)
 }

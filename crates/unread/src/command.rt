@@ -19,6 +19,7 @@ pub(crate) fn program(rt: &HostRuntime) -> ExitCode {
         Ok(words) => run(alloc, &words, &mut shelf, &mut out, &mut err),
         Err(e) => {
             let outcome = Outcome::from(e);
+            // a fault of standard error has no other place to be told
             let _ = put_message(&mut err, outcome);
             outcome
         }

@@ -219,6 +219,7 @@ pub(crate) fn run<F: Shelf, O: Sink, E: Sink>(
         (O.faults out.new))) }
 {
     let outcome = outcome_of(put_asked(alloc, words, shelf, out));
+    // a fault of standard error has no other place to be told
     let _ = put_message(err, outcome);
     outcome
 }
