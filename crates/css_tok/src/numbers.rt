@@ -58,7 +58,7 @@ fn digit(b: u8) -> u64
 }
 
 /// The number that at most six digits write.
-#[tactic(auto, using(crate::proofs::NumberLemmas::digit_at, crate::proofs::NumberLemmas::value_more, crate::proofs::NumberLemmas::power_more))]
+#[tactic(auto, using(crate::proofs::NumberLemmas::digit_at))]
 fn value_of(digits: &[u8]) -> u64
     requires digits { list_all is_ascii_digit digits.now ≡ true }
     requires few { length digits.now ≤ 6 }
