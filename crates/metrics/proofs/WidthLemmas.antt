@@ -1,10 +1,17 @@
--- Which character a byte begins.
+-- Which character a byte begins, and the width of one with none before it.
 use Rattle.std.proofs.Common.{◌≡◌, ℕ, suc, ◌<◌, ◌≤◌, Bool, true, false, ◌||◌, ltb, leb, List, [], ◌∷◌, ◌++◌, length, get_or, drop, None, Some, refl, ap, arith, drop-cons}
+use Rattle.std.specs.Prelude.{unsigned_abs, if◌then◌else◌}
 use Rattle.std.specs.Str.{chars, IsUtf8}
 use Rattle.std.specs.Char.{encode_utf8}
 use Rattle.std.proofs.lemmas.Bool.Decides.{nat_tests}
 use Rattle.std.proofs.lemmas.Str.{chars_past_char}
-use Rattle.metrics.specs.Widths.{is_lead, char_at, begun_at}
+use Rattle.metrics.specs.Face.{advance_number, paired_number, scaled}
+use Rattle.metrics.specs.Pen.{PenView}
+use Rattle.metrics.specs.Widths.{begun_at, char_after, char_at, char_width, has_width, is_lead}
+
+pub bare_width : (p : PenView) (c : ℕ) → char_width p c ≡ (if has_width c then unsigned_abs (scaled (advance_number p.face c) p.size p.face.units) else 0)
+unfolding char_width char_after paired_number
+bare_width p c = refl
 
 pub first_char : (b : ℕ) (bs : List ℕ) → b < 128 → get_or (chars (b ∷ bs)) 0 0 ≡ b
 unfolding chars
