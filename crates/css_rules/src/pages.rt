@@ -84,7 +84,6 @@ pub fn are_gaps(tokens: &[CssToken<'_>]) -> bool
 }
 
 /// Reads an at-rule in the block, whose At was taken: a margin box with its block, or nothing.
-#[tactic(auto, using(crate::proofs::PartLemmas::gaps_are), unfolding(crate::specs::Pages::is_margin_box, crate::specs::Pages::past_end, crate::specs::Pages::at_prelude, crate::specs::Pages::at_end))]
 fn read_page_at<'a>(
     alloc: Global,
     token: &CssToken<'a>,
