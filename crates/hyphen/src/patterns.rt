@@ -70,7 +70,7 @@ impl Patterns {
     }
 
     /// The value of each place of a word.
-    #[tactic(auto, unfolding(crate::specs::Meaning::value_in, crate::specs::Pattern::most, crate::specs::Pieces::pieces_value))]
+    #[tactic(auto, unfolding(crate::specs::Meaning::value_in, crate::specs::Pieces::pieces_value))]
     fn values(&self, alloc: Global, word: &[char]) -> Result<Vec<u8>, NoMem>
         requires { length word.now < 2 ^ 32 }
         ensures len { IfOk result (λ v. length v.items ≡ length word.now + 1) }

@@ -1,8 +1,14 @@
 use Rattle.std.proofs.Common.{◌∙◌, arith, sym, ap, ℕ, max}
+use Rattle.std.proofs.lemmas.Grind.{common_steps}
 use Rattle.hyphen.specs.Fields.{two_values}
+use Rattle.hyphen.specs.Pattern.{most}
 use Rattle.hyphen.specs.Pieces.{pieces_from}
 use Rattle.hyphen.proofs.MostLemmas.{most_next}
 use Rattle.hyphen.proofs.patterns.Patterns.values.Goals as goal
+
+pub loop-at-init : goal.loop-at-init
+unfolding most
+loop-at-init c = grind (arith, common_steps)
 
 pub loop-at-preserved : goal.loop-at-preserved
 loop-at-preserved c =
