@@ -8,7 +8,7 @@ use bk_num::name::NoMem;
 use boxes::frames::Demand;
 use boxes::place::Position;
 use boxes::tree::BoxTree;
-use seams::level::{kept_lines, level, too_few};
+use seams::level::{least_lines, level, too_few};
 use seams::seam::seam;
 use seams::seam_info::{Class, SeamInfo};
 use std::alloc::Global;
@@ -112,7 +112,7 @@ pub(crate) fn level_at(
     let (before, after) = lines.split_once(' ').unwrap_or((lines, "0"));
     let before = before.parse::<u32>().unwrap_or(0);
     let after = after.parse::<u32>().unwrap_or(0);
-    let kept = kept_lines(tree, at.event);
+    let kept = least_lines(tree, at.event);
     let few = if too_few(kept.orphans, kept.widows, before as usize, after as usize) {
         "few"
     } else {

@@ -9,14 +9,14 @@ use boxes::place::Position;
 use boxes::tree::BoxTree;
 use cursor::solid::Solid;
 use cuts::row::SolidRow;
-use seams::level::kept_lines;
+use seams::level::least_lines;
 
 /// What a cut reads of a solid.
 pub(crate) fn row_of(tree: &BoxTree, solid: &Solid<'_>) -> SolidRow
     requires { solid.now.placed_at.event ≤ length tree.now.events }
     ensures { result ≡ row_of tree.now (solid_view solid.now) }
 {
-    let kept = kept_lines(tree, solid.placed_at.event);
+    let kept = least_lines(tree, solid.placed_at.event);
     SolidRow {
         seam: solid.seam,
         height: solid.height,
