@@ -8,7 +8,7 @@ use Rattle.book.specs.Expect.{Expect, free, refused, given, ◌>>=◌}
 use Rattle.named_files.specs.Names.{name_of}
 use Rattle.book.specs.Request.{Task, files, chapters, asked}
 use Rattle.words.specs.Asked.{FormatWords}
-use Rattle.book.specs.Document.{Texts, Document, document_of}
+use Rattle.book.specs.Document.{BookTexts, Document, document_of}
 use Rattle.book.specs.Run.{text_of, patterns_named, sheets_from, texts_for, texts_named, expected, Writes, Meets, HasReadCause, IsFaultOf, IsComplete, IsDoneOrUnsettled}
 use Rattle.book.specs.declared.outcome.Outcome.{Outcome}
 use Rattle.book.specs.declared.outcome.Outcome.TheVariants as out
@@ -20,13 +20,13 @@ use Rattle.book.specs.declared.outcome.LimitOf.TheVariants as limit
 refused_gives : (o : Outcome) (d : Document) → refused o ≡ given d → ⊥
 refused_gives o d e = absurd (cc)
 
-through : {A : Type 0} (reading : List ℕ → SheetOf) (x : Expect A) (k : A → Expect Texts) (d : Document) → ((y : A) → (k y >>= document_of reading) ≡ given d → ⊥) → ((x >>= k) >>= document_of reading) ≡ given d → ⊥
+through : {A : Type 0} (reading : List ℕ → SheetOf) (x : Expect A) (k : A → Expect BookTexts) (d : Document) → ((y : A) → (k y >>= document_of reading) ≡ given d → ⊥) → ((x >>= k) >>= document_of reading) ≡ given d → ⊥
 through reading free k d n e = absurd (cc)
 through reading (refused p) k d n e = absurd (cc)
 through reading (given y) k d n e = n y e
 
 -- the same, where it is known what the step gives
-no_sheets : (reading : List ℕ → SheetOf) (x : Expect (List (List ℕ))) (k : List (List ℕ) → Expect Texts) (d : Document) → ((y : List (List ℕ)) → x ≡ given y → ⊥) → ((x >>= k) >>= document_of reading) ≡ given d → ⊥
+no_sheets : (reading : List ℕ → SheetOf) (x : Expect (List (List ℕ))) (k : List (List ℕ) → Expect BookTexts) (d : Document) → ((y : List (List ℕ)) → x ≡ given y → ⊥) → ((x >>= k) >>= document_of reading) ≡ given d → ⊥
 no_sheets reading free k d n e = absurd (cc)
 no_sheets reading (refused p) k d n e = absurd (cc)
 no_sheets reading (given y) k d n e = n y refl
@@ -51,7 +51,7 @@ sheets_absent told k (suc place) (n ∷ names) name texts m a e =
     after_text (text_of (file.Sheet k) (told n)) (sheets_from (suc k) told names) texts (λ more h. sheets_absent told (suc k) place names name more m a h) e
 
 -- no text comes of patterns that aren't there
-no_patterns : (reading : List ℕ → SheetOf) (x : Expect (Option (List ℕ))) (k : Option (List ℕ) → Expect Texts) (d : Document) → ((y : Option (List ℕ)) → x ≡ given y → ⊥) → ((x >>= k) >>= document_of reading) ≡ given d → ⊥
+no_patterns : (reading : List ℕ → SheetOf) (x : Expect (Option (List ℕ))) (k : Option (List ℕ) → Expect BookTexts) (d : Document) → ((y : Option (List ℕ)) → x ≡ given y → ⊥) → ((x >>= k) >>= document_of reading) ≡ given d → ⊥
 no_patterns reading free k d n e = absurd (cc)
 no_patterns reading (refused p) k d n e = absurd (cc)
 no_patterns reading (given y) k d n e = n y refl

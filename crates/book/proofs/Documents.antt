@@ -14,7 +14,7 @@ use Rattle.sheets.specs.declared.read.Sheets.{Sheets}
 use Rattle.sheets.specs.declared.read.SheetsErr.TheVariants as err
 use Rattle.book.specs.Expect.{IsGiven, IsRefusedUnlessMemory}
 use Rattle.sheets.specs.Sheets.{author_texts, element_sheets}
-use Rattle.book.specs.Document.{Document, Texts, document_of, faces_expected, nodes_expected, patterns_expected, points_expected, sheets_expected}
+use Rattle.book.specs.Document.{Document, BookTexts, document_of, faces_expected, nodes_expected, patterns_expected, points_expected, sheets_expected}
 use Rattle.book.specs.declared.outcome.Outcome.{Outcome}
 use Rattle.book.specs.declared.outcome.Outcome.TheVariants as out
 use Rattle.book.specs.declared.outcome.LimitOf.TheVariants as limit
@@ -31,7 +31,7 @@ module _ (reading : List ℕ → SheetOf) (texts : List (List ℕ)) where
   pub rules_many : AreRead reading texts (Err err.Rules) → IsRefusedUnlessMemory (sheets_expected reading texts) (out.Limit limit.Rules)
   rules_many h = rw (h.0, h.1) refl
 
-abbrev document_by : Texts → List FontFace → Option Points → List Node → Document
+abbrev document_by : BookTexts → List FontFace → Option Points → List Node → Document
 document_by t faces points nodes = record { passes = t.passes; grid = t.grid; output = t.output; faces = faces; points = points; nodes = nodes; sheets = t.sheets }
 
 -- the points of patterns that were read are those of the text's patterns
@@ -42,7 +42,7 @@ points_given (Err line) p h = absurd h
 pub points_refused : (said : Result (List Pattern) ℕ) (line : ℕ) → said ≡ Err line → IsRefusedUnlessMemory (points_expected said) (out.BadPatterns line)
 points_refused said line h = rw h refl
 
-module _ (reading : List ℕ → SheetOf) (t : Texts) (faces : List FontFace) (points : Option Points) (nodes : List Node) (given_faces : IsGiven (faces_expected (faces_of t.metrics)) faces) (given_points : IsGiven (patterns_expected t.patterns) points) (given_nodes : IsGiven (nodes_expected (tree_of t.html)) nodes) where
+module _ (reading : List ℕ → SheetOf) (t : BookTexts) (faces : List FontFace) (points : Option Points) (nodes : List Node) (given_faces : IsGiven (faces_expected (faces_of t.metrics)) faces) (given_points : IsGiven (patterns_expected t.patterns) points) (given_nodes : IsGiven (nodes_expected (tree_of t.html)) nodes) where
   pub sheets_refused : (o : Outcome) → IsRefusedUnlessMemory (sheets_expected reading (author_texts (element_sheets nodes) t.sheets)) o → IsRefusedUnlessMemory (document_of reading t) o
   sheets_refused o r = refused_after (faces_expected (faces_of t.metrics)) faces _ o given_faces (
       refused_after (patterns_expected t.patterns) points _ o given_points (

@@ -13,7 +13,7 @@ use Rattle.listing.specs.declared.print.PrintErr.{PrintErr}
 use Rattle.listing.specs.declared.print.PrintErr.TheVariants as print
 use Rattle.sheets.specs.Readings.{SheetOf}
 use Rattle.soft_hyphens.specs.Words.{Points, points_in}
-use Rattle.book.specs.Document.{Document, Texts, document_of}
+use Rattle.book.specs.Document.{Document, BookTexts, document_of}
 use Rattle.book.specs.Expect.{Expect, free, refused, given, IsGiven, IsRefusedUnlessMemory, ◌>>=◌}
 use Rattle.book.specs.Flow.{asked_of, page_frames}
 use Rattle.book.specs.Laid.{StopsBy, of_passes, of_print}
@@ -64,7 +64,7 @@ given_few free d o old new g h = tt
 given_few (refused p) d o old new g h = tt
 given_few (given x) d o old new g h = subst (λ (y : Document). FillsFew y o old new) g h
 
-pub texts_few : (reading : List ℕ → SheetOf) (e : Expect Texts) (t : Texts) (o : Outcome) (old new : ℕ) → IsGiven e t → MeetsInFew (document_of reading t) o old new → MeetsInFew (e >>= document_of reading) o old new
+pub texts_few : (reading : List ℕ → SheetOf) (e : Expect BookTexts) (t : BookTexts) (o : Outcome) (old new : ℕ) → IsGiven e t → MeetsInFew (document_of reading t) o old new → MeetsInFew (e >>= document_of reading) o old new
 texts_few reading e t o old new g h = after_given e t (document_of reading) (λ z. MeetsInFew z o old new) tt g h
 
 pub task_few : (reading : List ℕ → SheetOf) (e : Expect Task) (task : Task) (told : List ℕ → Told) (o : Outcome) (old new : ℕ) → e ≡ given task → MeetsInFew (document_for reading task told) o old new → MeetsInFew ((e >>= λ x. texts_for x told) >>= document_of reading) o old new
@@ -106,7 +106,7 @@ unforeseen_few (given d) (out.Limit what) old new u = absurd u
 unforeseen_few (given d) out.WriteFault old new u = absurd u
 unforeseen_few (given d) out.NoMemory old new u = tt
 
-pub stops_few : (reading : List ℕ → SheetOf) (e : Expect Texts) (o : Outcome) (old new : ℕ) → Stops e o → MeetsInFew (e >>= document_of reading) o old new
+pub stops_few : (reading : List ℕ → SheetOf) (e : Expect BookTexts) (o : Outcome) (old new : ℕ) → Stops e o → MeetsInFew (e >>= document_of reading) o old new
 stops_few reading free o old new h = tt
 stops_few reading (refused p) o old new h = tt
 stops_few reading (given t) o old new h = unforeseen_few (document_of reading t) o old new h

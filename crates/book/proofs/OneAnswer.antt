@@ -15,7 +15,7 @@ use Rattle.css_page.specs.declared.rules.PageRule.{PageRule}
 use Rattle.sheets.specs.Readings.{SheetOf}
 use Rattle.sheets.specs.Sheets.{author_texts, element_sheets}
 use Rattle.book.specs.Answer.{Book, IsBookOf}
-use Rattle.book.specs.Document.{Document, Texts, document_of, faces_expected, nodes_expected, patterns_expected, sheets_expected}
+use Rattle.book.specs.Document.{Document, BookTexts, document_of, faces_expected, nodes_expected, patterns_expected, sheets_expected}
 use Rattle.book.specs.Expect.{Expect, free, refused, given, ◌>>=◌}
 use Rattle.book.specs.Flow.{HasEnd, HasNoReferences, IsWorkOf}
 use Rattle.book.specs.Laws.{AnswersFollowEnds, ExpectedIsTree, HasOneBook, HasOneEnd, IsAnswerAt, OneBookIsExpected, OneEndIsExpected, SettlesWith}
@@ -49,7 +49,7 @@ document_or d (refused p) = d
 document_or d (given e) = e
 
 -- its nodes are those of a text
-document_tree : TextsAreTrees → (reading : List ℕ → SheetOf) (t : Texts) (d : Document) → document_of reading t ≡ given d → IsTree d.nodes
+document_tree : TextsAreTrees → (reading : List ℕ → SheetOf) (t : BookTexts) (d : Document) → document_of reading t ≡ given d → IsTree d.nodes
 document_tree trees reading t d e =
     let (faces, e1, f) = given_through (faces_expected (faces_of t.metrics)) _ d e in
     let (points, e2, p) = given_through (patterns_expected t.patterns) _ d e1 in

@@ -8,7 +8,7 @@ use Rattle.sheets.specs.Readings.{SheetOf}
 use Rattle.sheets.specs.Sheets.{author_texts, element_sheets}
 use Rattle.words.specs.Asked.{FormatWords}
 use Rattle.book.specs.Answer.{IsBookOf}
-use Rattle.book.specs.Document.{Document, Texts, document_of, faces_expected, grid_of, nodes_expected, patterns_expected, sheets_expected}
+use Rattle.book.specs.Document.{Document, BookTexts, document_of, faces_expected, grid_of, nodes_expected, patterns_expected, sheets_expected}
 use Rattle.book.specs.Expect.{Expect, free, refused, given, ◌>>=◌}
 use Rattle.book.specs.Laws.{ExpectedIsTree, HasOneBook, OneColumnIsExpected, with_gap}
 use Rattle.book.specs.Request.{Task}
@@ -34,13 +34,13 @@ changed_before f g k l same free = refl
 changed_before f g k l same (refused o) = refl
 changed_before f g k l same (given a) = same a
 
-abbrev texts_gap : ℕ → Texts → Texts
+abbrev texts_gap : ℕ → BookTexts → BookTexts
 texts_gap gap t = record t { grid = record t.grid { gap = gap } }
 
 abbrev words_gap : ℕ → FormatWords → FormatWords
 words_gap gap names = record names { gap = gap }
 
-abbrev texts_or : Texts → Expect Texts → Texts
+abbrev texts_or : BookTexts → Expect BookTexts → BookTexts
 texts_or t free = t
 texts_or t (refused p) = t
 texts_or t (given s) = s
@@ -54,7 +54,7 @@ named_again names gap told =
     (patterns_named told names.patterns)) (sheets_from 1 told names.sheets)) (text_of file.Html (told names.html))) (text_of file.Metrics (told names.metrics))
 
 module _ (reading : List ℕ → SheetOf) where
-  document_again : (gap : ℕ) (t : Texts) → document_of reading (texts_gap gap t) ≡ changed (with_gap gap) (document_of reading t)
+  document_again : (gap : ℕ) (t : BookTexts) → document_of reading (texts_gap gap t) ≡ changed (with_gap gap) (document_of reading t)
   document_again gap t =
       changed_next (with_gap gap) _ _ (λ faces.
       changed_next (with_gap gap) _ _ (λ points.
@@ -64,10 +64,10 @@ module _ (reading : List ℕ → SheetOf) where
 
   both_again : (names : FormatWords) (gap : ℕ) (told : List ℕ → Told) → (texts_named (words_gap gap names) told >>= document_of reading) ≡ changed (with_gap gap) (texts_named names told >>= document_of reading)
   both_again names gap told =
-      ap (λ (t : Expect Texts). t >>= document_of reading) (named_again names gap told) ∙ changed_before (texts_gap gap) (with_gap gap) (document_of reading) (document_of reading) (document_again gap) (texts_named names told)
+      ap (λ (t : Expect BookTexts). t >>= document_of reading) (named_again names gap told) ∙ changed_before (texts_gap gap) (with_gap gap) (document_of reading) (document_of reading) (document_again gap) (texts_named names told)
 
   -- a document has the columns that are asked for
-  text_grid : (t : Texts) (d : Document) → document_of reading t ≡ given d → t.grid ≡ d.grid
+  text_grid : (t : BookTexts) (d : Document) → document_of reading t ≡ given d → t.grid ≡ d.grid
   text_grid t d e =
       let (faces, e1, f) = given_through (faces_expected (faces_of t.metrics)) _ d e in
       let (points, e2, p) = given_through (patterns_expected t.patterns) _ d e1 in
@@ -75,13 +75,13 @@ module _ (reading : List ℕ → SheetOf) where
       let (few, e4, s) = given_through (sheets_expected reading (author_texts (element_sheets nodes) t.sheets)) _ d e3 in
       ap (λ (x : Expect Document). (document_or d x).grid) e4
 
-  named_grid : (names : FormatWords) (told : List ℕ → Told) (t : Texts) → texts_named names told ≡ given t → grid_of names ≡ t.grid
+  named_grid : (names : FormatWords) (told : List ℕ → Told) (t : BookTexts) → texts_named names told ≡ given t → grid_of names ≡ t.grid
   named_grid names told t e =
       let (metrics, e1, m) = given_through (text_of file.Metrics (told names.metrics)) _ t e in
       let (html, e2, h) = given_through (text_of file.Html (told names.html)) _ t e1 in
       let (sheets, e3, s) = given_through (sheets_from 1 told names.sheets) _ t e2 in
       let (patterns, e4, p) = given_through (patterns_named told names.patterns) _ t e3 in
-      ap (λ (x : Expect Texts). (texts_or t x).grid) e4
+      ap (λ (x : Expect BookTexts). (texts_or t x).grid) e4
 
   asked_grid : (names : FormatWords) (told : List ℕ → Told) (d : Document) → (texts_named names told >>= document_of reading) ≡ given d → grid_of names ≡ d.grid
   asked_grid names told d e =

@@ -4,7 +4,7 @@ use Rattle.bk_num.specs.Limits.{most_text_bytes}
 use Rattle.bk_io.specs.Texts.{unmarked}
 use Rattle.sample.specs.Html.{html_of}
 use Rattle.sample.specs.Texts.{css_text, metrics_text}
-use Rattle.book.specs.Document.{Texts}
+use Rattle.book.specs.Document.{BookTexts}
 use Rattle.book.specs.Run.{sample_texts}
 use Rattle.book.specs.declared.document.Output.TheVariants as output
 
@@ -21,5 +21,5 @@ pub sheets_are : (css : List ℕ) → css ≡ css_text → unmarked css ∷ [] �
 sheets_are css is = ap (λ (z : List ℕ). unmarked z ∷ []) is ∙ ap (λ (z : List ℕ). z ∷ []) css_unmarked
 
 pub texts_are : (n : ℕ) (m h : List ℕ) (s : List (List ℕ)) → m ≡ metrics_text → h ≡ html_of n → s ≡ css_text ∷ [] →
-    ◌≡◌ {A = Texts} (record { passes = 8; grid = record { columns = 1; gap = 0 }; output = output.Counts n; metrics = m; patterns = None; html = h; sheets = s }) (sample_texts n)
+    ◌≡◌ {A = BookTexts} (record { passes = 8; grid = record { columns = 1; gap = 0 }; output = output.Counts n; metrics = m; patterns = None; html = h; sheets = s }) (sample_texts n)
 texts_are n m h s a b c = λ i. record { passes = 8; grid = record { columns = 1; gap = 0 }; output = output.Counts n; metrics = a i; patterns = None; html = b i; sheets = c i }

@@ -21,7 +21,7 @@ use Rattle.sheets.specs.Sources.{has_many_rules}
 use Rattle.named_files.specs.Names.{IsNoLater}
 use Rattle.book.specs.Request.{Task, files, chapters}
 use Rattle.words.specs.Asked.{FormatWords}
-use Rattle.book.specs.Document.{Texts, Document, document_of, faces_expected, grid_of, nodes_expected, patterns_expected, points_expected, sheets_expected}
+use Rattle.book.specs.Document.{BookTexts, Document, document_of, faces_expected, grid_of, nodes_expected, patterns_expected, points_expected, sheets_expected}
 use Rattle.book.specs.Run.{text_of, Stops, Ends, ComesBefore, IsReadBefore, IsUnforeseen, Meets, PutsOnlyABook, Writes, document_for, patterns_named, sheets_from, texts_for, texts_named, HasFileCause, HasReadCause, HasTaskCause, HasWordsCause, IsOfBook, IsOfFiles, IsOfTexts, IsOfWords, KeepsFaults}
 use Rattle.book.specs.declared.document.Output.TheVariants as output
 use Rattle.named_files.specs.declared.file.FileOf.{FileOf}
@@ -82,7 +82,7 @@ later_nodes f (Err dom_err.NoMemory) = tt
 later_sheets : (f : FileOf) (reading : List ℕ → SheetOf) (texts : List (List ℕ)) → Later f (sheets_expected reading texts)
 later_sheets f reading texts = later_cond f (nat_lt most_sheets (length texts)) _ _ tt (later_cond f (list_any (has_many_rules reading) texts) _ _ tt tt)
 
-later_book : (reading : List ℕ → SheetOf) (f : FileOf) (t : Texts) → Later f (document_of reading t)
+later_book : (reading : List ℕ → SheetOf) (f : FileOf) (t : BookTexts) → Later f (document_of reading t)
 later_book reading f t =
     later_bind f _ _ (later_faces f (faces_of t.metrics)) (λ faces.
     later_bind f _ _ (later_points f t.patterns) (λ points.
@@ -159,7 +159,7 @@ module _ (told : List ℕ → Told) (names : FormatWords) (o : Outcome) where
 
 pub texts_given : (told : List ℕ → Told) (names : FormatWords) (m h : List ℕ) (ss : List (List ℕ)) (p : Option (List ℕ)) → IsGiven (text_of file.Metrics (told names.metrics)) m → IsGiven (text_of file.Html (told names.html)) h → IsGiven (sheets_from 1 told names.sheets) ss → IsGiven (patterns_named told names.patterns) p → IsGiven (texts_named names told) (record { passes = names.passes; grid = grid_of names; output = output.Listing; metrics = m; html = h; sheets = ss; patterns = p })
 texts_given told names m h ss p given_m given_h given_s given_p =
-    let all : Texts = record { passes = names.passes; grid = grid_of names; output = output.Listing; metrics = m; html = h; sheets = ss; patterns = p } in
+    let all : BookTexts = record { passes = names.passes; grid = grid_of names; output = output.Listing; metrics = m; html = h; sheets = ss; patterns = p } in
     after_given (text_of file.Metrics (told names.metrics)) m _ (λ e. IsGiven e all) tt given_m (
     after_given (text_of file.Html (told names.html)) h _ (λ e. IsGiven e all) tt given_h (
     after_given (sheets_from 1 told names.sheets) ss _ (λ e. IsGiven e all) tt given_s (
@@ -320,7 +320,7 @@ unforeseen_halts (refused p) (out.Limit what) l u = absurd u
 unforeseen_halts (refused p) out.WriteFault l u = absurd u
 unforeseen_halts (given d) o l u = ends_unforeseen d o u
 
-pub texts_stop : (reading : List ℕ → SheetOf) (e : Expect Texts) (o : Outcome) → Stops e o → Halts (e >>= document_of reading) o
+pub texts_stop : (reading : List ℕ → SheetOf) (e : Expect BookTexts) (o : Outcome) → Stops e o → Halts (e >>= document_of reading) o
 texts_stop reading free o s = tt
 texts_stop reading (refused p) o s = s
 texts_stop reading (given t) o s = unforeseen_halts (document_of reading t) o (λ f. later_book reading f t) s
@@ -352,7 +352,7 @@ refused_halts (given d) (out.Limit what) r = absurd r
 refused_halts (given d) out.WriteFault r = absurd r
 
 -- what a document of given texts comes to
-pub texts_meet : (reading : List ℕ → SheetOf) (e : Expect Texts) (t : Texts) (old new : Option (List ℕ)) (o : Outcome) → IsGiven e t → Meets (document_of reading t) old new o → Meets (e >>= document_of reading) old new o
+pub texts_meet : (reading : List ℕ → SheetOf) (e : Expect BookTexts) (t : BookTexts) (old new : Option (List ℕ)) (o : Outcome) → IsGiven e t → Meets (document_of reading t) old new o → Meets (e >>= document_of reading) old new o
 texts_meet reading e t old new o g h = after_given e t (document_of reading) (λ z. Meets z old new o) tt g h
 
 -- a refusal of the words is one of theirs, and no read fault

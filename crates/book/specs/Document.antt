@@ -35,7 +35,7 @@ grid_of names = record { columns = names.columns; gap = names.gap }
 
 -- in how many passes at most a book is to settle, the columns of its pages, what is to be put of it, and the texts of
 -- its files, that of the patterns if it is named, less a leading U+FEFF
-pub record Texts : Type 0 where
+pub record BookTexts : Type 0 where
   pub passes : ℕ
   pub grid : ColumnGrid
   pub output : Output
@@ -83,7 +83,7 @@ sheets_expected reading texts = if nat_lt most_sheets (length texts) then refuse
     if list_any (has_many_rules reading) texts then refused (out.Limit limit.Rules) else given tt
 
 -- the document of the texts, or the first refusal; `reading` gives what each text is read as, as a sheet
-abbrev pub document_of : (List ℕ → SheetOf) → Texts → Expect Document
+abbrev pub document_of : (List ℕ → SheetOf) → BookTexts → Expect Document
 document_of reading t = faces_expected (faces_of t.metrics) >>= λ faces.
     patterns_expected t.patterns >>= λ points.
     nodes_expected (tree_of t.html) >>= λ nodes.

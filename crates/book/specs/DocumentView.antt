@@ -5,13 +5,13 @@ use Rattle.sheets.specs.Sheets.{author_texts, element_sheets}
 use Rattle.sheets.specs.Files.{file_texts}
 use Rattle.sheets.specs.Sources.{sources_of, IsReadFrom}
 use Rattle.soft_hyphens.specs.Words.{points_in}
-use Rattle.book.specs.Document.{Document, Texts}
+use Rattle.book.specs.Document.{Document, BookTexts}
 use Rattle.book.specs.Flow.{AreRulesOf}
 use Rattle.book.specs.declared.document.Document.{Document as InMemory}
-use Rattle.book.specs.declared.document.Texts.{Texts as TextsInMemory}
+use Rattle.book.specs.declared.document.BookTexts.{BookTexts as TextsInMemory}
 
 -- texts in memory as contracts see them
-abbrev pub texts_in : TextsInMemory → Texts
+abbrev pub texts_in : TextsInMemory → BookTexts
 texts_in t = record {
   passes = t.passes;
   grid = t.grid;

@@ -15,7 +15,7 @@ use Rattle.book.specs.Expect.{Expect, free, refused, given, ◌>>=◌}
 use Rattle.named_files.specs.Names.{IsNoLater, name_of}
 use Rattle.book.specs.Request.{Task, files, chapters, asked}
 use Rattle.words.specs.Asked.{FormatWords}
-use Rattle.book.specs.Document.{Texts, Document, document_of, grid_of}
+use Rattle.book.specs.Document.{BookTexts, Document, document_of, grid_of}
 use Rattle.book.specs.Answer.{Book}
 use Rattle.book.specs.Flow.{HasEnd, HasNoReferences}
 use Rattle.book.specs.Keeps.{IsWholeBook}
@@ -47,7 +47,7 @@ patterns_named told None = given None
 patterns_named told (Some name) = text_of file.Patterns (told name) >>= λ text. given (Some text)
 
 -- the texts of the files that are named, or the first refusal in the order of the steps
-abbrev pub texts_named : FormatWords → (List ℕ → Told) → Expect Texts
+abbrev pub texts_named : FormatWords → (List ℕ → Told) → Expect BookTexts
 texts_named names told = text_of file.Metrics (told names.metrics) >>= λ metrics.
     text_of file.Html (told names.html) >>= λ html.
     sheets_from 1 told names.sheets >>= λ sheets.
@@ -68,7 +68,7 @@ document_named reading names told = texts_named names told >>= document_of readi
 
 -- the texts of a sample book of so many chapters, which is to settle in 8 passes at most, in one column, and of which
 -- the counts are told
-abbrev pub sample_texts : ℕ → Texts
+abbrev pub sample_texts : ℕ → BookTexts
 sample_texts count = record {
   passes = 8;
   grid = record { columns = 1; gap = 0 };
@@ -80,7 +80,7 @@ sample_texts count = record {
 }
 
 -- the texts of a task: those of its files, or those of the sample
-abbrev pub texts_for : Task → (List ℕ → Told) → Expect Texts
+abbrev pub texts_for : Task → (List ℕ → Told) → Expect BookTexts
 texts_for (files names) told = texts_named names told
 texts_for (chapters count) told = given (sample_texts count)
 
@@ -89,7 +89,7 @@ abbrev pub document_for : (List ℕ → SheetOf) → Task → (List ℕ → Told
 document_for reading task told = texts_for task told >>= document_of reading
 
 -- the texts that the program's words lead to
-abbrev pub texts_expected : List (List ℕ) → (List ℕ → Told) → Expect Texts
+abbrev pub texts_expected : List (List ℕ) → (List ℕ → Told) → Expect BookTexts
 texts_expected ws told = asked ws >>= λ task. texts_for task told
 
 -- what is expected of these words over this shelf: the document, or the first refusal in the order of the steps;

@@ -63,7 +63,7 @@ pub struct Document<'a> {
 /// In how many passes at most a book is to settle, the columns of its pages, what is to be put of it, and its texts,
 /// all but the sheets less a leading U+FEFF.
 #[derive(Clone, Copy, Debug)]
-pub struct Texts<'a> {
+pub struct BookTexts<'a> {
     pub passes: u32,
     pub grid: ColumnGrid,
     pub output: Output,
@@ -168,7 +168,7 @@ fn read_run_sheets(alloc: Global, dom: &Dom, files: &[String]) -> Result<Sheets,
 }
 
 /// The document of the texts.
-pub fn read_document<'a>(alloc: Global, texts: Texts<'a>) -> Result<Box<Document<'a>>, Outcome>
+pub fn read_document<'a>(alloc: Global, texts: BookTexts<'a>) -> Result<Box<Document<'a>>, Outcome>
     requires small { length texts.metrics.now ≤ most_text_bytes }
     requires small_patterns { IfSome texts.patterns (λ text. length text.now ≤ most_text_bytes) }
     ensures document { (reading : List ℕ → SheetOf) → AreReadings reading →

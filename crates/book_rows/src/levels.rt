@@ -7,7 +7,7 @@ use crate::books::Section;
 use crate::files::{METRICS, files_of};
 use bk_num::name::{Name, NoMem};
 use bk_num::steps::Steps;
-use book::document::{ColumnGrid, Output, Texts, read_document};
+use book::document::{BookTexts, ColumnGrid, Output, read_document};
 use book::styled::{Styled, in_styles};
 use boxes::page::{Page, PageList};
 use page_ctx::resolve::resolve;
@@ -34,7 +34,7 @@ fn text_of<'a>(files: &'a [(Name, Vec<u8>)], name: &str) -> &'a str {
 fn styled_of<'x>(alloc: Global, html: &'x str, sheets: &'x [String]) -> Result<Box<Styled>, NoMem>
     ensures { IfOk result (λ s. AreGoodStyles s.value) }
 {
-    let texts = Texts {
+    let texts = BookTexts {
         passes: 8,
         grid: ColumnGrid { columns: 1, gap: 0 },
         output: Output::Listing,

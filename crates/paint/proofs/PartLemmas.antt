@@ -17,7 +17,7 @@ use Rattle.boxes.specs.declared.span.Content.{Content}
 use Rattle.paint.specs.declared.parts.Fragment.{Fragment}
 use Rattle.bk_num.specs.Limits.{most_open}
 use Rattle.paint.specs.Bounds.{IsGoodOrigin}
-use Rattle.paint.specs.Opens.{IsBounded, content_along, content_of, pair_of}
+use Rattle.paint.specs.Opens.{IsContentWithin, content_along, content_of, pair_of}
 use Rattle.paint.specs.declared.item.SolidOrigin.{SolidOrigin}
 use Rattle.paint.specs.Parts.{ArePlaces, IsBelow, AscendTo, IsOn, IsOpened, HaveOpened, IsAt, HaveNone, IsGrown, IsRoomOf, LeavesTo, content_at, content_or, inside_at, inside_or, last_of, part_in, spine_of}
 use Rattle.paint.proofs.ReachLemmas.{get-map}
@@ -104,10 +104,10 @@ content_is t tree m parts boxes inner at n on opened w = ap (content_at m parts)
         ∙ ap (λ (k : ℕ). content_along t m (b ∷ open_before t.events k)) place ∙ ap (λ (l : List ℕ). content_along t m (b ∷ l)) v.3
 
 -- and it is bounded
-pub content_bounded : (t : Tree) → IsTree t → (o : SolidOrigin) (parts : List Fragment) (boxes : List ℕ) (inner : Option ℕ) (at n : ℕ) → IsGoodOrigin o → IsOn parts boxes inner at → HaveOpened t o.width parts → WereBefore t.events n boxes → IsBounded (length boxes) (content_at o.width parts inner)
-content_bounded t tree o parts boxes inner at n good on opened w = subst (λ i. IsBounded (length boxes) (content_at o.width parts i)) (sym on.inner_is) (by on.places boxes on.are w)
+pub content_bounded : (t : Tree) → IsTree t → (o : SolidOrigin) (parts : List Fragment) (boxes : List ℕ) (inner : Option ℕ) (at n : ℕ) → IsGoodOrigin o → IsOn parts boxes inner at → HaveOpened t o.width parts → WereBefore t.events n boxes → IsContentWithin (length boxes) (content_at o.width parts inner)
+content_bounded t tree o parts boxes inner at n good on opened w = subst (λ i. IsContentWithin (length boxes) (content_at o.width parts i)) (sym on.inner_is) (by on.places boxes on.are w)
   where
-    by : (places bs : List ℕ) → ArePlaces (spine_of parts) places bs → WereBefore t.events n bs → IsBounded (length bs) (content_at o.width parts (first_of places))
+    by : (places bs : List ℕ) → ArePlaces (spine_of parts) places bs → WereBefore t.events n bs → IsContentWithin (length bs) (content_at o.width parts (first_of places))
     by [] [] are v = let low = good.low in let high = good.high in record { low = low; high = omega (arith, ints); left_low = omega (arith, ints); left_high = omega (arith, ints) }
     by [] (b ∷ bs) are v = absurd are
     by (i ∷ places) [] are v = absurd are
@@ -117,7 +117,7 @@ content_bounded t tree o parts boxes inner at n good on opened w = subst (λ i. 
         let is : IsOpened t o.width q = opened i q back.1 in
         let place : q.event ≡ v.0 = opens_once t tree q.event v.0 b (is.opens ∙ ap (λ (x : ℕ). Some (Opens x)) back.2) v.2 in
         let boxes_is : open_before t.events q.event ≡ bs = ap (open_before t.events) place ∙ v.3 in
-        subst (λ (p : Option Fragment). IsBounded (length (b ∷ bs)) (content_or o.width p)) (sym back.1) (subst (λ (l : List ℕ). IsBounded (suc (length l)) q.content) boxes_is is.content_bounded)
+        subst (λ (p : Option Fragment). IsContentWithin (length (b ∷ bs)) (content_or o.width p)) (sym back.1) (subst (λ (l : List ℕ). IsContentWithin (suc (length l)) q.content) boxes_is is.content_bounded)
 
 -- the top edges that stand again of it and of the boxes around it are known
 pub inside_is : (t : Tree) → IsTree t → (m : ℤ) (parts : List Fragment) (boxes : List ℕ) (inner : Option ℕ) (at n : ℕ) → IsOn parts boxes inner at → HaveOpened t m parts → WereBefore t.events n boxes → inside_at parts inner ≡ clone_edges t m 0 boxes
@@ -215,8 +215,8 @@ opened_push t m parts q opened is j p e = by (get-push parts q p j e)
 
 -- the content of a box and that of the box around it are bounded, and so are the edges of both
 pub record ArePartBounds (t : Tree) (m : ℤ) (parts : List Fragment) (inner : Option ℕ) (event b : ℕ) : Type 0 where
-  pub around : IsBounded (length (open_before t.events event)) (content_at m parts inner)
-  pub content : IsBounded (suc (length (open_before t.events event))) (part_in t m parts inner event b).content
+  pub around : IsContentWithin (length (open_before t.events event)) (content_at m parts inner)
+  pub content : IsContentWithin (suc (length (open_before t.events event))) (part_in t m parts inner event b).content
   pub above : IsRoomOf (length (open_before t.events event)) (inside_at parts inner)
   pub inside : IsRoomOf (suc (length (open_before t.events event))) (part_in t m parts inner event b).inside
 
@@ -362,15 +362,15 @@ started_step t tree m event left k b chain parts new low chain_is cons there new
 
 -- the content around the next box is bounded
 pub started_bounded : (t : Tree) → IsTree t → (o : SolidOrigin) (event left k b : ℕ) (chain : List ℕ) (parts : List Fragment) → IsGoodOrigin o → event ≤ length t.events → chain ≡ open_before t.events event → drop left chain ≡ b ∷ drop (suc left) chain → slice_get t.events k ≡ Some (Opens b) →
-    IsStarted t o.width chain (suc left) parts → IsBounded (length (open_before t.events k)) (content_at o.width parts (last_of (length parts)))
+    IsStarted t o.width chain (suc left) parts → IsContentWithin (length (open_before t.events k)) (content_at o.width parts (last_of (length parts)))
 started_bounded t tree o event left k b chain parts good low chain_is cons there s = by (before_drop t.events left event chain (subst (WereBefore t.events event) (sym chain_is) (were_before t.events event low)))
   where
-    by : ((n : ℕ) × WereBefore t.events n (drop left chain)) → IsBounded (length (open_before t.events k)) (content_at o.width parts (last_of (length parts)))
+    by : ((n : ℕ) × WereBefore t.events n (drop left chain)) → IsContentWithin (length (open_before t.events k)) (content_at o.width parts (last_of (length parts)))
     by d =
         let v : WereBefore t.events d.0 (b ∷ drop (suc left) chain) = subst (WereBefore t.events d.0) cons d.1 in
         let place : v.0 ≡ k = opens_once t tree v.0 k b v.2 there in
         let boxes : drop (suc left) chain ≡ open_before t.events k = sym v.3 ∙ ap (open_before t.events) place in
-        subst (λ (l : List ℕ). IsBounded (length l) (content_at o.width parts (last_of (length parts)))) boxes (content_bounded t tree o parts (drop (suc left) chain) (last_of (length parts)) s.next v.0 good s.on s.opened v.4)
+        subst (λ (l : List ℕ). IsContentWithin (length l) (content_at o.width parts (last_of (length parts)))) boxes (content_bounded t tree o parts (drop (suc left) chain) (last_of (length parts)) s.next v.0 good s.on s.opened v.4)
 
 -- and so are the edges around it
 pub started_inside : (t : Tree) → IsTree t → (m : ℤ) (event left k b : ℕ) (chain : List ℕ) (parts : List Fragment) → event ≤ length t.events → chain ≡ open_before t.events event → drop left chain ≡ b ∷ drop (suc left) chain → slice_get t.events k ≡ Some (Opens b) →

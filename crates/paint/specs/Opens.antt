@@ -6,7 +6,7 @@ use Rattle.boxes.specs.Spans.{frame_at, left_in_block, span_along, width_in_bloc
 use Rattle.boxes.specs.Tree.{Tree, open_before}
 use Rattle.boxes.specs.declared.span.Content.{Content}
 use Rattle.paint.specs.declared.item.SolidOrigin.{SolidOrigin}
-use Rattle.paint.specs.declared.opens.OpenBox.{OpenBox}
+use Rattle.paint.specs.declared.opens.PlacedBox.{PlacedBox}
 
 -- a content box by its left and its width
 abbrev pub content_of : ℤ × ℤ → Content
@@ -33,27 +33,28 @@ pub record IsNear (c : Content) : Type 0 where
 
 -- the content of the innermost of n boxes in a frame from 0 to 2^30 units wide: each is at most 2^28 units wider than
 -- the one around it, and begins at most 2^42 units beside it
-pub record IsBounded (n : ℕ) (c : Content) : Type 0 where
+pub record IsContentWithin (n : ℕ) (c : Content) : Type 0 where
   pub low : pos 0 ≤ℤ c.width
   pub high : c.width ≤ℤ pos (2 ^ 30 + 2 ^ 28 * n)
   pub left_low : neg_ℤ (pos (2 ^ 42 * n)) ≤ℤ c.left
   pub left_high : c.left ≤ℤ pos (2 ^ 42 * n)
 
 -- at most 2,048 boxes are open one in another, and the contents of all, the outermost first, are so bounded
-pub record AreBounded (opens : List OpenBox) : Type 0 where
+pub record AreBoxesWithin (opens : List PlacedBox) : Type 0 where
   pub few : length opens ≤ most_open
-  pub each : (k : ℕ) (open_box : OpenBox) → slice_get opens k ≡ Some open_box → IsBounded (suc k) open_box.content
+  pub each :
+      (k : ℕ) (open_box : PlacedBox) → slice_get opens k ≡ Some open_box → IsContentWithin (suc k) open_box.content
 
 -- some boxes that are open one in another, the outermost first
-abbrev pub opens_of : Tree → ℤ → List ℕ → List OpenBox
+abbrev pub opens_of : Tree → ℤ → List ℕ → List PlacedBox
 opens_of t measure [] = []
 opens_of t measure (b ∷ boxes) =
     opens_of t measure boxes ++ record { number = b; content = content_along t measure (b ∷ boxes) } ∷ []
 
 -- the boxes that are open before an event, the outermost first
-pub record AreOpen (t : Tree) (o : SolidOrigin) (at : ℕ) (opens : List OpenBox) : Type 0 where
+pub record AreOpen (t : Tree) (o : SolidOrigin) (at : ℕ) (opens : List PlacedBox) : Type 0 where
   pub are : opens ≡ opens_of t o.width (open_before t.events at)
-  pub bounded : AreBounded opens
+  pub bounded : AreBoxesWithin opens
 
 -- the boxes from one of them on, which is then the innermost; none where it isn't among them
 abbrev pub boxes_from : ℕ → List ℕ → List ℕ

@@ -14,7 +14,7 @@ use Rattle.paint.specs.Bounds.{IsNearReach}
 use Rattle.paint.specs.Clones.{bottom_with, foot_edge, last_solid, lower_again, run_before, upper_again, with_lower, with_upper}
 use Rattle.paint.specs.Fragments.{boxes_at, extent_of, here, is_lower, is_upper, join, reach_by, reach_of}
 use Rattle.paint.specs.Items.{for_some}
-use Rattle.paint.specs.Opens.{IsBounded, IsWide, content_along, content_of, pair_of}
+use Rattle.paint.specs.Opens.{IsContentWithin, IsWide, content_along, content_of, pair_of}
 use Rattle.paint.specs.Rects.{fragment_rects}
 use Rattle.paint.specs.declared.extent.VerticalExtent.{VerticalExtent}
 use Rattle.paint.specs.declared.item.SolidOrigin.{SolidOrigin}
@@ -135,8 +135,8 @@ pub record IsOpened (t : Tree) (measure : ℤ) (p : Fragment) : Type 0 where
   pub content_is : p.content ≡ content_along t measure (p.number ∷ open_before t.events p.event)
   pub above_is : p.above ≡ clone_edges t measure 0 (open_before t.events p.event)
   pub inside_is : p.inside ≡ clone_edges t measure 0 (p.number ∷ open_before t.events p.event)
-  pub around_bounded : IsBounded (length (open_before t.events p.event)) p.around
-  pub content_bounded : IsBounded (suc (length (open_before t.events p.event))) p.content
+  pub around_bounded : IsContentWithin (length (open_before t.events p.event)) p.around
+  pub content_bounded : IsContentWithin (suc (length (open_before t.events p.event))) p.content
   pub above_bounded : IsRoomOf (length (open_before t.events p.event)) p.above
   pub inside_bounded : IsRoomOf (suc (length (open_before t.events p.event))) p.inside
 

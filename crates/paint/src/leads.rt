@@ -12,7 +12,7 @@ ghost use Rattle.paint.specs.Opens.{AreOpen, open_left};
 ghost use Rattle.paint.specs.Views.{Adds, HaveItemFaces};
 
 use crate::item::{Canvas, ItemRef, style_at};
-use crate::opens::{OpenBox, left_of};
+use crate::opens::{PlacedBox, left_of};
 use bk_num::name::NoMem;
 use boxes::leaf::Lead;
 use metrics::Faces;
@@ -31,7 +31,7 @@ fn lead_width(faces: &Faces, lead: &Lead) -> u64
 }
 
 /// The left of the content of a marker's item, which is one of the boxes that are open at an event.
-fn left_in(canvas: &Canvas<'_>, opens: &[OpenBox], at: u32, owner: u32) -> i64
+fn left_in(canvas: &Canvas<'_>, opens: &[PlacedBox], at: u32, owner: u32) -> i64
     requires { AreOpen canvas.now.tree.now canvas.now.origin at opens.now }
     ensures value { result ≡ open_left canvas.now.tree.now canvas.now.origin at owner }
     ensures within { IsWithin (2 ^ 60) result }
@@ -44,7 +44,7 @@ fn left_in(canvas: &Canvas<'_>, opens: &[OpenBox], at: u32, owner: u32) -> i64
 }
 
 /// Where a marker of the leaf at an event begins, in units from the page's left.
-fn lead_left(canvas: &Canvas<'_>, opens: &[OpenBox], at: u32, lead: &Lead) -> i64
+fn lead_left(canvas: &Canvas<'_>, opens: &[PlacedBox], at: u32, lead: &Lead) -> i64
     requires origin { IsGoodOrigin canvas.now.origin }
     requires opens { AreOpen canvas.now.tree.now canvas.now.origin at opens.now }
     requires face { lead.now.span.face.0 < length canvas.now.faces.now }
@@ -61,7 +61,7 @@ fn lead_left(canvas: &Canvas<'_>, opens: &[OpenBox], at: u32, lead: &Lead) -> i6
 fn push_lead<'a>(
     out: &mut Vec<ItemRef<'a>>,
     canvas: &Canvas<'a>,
-    opens: &[OpenBox],
+    opens: &[PlacedBox],
     at: u32,
     baseline: i64,
     lead: &'a Lead,
@@ -89,7 +89,7 @@ fn push_lead<'a>(
 pub(crate) fn push_leads<'a>(
     out: &mut Vec<ItemRef<'a>>,
     canvas: &Canvas<'a>,
-    opens: &[OpenBox],
+    opens: &[PlacedBox],
     at: u32,
     baseline: i64,
     leads: &'a [Lead],

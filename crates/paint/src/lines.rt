@@ -16,7 +16,7 @@ ghost use Rattle.paint.specs.Views.{Adds, HaveItemFaces, area_item};
 
 use crate::item::{Canvas, ItemRef, area_at};
 use crate::leads::push_leads;
-use crate::opens::{OpenBox, innermost};
+use crate::opens::{PlacedBox, innermost};
 use crate::runs::push_runs;
 use bk_num::name::NoMem;
 use boxes::leaf::Leaf;
@@ -54,7 +54,7 @@ fn push_area<'a>(
 fn push_first<'a>(
     out: &mut Vec<ItemRef<'a>>,
     canvas: &Canvas<'a>,
-    opens: &[OpenBox],
+    opens: &[PlacedBox],
     at: u32,
     baseline: i64,
     leaf: &'a Leaf,
@@ -82,7 +82,7 @@ fn push_words<'a>(
     alloc: Global,
     out: &mut Vec<ItemRef<'a>>,
     canvas: &Canvas<'a>,
-    opens: &[OpenBox],
+    opens: &[PlacedBox],
     at: u32,
     baseline: i64,
     leaf: &'a Leaf,
@@ -152,7 +152,7 @@ pub(crate) fn push_line<'a>(
     alloc: Global,
     out: &mut Vec<ItemRef<'a>>,
     canvas: &Canvas<'a>,
-    opens: &[OpenBox],
+    opens: &[PlacedBox],
     s: &Placed,
     leaf: &'a Leaf,
 ) -> Result<(), NoMem>

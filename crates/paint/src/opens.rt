@@ -5,7 +5,7 @@ ghost use Rattle.bk_num.specs.Numbers.{IsWithin};
 ghost use Rattle.boxes.specs.Contents.{IsGoodBox};
 ghost use Rattle.boxes.specs.Tree.{Tree, rest_of};
 ghost use Rattle.paint.specs.Bounds.{IsGoodOrigin};
-ghost use Rattle.paint.specs.Opens.{AreBounded, IsBounded, IsNear, IsWide, border_in, border_width, boxes_from, content_along, opens_of};
+ghost use Rattle.paint.specs.Opens.{AreBoxesWithin, IsContentWithin, IsNear, IsWide, border_in, border_width, boxes_from, content_along, opens_of};
 
 use crate::item::SolidOrigin;
 use boxes::props::BoxProps;
@@ -13,7 +13,7 @@ use boxes::span::{Content, content_width_in, frame_units, left_margin_in};
 
 /// An open box: its number and its content.
 #[derive(Clone, Copy, Debug)]
-pub struct OpenBox {
+pub struct PlacedBox {
     pub number: u32,
     pub content: Content,
 }
@@ -46,12 +46,12 @@ pub(crate) fn border_in(props: &BoxProps, outer: &Content) -> Content
 }
 
 /// The content of the innermost of some open boxes, the outermost first; the frame's where none is open.
-pub(crate) fn innermost(opens: &[OpenBox], origin: &SolidOrigin) -> Content
+pub(crate) fn innermost(opens: &[PlacedBox], origin: &SolidOrigin) -> Content
     requires origin { IsGoodOrigin origin.now }
-    requires bounded { AreBounded opens.now }
+    requires bounded { AreBoxesWithin opens.now }
     ensures value { (t : Tree) (boxes : List ℕ) → opens.now ≡ opens_of t origin.now.width boxes →
         result ≡ content_along t origin.now.width boxes }
-    ensures bounded { IsBounded (length opens.now) result }
+    ensures bounded { IsContentWithin (length opens.now) result }
     ensures wide { IsWide result }
     ensures near { IsNear result }
 {
@@ -65,9 +65,9 @@ pub(crate) fn innermost(opens: &[OpenBox], origin: &SolidOrigin) -> Content
 }
 
 /// The content of the box around the innermost of some open boxes; the frame's where there is none.
-pub(crate) fn outer(opens: &[OpenBox], origin: &SolidOrigin) -> Content
+pub(crate) fn outer(opens: &[PlacedBox], origin: &SolidOrigin) -> Content
     requires origin { IsGoodOrigin origin.now }
-    requires bounded { AreBounded opens.now }
+    requires bounded { AreBoxesWithin opens.now }
     ensures value { (t : Tree) (boxes : List ℕ) → opens.now ≡ opens_of t origin.now.width boxes →
         result ≡ content_along t origin.now.width (rest_of boxes) }
     ensures wide { IsWide result }
@@ -80,15 +80,15 @@ pub(crate) fn outer(opens: &[OpenBox], origin: &SolidOrigin) -> Content
     innermost(&opens[..count - 1], origin)
 }
 
-fn has_number(opened: &OpenBox, number: u32) -> bool
+fn has_number(opened: &PlacedBox, number: u32) -> bool
     ensures { result ≡ (opened.now.number == number) }
 {
     opened.number == number
 }
 
 /// The left of the content of the open box of a number, sought from the innermost one; 0 where there is none.
-pub(crate) fn left_of(opens: &[OpenBox], number: u32) -> i64
-    requires bounded { AreBounded opens.now }
+pub(crate) fn left_of(opens: &[PlacedBox], number: u32) -> i64
+    requires bounded { AreBoxesWithin opens.now }
     ensures value { (t : Tree) (measure : ℤ) (boxes : List ℕ) → opens.now ≡ opens_of t measure boxes →
         result ≡ (content_along t measure (boxes_from number boxes)).left }
     ensures within { IsWithin (2 ^ 60) result }

@@ -6,7 +6,7 @@ ghost use Rattle.bk_num.specs.Limits.{most_open};
 ghost use Rattle.boxes.specs.Clones.{clone_edge};
 ghost use Rattle.boxes.specs.Contents.{IsGoodBox};
 ghost use Rattle.boxes.specs.Tree.{open_before};
-ghost use Rattle.paint.specs.Opens.{IsBounded, IsWide};
+ghost use Rattle.paint.specs.Opens.{IsContentWithin, IsWide};
 ghost use Rattle.paint.specs.Parts.{AreMerged, Extends, HaveOuters, IsHandedOn, IsRoomOf, bare_of, content_at, inside_at, part_in, with_solid};
 
 use crate::extent::{VerticalExtent, join};
@@ -93,12 +93,12 @@ pub(crate) fn open_part(
     requires number { number < length tree.now.boxes }
     requires inner { ForSome inner (λ i. i < length parts.old.items) }
     requires few { length (open_before tree.now.events event) < most_open }
-    requires around { IsBounded (length (open_before tree.now.events event))
+    requires around { IsContentWithin (length (open_before tree.now.events event))
         (content_at origin.now.width parts.old.items inner) }
     requires above { IsRoomOf (length (open_before tree.now.events event)) (inside_at parts.old.items inner) }
     ensures part { OnOk result (parts.new.items ≡ parts.old.items
         ++ part_in tree.now origin.now.width parts.old.items inner event number ∷ []) }
-    ensures content { OnOk result (IsBounded (suc (length (open_before tree.now.events event)))
+    ensures content { OnOk result (IsContentWithin (suc (length (open_before tree.now.events event)))
         (part_in tree.now origin.now.width parts.old.items inner event number).content) }
     ensures inside { OnOk result (IsRoomOf (suc (length (open_before tree.now.events event)))
         (part_in tree.now origin.now.width parts.old.items inner event number).inside) }

@@ -13,7 +13,7 @@ ghost use Rattle.paint.specs.Views.{Adds, HaveItemFaces};
 use crate::edges::push_edge;
 use crate::item::{Canvas, ItemRef};
 use crate::lines::push_line;
-use crate::opens::{OpenBox, innermost, outer};
+use crate::opens::{PlacedBox, innermost, outer};
 use crate::walk::go_to;
 use bk_num::name::NoMem;
 use boxes::page::Placed;
@@ -26,7 +26,7 @@ fn push_solid<'a>(
     alloc: Global,
     out: &mut Vec<ItemRef<'a>>,
     canvas: &Canvas<'a>,
-    opens: &[OpenBox],
+    opens: &[PlacedBox],
     s: &Placed,
 ) -> Result<(), NoMem>
     requires tree { CanBePainted canvas.now.faces.now canvas.now.tree.now }
@@ -67,7 +67,7 @@ pub(crate) fn push_next<'a>(
     alloc: Global,
     out: &mut Vec<ItemRef<'a>>,
     canvas: &Canvas<'a>,
-    opens: &mut Vec<OpenBox>,
+    opens: &mut Vec<PlacedBox>,
     reached: Option<u32>,
     s: &Placed,
 ) -> Result<(), NoMem>

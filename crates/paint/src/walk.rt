@@ -5,10 +5,10 @@ ghost use Rattle.std.specs.Option.{ForSome};
 ghost use Rattle.bk_num.specs.Limits.{most_open};
 ghost use Rattle.boxes.specs.Tree.{Tree, depth_of, rest_of};
 ghost use Rattle.paint.specs.Bounds.{IsGoodOrigin};
-ghost use Rattle.paint.specs.Opens.{AreBounded, AreOpen, opens_of};
+ghost use Rattle.paint.specs.Opens.{AreBoxesWithin, AreOpen, opens_of};
 
 use crate::item::SolidOrigin;
-use crate::opens::{OpenBox, innermost};
+use crate::opens::{PlacedBox, innermost};
 use bk_num::limits::MOST_OPEN;
 use bk_num::name::NoMem;
 use boxes::place::Event;
@@ -17,24 +17,24 @@ use boxes::tree::BoxTree;
 
 /// Opens a box inside the innermost open one.
 fn open_box(
-    opens: &mut Vec<OpenBox>,
+    opens: &mut Vec<PlacedBox>,
     tree: &BoxTree,
     index: u32,
     origin: &SolidOrigin,
 ) -> Result<(), NoMem>
     requires number { index < length tree.now.boxes }
     requires origin { IsGoodOrigin origin.now }
-    requires bounded { AreBounded opens.old.items }
+    requires bounded { AreBoxesWithin opens.old.items }
     requires few { length opens.old.items < most_open }
     ensures are { OnOk result ((boxes : List ℕ) → opens.old.items ≡ opens_of tree.now origin.now.width boxes →
         opens.new.items ≡ opens_of tree.now origin.now.width (index ∷ boxes)) }
-    ensures bounded { OnOk result (AreBounded opens.new.items) }
+    ensures bounded { OnOk result (AreBoxesWithin opens.new.items) }
     ensures count { OnOk result (length opens.new.items ≡ suc (length opens.old.items)) }
 {
     // a tree is known to be one by its count
     let _count = tree.count();
     let around = innermost(opens, origin);
-    opens.push(OpenBox {
+    opens.push(PlacedBox {
         number: index,
         content: content_in(tree.props(index), around),
     })?;
@@ -42,18 +42,18 @@ fn open_box(
 }
 
 /// Closes the innermost open box.
-fn close_box(opens: &mut Vec<OpenBox>)
-    requires { AreBounded opens.old.items }
+fn close_box(opens: &mut Vec<PlacedBox>)
+    requires { AreBoxesWithin opens.old.items }
     ensures are { (t : Tree) (measure : ℤ) (boxes : List ℕ) → opens.old.items ≡ opens_of t measure boxes →
         opens.new.items ≡ opens_of t measure (rest_of boxes) }
-    ensures bounded { AreBounded opens.new.items }
+    ensures bounded { AreBoxesWithin opens.new.items }
 {
     opens.pop();
 }
 
 /// Goes past an event.
 fn pass(
-    opens: &mut Vec<OpenBox>,
+    opens: &mut Vec<PlacedBox>,
     tree: &BoxTree,
     at: u32,
     origin: &SolidOrigin,
@@ -81,7 +81,7 @@ fn pass(
 
 /// Goes from an event to a later one.
 fn pass_to(
-    opens: &mut Vec<OpenBox>,
+    opens: &mut Vec<PlacedBox>,
     tree: &BoxTree,
     at: u32,
     to: u32,
@@ -102,7 +102,7 @@ fn pass_to(
 
 /// Opens boxes, each inside the next one.
 fn open_all(
-    opens: &mut Vec<OpenBox>,
+    opens: &mut Vec<PlacedBox>,
     tree: &BoxTree,
     chain: &[u32],
     origin: &SolidOrigin,
@@ -112,7 +112,7 @@ fn open_all(
     requires few { length chain.now ≤ most_open }
     requires origin { IsGoodOrigin origin.now }
     ensures are { OnOk result (opens.new.items ≡ opens_of tree.now origin.now.width chain.now) }
-    ensures bounded { OnOk result (AreBounded opens.new.items) }
+    ensures bounded { OnOk result (AreBoxesWithin opens.new.items) }
 {
     let mut at = chain.len();
     while at > 0 {
@@ -124,7 +124,7 @@ fn open_all(
 
 /// Begins at an event: opens the boxes around it, one after another.
 fn begin(
-    opens: &mut Vec<OpenBox>,
+    opens: &mut Vec<PlacedBox>,
     tree: &BoxTree,
     event: u32,
     origin: &SolidOrigin,
@@ -150,7 +150,7 @@ fn begin(
 
 /// Goes to an event from the one that was reached, if it isn't earlier, and else begins there.
 pub(crate) fn go_to(
-    opens: &mut Vec<OpenBox>,
+    opens: &mut Vec<PlacedBox>,
     tree: &BoxTree,
     reached: Option<u32>,
     to: u32,

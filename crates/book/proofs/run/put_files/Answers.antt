@@ -1,7 +1,7 @@
 use Rattle.std.proofs.Common.{◌≡◌, ◌∙◌, ℕ, ◌<◌, arith, subst, sym}
 use Rattle.std.proofs.lemmas.Result.{err_from_is_err_and}
 use Rattle.words.specs.Asked.{format_view}
-use Rattle.book.specs.Document.{IsGoodGrid, Texts, grid_of}
+use Rattle.book.specs.Document.{IsGoodGrid, BookTexts, grid_of}
 use Rattle.book.specs.declared.document.ColumnGrid.{ColumnGrid}
 use Rattle.book.specs.DocumentView.{texts_in}
 use Rattle.book.specs.Expect.{IsGiven}
@@ -50,7 +50,7 @@ returns-clause-answers g c = λ reading h.
     let grid = grid_of (format_view c.args.names.now) in
     let read : IsGiven names (listed_texts c.from.result grid files) = subst (λ (n : ℕ). IsGiven names (listed_texts n grid files)) (sym c.from.ensures) c.in_ok-files.ensures.texts in
     let same : IsGiven names (listed_texts c.from.result c.grid_of.result files) = subst (λ (g : ColumnGrid). IsGiven names (listed_texts c.from.result g files)) (sym c.grid_of.ensures.grid) read in
-    texts_meet reading names (texts_in c.listed_texts-texts.result) _ _ (outcome_of c.put_book.result) (subst (λ (t : Texts). IsGiven names t) (sym c.listed_texts-texts.ensures.texts) same) (c.put_book.ensures.answers reading h)
+    texts_meet reading names (texts_in c.listed_texts-texts.result) _ _ (outcome_of c.put_book.result) (subst (λ (t : BookTexts). IsGiven names t) (sym c.listed_texts-texts.ensures.texts) same) (c.put_book.ensures.answers reading h)
 
 pub returns-clause-cause : goal.returns-clause-cause
 returns-clause-cause g c = book_cause (format_view c.args.names.now) (g.F.Shelf.told c.args.shelf.now) _ _ _ (outcome_of c.put_book.result) c.put_book.ensures.of_book
@@ -77,4 +77,4 @@ returns-clause-lines g c = λ reading h.
     let grid = grid_of (format_view c.args.names.now) in
     let read : IsGiven names (listed_texts c.from.result grid files) = subst (λ (n : ℕ). IsGiven names (listed_texts n grid files)) (sym c.from.ensures) c.in_ok-files.ensures.texts in
     let same : IsGiven names (listed_texts c.from.result c.grid_of.result files) = subst (λ (g : ColumnGrid). IsGiven names (listed_texts c.from.result g files)) (sym c.grid_of.ensures.grid) read in
-    texts_few reading names (texts_in c.listed_texts-texts.result) (outcome_of c.put_book.result) _ _ (subst (λ (t : Texts). IsGiven names t) (sym c.listed_texts-texts.ensures.texts) same) (c.put_book.ensures.lines reading h)
+    texts_few reading names (texts_in c.listed_texts-texts.result) (outcome_of c.put_book.result) _ _ (subst (λ (t : BookTexts). IsGiven names t) (sym c.listed_texts-texts.ensures.texts) same) (c.put_book.ensures.lines reading h)

@@ -1,7 +1,7 @@
 use Rattle.std.proofs.Common.{◌≡◌, ◌∙◌, ◌∷◌, [], ap, arith, subst}
 use Rattle.sheets.specs.Files.{file_texts}
 use Rattle.sample.specs.Texts.{css_text}
-use Rattle.book.specs.Document.{Texts, document_of}
+use Rattle.book.specs.Document.{BookTexts, document_of}
 use Rattle.book.specs.Laid.{outcome_of}
 use Rattle.book.specs.Lines.{MeetsInFew}
 use Rattle.book.specs.Run.{Meets}
@@ -14,7 +14,7 @@ put_book-requires-clause-small g c = metrics_short c.as_str-2.result.now (c.as_s
 pub returns-clause-answers : goal.returns-clause-answers
 returns-clause-answers g c = λ reading h.
     let sheets : file_texts c.deref.result.now ≡ css_text ∷ [] = ap file_texts c.deref.ensures.value ∙ c.in_ok-sheets.ensures ∙ sheets_are c.as_str.result.now (c.as_str.ensures ∙ c.in_ok-book.ensures.1) in
-    subst (λ (t : Texts). Meets (document_of reading t) (g.O.Sink.taken c.args.out.now) (g.O.Sink.taken c.put_book.new.out) (outcome_of c.put_book.result))
+    subst (λ (t : BookTexts). Meets (document_of reading t) (g.O.Sink.taken c.args.out.now) (g.O.Sink.taken c.put_book.new.out) (outcome_of c.put_book.result))
     (texts_are c.args.chapters c.as_str-2.result.now c.as_str-3.result.now (file_texts c.deref.result.now) (c.as_str-2.ensures ∙ c.in_ok-book.ensures.2) (c.as_str-3.ensures ∙ c.in_ok-book.ensures.0) sheets)
     (c.put_book.ensures.answers reading h)
 
@@ -24,6 +24,6 @@ put_book-requires-clause-grid g c = record { per = record { low = omega arith; h
 pub returns-clause-lines : goal.returns-clause-lines
 returns-clause-lines g c = λ reading h.
     let sheets : file_texts c.deref.result.now ≡ css_text ∷ [] = ap file_texts c.deref.ensures.value ∙ c.in_ok-sheets.ensures ∙ sheets_are c.as_str.result.now (c.as_str.ensures ∙ c.in_ok-book.ensures.1) in
-    subst (λ (t : Texts). MeetsInFew (document_of reading t) (outcome_of c.put_book.result) c.args.steps.now c.put_book.new.steps)
+    subst (λ (t : BookTexts). MeetsInFew (document_of reading t) (outcome_of c.put_book.result) c.args.steps.now c.put_book.new.steps)
     (texts_are c.args.chapters c.as_str-2.result.now c.as_str-3.result.now (file_texts c.deref.result.now) (c.as_str-2.ensures ∙ c.in_ok-book.ensures.2) (c.as_str-3.ensures ∙ c.in_ok-book.ensures.0) sheets)
     (c.put_book.ensures.lines reading h)

@@ -3,7 +3,7 @@ use Rattle.std.proofs.Math.Seq.{drop-cons}
 use Rattle.paint.specs.Parts.{IsRoomOf, content_at, inside_at, last_of, part_in}
 use Rattle.paint.specs.declared.parts.Fragment.{Fragment}
 use Rattle.boxes.specs.Tree.{open_before}
-use Rattle.paint.specs.Opens.{IsBounded}
+use Rattle.paint.specs.Opens.{IsContentWithin}
 use Rattle.paint.proofs.PartLemmas.{ArePartBounds, IsStarted, chain_there, room_before, started_all, started_bounded, started_inside, started_none, started_step}
 use Rattle.paint.proofs.gather.open_all.Goals as goal
 
@@ -37,7 +37,7 @@ open_part-requires-clause-around c =
     let next : c.loop-left.left ≡ suc left = omega arith in
     let low : left < length chain = (let w = c.loop-left.invariant.within in omega arith) in
     let inner : c.last_of-inner.result ≡ last_of (length parts) = c.last_of-inner.ensures ∙ ap last_of (c.len.ensures ∙ c.loop-left.parts.ok.0) in
-    subst (λ (o : Option ℕ). IsBounded (length (open_before t.events c.opens_at.result)) (content_at m parts o)) (sym inner)
+    subst (λ (o : Option ℕ). IsContentWithin (length (open_before t.events c.opens_at.result)) (content_at m parts o)) (sym inner)
     (started_bounded t c.count-count.ensures.tree c.args.origin.now c.args.event left c.opens_at.result _ chain parts c.requires.origin c.requires.within c.requires.chain (drop-cons chain left 0 low) c.opens_at.ensures (subst (λ (n : ℕ). IsStarted t m chain n parts) next c.loop-left.invariant.started))
 
 pub open_part-requires-clause-above : goal.open_part-requires-clause-above
@@ -65,11 +65,11 @@ loop-left-preserved c =
     let b : ℕ = get_or chain left 0 in
     let inner : c.last_of-inner.result ≡ last_of (length parts) = c.last_of-inner.ensures ∙ ap last_of (c.len.ensures ∙ c.loop-left.parts.ok.0) in
     let pushed : c.open_part.new.parts.items ≡ parts ++ part_in t m parts (last_of (length parts)) c.opens_at.result b ∷ [] = c.in_ok-open_part.ensures.part ∙ ap (λ o. parts ++ part_in t m parts o c.opens_at.result b ∷ []) inner in
-    let around : IsBounded (length (open_before t.events c.opens_at.result)) (content_at m parts (last_of (length parts))) =
+    let around : IsContentWithin (length (open_before t.events c.opens_at.result)) (content_at m parts (last_of (length parts))) =
     started_bounded t c.count-count.ensures.tree c.args.origin.now c.args.event left c.opens_at.result b chain parts c.requires.origin c.requires.within c.requires.chain (drop-cons chain left 0 low) c.opens_at.ensures (subst (λ (n : ℕ). IsStarted t m chain n parts) next c.loop-left.invariant.started) in
     let bounds : ArePartBounds t m parts (last_of (length parts)) c.opens_at.result b = record {
       around = around;
-      content = subst (λ (o : Option ℕ). IsBounded (suc (length (open_before t.events c.opens_at.result))) (part_in t m parts o c.opens_at.result b).content) inner c.in_ok-open_part.ensures.content;
+      content = subst (λ (o : Option ℕ). IsContentWithin (suc (length (open_before t.events c.opens_at.result))) (part_in t m parts o c.opens_at.result b).content) inner c.in_ok-open_part.ensures.content;
       above =
           started_inside t c.count-count.ensures.tree m c.args.event left c.opens_at.result b chain parts c.requires.within c.requires.chain (drop-cons chain left 0 low) c.opens_at.ensures (subst (λ (n : ℕ). IsStarted t m chain n parts) next c.loop-left.invariant.started);
       inside = subst (λ (o : Option ℕ). IsRoomOf (suc (length (open_before t.events c.opens_at.result))) (part_in t m parts o c.opens_at.result b).inside) inner c.in_ok-open_part.ensures.inside;

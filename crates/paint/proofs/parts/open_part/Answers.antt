@@ -7,7 +7,7 @@ use Rattle.boxes.specs.Spans.{span_in, span_or}
 use Rattle.boxes.specs.Tree.{open_before}
 use Rattle.boxes.specs.declared.props.BoxProps.{BoxProps}
 use Rattle.boxes.specs.declared.span.Content.{Content}
-use Rattle.paint.specs.Opens.{IsBounded, content_of, pair_of}
+use Rattle.paint.specs.Opens.{IsContentWithin, content_of, pair_of}
 use Rattle.paint.specs.Parts.{content_at, inside_at}
 use Rattle.paint.specs.declared.parts.Fragment.{Fragment}
 use Rattle.paint.proofs.OpenLemmas.{inside_bounded}
@@ -50,11 +50,11 @@ returns-clause-content c =
     let inner : Content = c.content_in.result in
     let outer : Content = content_at c.args.origin.now.width c.args.parts.now.items c.args.inner in
     let around_is : around ≡ outer = c.content_at-around.ensures ∙ ap (λ (ps : List Fragment). content_at c.args.origin.now.width ps c.args.inner) c.deref.ensures.value in
-    let bounded : IsBounded n around = subst (IsBounded n) (sym around_is) c.requires.around in
+    let bounded : IsContentWithin n around = subst (IsContentWithin n) (sym around_is) c.requires.around in
     let e = c.content_in.ensures in
     let is : inner ≡ content_of (span_or (slice_get t.boxes c.args.number) (pair_of outer)) =
     ap content_of e.value ∙ ap (λ (x : Content). content_of (span_in p (pair_of x))) around_is ∙ ap (λ (o : Option BoxProps). content_of (span_or o (pair_of outer))) (sym c.props-props.ensures) in
-    subst (IsBounded (suc n)) is (inside_bounded n around inner bounded e.low e.high e.left_low e.left_high)
+    subst (IsContentWithin (suc n)) is (inside_bounded n around inner bounded e.low e.high e.left_low e.left_high)
 
 pub returns-clause-inside : goal.returns-clause-inside
 returns-clause-inside c =

@@ -2,7 +2,7 @@ use Rattle.std.proofs.Common.{◌≡◌, ◌<◌, ◌∙◌, ℕ, suc, ◌-◌, 
 use Rattle.std.proofs.Math.Seq.{drop-cons}
 use Rattle.std.proofs.lemmas.List.{drop_all}
 use Rattle.paint.specs.Opens.{opens_of}
-use Rattle.paint.specs.declared.opens.OpenBox.{OpenBox}
+use Rattle.paint.specs.declared.opens.PlacedBox.{PlacedBox}
 use Rattle.paint.proofs.OpenLemmas.{bounded_none}
 use Rattle.paint.proofs.walk.open_all.Goals as goal
 
@@ -12,7 +12,7 @@ loop-at-init c =
     record {
       within = omega arith;
       opens = none ∙ ap (opens_of c.args.tree.now c.args.origin.now.width) (sym (drop_all (length c.args.chain.now) c.args.chain.now (omega arith)));
-      count = (let size = ap (λ (l : List OpenBox). length l) none in omega arith);
+      count = (let size = ap (λ (l : List PlacedBox). length l) none in omega arith);
       bounded = bounded_none _ none;
     }
 

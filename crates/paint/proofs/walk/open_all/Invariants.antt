@@ -1,5 +1,5 @@
 use Rattle.std.proofs.Common.{◌≡◌, ◌≤◌, ◌+◌, length, drop}
-use Rattle.paint.specs.Opens.{AreBounded, opens_of}
+use Rattle.paint.specs.Opens.{AreBoxesWithin, opens_of}
 use Rattle.paint.proofs.walk.open_all.Given as goal
 
 abbrev pub invariant-loop-at : goal.invariant-loop-at
@@ -7,7 +7,7 @@ invariant-loop-at l = record {
   within : l.at ≤ length l.chain;
   opens : l.opens.items ≡ opens_of l.tree l.origin.width (drop l.at l.chain);
   count : length l.opens.items + l.at ≡ length l.chain;
-  bounded : AreBounded l.opens.items;
+  bounded : AreBoxesWithin l.opens.items;
 }
 
 abbrev pub decreases-loop-at : goal.decreases-loop-at

@@ -1,8 +1,8 @@
 use Rattle.std.proofs.Common.{List, length, subst}
 use Rattle.boxes.proofs.TreeFacts.{box_good}
 use Rattle.boxes.specs.declared.span.Content.{Content}
-use Rattle.paint.specs.Opens.{IsBounded}
-use Rattle.paint.specs.declared.opens.OpenBox.{OpenBox}
+use Rattle.paint.specs.Opens.{IsContentWithin}
+use Rattle.paint.specs.declared.opens.PlacedBox.{PlacedBox}
 use Rattle.paint.proofs.OpenLemmas.{bounded_push, inside_bounded}
 use Rattle.paint.proofs.walk.open_box.Goals as goal
 
@@ -11,8 +11,8 @@ content_in-requires-clause-good c = box_good c.args.tree.now c.count-count.ensur
 
 pub returns-clause-bounded : goal.returns-clause-bounded
 returns-clause-bounded c =
-    let opens : List OpenBox = c.args.opens.now.items in
+    let opens : List PlacedBox = c.args.opens.now.items in
     let around : Content = c.innermost-around.result in
-    let bounded : IsBounded (length opens) around = subst (λ (l : List OpenBox). IsBounded (length l) around) c.deref.ensures.value c.innermost-around.ensures.bounded in
+    let bounded : IsContentWithin (length opens) around = subst (λ (l : List PlacedBox). IsContentWithin (length l) around) c.deref.ensures.value c.innermost-around.ensures.bounded in
     let e = c.content_in.ensures in
     bounded_push opens _ _ c.requires.bounded c.requires.few (inside_bounded (length opens) around c.content_in.result bounded e.low e.high e.left_low e.left_high) c.in_ok-push.ensures.items

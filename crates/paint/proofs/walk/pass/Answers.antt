@@ -2,7 +2,7 @@ use Rattle.std.proofs.Common.{◌∙◌, List, length, sym, ap, arith}
 use Rattle.boxes.proofs.TreeFacts.{box_there}
 use Rattle.boxes.specs.Tree.{open_before}
 use Rattle.paint.specs.Opens.{opens_of}
-use Rattle.paint.specs.declared.opens.OpenBox.{OpenBox}
+use Rattle.paint.specs.declared.opens.PlacedBox.{PlacedBox}
 use Rattle.paint.proofs.OpenLemmas.{opens_size}
 use Rattle.paint.proofs.PartLemmas.{room_before}
 use Rattle.paint.proofs.SolidLemmas.{passes}
@@ -15,7 +15,7 @@ pub open_box-requires-clause-few : goal.open_box-requires-clause-few
 open_box-requires-clause-few c =
     let t = c.args.tree.now in
     let room = room_before t.events c.args.at c.in-Opens.index c.requires.depth c.in-Opens.ensures in
-    let size = ap (λ (l : List OpenBox). length l) c.requires.opens.are ∙ opens_size t c.args.origin.now.width (open_before t.events c.args.at) in
+    let size = ap (λ (l : List PlacedBox). length l) c.requires.opens.are ∙ opens_size t c.args.origin.now.width (open_before t.events c.args.at) in
     omega arith
 
 pub returns-in_ok-open_box-in-Opens : goal.returns-in_ok-open_box-in-Opens
