@@ -170,7 +170,6 @@ fn add_line<S: Sink>(buffer: &mut Buffer, sink: &mut S, area: &Area) -> Result<(
 }
 
 /// A face by its name, style and weight.
-#[tactic(auto, unfolding(crate::specs::Records::face_field, crate::specs::Records::style_name, crate::specs::Records::word, paint::specs::Faces::face_text))]
 fn label_of<'a>(faces: &'a Faces, style: &TextPlace) -> FaceLabel<'a>
     requires { style.now.face.0 < length faces.now }
     ensures { face_field result.name.now result.italic result.weight ≡ word (face_text faces.now style.now.face) }
