@@ -165,7 +165,6 @@ fn piece_part<'a>(
 }
 
 /// Passes a piece of a block.
-#[tactic(auto, unfolding(crate::specs::Parts::piece_step, css_rules::specs::Pages::piece_at, css_rules::specs::Pages::piece_end))]
 fn pass_piece<'a>(
     alloc: Global,
     state: State,
@@ -222,7 +221,6 @@ fn is_margin_box(token: &CssToken<'_>, prelude: &[CssToken<'_>], end: u8) -> boo
 }
 
 /// Passes an at-rule of a page rule, whose At was taken, up to the end of its prelude.
-#[tactic(auto, unfolding(crate::specs::Parts::page_at_step, css_rules::specs::Pages::is_margin_box, css_rules::specs::Pages::at_prelude, css_rules::specs::Pages::at_end))]
 fn pass_page_at<'a>(
     alloc: Global,
     inside: bool,
@@ -270,7 +268,6 @@ fn is_media(token: &CssToken<'_>) -> bool
 }
 
 /// Passes an at-rule, whose At was taken, up to the end of its prelude.
-#[tactic(auto, unfolding(css_rules::specs::Sheet::at_kind, css_rules::specs::Sheet::at_front, css_rules::specs::Sheet::at_after))]
 fn pass_at<'a>(
     alloc: Global,
     inside: bool,
@@ -318,7 +315,6 @@ fn prelude_part<'a>(end: u8, text: &'a str) -> Part<'a>
 }
 
 /// Passes the prelude of a ruleset, or what has no block.
-#[tactic(auto, unfolding(crate::specs::Parts::prelude_step, css_rules::specs::Sheet::prelude_at, css_rules::specs::Sheet::prelude_end))]
 fn pass_prelude<'a>(
     alloc: Global,
     inside: bool,
