@@ -14,7 +14,7 @@ use Rattle.named_lists.proofs.ListLemmas.{turned}
 use Rattle.page_ctx.specs.declared.classes.PageClasses.{PageClasses}
 use Rattle.page_ctx.specs.declared.weight.PageWeight.{PageWeight}
 use Rattle.page_ctx.specs.Selectors.{takes_name, takes_classes, name_in, asked_by, asked_in, all_asked}
-use Rattle.page_ctx.specs.Weights.{greater, is_for, specificity, with_selector}
+use Rattle.page_ctx.specs.Weights.{greater, is_for_page, specificity, with_selector}
 use Rattle.page_ctx.specs.Winners.{applied, applied_by, applied_to, page_declared}
 use Rattle.page_ctx.specs.Cells.{cell_by}
 use Rattle.page_ctx.specs.Tables.{six_pages, row_by}
@@ -38,19 +38,19 @@ takes-same name other (Some n) e f = out name (bytes_eq name n) refl e ∙ sym (
     out x false h g = turned n x ∙ h
     out x true h g = absurd (let z : list_any (bytes_eq x) (n ∷ []) ≡ true = rw h refl in cc)
 
-selectors-same : (name other : List ℕ) (c : PageClasses) (best : Option PageWeight) (selectors : List PageSelector) → list_any (bytes_eq name) (asked_in selectors) ≡ false → list_any (bytes_eq other) (asked_in selectors) ≡ false → fold (with_selector (is_for name c)) best selectors ≡ fold (with_selector (is_for other c)) best selectors
+selectors-same : (name other : List ℕ) (c : PageClasses) (best : Option PageWeight) (selectors : List PageSelector) → list_any (bytes_eq name) (asked_in selectors) ≡ false → list_any (bytes_eq other) (asked_in selectors) ≡ false → fold (with_selector (is_for_page name c)) best selectors ≡ fold (with_selector (is_for_page other c)) best selectors
 selectors-same name other c best [] e f = refl
 selectors-same name other c best (s ∷ more) e f =
     let one = split (bytes_eq name) (asked_by s) (asked_in more) e in
     let two = split (bytes_eq other) (asked_by s) (asked_in more) f in
-    ap (λ b. fold (with_selector (is_for name c)) (cond (b && takes_classes s c) (greater best (specificity s)) best) more) (takes-same name other s.name one.0 two.0) ∙ selectors-same name other c (with_selector (is_for other c) best s) more one.1 two.1
+    ap (λ b. fold (with_selector (is_for_page name c)) (cond (b && takes_classes s c) (greater best (specificity s)) best) more) (takes-same name other s.name one.0 two.0) ∙ selectors-same name other c (with_selector (is_for_page other c) best s) more one.1 two.1
 
 rules-same : (name other : List ℕ) (c : PageClasses) (rules : List PageRule) → list_any (bytes_eq name) (all_asked rules) ≡ false → list_any (bytes_eq other) (all_asked rules) ≡ false → applied_to name c rules ≡ applied_to other c rules
 rules-same name other c [] e f = refl
 rules-same name other c (r ∷ rules) e f =
     let one = split (bytes_eq name) (asked_in r.selectors) (all_asked rules) e in
     let two = split (bytes_eq other) (asked_in r.selectors) (all_asked rules) f in
-    ap (λ o. cons_option (option_map (applied_by r) o) (applied_to name c rules)) (selectors-same name other c None r.selectors one.0 two.0) ∙ ap (cons_option (applied (is_for other c) r)) (rules-same name other c rules one.1 two.1)
+    ap (λ o. cons_option (option_map (applied_by r) o) (applied_to name c rules)) (selectors-same name other c None r.selectors one.0 two.0) ∙ ap (cons_option (applied (is_for_page other c) r)) (rules-same name other c rules one.1 two.1)
 
 -- what isn't among names that were added wasn't added
 none-left : (x : List ℕ) (names kept : List (List ℕ)) → list_any (bytes_eq x) (fold with_name kept names) ≡ false → (list_any (bytes_eq x) kept ≡ false) × (list_any (bytes_eq x) names ≡ false)

@@ -14,7 +14,7 @@ use Rattle.page_ctx.specs.declared.classes.PageClasses.{PageClasses}
 use Rattle.page_ctx.specs.declared.property.PageProperty.{PageProperty}
 use Rattle.page_ctx.specs.declared.weight.PageWeight.{PageWeight}
 use Rattle.page_ctx.specs.Selectors.{is_for, is_for_each, takes_classes, takes_name}
-use Rattle.page_ctx.specs.Weights.{ranks_of, is_above, of_decl, specificity, greater, greatest_such, is_for, is_named, with_selector}
+use Rattle.page_ctx.specs.Weights.{ranks_of, is_above, of_decl, specificity, greater, greatest_such, is_for_page, is_named, with_selector}
 use Rattle.page_ctx.specs.Winners.{AppliedPageRuleOf, Declared, applied_by, applied_to, block_declared, box_declared, declared_by, decls_of, is_of, longs_of, of_page, page_declared, rule_declared, winner, winning, with_declared}
 use Rattle.page_ctx.specs.Groups.{all_own, is_own}
 use Rattle.page_ctx.proofs.WeightLemmas.{same-weight}
@@ -212,7 +212,7 @@ abbrev Steps : Option PageWeight → Option PageWeight → Option PageWeight →
 Steps d n e = IsOf true n × IsOf false e × (d ≡ option_or n e)
 
 stepped : (name : List ℕ) (c : PageClasses) (n e : Option PageWeight) (s : PageSelector) → IsOf true n → IsOf false e
-    → Steps (with_selector (is_for name c) (option_or n e) s) (with_selector (is_own (Some name) c) n s) (with_selector (is_own None c) e s)
+    → Steps (with_selector (is_for_page name c) (option_or n e) s) (with_selector (is_own (Some name) c) n s) (with_selector (is_own None c) e s)
 stepped name c n e s h g = by s.name refl
   where
     asked : (m : List ℕ) → s.name ≡ Some m → (a : Bool) → Steps (cond a (greater (option_or n e) (specificity s)) (option_or n e)) (cond a (greater n (specificity s)) n) e
@@ -231,14 +231,14 @@ stepped name c n e s h g = by s.name refl
 record Greatest (name : List ℕ) (c : PageClasses) (ss : List PageSelector) (n e : Option PageWeight) : Type 0 where
   named : IsOf true (fold (with_selector (is_own (Some name) c)) n ss)
   unnamed : IsOf false (fold (with_selector (is_own None c)) e ss)
-  whole : fold (with_selector (is_for name c)) (option_or n e) ss ≡ option_or (fold (with_selector (is_own (Some name) c)) n ss) (fold (with_selector (is_own None c)) e ss)
+  whole : fold (with_selector (is_for_page name c)) (option_or n e) ss ≡ option_or (fold (with_selector (is_own (Some name) c)) n ss) (fold (with_selector (is_own None c)) e ss)
 
 greatest-of : (name : List ℕ) (c : PageClasses) (ss : List PageSelector) (n e : Option PageWeight) → IsOf true n → IsOf false e → Greatest name c ss n e
 greatest-of name c [] n e h g = record { named = h; unnamed = g; whole = refl }
 greatest-of name c (s ∷ ss) n e h g =
     let step = stepped name c n e s h g in
     let rest = greatest-of name c ss (with_selector (is_own (Some name) c) n s) (with_selector (is_own None c) e s) step.0 step.1 in
-    record { named = rest.named; unnamed = rest.unnamed; whole = ap (λ z. fold (with_selector (is_for name c)) z ss) step.2 ∙ rest.whole }
+    record { named = rest.named; unnamed = rest.unnamed; whole = ap (λ z. fold (with_selector (is_for_page name c)) z ss) step.2 ∙ rest.whole }
 
 -- ---- all rules
 

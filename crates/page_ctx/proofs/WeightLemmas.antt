@@ -7,7 +7,7 @@ use Rattle.css_page.specs.declared.selectors.PageSelector.{PageSelector}
 use Rattle.page_ctx.specs.Selectors.{takes}
 use Rattle.page_ctx.specs.declared.classes.PageClasses.{PageClasses}
 use Rattle.page_ctx.specs.declared.weight.PageWeight.{PageWeight}
-use Rattle.page_ctx.specs.Weights.{ranks_of, is_above, specificity, greater, is_for, with_selector, greatest, IsGreatest}
+use Rattle.page_ctx.specs.Weights.{ranks_of, is_above, specificity, greater, is_for_page, with_selector, greatest, IsGreatest}
 use Rattle.page_ctx.specs.Laws.{GreatestIsGreatest}
 
 -- ---- weights
@@ -77,9 +77,9 @@ more name c x ss (Some w) r true t h = by (is_above (specificity x) w) refl h
     by true g h = more_first name c x ss (Some w) r t g (λ s y. above-trans (ranks_of (specificity s)) (ranks_of (specificity x)) (ranks_of w) y g) h
     by false g h = more_under name c x w ss r g h
 
-comes : (name : List ℕ) (c : PageClasses) (ss : List PageSelector) (o : Option PageWeight) → Comes name c ss o (fold (with_selector (is_for name c)) o ss)
+comes : (name : List ℕ) (c : PageClasses) (ss : List PageSelector) (o : Option PageWeight) → Comes name c ss o (fold (with_selector (is_for_page name c)) o ss)
 comes name c [] o = stays refl (λ k s h t. cc)
-comes name c (x ∷ ss) o = more name c x ss o (fold (with_selector (is_for name c)) (with_selector (is_for name c) o x) ss) (takes x name c) refl (comes name c ss (with_selector (is_for name c) o x))
+comes name c (x ∷ ss) o = more name c x ss o (fold (with_selector (is_for_page name c)) (with_selector (is_for_page name c) o x) ss) (takes x name c) refl (comes name c ss (with_selector (is_for_page name c) o x))
 
 -- ---- the law
 

@@ -44,12 +44,12 @@ abbrev pub greatest_such : (PageSelector → Bool) → List PageSelector → Opt
 greatest_such is selectors = fold (with_selector is) None selectors
 
 -- whether a selector takes a page
-abbrev pub is_for : List ℕ → PageClasses → PageSelector → Bool
-is_for name c s = takes s name c
+abbrev pub is_for_page : List ℕ → PageClasses → PageSelector → Bool
+is_for_page name c s = takes s name c
 
 -- the greatest specificity of the selectors that take a page
 abbrev pub greatest : List ℕ → PageClasses → List PageSelector → Option PageWeight
-greatest name c selectors = greatest_such (is_for name c) selectors
+greatest name c selectors = greatest_such (is_for_page name c) selectors
 
 -- the weight of a selector that takes a page, above which is that of none of these
 pub record IsGreatest (name : List ℕ) (c : PageClasses) (selectors : List PageSelector) (w : PageWeight) : Type 0 where

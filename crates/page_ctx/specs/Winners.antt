@@ -16,7 +16,7 @@ use Rattle.page_ctx.specs.declared.weight.PageWeight.{PageWeight}
 use Rattle.page_ctx.specs.declared.applied.AppliedPageRule.{AppliedPageRule}
 use Rattle.page_ctx.specs.declared.winner.PageCandidate.{PageCandidate}
 use Rattle.page_ctx.specs.Index.{RuleSelectorOf}
-use Rattle.page_ctx.specs.Weights.{is_above, greater, greatest_such, is_for, of_decl, specificity}
+use Rattle.page_ctx.specs.Weights.{is_above, greater, greatest_such, is_for_page, of_decl, specificity}
 
 -- a declared value, with what decides
 pub record Declared : Type 0 where
@@ -77,7 +77,7 @@ rule_with last e = option_map (numbered_by e.number e.rule) (greater (weight_at 
 
 -- the rules that are for a page, in their order
 abbrev pub applied_to : List ℕ → PageClasses → List PageRule → List AppliedPageRuleOf
-applied_to name c rules = all_such (is_for name c) rules
+applied_to name c rules = all_such (is_for_page name c) rules
 
 -- a declared value with a weight
 abbrev pub declared_by : PageWeight → PageLong → Declared

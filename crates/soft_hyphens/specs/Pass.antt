@@ -1,5 +1,5 @@
 -- What passes over the texts of a run keep.
-use Rattle.std.specs.Prelude.{ℕ, Bool, List, [], ◌∷◌, ◌++◌, map, filter, length}
+use Rattle.std.specs.Prelude.{ℕ, ◌+◌, Bool, List, [], ◌∷◌, ◌++◌, map, filter, length}
 use Rattle.std.specs.Char.{encode_utf8}
 use Rattle.std.specs.List.{range_with_len, slice_range}
 use Rattle.std.specs.Str.{chars}
