@@ -24,6 +24,11 @@ sep stop.AtRule = refl
 sep stop.InnerAtRule = refl
 sep stop.Comma = refl
 
+-- one more token was passed
+pub passed_push : (ts us vs : List Item) (found : List CssToken) (t : CssToken) → ts ≡ items_in found ++ us → us ≡ item_in t ∷ vs → ts ≡ items_in (found ++ t ∷ []) ++ vs
+passed_push ts us vs found t is here =
+    is ∙ ap (λ z. items_in found ++ z) here ∙ sym (ap (λ z. z ++ vs) (map-append item_in found (t ∷ [])) ∙ append_assoc (items_in found) (item_in t ∷ []) vs)
+
 pub front_goes : (s : Stop) (open' : List ℕ) (found : List CssToken) (t : CssToken) (ts : List Item) → ends s open' (item_in t) ≡ false → items_in found ++ front_from s open' (item_in t ∷ ts) ≡ items_in (found ++ t ∷ []) ++ front_from s (open_after open' (item_in t)) ts
 unfolding front_from
 front_goes s open' found t ts inside = rw (inside, map-append item_in found (t ∷ [])) (sym (append_assoc (items_in found) (item_in t ∷ []) (front_from s (open_after open' (item_in t)) ts)))

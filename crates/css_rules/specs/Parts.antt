@@ -1,7 +1,7 @@
 -- Where a part of a sheet ends: at the first token outside brackets that stops it.
 use Rattle.std.specs.Prelude.{◌≡◌, ◌<◌, ◌++◌, ℕ, Bool, true, false, ◌&&◌, ◌||◌, if◌then◌else◌, ◌==◌, List, [], ◌∷◌, length, slice_get, Some}
 use Rattle.std.specs.List.{flat_map}
-use Rattle.css_tok.specs.Tokens.{Item}
+use Rattle.css_tok.specs.Tokens.{Item, tokens_of}
 use Rattle.css_tok.specs.Marks.{mark}
 use Rattle.css_rules.specs.Brackets.{open_after, open_at, is_outside}
 use Rattle.css_rules.specs.declared.parts.Stop.{Stop}
@@ -14,6 +14,12 @@ Piece = List Item
 -- what tokens were cut from
 abbrev pub joined : List Item → List ℕ
 joined ts = flat_map (λ t. t.slice) ts
+
+-- a reader passed the first tokens of a text, and this text is left
+pub record Passed (text rest : List ℕ) : Type 0 where
+  pub front : List Item
+  pub text_is : text ≡ joined front ++ rest
+  pub tokens_are : tokens_of text ≡ front ++ tokens_of rest
 
 -- `;` is 59, `{` is 123, `}` is 125 and `,` is 44
 abbrev pub is_stop : Stop → ℕ → Bool

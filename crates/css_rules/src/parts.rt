@@ -64,7 +64,7 @@ pub struct PartEnd {
 
 /// Reads the tokens before the one that ends a part, and takes that one.
 #[tactic(auto, unfolding(crate::specs::Brackets::open_at))]
-pub(crate) fn take_until<'a>(
+pub fn take_until<'a>(
     alloc: Global,
     tokens: &mut CssTokens<'a>,
     stop: Stop,
@@ -78,6 +78,7 @@ pub(crate) fn take_until<'a>(
         ≡ rest_of (spec.after_from stop [] (tokens_of tokens.old.rest.now))) }
     ensures front { IfOk result (λ _. (rest : List ℕ) × (tokens.old.rest.now
         ≡ spec.joined (items_in found.new.items) ++ rest)) }
+    ensures passed { IfOk result (λ _. spec.Passed tokens.old.rest.now tokens.new.rest.now) }
     ensures within { length tokens.new.rest.now ≤ length tokens.old.rest.now }
     ensures moves { IfOk result (λ e. e.mark ≢ 0 → length tokens.new.rest.now < length tokens.old.rest.now) }
     ensures takes { IfOk result (λ _. 0 < length tokens.old.rest.now →

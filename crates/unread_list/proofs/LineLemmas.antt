@@ -1,43 +1,44 @@
 -- Lines of passed tokens.
-use Rattle.std.proofs.Common.{◌≡◌, ℕ, ◌+◌, ◌∙◌, List, [], ◌∷◌, ◌++◌, ap, sym, append_assoc, arith}
+use Rattle.std.proofs.Common.{◌≡◌, ℕ, ◌+◌, ◌-◌, ◌<◌, ◌∙◌, ◌==◌, cond, List, [], ◌∷◌, ◌++◌, length, length-append, take, refl, ap, sym, arith}
 use Rattle.std.specs.Prelude.{Result, Ok, Err, IfOk}
-use Rattle.std.proofs.lemmas.List.{map-append}
-use Rattle.css_tok.specs.declared.tokens.CssToken.{CssToken}
-use Rattle.css_tok.specs.Tokens.{Item, item_in}
-use Rattle.css_rules.specs.Views.{items_in}
+use Rattle.std.proofs.Math.Seq.{take-append_seam}
+use Rattle.std.proofs.lemmas.List.Concat.{flat_map-cons}
+use Rattle.std.proofs.lemmas.List.Sums.{sum_by-append}
+use Rattle.css_tok.specs.Tokens.{Item, tokens_from, tokens_of}
+use Rattle.css_rules.specs.Parts.{Passed, joined}
 use Rattle.unread_list.specs.Lines.{feeds, feeds_in, Passes}
 
-pub feeds_append : (xs ys : List Item) → feeds_in (xs ++ ys) ≡ feeds_in xs + feeds_in ys
+feeds_append : (bs cs : List ℕ) → feeds (bs ++ cs) ≡ feeds bs + feeds cs
+feeds_append bs cs = sum_by-append (λ b. cond (b == 10) 1 0) bs cs
+
+-- the line feeds of tokens are those of the text that they were cut from
+pub feeds_joined : (ts : List Item) → feeds_in ts ≡ feeds (joined ts)
 unfolding feeds_in
-feeds_append [] ys = omega arith
-feeds_append (t ∷ xs) ys = let e = feeds_append xs ys in omega (arith, e)
+feeds_joined [] = refl
+feeds_joined (t ∷ ts) =
+    let all : joined (t ∷ ts) ≡ t.slice ++ joined ts = flat_map-cons (λ u. u.slice) t ts in
+    ap (λ n. feeds t.slice + n) (feeds_joined ts) ∙ sym (feeds_append t.slice (joined ts)) ∙ ap feeds (sym all)
 
-pub feeds_one : (t : Item) → feeds_in (t ∷ []) ≡ feeds t.slice
-unfolding feeds_in
-feeds_one t = omega arith
+passed_text : (text rest front : List ℕ) → text ≡ front ++ rest → take (length text - length rest) text ≡ front
+passed_text text rest front is =
+    let more = length-append front rest in
+    let len : length (front ++ rest) - length rest ≡ length front = omega (arith, more) in
+    rw is (ap (λ n. take n (front ++ rest)) len ∙ take-append_seam front rest)
 
--- one more token was passed
-pub passes_more : (ts us vs : List Item) (found : List CssToken) (t : CssToken) (line now next : ℕ) →
-    ts ≡ items_in found ++ us → now ≡ line + feeds_in (items_in found) → us ≡ item_in t ∷ vs → next ≡ now + feeds t.slice.now →
-    (ts ≡ items_in (found ++ t ∷ []) ++ vs) × (next ≡ line + feeds_in (items_in (found ++ t ∷ [])))
-passes_more ts us vs found t line now next is lines here more =
-    let all : items_in (found ++ t ∷ []) ≡ items_in found ++ item_in t ∷ [] = map-append item_in found (t ∷ []) in
-    let sum : feeds_in (items_in (found ++ t ∷ [])) ≡ feeds_in (items_in found) + feeds t.slice.now =
-    ap feeds_in all ∙ feeds_append (items_in found) (item_in t ∷ []) ∙ ap (λ n. feeds_in (items_in found) + n) (feeds_one (item_in t)) in (
-      is ∙ ap (λ z. items_in found ++ z) here ∙ sym (ap (λ z. z ++ vs) all ∙ append_assoc (items_in found) (item_in t ∷ []) vs),
-      omega (arith, lines, more, sum),
-    )
+none_left : (text rest : List ℕ) → text ≡ rest → (0 < length text → length rest < length text) → tokens_of text ≡ []
+unfolding tokens_of tokens_from
+none_left [] rest is takes = refl
+none_left (b ∷ bs) rest is takes = let less = takes (omega arith) in let same = ap length is in absurd (omega (arith, less, same))
 
-pub feeds_none : (line : ℕ) → line ≡ line + feeds_in []
-unfolding feeds_in
-feeds_none line = omega arith
-
-snoc_some : {A : Type 0} (xs : List A) (x : A) → xs ++ x ∷ [] ≡ [] → ⊥
-snoc_some [] x e = cc
-snoc_some (y ∷ xs) x e = cc
-
-pub push_some : (found : List CssToken) (t : CssToken) → items_in (found ++ t ∷ []) ≡ [] → ⊥
-push_some found t none = snoc_some (items_in found) (item_in t) (sym (map-append item_in found (t ∷ [])) ∙ none)
+-- a text was passed whose tokens were passed, as many bytes as are no more there
+pub passes_text : (text rest : List ℕ) (line after : ℕ) → Passed text rest → (0 < length text → length rest < length text) →
+    after ≡ line + feeds (take (length text - length rest) text) → Passes (tokens_of text) (tokens_of rest) line after
+passes_text text rest line after p takes lines = record {
+  front = p.front;
+  is = p.tokens_are;
+  some = λ none. none_left text rest (p.text_is ∙ ap (λ ts. joined ts ++ rest) none) takes;
+  lines = lines ∙ ap (λ bs. line + feeds bs) (passed_text text rest (joined p.front) p.text_is) ∙ ap (λ n. line + n) (sym (feeds_joined p.front));
+}
 
 -- a token was passed, and then others
 pub passes_first : (t : Item) (ts us vs : List Item) (line now after : ℕ) → ts ≡ t ∷ us → now ≡ line + feeds t.slice → Passes us vs now after → Passes ts vs line after

@@ -11,17 +11,16 @@ ghost use Rattle.unread_list.specs.Lines as spec;
 
 use crate::reader::Lines;
 use bk_num::name::NoMem;
-use css_rules::brackets::OpenBrackets;
-use css_rules::parts::{PartEnd, Stop, ends};
+use css_rules::parts::{PartEnd, Stop};
 use css_tok::tokens::{CssToken, CssTokens};
 use std::alloc::Global;
 
 /// How many line feeds a text has.
-fn feeds(text: &str) -> usize
+fn feeds(text: &[u8]) -> usize
     ensures value { result ≡ spec.feeds text.now }
     ensures within { result ≤ length text.now }
 {
-    text.as_bytes().iter().filter(|b| **b == b'\n').count()
+    text.iter().filter(|b| **b == b'\n').count()
 }
 
 impl<'a> Lines<'a> {
@@ -48,14 +47,13 @@ impl<'a> Lines<'a> {
     {
         let mut tokens = self.tokens;
         let token = tokens.next()?;
-        let line = self.line + feeds(token.slice);
+        let line = self.line + feeds(token.slice.as_bytes());
         *self = Lines { tokens, line };
         Some(token)
     }
 }
 
 /// Reads the tokens before the one that ends a part of a sheet, and takes that one.
-#[tactic(auto, unfolding(css_rules::specs::Brackets::open_at))]
 pub fn take_until<'a>(
     alloc: Global,
     lines: &mut Lines<'a>,
@@ -74,20 +72,11 @@ pub fn take_until<'a>(
     ensures takes { IfOk result (λ _. 0 < length lines.old.tokens.rest.now →
         length lines.new.tokens.rest.now < length lines.old.tokens.rest.now) }
 {
-    found.clear();
-    let mut open = OpenBrackets::new(alloc);
-    while let Some(token) = lines.next() {
-        if ends(stop, &open, &token) {
-            return Ok(PartEnd {
-                mark: token.mark(),
-                closed: true,
-            });
-        }
-        open.pass(&token)?;
-        found.push(token)?;
-    }
-    Ok(PartEnd {
-        mark: 0,
-        closed: open.is_outside(),
-    })
+    let text = lines.tokens.rest.as_bytes();
+    let mut tokens = lines.tokens;
+    let end = css_rules::parts::take_until(alloc, &mut tokens, stop, found)?;
+    let passed = text.len() - tokens.rest.len();
+    let line = lines.line + feeds(&text[..passed]);
+    *lines = Lines { tokens, line };
+    Ok(end)
 }

@@ -9,6 +9,7 @@ use Rattle.css_rules.proofs.parts.take_until.Given as goal
 abbrev pub invariant-loop-token : goal.invariant-loop-token
 invariant-loop-token l = record {
   front : l.fn.tokens.rest.now ≡ joined (items_in l.found.items) ++ l.tokens.rest.now;
+  passed : tokens_of l.fn.tokens.rest.now ≡ items_in l.found.items ++ tokens_of l.tokens.rest.now;
   before : front_from l.stop [] (tokens_of l.fn.tokens.rest.now) ≡ items_in l.found.items ++ front_from l.stop l.open (tokens_of l.tokens.rest.now);
   opened : l.open ≡ open_at [] (items_in l.found.items) (length (items_in l.found.items));
   after : after_from l.stop [] (tokens_of l.fn.tokens.rest.now) ≡ after_from l.stop l.open (tokens_of l.tokens.rest.now);
