@@ -13,7 +13,7 @@ use Rattle.boxes.specs.declared.leaf.Lead.{Lead}
 use Rattle.boxes.specs.declared.leaf.Leaf.{Leaf as LeafData}
 use Rattle.boxes.specs.declared.place.Event.TheVariants.{Opens}
 use Rattle.boxes.specs.Tree.{Tree, first_of, innermost_of, is_leaf, last_event, takes_box, takes_leaf, with_box, with_leaf}
-use Rattle.dom.specs.Nodes.{IsTree, root, parents_of, text_at}
+use Rattle.dom.specs.Nodes.{IsTree, parents_of, text_at}
 use Rattle.dom.proofs.WalkLemmas.{root-element}
 use Rattle.dom.specs.Walk.{steps_of}
 use Rattle.dom.specs.declared.walk.Step.{Step}

@@ -1,5 +1,5 @@
 -- The steps of a page list.
-use Rattle.std.proofs.Common.{◌≡◌, ◌<◌, ◌≤◌, ◌+◌, ℕ, suc, is_some, Bool, true, false, List, [], ◌∷◌, ◌++◌, Option, Some, None, All, ◌==◌, ◌⊎◌, inl, inr, slice_get, length, length-append, append-nil, append_assoc, refl, sym, ap, ◌∙◌, subst, arith}
+use Rattle.std.proofs.Common.{◌≡◌, ◌<◌, ◌≤◌, ◌+◌, ℕ, suc, is_some, Bool, true, false, List, [], ◌∷◌, ◌++◌, Option, Some, None, ◌==◌, ◌⊎◌, inl, inr, slice_get, length, length-append, append-nil, append_assoc, refl, sym, ap, ◌∙◌, subst, arith}
 use Rattle.metrics.specs.Face.{FontFace}
 use Rattle.bk_num.specs.declared.ids.NameId.{NameId}
 use Rattle.boxes.specs.Steps.{IsRun}

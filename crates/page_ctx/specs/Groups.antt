@@ -1,7 +1,7 @@
 -- Selectors by groups: those that ask for a name, and those that ask for none (css-page-3, 3 and 4). Of declarations of
 -- equal importance one of a selector with a name wins over one of a selector without, so of the latter no more than the
 -- winners need be kept.
-use Rattle.std.specs.Prelude.{◌≡◌, ℕ, Bool, ◌&&◌, List, [], ◌∷◌, ◌++◌, Option, None, map, get_or, if◌then◌else◌}
+use Rattle.std.specs.Prelude.{◌≡◌, ℕ, Bool, ◌&&◌, List, [], ◌∷◌, ◌++◌, Option, None, map, get_or}
 use Rattle.std.specs.List.{filter_map, range_with_len}
 use Rattle.bk_num.specs.declared.sides.BoxSide.TheVariants as side
 use Rattle.css_page.specs.declared.rules.PageRule.{PageRule}

@@ -1,4 +1,4 @@
-use Rattle.std.proofs.Common.{◌≡◌, ◌+◌, All, ◌++◌, ◌∷◌, [], Some, length, length-append, slice_get, subst, ap, arith, ◌∙◌, ℕ, false}
+use Rattle.std.proofs.Common.{◌≡◌, ◌+◌, ◌++◌, ◌∷◌, [], Some, length, length-append, slice_get, subst, ap, arith, ◌∙◌, ℕ, false}
 use Rattle.std.proofs.lemmas.Grind.{common_steps}
 use Rattle.std.proofs.lemmas.List.Elements.{All-push}
 use Rattle.boxes.specs.Clones.{AreSliced}
