@@ -1,6 +1,6 @@
 //! Lengths in whole units of 1/64 px.
 
-ghost use Rattle.std.specs.Prelude.{◌≡◌, ◌<◌, ◌≤◌, pos, unsigned_abs, ◌≤ℤ◌, ◌*ℤ◌};
+ghost use Rattle.std.specs.Prelude.{◌≡◌, ◌<◌, ◌≤◌, ◌^◌, pos, neg_ℤ, unsigned_abs, ◌≤ℤ◌, ◌*ℤ◌};
 ghost use Rattle.bk_num.specs.Limits.{most_length};
 ghost use Rattle.bk_num.specs.Units.{clamped, floor_div};
 
@@ -39,6 +39,15 @@ impl Px {
         ensures bound { unsigned_abs result ≤ most_length }
     {
         self.0
+    }
+
+    /// How many units it has, as a wide number.
+    pub fn wide_units(self) -> i64
+        ensures value { result ≡ self }
+        ensures low { neg_ℤ (pos (2 ^ 27)) ≤ℤ result }
+        ensures high { result ≤ℤ pos (2 ^ 27) }
+    {
+        i64::from(self.units())
     }
 }
 

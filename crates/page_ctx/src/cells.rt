@@ -132,15 +132,6 @@ fn margins_by(font: Px, width: Px, height: Px, declared: &[PageCandidate<'_>]) -
     }
 }
 
-/// The units of a length as a wide number, within 2^27 either way.
-fn units(length: Px) -> i64
-    ensures value { result ≡ length }
-    ensures low { neg_ℤ (pos 134217728) ≤ℤ result }
-    ensures high { result ≤ℤ pos 134217728 }
-{
-    length.units() as i64
-}
-
 /// At least 0.
 fn at_least_0(room: i64) -> i64
     requires { room ≤ℤ pos 402653184 }
@@ -159,7 +150,7 @@ fn less(room: i64, margin: Px) -> i64
     ensures low { (room -ℤ pos 134217728) ≤ℤ result }
     ensures high { result ≤ℤ (room +ℤ pos 134217728) }
 {
-    room - units(margin)
+    room - margin.wide_units()
 }
 
 /// What the margins leave of a length, at least 0.
@@ -168,7 +159,7 @@ fn between(whole: Px, before: Px, after: Px) -> i64
     ensures low { pos 0 ≤ℤ result }
     ensures high { result ≤ℤ pos 402653184 }
 {
-    at_least_0(less(less(units(whole), before), after))
+    at_least_0(less(less(whole.wide_units(), before), after))
 }
 
 /// The page box less its margins.
@@ -178,8 +169,8 @@ fn frame_with(width: Px, height: Px, margins: &Sides<Px>) -> Frame
     ensures left { IsWithin (2 ^ 39) result.left }
 {
     Frame {
-        left: units(margins.left),
-        top: units(margins.top),
+        left: margins.left.wide_units(),
+        top: margins.top.wide_units(),
         width: between(width, margins.left, margins.right),
         height: between(height, margins.top, margins.bottom),
     }
@@ -193,10 +184,10 @@ fn cell_with(width: Px, height: Px, margins: &Sides<Px>) -> PageCell
     ensures good { IsGoodCell result }
 {
     PageCell {
-        width: units(width),
-        height: units(height),
-        right: units(margins.right),
-        bottom: units(margins.bottom),
+        width: width.wide_units(),
+        height: height.wide_units(),
+        right: margins.right.wide_units(),
+        bottom: margins.bottom.wide_units(),
         frame: frame_with(width, height, margins),
     }
 }

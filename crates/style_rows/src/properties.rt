@@ -5,23 +5,18 @@ use crate::questions::{Question, cut, node_of, pseudo_of};
 use bk_num::ids::NameId;
 use bk_num::length::Len;
 use bk_num::name::NoMem;
-use bk_num::px::Px;
 use bk_num::values::{BreakAt, NumStyle, WhiteSpace};
 use computed_values::fonts::used_line_height;
 use style::names::Names;
 use style::style::Style;
 use style::values::{Display, LineHeight};
 
-fn units(length: Px) -> i64 {
-    i64::from(length.units())
-}
-
 fn number(style: &Style, property: &str) -> Option<i64> {
     match property {
-        "font-size" => Some(units(style.font_size)),
-        "line-height" => Some(units(used_line_height(style.font_size, &style.line_height))),
+        "font-size" => Some(style.font_size.wide_units()),
+        "line-height" => Some(used_line_height(style.font_size, &style.line_height).wide_units()),
         "font-weight" => Some(i64::from(style.font_weight)),
-        "border-top-width" => Some(units(style.border_top_width)),
+        "border-top-width" => Some(style.border_top_width.wide_units()),
         "border-top-red" => Some(i64::from(style.border_top_color.red)),
         "widows" => Some(i64::from(style.widows)),
         "page-number" => Some(i64::from(style.page.0)),
