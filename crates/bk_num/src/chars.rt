@@ -1,14 +1,11 @@
 //! Characters that more than one rule names. Specs name the same ones.
 
-ghost use Rattle.std.specs.Prelude.{◌≡◌, ◌≤◌, length};
+ghost use Rattle.std.specs.Prelude.{◌≡◌, ◌≤◌, length, slice_index};
 ghost use Rattle.bk_num.specs.Chars as spec;
 ghost use Rattle.bk_num.specs.Chars.{CharsAgree};
 
 /// The hyphen that a line shows at its end: hyphen-minus, U+002D.
 pub const HYPHEN: char = '-';
-
-/// The hyphen that a line shows at its end, as a text.
-pub const HYPHEN_TEXT: &str = "-";
 
 /// The soft hyphen, after which a line may end; it is shown as a hyphen there, and nowhere else.
 pub const SOFT_HYPHEN: char = '\u{AD}';
@@ -23,6 +20,13 @@ pub fn ends_soft_hyphen(bytes: &[u8], at: usize) -> bool
     ensures { result ≡ spec.ends_soft_hyphen bytes.now at }
 {
     2 <= at && bytes[at - 2] == 194 && bytes[at - 1] == 173
+}
+
+/// The byte at a place, and 0 past the end.
+pub fn byte(text: &[u8], at: usize) -> u8
+    ensures { result ≡ slice_index text.now at }
+{
+    if at < text.len() { text[at] } else { 0 }
 }
 
 /// Whether a byte is a quotation mark: attributes of HTML and strings of CSS stand between two of one kind.

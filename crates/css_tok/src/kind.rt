@@ -4,10 +4,8 @@ ghost use Rattle.std.specs.Prelude.{◌≡◌, ◌<◌, ◌≤◌, ◌+◌, leng
 ghost use Rattle.css_tok.specs.Kind as spec;
 ghost use Rattle.css_tok.specs.Lengths.{number_len};
 
-use crate::lengths::{
-    Class, byte, comment_len, ident_len, is_blank, is_newline, number_len, run_len,
-};
-use bk_num::chars::is_quote;
+use crate::lengths::{Class, comment_len, ident_len, is_blank, is_newline, number_len, run_len};
+use bk_num::chars::{byte, is_quote};
 
 /// The kinds of token (CSS 2.1, 4.1.1). Of the readings of a text's start the longest counts.
 #[derive(Clone, Copy, Debug, PartialEq, Eq)]

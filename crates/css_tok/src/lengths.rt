@@ -1,9 +1,11 @@
 //! How long what stands at the start of a text is.
 
-ghost use Rattle.std.specs.Prelude.{◌≡◌, ◌<◌, ◌≤◌, ◌+◌, ◌^◌, length, slice_index};
+ghost use Rattle.std.specs.Prelude.{◌≡◌, ◌<◌, ◌≤◌, ◌+◌, ◌^◌, length};
 ghost use Rattle.std.specs.Char.{is_ascii_hexdigit};
 ghost use Rattle.std.specs.List.{prefix_len};
 ghost use Rattle.css_tok.specs.Lengths as spec;
+
+use bk_num::chars::byte;
 
 #[derive(Clone, Copy, Debug)]
 pub enum Class {
@@ -15,13 +17,6 @@ pub enum Class {
     Blank,
     Address,
     Quoted(u8),
-}
-
-/// The byte at a place, and 0 past the end.
-pub fn byte(text: &[u8], at: usize) -> u8
-    ensures { result ≡ slice_index text.now at }
-{
-    if at < text.len() { text[at] } else { 0 }
 }
 
 /// Whether a byte is a newline: LF, FF or CR.

@@ -5,8 +5,8 @@ ghost use Rattle.css_tok.specs.Tokens.{item_in};
 ghost use Rattle.css_tok.specs.Marks as spec;
 
 use crate::kind::CssKind;
-use crate::lengths::byte;
 use crate::tokens::CssToken;
+use bk_num::chars::byte;
 
 fn closer_of_mark(mark: u8) -> Option<u8>
     ensures { result ≡ spec.closer_of_mark mark }

@@ -7,8 +7,9 @@ ghost use Rattle.std.specs.Str.Parse.{digits_value};
 ghost use Rattle.bk_num.specs.Written.{most_whole};
 ghost use Rattle.css_tok.specs.Numbers as spec;
 
-use crate::lengths::{Class, byte, number_len, run_len, sign_len};
+use crate::lengths::{Class, number_len, run_len, sign_len};
 use crate::tokens::CssToken;
+use bk_num::chars::byte;
 use bk_num::decimal::Decimal;
 use bk_num::written::MOST_WHOLE;
 

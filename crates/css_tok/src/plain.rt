@@ -8,7 +8,8 @@ ghost use Rattle.bk_num.specs.Written.{character_of};
 ghost use Rattle.css_tok.specs.Lengths as lengths;
 ghost use Rattle.css_tok.specs.Plain as spec;
 
-use crate::lengths::{Class, byte, escape_len, hex_len, is_newline, newline_len, run_len};
+use crate::lengths::{Class, escape_len, hex_len, is_newline, newline_len, run_len};
+use bk_num::chars::byte;
 use bk_num::name::{Name, NoMem};
 use bk_num::written::character_of;
 use std::alloc::Global;

@@ -5,9 +5,9 @@ ghost use Rattle.css_tok.specs.Lengths.{run_len};
 ghost use Rattle.css_tok.specs.Value as spec;
 
 use crate::kind::CssKind;
-use crate::lengths::{Class, byte, run_len};
+use crate::lengths::{Class, run_len};
 use crate::tokens::CssToken;
-use bk_num::chars::is_quote;
+use bk_num::chars::{byte, is_quote};
 
 fn without_first(slice: &str, first: u8) -> &str
     requires { (0 < first) × (first < 128) }

@@ -6,10 +6,10 @@ ghost use Rattle.css_content.specs.Basics.{word_in};
 ghost use Rattle.css_values.specs.Colors as spec;
 ghost use Rattle.css_values.specs.Words as words;
 
+use bk_num::chars::byte;
 use bk_num::values::Color;
 use css_content::words::{whole, word_in};
 use css_tok::kind::CssKind;
-use css_tok::lengths::byte;
 use css_words::reader::Reader;
 use css_words::unread::Unread;
 use css_words::words::{close, expect, is_named, of_kind, value};

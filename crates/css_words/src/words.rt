@@ -8,9 +8,9 @@ ghost use Rattle.css_words.specs.Words as spec;
 
 use crate::reader::Reader;
 use crate::unread::Unread;
+use bk_num::chars::byte;
 use bk_num::name::Name;
 use css_tok::kind::CssKind;
-use css_tok::lengths::byte;
 use css_tok::plain::plain;
 use css_tok::tokens::CssToken;
 use css_tok::words::is_word;

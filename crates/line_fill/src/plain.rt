@@ -1,14 +1,9 @@
 //! Where a line begins as it would in the line before it.
 
-ghost use Rattle.std.specs.Prelude.{◌≡◌, ◌<◌, length, slice_index};
+ghost use Rattle.std.specs.Prelude.{◌≡◌, ◌<◌, length};
 ghost use Rattle.line_fill.specs.Rests.{begins_plain};
 
-/// The byte at a place, 0 after the end.
-fn byte_at(bytes: &[u8], at: usize) -> u8
-    ensures { result ≡ slice_index bytes.now at }
-{
-    if at < bytes.len() { bytes[at] } else { 0 }
-}
+use bk_num::chars::byte;
 
 /// Whether the character that begins at a place of a text is none of a space, a newline, a soft hyphen and a zero width
 /// space.
@@ -19,8 +14,8 @@ pub(crate) fn begins_plain(bytes: &[u8], at: usize) -> bool
 {
     match bytes[at] {
         b' ' | b'\n' => false,
-        194 => byte_at(bytes, at + 1) != 173,
-        226 => byte_at(bytes, at + 1) != 128 || byte_at(bytes, at + 2) != 139,
+        194 => byte(bytes, at + 1) != 173,
+        226 => byte(bytes, at + 1) != 128 || byte(bytes, at + 2) != 139,
         _ => true,
     }
 }

@@ -8,10 +8,11 @@ ghost use Rattle.css_tok.specs.Tokens.{item_in};
 ghost use Rattle.css_words.specs.Parser.{Reads, Owns};
 ghost use Rattle.selectors.specs.AnPlusB as spec;
 
+use bk_num::chars::byte;
 use bk_num::name::Name;
 use bk_num::written::MOST_WHOLE;
 use css_tok::kind::CssKind;
-use css_tok::lengths::{byte, number_len, sign_len};
+use css_tok::lengths::{number_len, sign_len};
 use css_tok::plain::plain;
 use css_tok::tokens::CssToken;
 use css_words::reader::Reader;

@@ -11,9 +11,10 @@ ghost use Rattle.selectors.specs.Walk.{name_is};
 use crate::document::TypedDocument;
 use crate::types::{AttrTest, Compound, Plain, Test};
 use crate::walk::{has_content, is_element, parent};
+use bk_num::chars::byte;
 use bk_num::ids::NodeId;
 use bk_num::name::Name;
-use css_tok::lengths::{byte, is_blank};
+use css_tok::lengths::is_blank;
 use dom::Dom;
 use memchr::memmem;
 
