@@ -5,10 +5,11 @@ use Rattle.std.specs.Int.{w64}
 use Rattle.std.proofs.lemmas.Option.{slice_get_within}
 use Rattle.std.specs.List.Sorted.{IsPartitionPoint, IsNonDecreasingBy}
 use Rattle.std.proofs.lemmas.Option.{slice_get-get_or}
+use Rattle.bk_num.specs.Numbers.{last_of}
 use Rattle.counters.specs.declared.scopes.ScopeMark.{ScopeMark}
 use Rattle.counters.specs.declared.scopes.CounterEvent.{CounterEvent}
 use Rattle.counters.specs.declared.scopes.Act.TheVariants as act
-use Rattle.counters.specs.Chains.{chain, link, all_of, front, beyond, AreFalling, last_of, pair, past, with_added, after_event, held_after, innermost_of, IsMarked, IsNext, IsPastLong, AreMarks}
+use Rattle.counters.specs.Chains.{chain, link, all_of, front, beyond, AreFalling, pair, past, with_added, after_event, held_after, innermost_of, IsMarked, IsNext, IsPastLong, AreMarks}
 use Rattle.counters.proofs.Heights.{height}
 use Rattle.bk_num.proofs.ListLemmas.{get-keep, get-push, get-end, slice_get_at}
 

@@ -2,12 +2,13 @@
 use Rattle.std.proofs.Common.{◌≡◌, ℕ, zero, suc, ◌+◌, ◌≤◌, Bool, true, false, cond, List, [], ◌∷◌, Some, length, slice_get, take, refl, sym, ◌∙◌, ap, subst, arith}
 use Rattle.std.specs.Prelude.{nat_le, filter, map, fold, reverse, ℤ}
 use Rattle.std.proofs.lemmas.Bool.Decides.{nat_tests}
+use Rattle.bk_num.specs.Numbers.{last_of}
 use Rattle.counters.specs.declared.scopes.CounterEvent.{CounterEvent}
 use Rattle.counters.specs.declared.scopes.ScopeMark.{ScopeMark}
 use Rattle.counters.specs.declared.scopes.Act.{Act}
 use Rattle.counters.specs.declared.scopes.Act.TheVariants as act
 use Rattle.counters.specs.Scopes.{Each, AreNested, Scope, holding, implied, opened_by, opened, History, nothing_yet, with_event, history_of, value_of, or_zero, values_by, IsAfter}
-use Rattle.counters.specs.Chains.{pair, past, beyond, all_of, last_of, seen_to, mark_at, kept_values, after_event, held_after, AreMarked}
+use Rattle.counters.specs.Chains.{pair, past, beyond, all_of, seen_to, mark_at, kept_values, after_event, held_after, AreMarked}
 use Rattle.counters.proofs.ScopeLemmas.{Nests, Holds, seen, after-event, held-later, each-map}
 use Rattle.counters.proofs.ChainLemmas.{past-map, chain-none}
 use Rattle.bk_num.proofs.ListLemmas.{slice_get_at}

@@ -2,6 +2,7 @@
 use Rattle.std.specs.Prelude.{◌≡◌, ℕ, zero, suc, ◌<◌, nat_le, if◌then◌else◌, List, [], ◌∷◌, Option, None, Some, map, reverse, length, slice_get, filter, take, fold, ◌+◌, ◌^◌, ℤ, pos, ◌+ℤ◌, FitsSigned}
 use Rattle.std.specs.Int.{w64}
 use Rattle.std.specs.List.Sorted.{IsNonDecreasingBy}
+use Rattle.bk_num.specs.Numbers.{last_of}
 use Rattle.counters.specs.Scopes.{or_zero, AreNested, values_by}
 use Rattle.counters.specs.declared.scopes.ScopeMark.{ScopeMark}
 use Rattle.counters.specs.declared.scopes.CounterEvent.{CounterEvent}
@@ -28,11 +29,6 @@ beyond k (m ∷ more) = if nat_le m.end k then beyond k more else m ∷ more
 abbrev pub front : List ScopeMark → Option ScopeMark
 front [] = None
 front (m ∷ more) = Some m
-
--- the last mark of so many
-abbrev pub last_of : ℕ → Option ℕ
-last_of zero = None
-last_of (suc n) = Some n
 
 -- the mark that counts at a place: the last one up to it
 abbrev pub seen_to : ℕ → List ScopeMark → ℕ

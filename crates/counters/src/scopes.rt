@@ -1,9 +1,11 @@
 //! The scopes of one counter (CSS 2.1, 12.4.1), event by event.
 
 ghost use Rattle.std.specs.Prelude.{◌≡◌, ℕ, ◌<◌, ◌≤◌, ◌^◌, IfNone, IfSome, Option, Some, None, IfOk, length, map, nat_lt, slice_get};
-ghost use Rattle.counters.specs.Chains.{AreFalling, AreMarks, IsNext, IsPastLong, AreMarked, all_of, chain, beyond, front, kept_values, last_of, seen_to};
+ghost use Rattle.counters.specs.Chains.{AreFalling, AreMarks, IsNext, IsPastLong, AreMarked, all_of, chain, beyond, front, kept_values, seen_to};
 ghost use Rattle.std.specs.List.Sorted.{IsNonDecreasingBy};
+ghost use Rattle.bk_num.specs.Numbers.{last_of};
 
+use bk_num::ids::last_of;
 use bk_num::items::Items;
 use bk_num::name::NoMem;
 use std::alloc::Global;
@@ -69,15 +71,12 @@ fn count_to(marks: &[ScopeMark], place: u32) -> usize
 }
 
 /// The last of so many marks.
-fn last_of(count: usize) -> Option<u32>
+fn last_mark(count: usize) -> Option<u32>
     requires { count < 2 ^ 32 }
     ensures { result ≡ last_of count }
 {
-    if count == 0 {
-        None
-    } else {
-        Some(count as u32 - 1)
-    }
+    let at = last_of(count)?;
+    Some(at as u32)
 }
 
 /// The values of the scopes from a mark outwards.
@@ -104,7 +103,7 @@ pub fn values_at(alloc: Global, marks: &[ScopeMark], place: u32) -> Result<Vec<i
     requires { AreMarks marks.now }
     ensures { IfOk result (λ v. v.items ≡ kept_values marks.now place) }
 {
-    let last = last_of(count_to(marks, place));
+    let last = last_mark(count_to(marks, place));
     let mut values = values_from(alloc, marks, reaching(marks, last, place))?;
     values.reverse();
     if values.is_empty() {
@@ -130,7 +129,7 @@ fn next_mark(marks: &[ScopeMark], event: &CounterEvent) -> Option<ScopeMark>
     ensures some { IfSome result (λ m. IsNext marks.now event.now m) }
     ensures none { IfNone result (IsPastLong marks.now event.now) }
 {
-    let last = last_of(marks.len());
+    let last = last_mark(marks.len());
     match event.act {
         Act::Reset(number) => {
             let outer = reaching(marks, last, event.end);

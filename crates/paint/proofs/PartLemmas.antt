@@ -4,6 +4,7 @@ use Rattle.std.proofs.lemmas.Int.{ints}
 use Rattle.std.proofs.lemmas.List.{drop_all, length-map, map-append}
 use Rattle.std.proofs.lemmas.Option.{slice_get_within}
 use Rattle.std.specs.Option.{ForSome}
+use Rattle.bk_num.specs.Numbers.{last_of}
 use Rattle.boxes.specs.Clones.{clone_edge, clone_edges}
 use Rattle.boxes.specs.Spans.{span_or}
 use Rattle.boxes.specs.Tree.{Tree, IsTree, depth_of, open_with, open_before, first_of, rest_of}
@@ -19,7 +20,7 @@ use Rattle.bk_num.specs.Limits.{most_open}
 use Rattle.paint.specs.Bounds.{IsGoodOrigin}
 use Rattle.paint.specs.Opens.{IsContentWithin, content_along, content_of, pair_of}
 use Rattle.paint.specs.declared.item.SolidOrigin.{SolidOrigin}
-use Rattle.paint.specs.Parts.{ArePlaces, IsBelow, AscendTo, IsOn, IsOpened, HaveOpened, IsAt, HaveNone, IsGrown, IsRoomOf, LeavesTo, content_at, content_or, inside_at, inside_or, last_of, part_in, spine_of}
+use Rattle.paint.specs.Parts.{ArePlaces, IsBelow, AscendTo, IsOn, IsOpened, HaveOpened, IsAt, HaveNone, IsGrown, IsRoomOf, LeavesTo, content_at, content_or, inside_at, inside_or, part_in, spine_of}
 use Rattle.paint.proofs.ReachLemmas.{get-map}
 
 -- each open box was opened by an earlier event, before which the boxes around it were open

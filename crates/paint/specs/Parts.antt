@@ -1,5 +1,5 @@
 -- The boxes that were met on the way along a page's solids.
-use Rattle.std.specs.Prelude.{◌≡◌, ◌<◌, ◌≤◌, ◌≤ℤ◌, ◌^◌, ◌*◌, ◌++◌, ◌+ℤ◌, ℕ, ℤ, pos, zero, suc, List, [], ◌∷◌, Option, None, Some, Bool, true, false, not, ◌&&◌, ◌||◌, ◌==◌, nat_lt, map, length, slice_get, slice_set, if◌then◌else◌}
+use Rattle.std.specs.Prelude.{◌≡◌, ◌<◌, ◌≤◌, ◌≤ℤ◌, ◌^◌, ◌*◌, ◌++◌, ◌+ℤ◌, ℕ, ℤ, pos, suc, List, [], ◌∷◌, Option, None, Some, Bool, true, false, not, ◌&&◌, ◌||◌, ◌==◌, nat_lt, map, length, slice_get, slice_set, if◌then◌else◌}
 use Rattle.std.specs.List.{filter}
 use Rattle.std.specs.Option.{ForSome, option_or}
 use Rattle.boxes.specs.Clones.{clone_edge, clone_edges}
@@ -163,11 +163,6 @@ HaveNone (p ∷ parts) = IsFresh p × HaveNone parts
 -- further boxes, whose solids were not yet met
 abbrev pub IsGrown : List Fragment → List Fragment → Type 0
 IsGrown old new = (more : List Fragment) × (new ≡ old ++ more) × HaveNone more
-
--- the last of so many places
-abbrev pub last_of : ℕ → Option ℕ
-last_of zero = None
-last_of (suc n) = Some n
 
 -- the content of a frame: it begins at its left and is as wide as it
 abbrev pub frame_content : ℤ → Content

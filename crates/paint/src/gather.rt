@@ -3,17 +3,19 @@
 ghost use Rattle.std.specs.Prelude.{◌≡◌, ◌+◌, ◌<◌, ◌≤◌, ◌-◌, ◌^◌, Some, length, take, All, IfOk, OnOk, slice_get};
 ghost use Rattle.std.specs.List.{flat_map};
 ghost use Rattle.std.specs.Option.{ForSome};
+ghost use Rattle.bk_num.specs.Numbers.{last_of};
 ghost use Rattle.bk_num.specs.Limits.{most_open};
 ghost use Rattle.boxes.specs.Tree.{depth_of, open_before};
 ghost use Rattle.paint.specs.Bounds.{IsGoodOrigin, IsNearPart, IsNearSolid};
 ghost use Rattle.paint.specs.Order.{AreInOrder};
 ghost use Rattle.paint.specs.Pages.{rects_of};
-ghost use Rattle.paint.specs.Parts.{AddsSolid, AreGathered, HaveNone, IsAt, IsGrown, LeavesTo, end_by, first_event, last_of, part_rects};
+ghost use Rattle.paint.specs.Parts.{AddsSolid, AreGathered, HaveNone, IsAt, IsGrown, LeavesTo, end_by, first_event, part_rects};
 
 use crate::again::stand_again;
 use crate::extent::extent_of;
 use crate::item::SolidOrigin;
 use crate::parts::{Fragment, Reached, extend, merge, open_part};
+use bk_num::ids::last_of;
 use bk_num::limits::MOST_OPEN;
 use bk_num::name::NoMem;
 use boxes::page::Placed;
@@ -21,13 +23,6 @@ use boxes::place::Event;
 use boxes::span::write_chain;
 use boxes::tree::BoxTree;
 use std::alloc::Global;
-
-/// The last of so many places.
-fn last_of(count: usize) -> Option<usize>
-    ensures { result ≡ last_of count }
-{
-    if count == 0 { None } else { Some(count - 1) }
-}
 
 /// Appends open boxes, each inside the next one, the outermost first.
 fn open_all(

@@ -1,6 +1,7 @@
 use Rattle.std.proofs.Common.{◌≡◌, ◌<◌, ◌-◌, ◌∷◌, [], ◌++◌, ◌∙◌, ℕ, suc, List, Option, length, drop, get_or, sym, ap, subst, arith}
 use Rattle.std.proofs.Math.Seq.{drop-cons}
-use Rattle.paint.specs.Parts.{IsRoomOf, content_at, inside_at, last_of, part_in}
+use Rattle.bk_num.specs.Numbers.{last_of}
+use Rattle.paint.specs.Parts.{IsRoomOf, content_at, inside_at, part_in}
 use Rattle.paint.specs.declared.parts.Fragment.{Fragment}
 use Rattle.boxes.specs.Tree.{open_before}
 use Rattle.paint.specs.Opens.{IsContentWithin}
@@ -36,7 +37,7 @@ open_part-requires-clause-around c =
     let left : ℕ = c.loop-left.left - 1 in
     let next : c.loop-left.left ≡ suc left = omega arith in
     let low : left < length chain = (let w = c.loop-left.invariant.within in omega arith) in
-    let inner : c.last_of-inner.result ≡ last_of (length parts) = c.last_of-inner.ensures ∙ ap last_of (c.len.ensures ∙ c.loop-left.parts.ok.0) in
+    let inner : c.last_of-inner.result ≡ last_of (length parts) = c.last_of-inner.ensures.value ∙ ap last_of (c.len.ensures ∙ c.loop-left.parts.ok.0) in
     subst (λ (o : Option ℕ). IsContentWithin (length (open_before t.events c.opens_at.result)) (content_at m parts o)) (sym inner)
     (started_bounded t c.count-count.ensures.tree c.args.origin.now c.args.event left c.opens_at.result _ chain parts c.requires.origin c.requires.within c.requires.chain (drop-cons chain left 0 low) c.opens_at.ensures (subst (λ (n : ℕ). IsStarted t m chain n parts) next c.loop-left.invariant.started))
 
@@ -49,7 +50,7 @@ open_part-requires-clause-above c =
     let left : ℕ = c.loop-left.left - 1 in
     let next : c.loop-left.left ≡ suc left = omega arith in
     let low : left < length chain = (let w = c.loop-left.invariant.within in omega arith) in
-    let inner : c.last_of-inner.result ≡ last_of (length parts) = c.last_of-inner.ensures ∙ ap last_of (c.len.ensures ∙ c.loop-left.parts.ok.0) in
+    let inner : c.last_of-inner.result ≡ last_of (length parts) = c.last_of-inner.ensures.value ∙ ap last_of (c.len.ensures ∙ c.loop-left.parts.ok.0) in
     subst (λ (o : Option ℕ). IsRoomOf (length (open_before t.events c.opens_at.result)) (inside_at parts o)) (sym inner)
     (started_inside t c.count-count.ensures.tree m c.args.event left c.opens_at.result _ chain parts c.requires.within c.requires.chain (drop-cons chain left 0 low) c.opens_at.ensures (subst (λ (n : ℕ). IsStarted t m chain n parts) next c.loop-left.invariant.started))
 
@@ -63,7 +64,7 @@ loop-left-preserved c =
     let next : c.loop-left.left ≡ suc left = omega arith in
     let low : left < length chain = (let w = c.loop-left.invariant.within in omega arith) in
     let b : ℕ = get_or chain left 0 in
-    let inner : c.last_of-inner.result ≡ last_of (length parts) = c.last_of-inner.ensures ∙ ap last_of (c.len.ensures ∙ c.loop-left.parts.ok.0) in
+    let inner : c.last_of-inner.result ≡ last_of (length parts) = c.last_of-inner.ensures.value ∙ ap last_of (c.len.ensures ∙ c.loop-left.parts.ok.0) in
     let pushed : c.open_part.new.parts.items ≡ parts ++ part_in t m parts (last_of (length parts)) c.opens_at.result b ∷ [] = c.in_ok-open_part.ensures.part ∙ ap (λ o. parts ++ part_in t m parts o c.opens_at.result b ∷ []) inner in
     let around : IsContentWithin (length (open_before t.events c.opens_at.result)) (content_at m parts (last_of (length parts))) =
     started_bounded t c.count-count.ensures.tree c.args.origin.now c.args.event left c.opens_at.result b chain parts c.requires.origin c.requires.within c.requires.chain (drop-cons chain left 0 low) c.opens_at.ensures (subst (λ (n : ℕ). IsStarted t m chain n parts) next c.loop-left.invariant.started) in
