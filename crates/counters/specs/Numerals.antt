@@ -1,5 +1,5 @@
 -- How the number of a counter is printed (CSS 2.1, 12.4.2).
-use Rattle.std.specs.Prelude.{◌≡◌, ℕ, zero, suc, ◌+◌, ◌*◌, ◌-◌, ◌/◌, ◌%◌, ◌<◌, ◌≤◌, Bool, true, false, ◌&&◌, ◌||◌, nat_le, nat_lt, ◌==◌, if◌then◌else◌, List, [], ◌∷◌, ◌++◌, fold, All, ℤ, pos, negsuc, neg_ℤ, ◌+ℤ◌, unsigned_abs, get_or}
+use Rattle.std.specs.Prelude.{◌≡◌, ℕ, zero, suc, ◌+◌, ◌*◌, ◌-◌, ◌/◌, ◌%◌, ◌<◌, ◌≤◌, Bool, true, false, ◌&&◌, ◌||◌, nat_le, nat_lt, ◌==◌, if◌then◌else◌, List, [], ◌∷◌, ◌++◌, fold, All, ℤ, pos, negsuc, neg_ℤ, ◌+ℤ◌, unsigned_abs, get_or, Option, None, Some}
 use Rattle.std.specs.Fmt.{signed_decimal}
 use Rattle.std.specs.Int.{is_positive}
 use Rattle.bk_num.specs.declared.values.NumStyle.{NumStyle}
@@ -143,3 +143,8 @@ LettersStandFor = (first n : ℕ) → All (IsLetter first) (letters first n) × 
 abbrev pub LettersAreOne : Type 0
 LettersAreOne =
     (first : ℕ) (text : List ℕ) → All (IsLetter first) text → letters first (letters_value first text) ≡ text
+
+-- the text of a number in a style; nothing where there is none
+abbrev pub number_text : NumStyle → Option ℤ → List ℕ
+number_text style None = []
+number_text style (Some number) = numeral_of style number

@@ -4,12 +4,12 @@ use Rattle.std.specs.List.{flat_map}
 use Rattle.bk_num.specs.declared.values.NumStyle.{NumStyle}
 use Rattle.bk_num.specs.declared.values.Pseudo.{Pseudo}
 use Rattle.bk_num.specs.declared.values.Pseudo.TheVariants as pseudo
-use Rattle.counters.specs.Numerals.{numeral_of}
+use Rattle.counters.specs.Numerals.{numeral_of, number_text}
 use Rattle.dom.specs.Nodes.{Node}
 use Rattle.style.specs.declared.content.Link.{Link}
 use Rattle.style.specs.Nodes.{NodeStyles}
 use Rattle.gen_text.specs.declared.table.Entry.{Entry}
-use Rattle.gen_text.specs.Table.{printed, page_text}
+use Rattle.gen_text.specs.Table.{page_text}
 use Rattle.gen_text.specs.Target.{IsTarget}
 use Rattle.gen_text.specs.References.{is_page}
 
@@ -20,7 +20,7 @@ attribute_text (Some value) = value
 
 -- `counter()`: of the values, the outermost first, the last one
 abbrev pub innermost_text : NumStyle → List ℤ → List ℕ
-innermost_text style values = printed style (slice_get values (length values - 1))
+innermost_text style values = number_text style (slice_get values (length values - 1))
 
 -- a value after the text between two
 abbrev pub after_text : List ℕ → NumStyle → ℤ → List ℕ

@@ -2,7 +2,7 @@
 use Rattle.std.specs.Prelude.{ℕ, ◌==◌, if◌then◌else◌, List, [], ◌∷◌, Option, None, Some, ℤ}
 use Rattle.std.specs.List.Sorted.{IsNonDecreasingBy}
 use Rattle.bk_num.specs.declared.values.NumStyle.{NumStyle}
-use Rattle.counters.specs.Numerals.{numeral_of}
+use Rattle.counters.specs.Numerals.{number_text}
 use Rattle.gen_text.specs.declared.table.Entry.{Entry}
 use Rattle.gen_text.specs.declared.table.Table.TheInside.{Inside}
 
@@ -16,14 +16,9 @@ abbrev pub number_for : List Entry → Option ℕ → Option ℤ
 number_for entries None = None
 number_for entries (Some n) = number_in entries n
 
--- what a page reference prints: its target's number, or nothing (css-gcpm-3, "target-counter()")
-abbrev pub printed : NumStyle → Option ℤ → List ℕ
-printed style None = []
-printed style (Some k) = numeral_of style k
-
--- the text of a page reference to a target
+-- the text of a page reference to a target: the number of its page, or nothing (css-gcpm-3, "target-counter()")
 abbrev pub page_text : List Entry → Option ℕ → NumStyle → List ℕ
-page_text entries target style = printed style (number_for entries target)
+page_text entries target style = number_text style (number_for entries target)
 
 -- the nodes ascend
 abbrev pub Ascend : List Entry → Type 0

@@ -1,8 +1,7 @@
 -- What the margin boxes of a page print (css-page-3, page-margin boxes; css-gcpm-3, 1.1.2; CSS 2.1, 12.2).
-use Rattle.std.specs.Prelude.{ℕ, ℤ, pos, List, [], Option, None, Some, length, slice_get}
+use Rattle.std.specs.Prelude.{ℕ, ℤ, pos, List, [], Option, length, slice_get}
 use Rattle.std.specs.List.{flat_map}
 use Rattle.bk_num.specs.declared.ids.NameId.{NameId}
-use Rattle.bk_num.specs.declared.values.NumStyle.{NumStyle}
 use Rattle.style.specs.declared.content.Part.{Part}
 use Rattle.style.specs.declared.content.Part.TheVariants as part
 use Rattle.metrics.specs.Face.{FontFace}
@@ -10,7 +9,7 @@ use Rattle.boxes.specs.declared.flow.Flow.{Flow}
 use Rattle.boxes.specs.declared.frames.PageKind.{PageKind}
 use Rattle.boxes.specs.declared.page.Page.{Page}
 use Rattle.boxes.specs.declared.table.PageCell.{PageCell}
-use Rattle.counters.specs.Numerals.{numeral_of}
+use Rattle.counters.specs.Numerals.{numeral_of, number_text}
 use Rattle.strings.specs.Shown.{string_of}
 use Rattle.page_ctx.specs.Margins.{MarginStyleOf}
 
@@ -24,11 +23,6 @@ pub record MarginsOf : Type 0 where
   pub numbers : List ℤ
   pub cell : ℕ → NameId → PageKind → Option PageCell
   pub style : ℕ → NameId → PageKind → ℕ → Option MarginStyleOf
-
--- a number in a style; nothing where there is none
-abbrev pub number_text : NumStyle → Option ℤ → List ℕ
-number_text style None = []
-number_text style (Some number) = numeral_of style number
 
 -- what a part prints on a page: a text, a running string, the page's number, or how many pages there are; no margin box
 -- has another part
