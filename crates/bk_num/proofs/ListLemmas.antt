@@ -1,8 +1,10 @@
 -- what stands at a place of a list, after changes of the list
-use Rattle.std.proofs.Common.{◌≡◌, ◌∙◌, ℕ, suc, zero, ◌+◌, ◌<◌, ◌≤◌, List, [], ◌∷◌, ◌++◌, Option, None, Some, Bool, true, false, cond, All, is_some, length, map, take, drop, slice_get, slice_set, refl, ap, subst, arith, ◌⊎◌, inl, inr, get_or, filter, flat_map, append-nil, append_assoc, add-one, sym}
-use Rattle.std.specs.List.{Contains, prefix_len, AllZip, range_with_len}
+use Rattle.std.proofs.Common.{◌≡◌, ◌∙◌, ◌||◌, ℕ, suc, zero, ◌+◌, ◌<◌, ◌≤◌, List, [], ◌∷◌, ◌++◌, Option, None, Some, Bool, true, false, cond, All, is_some, length, map, take, drop, slice_get, slice_set, refl, ap, subst, arith, ◌⊎◌, inl, inr, get_or, filter, flat_map, append-nil, append_assoc, add-one, sym}
+use Rattle.std.specs.List.{Contains, prefix_len, AllZip, list_any, range_with_len}
 use Rattle.std.specs.Option.{option_map}
 use Rattle.std.specs.Str.{bytes_eq}
+use Rattle.std.specs.String.{string_bytes}
+use Rattle.std.specs.declared.string.String.{String}
 use Rattle.std.proofs.lemmas.Option.{slice_get-get_or, slice_get-map, slice_get_within, get_or_from_slice_get}
 use Rattle.std.proofs.lemmas.Slice.Eq.{bytes_eq-Decides}
 use Rattle.std.proofs.lemmas.List.{map-append}
@@ -147,6 +149,11 @@ bytes_same xs ys e = (bytes_eq-Decides xs ys).0 e
 
 pub bytes_self : (xs : List ℕ) → bytes_eq xs xs ≡ true
 bytes_self xs = (bytes_eq-Decides xs xs).1 refl
+
+-- a name is among texts as it is among their bytes
+pub any-map : {Y : Type 0} (bs : List ℕ) (ks : List (String Y)) → list_any (bytes_eq bs) (map (λ s. string_bytes s) ks) ≡ list_any (λ k. bytes_eq bs (string_bytes k)) ks
+any-map bs [] = refl
+any-map bs (k ∷ ks) = ap (λ b. bytes_eq bs (string_bytes k) || b) (any-map bs ks)
 
 -- what isn't there is None
 pub none-is : {A : Type 0} (o : Option A) → is_some o ≡ false → o ≡ None

@@ -6,13 +6,13 @@ use Rattle.std.proofs.lemmas.Bool.{eqb-true, and_parts}
 use Rattle.std.proofs.lemmas.Bool.Decides.{Decides-int_eq, nat_tests}
 use Rattle.std.proofs.Math.IntN.{+ℤ_idr}
 use Rattle.bk_num.proofs.ListLemmas.{bytes_same, map-same}
-use Rattle.named_lists.specs.Lists.{ListsOf, no_lists, with_item, items_of, of_name}
+use Rattle.named_lists.specs.Lists.{AreDistinct, ListsOf, no_lists, with_item, items_of, of_name}
 use Rattle.named_lists.proofs.ListLemmas.{distinct-more, items-more, len-more, of-one, of_name-append}
 use Rattle.counters.specs.declared.scopes.Act.{Act}
 use Rattle.counters.specs.declared.scopes.Act.TheVariants as act
 use Rattle.counters.specs.declared.scopes.CounterEvent.{CounterEvent}
 use Rattle.counters.specs.Scopes.{AreNested, Each, History, IsAfter, Scope, holding, history_of, live, implied, new_scope, nothing_yet, opened, opened_by, share, total, value_of, values_by, values_in, with_event, or_zero}
-use Rattle.counters.specs.Gather.{AreKept, adds_nothing, is_at, is_same, is_use, needed, with_change, with_changes}
+use Rattle.counters.specs.Gather.{adds_nothing, is_at, is_same, is_use, needed, with_change, with_changes}
 use Rattle.counters.proofs.ScopeLemmas.{each-map}
 use Rattle.counters.proofs.ValueLemmas.{filter-none, up_to}
 
@@ -50,6 +50,12 @@ after-one : (events kept : List CounterEvent) (e : CounterEvent) → kept ≡ ne
 after-one events kept e h =
     let same : adds_nothing kept e ≡ (is_same (last_place None (needed None events)) e.at && is_use e.act) = ap (λ b. b && is_use e.act) (stands-last kept e.at ∙ ap (λ l. is_same (last_place None l) e.at) h) in
     needed-more None events e ∙ ap (λ l. l ++ cond (is_same (last_place None (needed None events)) e.at && is_use e.act) [] (e ∷ [])) (sym h) ∙ ap (λ b. kept ++ cond b [] (e ∷ [])) (sym same)
+
+-- the events of each name are in its list, but for uses that add nothing
+pub record AreKept (pairs : List (List ℕ × CounterEvent)) (l : ListsOf CounterEvent) : Type 0 where
+  pub len : length l.names ≡ length l.lists
+  pub distinct : AreDistinct l.names
+  pub each : (name : List ℕ) → items_of l name ≡ needed None (of_name pairs name)
 
 of-more : (pairs : List (List ℕ × CounterEvent)) (p : List ℕ × CounterEvent) (x : List ℕ) → of_name (pairs ++ p ∷ []) x ≡ of_name pairs x ++ cond (bytes_eq p.0 x) (p.1 ∷ []) []
 of-more pairs p x = of_name-append pairs (p ∷ []) x ∙ ap (λ v. of_name pairs x ++ v) (sym (of-one p.0 x p.1 (bytes_eq p.0 x) refl))

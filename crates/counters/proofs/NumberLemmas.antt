@@ -5,6 +5,7 @@ use Rattle.std.specs.Str.{bytes_eq}
 use Rattle.std.specs.List.{position}
 use Rattle.std.specs.List.Sorted.{IsNonDecreasingBy}
 use Rattle.std.proofs.lemmas.Option.{slice_get_within}
+use Rattle.bk_num.specs.Names.{has_name}
 use Rattle.bk_num.proofs.ListLemmas.{bytes_same, slice_get_at, get-push, get-keep, get-end}
 use Rattle.bk_num.specs.declared.values.Pseudo.{Pseudo}
 use Rattle.bk_num.specs.declared.values.Pseudo.TheVariants as pseudo
@@ -18,10 +19,10 @@ use Rattle.counters.specs.Scopes.{Each, IsAfter, AreNested, values_by}
 use Rattle.counters.specs.Chains.{AreMarks, AreMarked}
 use Rattle.counters.specs.At.{Kept, AreAllMarks, AreAllNested, KeepAsked, place_in, values_of_marks, marks_by, counter_values}
 use Rattle.counters.specs.Document.{document_events, place_number, values_of, into, out_of}
-use Rattle.counters.specs.Log.{is_asked, of_asked}
+use Rattle.counters.specs.Log.{of_asked}
 use Rattle.named_lists.specs.Lists.{ListsOf, listed, list_at, of_name}
-use Rattle.counters.specs.Gather.{AreSpots, spot_at, needed, AreKept, AreInOrder, IsMarksOf, AreMarksOf}
-use Rattle.counters.proofs.NeededLemmas.{needed-nested, needed-values}
+use Rattle.counters.specs.Gather.{AreSpots, spot_at, needed, AreInOrder, IsMarksOf, AreMarksOf}
+use Rattle.counters.proofs.NeededLemmas.{AreKept, needed-nested, needed-values}
 use Rattle.counters.proofs.NestLemmas.{events-are-nested}
 use Rattle.counters.proofs.ValueLemmas.{values-are}
 
@@ -39,25 +40,25 @@ nested-sorted (e ∷ more) h (suc i) (suc j) d le l = nested-sorted more h.2 i j
 
 -- ---- the counters that are asked for
 
-of-asked : (asked : List (List ℕ)) (events : List (List ℕ × CounterEvent)) (x : List ℕ) → of_name (of_asked asked events) x ≡ cond (is_asked asked x) (of_name events x) []
-of-asked asked [] x = by (is_asked asked x)
+of-asked : (asked : List (List ℕ)) (events : List (List ℕ × CounterEvent)) (x : List ℕ) → of_name (of_asked asked events) x ≡ cond (has_name asked x) (of_name events x) []
+of-asked asked [] x = by (has_name asked x)
   where
     by : (b : Bool) → [] ≡ cond {A = List CounterEvent} b [] []
     by true = refl
     by false = refl
-of-asked asked (e ∷ es) x = by (is_asked asked e.0) refl (bytes_eq e.0 x) refl (of-asked asked es x)
+of-asked asked (e ∷ es) x = by (has_name asked e.0) refl (bytes_eq e.0 x) refl (of-asked asked es x)
   where
-    here : bytes_eq e.0 x ≡ true → is_asked asked e.0 ≡ is_asked asked x
-    here q = ap (is_asked asked) (bytes_same e.0 x q)
+    here : bytes_eq e.0 x ≡ true → has_name asked e.0 ≡ has_name asked x
+    here q = ap (has_name asked) (bytes_same e.0 x q)
 
-    by : (b : Bool) → is_asked asked e.0 ≡ b → (c : Bool) → bytes_eq e.0 x ≡ c → of_name (of_asked asked es) x ≡ cond (is_asked asked x) (of_name es x) [] → of_name (cond b (e ∷ of_asked asked es) (of_asked asked es)) x ≡ cond (is_asked asked x) (of_name (e ∷ es) x) []
-    by true p true q same = let t : is_asked asked x ≡ true = sym (here q) ∙ p in rw (q, t) (ap (λ l. e.1 ∷ l) (same ∙ ap (λ b. cond b (of_name es x) []) t))
+    by : (b : Bool) → has_name asked e.0 ≡ b → (c : Bool) → bytes_eq e.0 x ≡ c → of_name (of_asked asked es) x ≡ cond (has_name asked x) (of_name es x) [] → of_name (cond b (e ∷ of_asked asked es) (of_asked asked es)) x ≡ cond (has_name asked x) (of_name (e ∷ es) x) []
+    by true p true q same = let t : has_name asked x ≡ true = sym (here q) ∙ p in rw (q, t) (ap (λ l. e.1 ∷ l) (same ∙ ap (λ b. cond b (of_name es x) []) t))
     by true p false q same = rw q same
-    by false p true q same = let f : is_asked asked x ≡ false = sym (here q) ∙ p in rw f (same ∙ ap (λ b. cond b (of_name es x) []) f)
+    by false p true q same = let f : has_name asked x ≡ false = sym (here q) ∙ p in rw f (same ∙ ap (λ b. cond b (of_name es x) []) f)
     by false p false q same = rw q same
 
 pub asked-nested : (asked : List (List ℕ)) (events : List (List ℕ × CounterEvent)) → AreAllNested events → AreAllNested (of_asked asked events)
-asked-nested asked events h x = subst AreNested (sym (of-asked asked events x)) (by (is_asked asked x))
+asked-nested asked events h x = subst AreNested (sym (of-asked asked events x)) (by (has_name asked x))
   where
     by : (b : Bool) → AreNested (cond b (of_name events x) [])
     by true = h x

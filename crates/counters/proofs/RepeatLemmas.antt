@@ -1,6 +1,8 @@
 -- uses that repeat the change before them
 use Rattle.std.proofs.Common.{◌≡◌, ℕ, zero, suc, ◌-◌, ◌+◌, ◌<◌, Bool, true, false, cond, ◌&&◌, List, [], ◌∷◌, ◌++◌, Option, Some, drop, get_or, length, length-append, slice_get, refl, sym, ◌∙◌, ap, subst, arith}
 use Rattle.std.proofs.lemmas.Bool.{and_parts}
+use Rattle.std.proofs.lemmas.Option.{same_Some}
+use Rattle.bk_num.specs.Names.{has_name}
 use Rattle.bk_num.proofs.ListLemmas.{bytes_self, get-end}
 use Rattle.named_lists.specs.Lists.{ListsOf, items_of, with_item}
 use Rattle.named_lists.proofs.ListLemmas.{items-more, len-more}
@@ -10,7 +12,7 @@ use Rattle.counters.specs.declared.scopes.CounterEvent.{CounterEvent}
 use Rattle.counters.specs.Gather.{adds_nothing, is_at, is_use, with_change, with_changes}
 use Rattle.counters.specs.declared.scopes.Act.{Act}
 use Rattle.counters.specs.Document.{named}
-use Rattle.counters.specs.Log.{is_asked, of_asked}
+use Rattle.counters.specs.Log.{of_asked}
 
 -- whether the last event stands at a place
 abbrev StandsAt : ℕ → List CounterEvent → Type 0
@@ -39,23 +41,23 @@ change-stands l p h = by (adds_nothing (items_of l p.0) p.1) refl
     by false e = ap (λ v. is_at p.1.at (slice_get v (length v - 1))) more ∙ end-stands (items_of l p.0) p.1
 
 asked-len : (asked : List (List ℕ)) (l : ListsOf CounterEvent) (p : List ℕ × CounterEvent) → length l.names ≡ length l.lists → length (with_changes l (of_asked asked (p ∷ []))).names ≡ length (with_changes l (of_asked asked (p ∷ []))).lists
-asked-len asked l p h = by (is_asked asked p.0)
+asked-len asked l p h = by (has_name asked p.0)
   where
     by : (b : Bool) → length (with_changes l (cond b (p ∷ []) [])).names ≡ length (with_changes l (cond b (p ∷ []) [])).lists
     by true = change-len l p h
     by false = h
 
-asked-stands : (asked : List (List ℕ)) (l : ListsOf CounterEvent) (p : List ℕ × CounterEvent) → length l.names ≡ length l.lists → is_asked asked p.0 ≡ true → StandsAt p.1.at (items_of (with_changes l (of_asked asked (p ∷ []))) p.0)
+asked-stands : (asked : List (List ℕ)) (l : ListsOf CounterEvent) (p : List ℕ × CounterEvent) → length l.names ≡ length l.lists → has_name asked p.0 ≡ true → StandsAt p.1.at (items_of (with_changes l (of_asked asked (p ∷ []))) p.0)
 asked-stands asked l p h t = ap (λ b. is_at p.1.at (slice_get (items_of (with_changes l (cond b (p ∷ []) [])) p.0) (length (items_of (with_changes l (cond b (p ∷ []) [])) p.0) - 1))) t ∙ change-stands l p h
 
 -- a use that repeats a change at its place changes nothing
-repeated : (asked : List (List ℕ)) (l : ListsOf CounterEvent) (p : List ℕ × CounterEvent) (more : List (List ℕ × CounterEvent)) → (is_asked asked p.0 ≡ true → StandsAt p.1.at (items_of l p.0)) → is_use p.1.act ≡ true → with_changes l (of_asked asked (p ∷ more)) ≡ with_changes l (of_asked asked more)
-repeated asked l p more stands use_is = by (is_asked asked p.0) refl
+repeated : (asked : List (List ℕ)) (l : ListsOf CounterEvent) (p : List ℕ × CounterEvent) (more : List (List ℕ × CounterEvent)) → (has_name asked p.0 ≡ true → StandsAt p.1.at (items_of l p.0)) → is_use p.1.act ≡ true → with_changes l (of_asked asked (p ∷ more)) ≡ with_changes l (of_asked asked more)
+repeated asked l p more stands use_is = by (has_name asked p.0) refl
   where
-    none : is_asked asked p.0 ≡ true → with_change l p ≡ l
+    none : has_name asked p.0 ≡ true → with_change l p ≡ l
     none t = ap (λ b. cond (b && is_use p.1.act) l (with_item l p)) (stands t) ∙ ap (λ b. cond b l (with_item l p)) use_is
 
-    by : (b : Bool) → is_asked asked p.0 ≡ b → with_changes l (cond b (p ∷ of_asked asked more) (of_asked asked more)) ≡ with_changes l (of_asked asked more)
+    by : (b : Bool) → has_name asked p.0 ≡ b → with_changes l (cond b (p ∷ of_asked asked more) (of_asked asked more)) ≡ with_changes l (of_asked asked more)
     by true t = ap (λ m. with_changes m (of_asked asked more)) (none t)
     by false t = refl
 
@@ -74,7 +76,7 @@ row-step : (asked : List (List ℕ)) (at end : ℕ) (items : List (List ℕ × A
 row-step asked at end items i x l h e = ap (λ d. with_changes l (of_asked asked (named at end d))) (drop-more items i x (get-last items i x h e))
 
 one-first : (asked : List (List ℕ)) (l : ListsOf CounterEvent) (p : List ℕ × CounterEvent) (more : List (List ℕ × CounterEvent)) → with_changes l (of_asked asked (p ∷ more)) ≡ with_changes (with_changes l (of_asked asked (p ∷ []))) (of_asked asked more)
-one-first asked l p more = by (is_asked asked p.0)
+one-first asked l p more = by (has_name asked p.0)
   where
     by : (b : Bool) → with_changes l (cond b (p ∷ of_asked asked more) (of_asked asked more)) ≡ with_changes (with_changes l (cond b (p ∷ []) [])) (of_asked asked more)
     by true = refl
@@ -82,7 +84,7 @@ one-first asked l p more = by (is_asked asked p.0)
 
 -- the last event of the counter that was changed last stands at the place
 abbrev pub Stand : List (List ℕ) → ℕ → ListsOf CounterEvent → Option (List ℕ) → Type 0
-Stand asked at l before = (x : List ℕ) → before ≡ Some x → is_asked asked x ≡ true → is_at at (slice_get (items_of l x) (length (items_of l x) - 1)) ≡ true
+Stand asked at l before = (x : List ℕ) → before ≡ Some x → has_name asked x ≡ true → is_at at (slice_get (items_of l x) (length (items_of l x) - 1)) ≡ true
 
 pub row-pushed : (asked : List (List ℕ)) (at end : ℕ) (items : List (List ℕ × Act)) (i : ℕ) (x : List ℕ × Act) (l new : ListsOf CounterEvent) → i < length items → x ≡ get_or items i x → new ≡ with_changes l (of_asked asked (event_of at end x ∷ [])) → with_changes new (of_asked asked (named at end (drop (i + 1) items))) ≡ with_changes l (of_asked asked (named at end (drop i items)))
 row-pushed asked at end items i x l new h e n = ap (λ m. with_changes m (of_asked asked (named at end (drop (i + 1) items)))) n ∙ sym (one-first asked l (event_of at end x) (named at end (drop (i + 1) items))) ∙ sym (row-step asked at end items i x l h e)
@@ -92,12 +94,9 @@ pushed-len asked p l new h n = subst (λ (m : ListsOf CounterEvent). length m.na
 
 pub pushed-stand : (asked : List (List ℕ)) (p : List ℕ × CounterEvent) (l new : ListsOf CounterEvent) (before : Option (List ℕ)) → length l.names ≡ length l.lists → new ≡ with_changes l (of_asked asked (p ∷ [])) → before ≡ Some p.0 → Stand asked p.1.at new before
 pushed-stand asked p l new before h n e x f t =
-    let same : p.0 ≡ x = one p.0 x (sym e ∙ f) in
-    let here : StandsAt p.1.at (items_of new p.0) = subst (λ (m : ListsOf CounterEvent). StandsAt p.1.at (items_of m p.0)) (sym n) (asked-stands asked l p h (ap (is_asked asked) same ∙ t)) in
+    let same : p.0 ≡ x = same_Some p.0 x (sym e ∙ f) in
+    let here : StandsAt p.1.at (items_of new p.0) = subst (λ (m : ListsOf CounterEvent). StandsAt p.1.at (items_of m p.0)) (sym n) (asked-stands asked l p h (ap (has_name asked) same ∙ t)) in
     subst (λ (y : List ℕ). StandsAt p.1.at (items_of new y)) same here
-  where
-    one : (a b : List ℕ) → Some a ≡ Some b → a ≡ b
-    one a b g = cc
 
 pub row-repeated : (asked : List (List ℕ)) (at end : ℕ) (items : List (List ℕ × Act)) (i : ℕ) (x : List ℕ × Act) (l : ListsOf CounterEvent) (before : Option (List ℕ)) → i < length items → x ≡ get_or items i x → Stand asked at l before → before ≡ Some x.0 → is_use x.1 ≡ true → with_changes l (of_asked asked (named at end (drop (i + 1) items))) ≡ with_changes l (of_asked asked (named at end (drop i items)))
 row-repeated asked at end items i x l before h e stand same use_is = sym (row-step asked at end items i x l h e ∙ repeated asked l (event_of at end x) (named at end (drop (i + 1) items)) (stand x.0 same) use_is)

@@ -1,13 +1,14 @@
 -- the spots of a walk, step by step
 use Rattle.std.proofs.Common.{◌≡◌, ℕ, zero, suc, ◌+◌, ◌<◌, ◌≤◌, ◌==◌, Bool, true, false, cond, List, [], ◌∷◌, ◌++◌, Option, None, Some, length, length-append, slice_get, slice_set, refl, sym, ◌∙◌, ap, subst, arith, append_assoc, append-nil}
-use Rattle.std.specs.Prelude.{nat_lt, not, option_map, ◌^◌}
+use Rattle.std.specs.Prelude.{nat_lt, not, ◌^◌}
+use Rattle.std.specs.Option.{option_or}
 use Rattle.std.specs.List.{position, prefix_len}
 use Rattle.std.proofs.lemmas.Bool.{eq-eqb}
 use Rattle.std.proofs.lemmas.Map.Views.{exact_unsigned_eq}
 use Rattle.std.proofs.lemmas.Bool.Decides.{nat_tests}
 use Rattle.bk_num.proofs.ListLemmas.{length-slice_set}
-use Rattle.named_lists.proofs.ListLemmas.{first, position-first}
-use Rattle.dom.specs.Nodes.{Node, IsTree, first_of}
+use Rattle.named_lists.proofs.ListLemmas.{position-more}
+use Rattle.dom.specs.Nodes.{Node, IsTree}
 use Rattle.dom.specs.Walk.{node_of, steps_of}
 use Rattle.dom.specs.declared.walk.Step.{Step}
 use Rattle.dom.specs.declared.walk.Step.TheVariants.{Enter, Leave}
@@ -17,20 +18,7 @@ use Rattle.counters.specs.Document.{enters, leaves, into, out_of}
 use Rattle.counters.specs.Gather.{AreSpots, spot_at, stepped}
 use Rattle.counters.proofs.StepCounts.{steps-few}
 
-first-more : {A : Type 0} (p : A → Bool) (xs : List A) (x : A) → first p (xs ++ x ∷ []) ≡ first_of (first p xs) (cond (p x) (Some (length xs)) None)
-first-more p [] x = refl
-first-more p (y ∷ ys) x = by (p y) (first p ys) (p x) (first-more p ys x)
-  where
-    by : (b : Bool) (o : Option ℕ) (c : Bool) → first p (ys ++ x ∷ []) ≡ first_of o (cond c (Some (length ys)) None) → cond {A = Option ℕ} b (Some 0) (option_map (λ i. suc i) (first p (ys ++ x ∷ []))) ≡ first_of (cond {A = Option ℕ} b (Some 0) (option_map (λ i. suc i) o)) (cond c (Some (suc (length ys))) None)
-    by true o c r = refl
-    by false None true r = rw r refl
-    by false None false r = rw r refl
-    by false (Some i) c r = rw r refl
-
-pub position-more : {A : Type 0} (p : A → Bool) (xs : List A) (x : A) → position p (xs ++ x ∷ []) ≡ first_of (position p xs) (cond (p x) (Some (length xs)) None)
-position-more p xs x = position-first p (xs ++ x ∷ []) ∙ first-more p xs x ∙ ap (λ o. first_of o (cond (p x) (Some (length xs)) None)) (sym (position-first p xs))
-
-or-none : (o : Option ℕ) → first_of o None ≡ o
+or-none : (o : Option ℕ) → option_or o None ≡ o
 or-none None = refl
 or-none (Some i) = refl
 
@@ -58,8 +46,8 @@ not-eq m n h = by (m == n) refl
     by false e = refl
 
 spot-same : (done : List Step) (s : Step) (n : ℕ) → (n ≡ node_of s → ⊥) → (into (done ++ s ∷ []) n ≡ into done n) × (out_of (done ++ s ∷ []) n ≡ out_of done n)
-spot-same done (Enter m) n h = (position-more (enters n) done (Enter m) ∙ ap (λ b. first_of (into done n) (cond b (Some (length done)) None)) (not-eq m.0 n h) ∙ or-none (into done n), position-more (leaves n) done (Enter m) ∙ or-none (out_of done n))
-spot-same done (Leave m) n h = (position-more (enters n) done (Leave m) ∙ or-none (into done n), position-more (leaves n) done (Leave m) ∙ ap (λ b. first_of (out_of done n) (cond b (Some (length done)) None)) (not-eq m.0 n h) ∙ or-none (out_of done n))
+spot-same done (Enter m) n h = (position-more (enters n) done (Enter m) ∙ ap (λ b. option_or (into done n) (cond b (Some (length done)) None)) (not-eq m.0 n h) ∙ or-none (into done n), position-more (leaves n) done (Enter m) ∙ or-none (out_of done n))
+spot-same done (Leave m) n h = (position-more (enters n) done (Leave m) ∙ or-none (into done n), position-more (leaves n) done (Leave m) ∙ ap (λ b. option_or (out_of done n) (cond b (Some (length done)) None)) (not-eq m.0 n h) ∙ or-none (out_of done n))
 
 pub spots-more : (done : List Step) (s : Step) (spots : List Spot) (old : Spot) → AreSpots done spots → slice_get spots (node_of s) ≡ Some old → node_of s < length spots → AreSpots (done ++ s ∷ []) (slice_set spots (node_of s) (stepped (length done) s old))
 spots-more done s spots old h g l n = by (n == node_of s) refl

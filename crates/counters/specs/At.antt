@@ -3,6 +3,7 @@ use Rattle.std.specs.Prelude.{◌≡◌, ℕ, ◌<◌, ◌^◌, true, List, [], 
 use Rattle.std.specs.Str.{bytes_eq}
 use Rattle.std.specs.List.{position}
 use Rattle.std.specs.String.{string_bytes}
+use Rattle.bk_num.specs.Names.{has_name}
 use Rattle.bk_num.specs.declared.values.Pseudo.{Pseudo}
 use Rattle.named_lists.specs.Lists.{of_name}
 use Rattle.counters.specs.declared.scopes.ScopeMark.{ScopeMark}
@@ -12,7 +13,7 @@ use Rattle.counters.specs.declared.at.CounterAt.TheInside.{Inside}
 use Rattle.counters.specs.Chains.{kept_values, AreMarks}
 use Rattle.counters.specs.Scopes.{AreNested}
 use Rattle.counters.specs.Document.{place_number, values_up_to}
-use Rattle.counters.specs.Log.{events_in, is_asked}
+use Rattle.counters.specs.Log.{events_in}
 
 -- what is kept: what the document does to its counters, in its order, and the steps into each node and out of it
 pub record Kept : Type 0 where
@@ -69,7 +70,7 @@ AreAllMarks lists = (i : ℕ) (marks : List ScopeMark) → slice_get lists i ≡
 abbrev pub KeepAsked :
     List (List ℕ) → List (List ℕ) → List (List ScopeMark) → List (List ℕ × CounterEvent) → Type 0
 KeepAsked asked names lists events =
-    (name : List ℕ) (k : ℕ) → is_asked asked name ≡ true →
+    (name : List ℕ) (k : ℕ) → has_name asked name ≡ true →
     values_of_marks (marks_named names lists name) k ≡ values_up_to (of_name events name) (Some k)
 
 -- what holds of the fields

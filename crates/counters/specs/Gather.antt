@@ -1,10 +1,10 @@
 -- What is gathered in one walk: the steps into nodes and out of them, and events by their counters' names.
 use Rattle.std.specs.Prelude.{◌≡◌, ℕ, Bool, false, if◌then◌else◌, ◌&&◌, ◌==◌, ◌+◌, ◌-◌, ◌*◌, List, [], ◌∷◌, Option, None, Some, fold, length, slice_get, pos}
+use Rattle.std.specs.Option.{option_or}
 use Rattle.std.specs.Ordering.{int_eq}
-use Rattle.dom.specs.Nodes.{first_of}
 use Rattle.dom.specs.declared.walk.Step.{Step}
 use Rattle.dom.specs.declared.walk.Step.TheVariants.{Enter, Leave}
-use Rattle.named_lists.specs.Lists.{ListsOf, AreDistinct, items_of, of_name, with_item}
+use Rattle.named_lists.specs.Lists.{ListsOf, items_of, with_item}
 use Rattle.counters.specs.declared.scopes.Act.{Act}
 use Rattle.counters.specs.declared.scopes.Act.TheVariants as act
 use Rattle.counters.specs.declared.scopes.CounterEvent.{CounterEvent}
@@ -25,8 +25,8 @@ AreSpots steps spots = (n : ℕ) → spot_at (slice_get spots n) ≡ record { in
 
 -- a spot with a step more
 abbrev pub stepped : ℕ → Step → Spot → Spot
-stepped i (Enter n) s = record { into = first_of s.into (Some i); out = s.out }
-stepped i (Leave n) s = record { into = s.into; out = first_of s.out (Some i) }
+stepped i (Enter n) s = record { into = option_or s.into (Some i); out = s.out }
+stepped i (Leave n) s = record { into = s.into; out = option_or s.out (Some i) }
 
 -- the number after the last place within a node that is left by this step
 abbrev pub end_after : ℕ → Option ℕ → ℕ
@@ -69,12 +69,6 @@ is_same (Some j) k = j == k
 abbrev pub needed : Option ℕ → List CounterEvent → List CounterEvent
 needed at [] = []
 needed at (e ∷ more) = if is_same at e.at && is_use e.act then needed at more else e ∷ needed (Some e.at) more
-
--- the events of each name are in its list, but for uses that add nothing
-pub record AreKept (pairs : List (List ℕ × CounterEvent)) (l : ListsOf CounterEvent) : Type 0 where
-  pub len : length l.names ≡ length l.lists
-  pub distinct : AreDistinct l.names
-  pub each : (name : List ℕ) → items_of l name ≡ needed None (of_name pairs name)
 
 -- each list is in document order
 abbrev pub AreInOrder : List (List CounterEvent) → Type 0

@@ -1,8 +1,8 @@
 -- What a document does to its counters, as it is kept: place by place, in document order.
-use Rattle.std.specs.Prelude.{ℕ, Bool, List, filter, map}
+use Rattle.std.specs.Prelude.{ℕ, List, filter, map}
 use Rattle.std.specs.Borrow.{Bor}
-use Rattle.std.specs.List.{flat_map, list_any}
-use Rattle.std.specs.Str.{bytes_eq}
+use Rattle.std.specs.List.{flat_map}
+use Rattle.bk_num.specs.Names.{has_name}
 use Rattle.counters.specs.declared.scopes.Act.{Act}
 use Rattle.counters.specs.declared.scopes.CounterEvent.{CounterEvent}
 use Rattle.counters.specs.declared.log.EventPlace.{EventPlace}
@@ -25,10 +25,6 @@ events_at r = named r.at r.end r.changes.value
 abbrev pub events_in : List LogRow → List (List ℕ × CounterEvent)
 events_in rows = flat_map events_at rows
 
--- whether a counter is among those that are asked for
-abbrev pub is_asked : List (List ℕ) → List ℕ → Bool
-is_asked asked name = list_any (bytes_eq name) asked
-
 -- the events of the counters that are asked for
 abbrev pub of_asked : List (List ℕ) → List (List ℕ × CounterEvent) → List (List ℕ × CounterEvent)
-of_asked asked events = filter (λ e. is_asked asked e.0) events
+of_asked asked events = filter (λ e. has_name asked e.0) events

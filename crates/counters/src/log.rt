@@ -2,8 +2,9 @@
 
 ghost use Rattle.std.specs.Prelude.{◌≡◌, ◌++◌, ◌∷◌, [], true, IfOk, IfSome, IsTrue, OnOk, map};
 ghost use Rattle.std.specs.String.{string_bytes};
+ghost use Rattle.bk_num.specs.Names.{has_name};
 ghost use Rattle.counters.specs.Document.{named, not_page};
-ghost use Rattle.counters.specs.Log.{changes_in, events_at, events_in, is_asked};
+ghost use Rattle.counters.specs.Log.{changes_in, events_at, events_in};
 
 use crate::scopes::Act;
 use bk_num::items::Items;
@@ -204,7 +205,7 @@ fn push_row(rows: &mut Vec<LogRow>, row: LogRow) -> Result<(), NoMem>
 
 /// Whether a counter is the one of a number among those that are asked for.
 fn is_at(asked: &IndexSet<String>, number: usize, name: &str) -> bool
-    ensures { IsTrue result → is_asked (map (λ k. string_bytes k) asked.now.keys) name.now ≡ true }
+    ensures { IsTrue result → has_name (map (λ k. string_bytes k) asked.now.keys) name.now ≡ true }
 {
     match asked.get_index(number) {
         Some(own) => own.as_str() == name,
@@ -215,7 +216,7 @@ fn is_at(asked: &IndexSet<String>, number: usize, name: &str) -> bool
 /// Whether a counter is among those that are asked for. The number of the one that is likely is compared first, and
 /// becomes the number of the one that was found.
 pub(crate) fn is_asked(asked: &IndexSet<String>, likely: &mut usize, name: &str) -> bool
-    ensures { result ≡ is_asked (map (λ k. string_bytes k) asked.now.keys) name.now }
+    ensures { result ≡ has_name (map (λ k. string_bytes k) asked.now.keys) name.now }
 {
     if is_at(asked, *likely, name) {
         return true;

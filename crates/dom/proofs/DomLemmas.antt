@@ -1,5 +1,6 @@
 -- The rows of a tree and the numbers of their parents.
 use Rattle.std.proofs.Common.{◌≡◌, ℕ, ◌+◌, ◌<◌, ◌≤◌, Bool, true, false, nat_le, ◌&&◌, IsTrue, List, [], ◌∷◌, ◌++◌, Option, None, Some, IfSome, length, length-append, length-drop, take, drop, slice_get, slice_set, get_or, option_map, cond, refl, sym, ◌∙◌, ap, subst, arith, ◌⊎◌, inl, inr, ◌==◌, add-zero, is_some, suc, zero, if◌then◌else◌}
+use Rattle.std.specs.Option.{option_or}
 use Rattle.std.proofs.lemmas.Map.Views.{exact_unsigned_eq}
 use Rattle.std.proofs.lemmas.Bool.Decides.{nat_tests}
 use Rattle.std.proofs.lemmas.Bool.{eq-eqb}
@@ -7,7 +8,7 @@ use Rattle.std.proofs.lemmas.List.{drop-append-le, take-append-le, map-append, l
 use Rattle.std.proofs.Math.ListN.{drop_of_length-le, length-set}
 use Rattle.std.proofs.Math.Seq.{take-length}
 use Rattle.std.proofs.lemmas.Option.{slice_get-map, slice_get_read, slice_get_within}
-use Rattle.dom.specs.Nodes.{Node, NodeData, root, changed_at, is_at, first_of, first_from, last_from, parents_of, parent_at, flat, last_child_of, next_under, prev_under, depth_of, depth_at, reach_of, is_element, is_element_at, is_element_node, element_parent, element_parents_of, element_count, elements_under, IsTree, HasPlace}
+use Rattle.dom.specs.Nodes.{Node, NodeData, root, changed_at, is_at, first_from, last_from, parents_of, parent_at, flat, last_child_of, next_under, prev_under, depth_of, depth_at, reach_of, is_element, is_element_at, is_element_node, element_parent, element_parents_of, element_count, elements_under, IsTree, HasPlace}
 use Rattle.dom.specs.declared.rows.Row.{Row}
 use Rattle.dom.specs.Links.{IsRowOf, root_row, change, linked_before, linked_at}
 use Rattle.dom.specs.DomFields.{node_of, joined, IsLinked, AreSound}
@@ -52,19 +53,19 @@ pub linked-row : (rows : List Row) (whats : List NodeData) (k : ℕ) (r : Row) �
 linked-row rows whats k r sound h e = sound.linked k r (slice_get_read rows (length rows) k r refl h e)
 
 -- one more node: the first and the last of a parent's children
-pub first-push : (p : ℕ) (ps : List (Option ℕ)) (q : Option ℕ) (k : ℕ) → first_from p (ps ++ q ∷ []) k ≡ first_of (first_from p ps k) (cond (is_at p q) (Some (k + length ps)) None)
+pub first-push : (p : ℕ) (ps : List (Option ℕ)) (q : Option ℕ) (k : ℕ) → first_from p (ps ++ q ∷ []) k ≡ option_or (first_from p ps k) (cond (is_at p q) (Some (k + length ps)) None)
 first-push p [] q k = rw (add-zero k) refl
 first-push p (x ∷ ps) q k = by (is_at p x) (first-push p ps q (k + 1))
   where
-    by : (b : Bool) → first_from p (ps ++ q ∷ []) (k + 1) ≡ first_of (first_from p ps (k + 1)) (cond (is_at p q) (Some (k + 1 + length ps)) None) → cond b (Some k) (first_from p (ps ++ q ∷ []) (k + 1)) ≡ first_of (cond b (Some k) (first_from p ps (k + 1))) (cond (is_at p q) (Some (k + length (x ∷ ps))) None)
+    by : (b : Bool) → first_from p (ps ++ q ∷ []) (k + 1) ≡ option_or (first_from p ps (k + 1)) (cond (is_at p q) (Some (k + 1 + length ps)) None) → cond b (Some k) (first_from p (ps ++ q ∷ []) (k + 1)) ≡ option_or (cond b (Some k) (first_from p ps (k + 1))) (cond (is_at p q) (Some (k + length (x ∷ ps))) None)
     by true h = refl
-    by false h = let e : k + 1 + length ps ≡ k + length (x ∷ ps) = omega arith in h ∙ ap (λ n. first_of (first_from p ps (k + 1)) (cond (is_at p q) (Some n) None)) e
+    by false h = let e : k + 1 + length ps ≡ k + length (x ∷ ps) = omega arith in h ∙ ap (λ n. option_or (first_from p ps (k + 1)) (cond (is_at p q) (Some n) None)) e
 
 pub last-push : (p : ℕ) (ps : List (Option ℕ)) (q : Option ℕ) (k : ℕ) → last_from p (ps ++ q ∷ []) k ≡ cond (is_at p q) (Some (k + length ps)) (last_from p ps k)
 last-push p [] q k = rw (add-zero k) refl
 last-push p (x ∷ ps) q k = by (is_at p q) (last-push p ps q (k + 1))
   where
-    by : (b : Bool) → last_from p (ps ++ q ∷ []) (k + 1) ≡ cond b (Some (k + 1 + length ps)) (last_from p ps (k + 1)) → first_of (last_from p (ps ++ q ∷ []) (k + 1)) (cond (is_at p x) (Some k) None) ≡ cond b (Some (k + length (x ∷ ps))) (first_of (last_from p ps (k + 1)) (cond (is_at p x) (Some k) None))
+    by : (b : Bool) → last_from p (ps ++ q ∷ []) (k + 1) ≡ cond b (Some (k + 1 + length ps)) (last_from p ps (k + 1)) → option_or (last_from p (ps ++ q ∷ []) (k + 1)) (cond (is_at p x) (Some k) None) ≡ cond b (Some (k + length (x ∷ ps))) (option_or (last_from p ps (k + 1)) (cond (is_at p x) (Some k) None))
     by true h = let e : k + 1 + length ps ≡ k + length (x ∷ ps) = omega arith in rw h (ap (λ n. Some n) e)
     by false h = rw h refl
 
@@ -73,7 +74,7 @@ pub none-both : (p : ℕ) (ps : List (Option ℕ)) (k : ℕ) → is_some (first_
 none-both p [] k = refl
 none-both p (x ∷ ps) k = by (is_at p x) (last_from p ps (k + 1)) (none-both p ps (k + 1))
   where
-    by : (b : Bool) (o : Option ℕ) → is_some (first_from p ps (k + 1)) ≡ is_some o → is_some (cond b (Some k) (first_from p ps (k + 1))) ≡ is_some (first_of o (cond b (Some k) None))
+    by : (b : Bool) (o : Option ℕ) → is_some (first_from p ps (k + 1)) ≡ is_some o → is_some (cond b (Some k) (first_from p ps (k + 1))) ≡ is_some (option_or o (cond b (Some k) None))
     by true None h = refl
     by true (Some l) h = refl
     by false None h = h
@@ -90,7 +91,7 @@ pub last-low : (p : ℕ) (ps : List (Option ℕ)) (k l : ℕ) → last_from p ps
 last-low p [] k l h = cc
 last-low p (x ∷ ps) k l h = by (last_from p ps (k + 1)) (is_at p x) (λ m e. last-low p ps (k + 1) m e) h
   where
-    by : (o : Option ℕ) (b : Bool) → ((m : ℕ) → o ≡ Some m → k + 1 ≤ m) → first_of o (cond b (Some k) None) ≡ Some l → k ≤ l
+    by : (o : Option ℕ) (b : Bool) → ((m : ℕ) → o ≡ Some m → k + 1 ≤ m) → option_or o (cond b (Some k) None) ≡ Some l → k ≤ l
     by None true low g = let s : k ≡ l = cc in omega arith
     by None false low g = cc
     by (Some m) b low g = let s : m ≡ l = cc in let far : k + 1 ≤ m = low m refl in omega arith
@@ -100,7 +101,7 @@ pub last-is : (p : ℕ) (ps : List (Option ℕ)) (k l : ℕ) → last_from p ps 
 last-is p [] k l h = cc
 last-is p (x ∷ ps) k l h = by (last_from p ps (k + 1)) x (λ m e. last-is p ps (k + 1) m e) h
   where
-    by : (o q : Option ℕ) → ((i : ℕ) → o ≡ Some i → (m : ℕ) × (i ≡ k + 1 + m) × (slice_get ps m ≡ Some (Some p))) → first_of o (cond (is_at p q) (Some k) None) ≡ Some l → (m : ℕ) × (l ≡ k + m) × (slice_get (q ∷ ps) m ≡ Some (Some p))
+    by : (o q : Option ℕ) → ((i : ℕ) → o ≡ Some i → (m : ℕ) × (i ≡ k + 1 + m) × (slice_get ps m ≡ Some (Some p))) → option_or o (cond (is_at p q) (Some k) None) ≡ Some l → (m : ℕ) × (l ≡ k + m) × (slice_get (q ∷ ps) m ≡ Some (Some p))
     by None None low g = cc
     by None (Some q) low g = here (q == p) refl g
       where
@@ -110,7 +111,7 @@ last-is p (x ∷ ps) k l h = by (last_from p ps (k + 1)) x (λ m e. last-is p ps
     by (Some i) q low g = let s : i ≡ l = cc in let t = low i refl in (suc t.0, (let u = t.1 in omega arith), t.2)
 
 -- the last child of a list up to and with one of them
-pub last-next : (p : ℕ) (ps : List (Option ℕ)) (k n : ℕ) → slice_get ps n ≡ Some (Some p) → last_from p ps k ≡ first_of (last_from p (drop (n + 1) ps) (k + n + 1)) (Some (k + n))
+pub last-next : (p : ℕ) (ps : List (Option ℕ)) (k n : ℕ) → slice_get ps n ≡ Some (Some p) → last_from p ps k ≡ option_or (last_from p (drop (n + 1) ps) (k + n + 1)) (Some (k + n))
 last-next p [] k n h = cc
 last-next p (x ∷ ps) k zero h = let e : x ≡ Some p = cc in let t : is_at p (Some p) ≡ true = eqb-self p in rw (e, t, add-zero k) refl
 last-next p (x ∷ ps) k (suc n) h =
@@ -119,12 +120,12 @@ last-next p (x ∷ ps) k (suc n) h =
     let d : suc n + 1 ≡ suc (n + 1) = omega arith in
     rw (last-next p ps (k + 1) n h) (rw (a, b, d) (by (last_from p (drop (n + 1) ps) (k + suc n + 1)) (cond (is_at p x) (Some k) None)))
   where
-    by : (o z : Option ℕ) → first_of (first_of o (Some (k + suc n))) z ≡ first_of o (Some (k + suc n))
+    by : (o z : Option ℕ) → option_or (option_or o (Some (k + suc n))) z ≡ option_or o (Some (k + suc n))
     by None z = refl
     by (Some i) z = refl
 
 -- after the last child there is none, and after another there is one
-pub none-behind : (o : Option ℕ) (k : ℕ) → ((i : ℕ) → o ≡ Some i → k + 1 ≤ i) → first_of o (Some k) ≡ Some k → o ≡ None
+pub none-behind : (o : Option ℕ) (k : ℕ) → ((i : ℕ) → o ≡ Some i → k + 1 ≤ i) → option_or o (Some k) ≡ Some k → o ≡ None
 none-behind None k low h = refl
 none-behind (Some i) k low h = let e : i ≡ k = cc in let l = low i refl in absurd (omega arith)
 
@@ -138,11 +139,11 @@ no-first p (Some q ∷ ps) k none = by (q == p) refl (no-first p ps (k + 1) (λ 
     by true e rest = absurd (none 0 (ap (λ n. Some (Some n)) (exact_unsigned_eq q p e)))
     by false e rest = rest
 
-pub first_of-None : (o : Option ℕ) → first_of o None ≡ o
+pub first_of-None : (o : Option ℕ) → option_or o None ≡ o
 first_of-None None = refl
 first_of-None (Some x) = refl
 
-pub first_of-Some : (o z : Option ℕ) → is_some o ≡ true → first_of o z ≡ o
+pub first_of-Some : (o z : Option ℕ) → is_some o ≡ true → option_or o z ≡ o
 first_of-Some None z h = cc
 first_of-Some (Some x) z h = refl
 
@@ -162,7 +163,7 @@ first-step ps p k n last old new len l o (inl (e, none, v)) =
     v ∙ sym (rw e (first-push p ps (Some p) 0 ∙ rw (g, t, z) refl))
 first-step ps p k n last old new len l o (inr (other, v)) = v ∙ o ∙ sym (first-push k ps (Some p) 0 ∙ by (p == k) refl)
   where
-    by : (b : Bool) → (p == k) ≡ b → first_of (first_from k ps 0) (cond b (Some (0 + length ps)) None) ≡ first_from k ps 0
+    by : (b : Bool) → (p == k) ≡ b → option_or (first_from k ps 0) (cond b (Some (0 + length ps)) None) ≡ first_from k ps 0
     by true e =
         let s : k ≡ p = sym (exact_unsigned_eq p k e) in
         let some : is_some (last_from p ps 0) ≡ true = Some-first (last_from p ps 0) (λ h. other s (l ∙ h)) in
@@ -192,11 +193,11 @@ next-step ps p k n None last old new len g l o (inr (other, v)) = v ∙ o
 next-step ps p k n (Some s) last old new len g l o change =
     let inside : k < length ps = slice_get_within ps k (Some s) g in
     let at : k + 1 + length (drop (k + 1) ps) ≡ n = (let d = length-drop (k + 1) ps in omega arith) in
-    let pushed : first_from s (drop (k + 1) (ps ++ Some p ∷ [])) (k + 1) ≡ first_of (first_from s (drop (k + 1) ps) (k + 1)) (cond (p == s) (Some n) None) =
-    ap (λ d. first_from s d (k + 1)) (drop-push ps (Some p) (k + 1) (omega arith)) ∙ first-push s (drop (k + 1) ps) (Some p) (k + 1) ∙ ap (λ m. first_of (first_from s (drop (k + 1) ps) (k + 1)) (cond (p == s) (Some m) None)) at in
+    let pushed : first_from s (drop (k + 1) (ps ++ Some p ∷ [])) (k + 1) ≡ option_or (first_from s (drop (k + 1) ps) (k + 1)) (cond (p == s) (Some n) None) =
+    ap (λ d. first_from s d (k + 1)) (drop-push ps (Some p) (k + 1) (omega arith)) ∙ first-push s (drop (k + 1) ps) (Some p) (k + 1) ∙ ap (λ m. option_or (first_from s (drop (k + 1) ps) (k + 1)) (cond (p == s) (Some m) None)) at in
     by change ∙ sym pushed
   where
-    by : ((last ≡ Some k) × (new ≡ Some n)) ⊎ ((last ≡ Some k → ⊥) × (new ≡ old)) → new ≡ first_of (first_from s (drop (k + 1) ps) (k + 1)) (cond (p == s) (Some n) None)
+    by : ((last ≡ Some k) × (new ≡ Some n)) ⊎ ((last ≡ Some k → ⊥) × (new ≡ old)) → new ≡ option_or (first_from s (drop (k + 1) ps) (k + 1)) (cond (p == s) (Some n) None)
     by (inl (e, v)) =
         let w = last-is p ps 0 k (sym l ∙ e) in
         let m : w.0 ≡ k = (let u = w.1 in omega arith) in
@@ -213,12 +214,12 @@ next-step ps p k n (Some s) last old new len g l o change =
             none-behind (last_from p (drop (k + 1) ps) (k + 1)) k (last-low p (drop (k + 1) ps) (k + 1)) (sym (rw z at (last-next p ps 0 k child)) ∙ e)
     by (inr (other, v)) = v ∙ o ∙ sym (test (p == s) refl)
       where
-        test : (b : Bool) → (p == s) ≡ b → first_of (first_from s (drop (k + 1) ps) (k + 1)) (cond b (Some n) None) ≡ first_from s (drop (k + 1) ps) (k + 1)
+        test : (b : Bool) → (p == s) ≡ b → option_or (first_from s (drop (k + 1) ps) (k + 1)) (cond b (Some n) None) ≡ first_from s (drop (k + 1) ps) (k + 1)
         test true e =
             let same : s ≡ p = sym (exact_unsigned_eq p s e) in
             let z : 0 + k ≡ k = omega arith in
             let ln = rw z at (last-next p ps 0 k (g ∙ ap (λ i. Some (Some i)) same)) in
-            let some : is_some (last_from p (drop (k + 1) ps) (k + 1)) ≡ true = Some-first (last_from p (drop (k + 1) ps) (k + 1)) (λ h. other (l ∙ ln ∙ ap (λ o. first_of o (Some k)) h)) in
+            let some : is_some (last_from p (drop (k + 1) ps) (k + 1)) ≡ true = Some-first (last_from p (drop (k + 1) ps) (k + 1)) (λ h. other (l ∙ ln ∙ ap (λ o. option_or o (Some k)) h)) in
             first_of-Some (first_from s (drop (k + 1) ps) (k + 1)) (Some n) (none-both s (drop (k + 1) ps) (k + 1) ∙ rw same some)
         test false e = first_of-None (first_from s (drop (k + 1) ps) (k + 1))
 

@@ -1,5 +1,6 @@
 -- A tree as a list of nodes with the numbers of their parents.
 use Rattle.std.specs.Prelude.{◌≡◌, ℕ, ◌+◌, ◌<◌, ◌≤◌, Bool, false, true, List, [], ◌∷◌, ◌++◌, Option, None, Some, if◌then◌else◌, ◌==◌, take, drop, map, length, slice_get, slice_set, count_by, codes}
+use Rattle.std.specs.Option.{option_or}
 use Rattle.bk_num.specs.Limits.{most_nodes, most_depth}
 use Rattle.dom.specs.Pairs.{pair_value}
 
@@ -19,11 +20,6 @@ abbrev pub is_at : ℕ → Option ℕ → Bool
 is_at p None = false
 is_at p (Some q) = q == p
 
--- the first of two that is there
-abbrev pub first_of : Option ℕ → Option ℕ → Option ℕ
-first_of None b = b
-first_of (Some a) b = Some a
-
 -- the first of the nodes, numbered from k on, whose parent is p
 abbrev pub first_from : ℕ → List (Option ℕ) → ℕ → Option ℕ
 first_from p [] k = None
@@ -32,7 +28,7 @@ first_from p (q ∷ qs) k = if is_at p q then Some k else first_from p qs (k + 1
 -- the last of the nodes, numbered from k on, whose parent is p
 abbrev pub last_from : ℕ → List (Option ℕ) → ℕ → Option ℕ
 last_from p [] k = None
-last_from p (q ∷ qs) k = first_of (last_from p qs (k + 1)) (if is_at p q then Some k else None)
+last_from p (q ∷ qs) k = option_or (last_from p qs (k + 1)) (if is_at p q then Some k else None)
 
 -- the numbers of the nodes' parents
 abbrev pub parents_of : List Node → List (Option ℕ)

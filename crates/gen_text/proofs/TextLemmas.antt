@@ -1,14 +1,13 @@
 -- the text of a list of content as a function
-use Rattle.std.proofs.Common.{◌≡◌, ℕ, zero, suc, ◌+◌, ◌<◌, Bool, true, false, not, ◌&&◌, ◌||◌, List, [], ◌∷◌, ◌++◌, Option, None, Some, length, map, filter, get_or, take, slice_get, refl, sym, ◌∙◌, ap, subst, arith}
-use Rattle.std.specs.List.{flat_map, list_any}
+use Rattle.std.proofs.Common.{◌≡◌, ℕ, zero, suc, ◌+◌, ◌<◌, Bool, true, false, not, ◌&&◌, List, [], ◌∷◌, ◌++◌, Option, None, Some, length, map, filter, get_or, take, slice_get, refl, sym, ◌∙◌, ap, subst, arith}
+use Rattle.std.specs.List.{flat_map}
 use Rattle.std.proofs.lemmas.List.{append-nil, append_assoc, take_more, map-append}
 use Rattle.std.proofs.lemmas.List.Folds.{list_any_at, list_any_none}
 use Rattle.std.proofs.lemmas.List.FromFn.{length-range_with_len, get_or-range_with_len}
 use Rattle.std.proofs.lemmas.Option.{slice_get_within}
 use Rattle.std.proofs.lemmas.List.Elements.{filter-append}
-use Rattle.std.specs.Str.{bytes_eq}
-use Rattle.std.specs.Prelude.{String, string_bytes}
 use Rattle.std.proofs.lemmas.Bool.{and_parts, not-true}
+use Rattle.bk_num.specs.Names.{has_name}
 use Rattle.bk_num.specs.declared.values.Pseudo.TheVariants as pseudo
 use Rattle.bk_num.proofs.ListLemmas.{filter-none}
 use Rattle.dom.specs.Nodes.{Node, IsTree}
@@ -19,7 +18,6 @@ use Rattle.style.specs.declared.content.Part.TheVariants as part
 use Rattle.style.specs.Nodes.{NodeStyles}
 use Rattle.gen_text.specs.Content.{Place, PrintsPart, PrintsParts, printed_by, text_of, TextIsThat}
 use Rattle.gen_text.specs.Parts.{reference_text}
-use Rattle.counters.specs.Log.{is_asked}
 use Rattle.gen_text.specs.Texts.{TextSource, assigned_by, assigned_of, place_at}
 use Rattle.gen_text.specs.Target.{IsOfId, TargetIsThat, address_of, id_in, shown_only, numbers_of, is_preceded, is_first, first_of, shown_of}
 
@@ -112,18 +110,14 @@ text-that p content text tree h = parts-that p content [] text tree h
 
 -- ---- strings
 
-pub any-key : {Y : Type 0} (name : List ℕ) (ks : List (String Y)) → list_any (λ k. bytes_eq name (string_bytes k)) ks ≡ is_asked (map (λ k. string_bytes k) ks) name
-any-key name [] = refl
-any-key name (k ∷ ks) = ap (λ b. bytes_eq name (string_bytes k) || b) (any-key name ks)
-
 assigned-append : (s : TextSource) (n : ℕ) (xs ys : List (List ℕ × List Part)) → assigned_of s n (xs ++ ys) ≡ assigned_of s n xs ++ assigned_of s n ys
-assigned-append s n xs ys = ap (map (assigned_by (place_at s n pseudo.Element))) (filter-append (λ (set : List ℕ × List Part). is_asked s.asked set.0) xs ys) ∙ map-append (assigned_by (place_at s n pseudo.Element)) (filter (λ set. is_asked s.asked set.0) xs) (filter (λ set. is_asked s.asked set.0) ys)
+assigned-append s n xs ys = ap (map (assigned_by (place_at s n pseudo.Element))) (filter-append (λ (set : List ℕ × List Part). has_name s.asked set.0) xs ys) ∙ map-append (assigned_by (place_at s n pseudo.Element)) (filter (λ set. has_name s.asked set.0) xs) (filter (λ set. has_name s.asked set.0) ys)
 
 pub assigned_turn : (s : TextSource) (n : ℕ) (sets : List (List ℕ × List Part)) (i : ℕ) (x : List ℕ × List Part) (old new : List (List ℕ × List ℕ)) → i < length sets → x ≡ get_or sets i x → old ≡ assigned_of s n (take i sets) → new ≡ old ++ assigned_of s n (x ∷ []) → new ≡ assigned_of s n (take (i + 1) sets)
 assigned_turn s n sets i x old new within is h g = g ∙ ap (λ l. l ++ assigned_of s n (x ∷ [])) h ∙ sym (assigned-append s n (take i sets) (x ∷ [])) ∙ ap (λ l. assigned_of s n l) (ap (λ y. take i sets ++ y ∷ []) is ∙ sym (take_more sets i x within))
 
-pub assigned_none : (s : TextSource) (n : ℕ) (x : List ℕ × List Part) → is_asked s.asked x.0 ≡ false → assigned_of s n (x ∷ []) ≡ []
+pub assigned_none : (s : TextSource) (n : ℕ) (x : List ℕ × List Part) → has_name s.asked x.0 ≡ false → assigned_of s n (x ∷ []) ≡ []
 assigned_none s n x e = rw e refl
 
-pub assigned_one : (s : TextSource) (n : ℕ) (x : List ℕ × List Part) → is_asked s.asked x.0 ≡ true → assigned_of s n (x ∷ []) ≡ (x.0, text_of (place_at s n pseudo.Element) x.1) ∷ []
+pub assigned_one : (s : TextSource) (n : ℕ) (x : List ℕ × List Part) → has_name s.asked x.0 ≡ true → assigned_of s n (x ∷ []) ≡ (x.0, text_of (place_at s n pseudo.Element) x.1) ∷ []
 assigned_one s n x e = rw e refl

@@ -2,6 +2,7 @@
 -- css-gcpm-3).
 use Rattle.std.specs.Prelude.{ℕ, Bool, ◌&&◌, not, if◌then◌else◌, List, [], Option, None, Some, filter, map, slice_get, ℤ}
 use Rattle.std.specs.String.{string_bytes}
+use Rattle.bk_num.specs.Names.{has_name}
 use Rattle.bk_num.specs.declared.values.Pseudo.{Pseudo}
 use Rattle.bk_num.specs.declared.values.Pseudo.TheVariants as pseudo
 use Rattle.counters.specs.At.{counter_values}
@@ -12,7 +13,6 @@ use Rattle.style.specs.Nodes.{NodeStyles, style_at, is_shown_in, is_in_note_in}
 use Rattle.gen_text.specs.declared.table.Entry.{Entry}
 use Rattle.gen_text.specs.declared.texts.Texts.{Texts}
 use Rattle.gen_text.specs.Content.{Place, place_of, text_of}
-use Rattle.counters.specs.Log.{is_asked}
 
 -- what texts are generated from: the document, its styles, the values of a counter at an element or a pseudo-element,
 -- the outermost scope first, the numbers of pages, and the names of the strings that pages ask for
@@ -82,7 +82,7 @@ assigned_by p set = (set.0, text_of p set.1)
 
 -- the named strings of these that pages ask for, with their texts
 abbrev pub assigned_of : TextSource → ℕ → List (List ℕ × List Part) → List (List ℕ × List ℕ)
-assigned_of s n sets = map (assigned_by (place_at s n pseudo.Element)) (filter (λ set. is_asked s.asked set.0) sets)
+assigned_of s n sets = map (assigned_by (place_at s n pseudo.Element)) (filter (λ set. has_name s.asked set.0) sets)
 
 -- the named strings that an element assigns, of those that pages ask for, with their texts, in the order in which it
 -- does

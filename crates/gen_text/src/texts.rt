@@ -1,11 +1,9 @@
 //! What the pseudo-elements of a document print, and what its elements assign to named strings, made for one node at a
 //! time (CSS 2.1, 12.1 and 12.2; css-gcpm-3, "string-set").
 
-ghost use Rattle.std.specs.Prelude.{◌≡◌, ◌<◌, ◌++◌, ◌∷◌, [], IfOk, OnOk, length, map, slice_get};
-ghost use Rattle.std.specs.String.{string_bytes};
+ghost use Rattle.std.specs.Prelude.{◌≡◌, ◌<◌, ◌++◌, ◌∷◌, [], IfOk, OnOk, length, slice_get};
 ghost use Rattle.bk_num.specs.declared.values.Pseudo.TheVariants as pseudo;
 ghost use Rattle.gen_text.specs.Content.{text_of};
-ghost use Rattle.counters.specs.Log.{is_asked};
 ghost use Rattle.gen_text.specs.Texts.{assigned_of, assigned_strings, assigns, content_of, content_of_some, generated_text, place_at, source_in};
 ghost use Rattle.style.specs.Nodes.{style_at};
 
@@ -18,6 +16,7 @@ use bk_num::values::Pseudo;
 use counters::at::CounterAt;
 use dom::Dom;
 use indexmap::IndexSet;
+use named_lists::names::has_name;
 use std::alloc::Global;
 use style::content::Content;
 use style::styles::Styles;
@@ -115,13 +114,6 @@ fn assigns(styles: &Styles, node: NodeId) -> bool
     styles.is_shown(node) && !styles.is_in_note(node)
 }
 
-/// Whether pages ask for the string of a name.
-fn is_asked(asked: &IndexSet<String>, name: &str) -> bool
-    ensures { result ≡ is_asked (map (λ k. string_bytes k) asked.now.keys) name.now }
-{
-    asked.contains(name)
-}
-
 /// The named strings that an element assigns, of those that pages ask for, with their values, in the order in which it
 /// does. It costs a look-up for each that it sets, and what `eval` of the content of each that is asked for costs: no
 /// other value is made.
@@ -174,7 +166,7 @@ fn push_assigned(
     requires { node.0 < length texts.now.dom.now }
     ensures { OnOk result (into.new ≡ into.old ++ assigned_of (source_in texts.now) node.0 (set.now ∷ [])) }
 {
-    if !is_asked(texts.asked, set.0.as_str()) {
+    if !has_name(texts.asked, set.0.as_str()) {
         return Ok(());
     }
     let value = content_text(alloc, texts, node, Pseudo::Element, &set.1)?;

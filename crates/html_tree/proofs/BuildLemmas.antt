@@ -2,13 +2,14 @@
 use Rattle.std.proofs.Common.{◌≡◌, ℕ, suc, zero, ◌+◌, ◌-◌, ◌<◌, Bool, true, false, List, [], ◌∷◌, ◌++◌, Option, None, Some, Result, Ok, Err, OnOk, IfErr, fold, is_some, unwrap_or, length, length-append, take, slice_get, slice_set, if◌then◌else◌, refl, sym, ◌∙◌, ap, subst, arith, append-nil, ◌==◌, codes}
 use Rattle.std.proofs.lemmas.Option.{slice_get_within}
 use Rattle.std.specs.Str.{bytes_eq}
+use Rattle.bk_num.specs.Names.{has_name}
 use Rattle.bk_num.specs.declared.ids.NodeId.{NodeId}
 use Rattle.bk_num.proofs.ListLemmas.{get-keep, get-end, length-slice_set}
 use Rattle.dom.specs.Nodes.{Node, Element, Text, child_of, is_element_at, is_element_node, is_element, part_of, attributed, changed_at, with_attribute, attribute_at, depth_at}
 use Rattle.dom.specs.declared.dom.DomErr.{DomErr}
 use Rattle.dom.specs.declared.dom.DomErr.TheVariants.{Nodes, Depth, NoMemory}
 use Rattle.dom.proofs.ShapeLemmas.{attributed-element}
-use Rattle.html_tree.specs.Rules.{Rule, rules, has_name, names_tag, void_names}
+use Rattle.html_tree.specs.Rules.{Rule, rules, names_tag, void_names}
 use Rattle.html_tree.specs.Texts.{name_of, text_of}
 use Rattle.html_tree.specs.Tree.{State, name_in, kept, closed_by, after_rule, current, number_of, is_text_under, last_of, longer, appended, new_text, add_text, put, put_all, opened_after, add_element, after_start}
 use Rattle.html_tree.specs.Built.{waiting, AreElements, Answers}

@@ -5,10 +5,11 @@ use Rattle.std.proofs.lemmas.Bool.{cases_lt}
 use Rattle.std.proofs.lemmas.List.{length-take, length-take-le, take_more, get_or-set_same, get_or-set_other}
 use Rattle.std.proofs.lemmas.List.Sums.{fold-append}
 use Rattle.std.proofs.lemmas.Option.{slice_get_within, get_or_from_slice_get}
+use Rattle.bk_num.specs.Names.{has_name}
 use Rattle.bk_num.specs.declared.ids.NodeId.{NodeId}
 use Rattle.bk_num.proofs.ListLemmas.{get-take, get-end, get-append, none-is, take-past}
 use Rattle.dom.specs.Nodes.{Node, NodeData, Element, Text, name_at, part_of, child_of, attributed, changed_at, attribute_at}
-use Rattle.html_tree.specs.Rules.{Rule, rules, has_name, names_tag}
+use Rattle.html_tree.specs.Rules.{Rule, rules, names_tag}
 use Rattle.html_tree.specs.Texts.{name_of, text_of}
 use Rattle.html_tree.specs.Tree.{name_in, kept, closed_by, after_rule, without, put, put_all}
 use Rattle.html_tree.specs.Built.{AreElements}

@@ -5,16 +5,17 @@ use Rattle.std.specs.Borrow.{Bor}
 use Rattle.std.specs.List.{list_any}
 use Rattle.std.specs.Str.{bytes_eq}
 use Rattle.std.proofs.Math.Seq.{take-length}
+use Rattle.bk_num.specs.Names.{has_name}
 use Rattle.bk_num.specs.declared.ids.NodeId.{NodeId}
 use Rattle.bk_num.proofs.ListLemmas.{get-take}
 use Rattle.dom.specs.Nodes.{Node, name_at, is_element_at}
-use Rattle.html_tree.specs.Rules.{has_name, texts, rule_of}
+use Rattle.html_tree.specs.Rules.{texts, rule_of}
 use Rattle.html_tree.specs.Tree.{kept, closed_by}
 use Rattle.html_tree.specs.Built.{AreElements}
 
-pub any-texts : (names : List (Bor (List ℕ))) (name : List ℕ) → has_name (texts names) name ≡ list_any (λ n. bytes_eq n.now name) names
+pub any-texts : (names : List (Bor (List ℕ))) (name : List ℕ) → has_name (texts names) name ≡ list_any (λ n. bytes_eq name n.now) names
 any-texts [] name = refl
-any-texts (n ∷ names) name = ap (λ b. bytes_eq n.now name || b) (any-texts names name)
+any-texts (n ∷ names) name = ap (λ b. bytes_eq name n.now || b) (any-texts names name)
 
 module _ (closes scope : List ℕ → Bool) (nodes : List Node) (opened : List NodeId) where
   -- one element further in

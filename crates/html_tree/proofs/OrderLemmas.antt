@@ -1,6 +1,7 @@
 -- A tree that is read has its numbers in tree order.
 use Rattle.std.proofs.Common.{◌≡◌, ◌⊎◌, inl, inr, ℕ, suc, zero, ◌+◌, ◌-◌, ◌<◌, ◌≤◌, Bool, true, false, nat_le, List, [], ◌∷◌, ◌++◌, Option, None, Some, Result, Ok, Err, IfOk, map, option_map, is_some, length, length-append, take, slice_get, slice_set, if◌then◌else◌, refl, sym, ◌∙◌, ap, subst, arith}
 use Rattle.std.proofs.lemmas.Option.{slice_get_within, slice_get-map}
+use Rattle.bk_num.specs.Names.{has_name}
 use Rattle.bk_num.specs.declared.ids.NodeId.{NodeId}
 use Rattle.bk_num.specs.Limits.{most_nodes}
 use Rattle.bk_num.proofs.ListLemmas.{get-push, get-before, get-end, get-none, get-take}
@@ -10,7 +11,7 @@ use Rattle.dom.specs.declared.dom.DomErr.{DomErr}
 use Rattle.dom.specs.declared.dom.DomErr.TheVariants.{Nodes, Depth}
 use Rattle.html_tok.specs.Listed.{TokenView}
 use Rattle.html_tok.specs.Tags.{attributes_of}
-use Rattle.html_tree.specs.Rules.{has_name, void_names}
+use Rattle.html_tree.specs.Rules.{void_names}
 use Rattle.html_tree.specs.Texts.{name_of, text_of}
 use Rattle.html_tree.specs.Tree.{State, current, number_of, is_text_under, last_of, longer, appended, add_text, put, put_all, add_element, after_tokens, begun, tree_of}
 use Rattle.html_tree.specs.Order.{AreInOrder}

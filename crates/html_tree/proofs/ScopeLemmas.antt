@@ -2,10 +2,11 @@
 use Rattle.std.proofs.Common.{◌≡◌, ◌⊎◌, inl, inr, ℕ, suc, zero, ◌<◌, ◌≤◌, Bool, true, false, List, [], ◌∷◌, Option, None, Some, Contains, fold, length, take, slice_get, if◌then◌else◌, refl, sym, ap, subst, arith}
 use Rattle.std.proofs.lemmas.Bool.{cases_lt}
 use Rattle.std.proofs.Math.Seq.{take-length}
+use Rattle.bk_num.specs.Names.{has_name}
 use Rattle.bk_num.specs.declared.ids.NodeId.{NodeId}
 use Rattle.bk_num.proofs.ListLemmas.{get-take, take-get, contains-get, get-contains}
 use Rattle.dom.specs.Nodes.{Node}
-use Rattle.html_tree.specs.Rules.{Rule, has_name, names_tag}
+use Rattle.html_tree.specs.Rules.{Rule, names_tag}
 use Rattle.html_tree.specs.Tree.{name_in, kept, closed_by, after_rule}
 use Rattle.html_tree.specs.Open.{IsInScope, IsInnermost, ClosesInnermost, ClosesByRow, KeptIsInnermost, AllIsKept}
 

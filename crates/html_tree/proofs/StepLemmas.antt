@@ -1,12 +1,13 @@
 -- What each token keeps of a state holds of the nodes of a text.
 use Rattle.std.proofs.Common.{◌≡◌, ℕ, Bool, true, false, List, [], ◌∷◌, Result, Ok, Err, IfOk, fold, take, if◌then◌else◌, codes}
 use Rattle.std.specs.Str.{bytes_eq}
+use Rattle.bk_num.specs.Names.{has_name}
 use Rattle.dom.specs.Nodes.{Node}
 use Rattle.dom.specs.declared.dom.DomErr.{DomErr}
 use Rattle.html_tok.specs.Listed.{TokenView, tokens_of}
 use Rattle.html_tok.specs.Pieces.{KindView, text, raw, start, close, skip}
 use Rattle.html_tok.specs.Tags.{attributes_of}
-use Rattle.html_tree.specs.Rules.{Rule, rules, has_name, names_tag}
+use Rattle.html_tree.specs.Rules.{Rule, rules, names_tag}
 use Rattle.html_tree.specs.Texts.{name_of, text_of}
 use Rattle.html_tree.specs.Tree.{State, closed_by, after_rule, without, add_text, put_all, add_element, after_start, after_text, after_kind, after_result, after_tokens, nodes_in, begun, tree_of, is_blank, is_escapable, current_name}
 

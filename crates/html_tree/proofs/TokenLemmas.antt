@@ -3,6 +3,7 @@ use Rattle.std.proofs.Common.{◌≡◌, ◌⊎◌, inl, inr, ℕ, suc, zero, �
 use Rattle.std.proofs.lemmas.List.Elements.{Contains-append_left, Contains-append_right, Contains-append_cases}
 use Rattle.std.proofs.lemmas.Option.{slice_get_within, slice_get_past}
 use Rattle.std.specs.Str.{bytes_eq}
+use Rattle.bk_num.specs.Names.{has_name}
 use Rattle.bk_num.specs.declared.ids.NodeId.{NodeId}
 use Rattle.bk_num.specs.Limits.{most_nodes}
 use Rattle.bk_num.proofs.ListLemmas.{get-keep, get-push, get-end, slice_get_at}
@@ -12,7 +13,7 @@ use Rattle.dom.specs.declared.dom.DomErr.TheVariants.{Nodes, Depth}
 use Rattle.dom.proofs.IdLemmas.{length-parents, parents-push}
 use Rattle.html_tok.specs.Pieces.{KindView, text, raw, start, close, skip}
 use Rattle.html_tok.specs.Tags.{attributes_of}
-use Rattle.html_tree.specs.Rules.{rules, has_name, void_names}
+use Rattle.html_tree.specs.Rules.{rules, void_names}
 use Rattle.html_tree.specs.Texts.{name_of, text_of}
 use Rattle.html_tree.specs.Tree.{State, after_rule, without, is_blank, current, number_of, is_text_under, last_of, longer, appended, add_text, put_all, opened_after, add_element, after_start, is_escapable, current_name, after_kind}
 use Rattle.html_tree.specs.Open.{KindCloses, KindOpens, outside}

@@ -2,12 +2,13 @@
 -- and the laws that join this to the tree's definition.
 use Rattle.std.specs.Prelude.{◌≡◌, ◌↔◌, ◌⊎◌, ℕ, zero, suc, ◌+◌, ◌<◌, ◌≤◌, Bool, true, false, List, [], ◌∷◌, None, Some, Ok, Contains, fold, length, take, slice_get, codes}
 use Rattle.std.specs.Str.{bytes_eq}
+use Rattle.bk_num.specs.Names.{has_name}
 use Rattle.bk_num.specs.declared.ids.NodeId.{NodeId}
 use Rattle.dom.specs.Nodes.{Node, parents_of, parent_at}
 use Rattle.html_tok.specs.Listed.{TokenView, tokens_of}
 use Rattle.html_tok.specs.Pieces.{KindView, text, raw, start, close, skip}
 use Rattle.html_tree.specs.Texts.{text_of, name_of}
-use Rattle.html_tree.specs.Rules.{Rule, rules, void_names, has_name, names_tag}
+use Rattle.html_tree.specs.Rules.{Rule, rules, void_names, names_tag}
 use Rattle.html_tree.specs.Tree.{State, number_of, name_in, kept, after_rule, is_blank, after_tokens, begun, tree_of}
 
 -- ---- what closes among the open elements

@@ -1,16 +1,11 @@
 -- The table of what a start tag closes, and lists of names.
 use Rattle.std.specs.Prelude.{ℕ, Bool, true, false, List, [], ◌∷◌, not, map, codes, if◌then◌else◌}
-use Rattle.std.specs.List.{list_any}
-use Rattle.std.specs.Str.{bytes_eq}
 use Rattle.std.specs.Borrow.{Bor}
+use Rattle.bk_num.specs.Names.{has_name}
 
 -- names as bytes
 abbrev pub texts : List (Bor (List ℕ)) → List (List ℕ)
 texts names = map (λ n. n.now) names
-
--- whether a name is one of these
-abbrev pub has_name : List (List ℕ) → List ℕ → Bool
-has_name names name = list_any (λ n. bytes_eq n name) names
 
 -- a row of the table: it counts for these start tags or for all but them, and closes an element of `closes` that has
 -- none of `scope` inside it

@@ -1,9 +1,10 @@
 -- Whether the rows of the table have an element in scope (HTML, 13.2.4.2 "have a particular element in a specific
 -- scope"), told for each open element of those up to it.
 use Rattle.std.specs.Prelude.{◌≡◌, ℕ, suc, Bool, false, not, List, Some, is_some, ◌&&◌, ◌||◌, length, slice_get, slice_index_or}
+use Rattle.bk_num.specs.Names.{has_name}
 use Rattle.bk_num.specs.declared.ids.NodeId.{NodeId}
 use Rattle.dom.specs.Nodes.{Node}
-use Rattle.html_tree.specs.Rules.{Rule, rules, has_name}
+use Rattle.html_tree.specs.Rules.{Rule, rules}
 use Rattle.html_tree.specs.Tree.{kept}
 
 -- a row has an element in scope among the first n open ones

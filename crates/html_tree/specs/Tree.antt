@@ -3,6 +3,7 @@ use Rattle.std.specs.Prelude.{ℕ, suc, zero, ◌-◌, Bool, true, false, not, L
 use Rattle.std.specs.List.{list_all}
 use Rattle.std.specs.Str.{bytes_eq}
 use Rattle.std.specs.Char.{is_ascii_whitespace}
+use Rattle.bk_num.specs.Names.{has_name}
 use Rattle.bk_num.specs.Limits.{most_nodes}
 use Rattle.bk_num.specs.declared.ids.NodeId.{NodeId}
 use Rattle.dom.specs.Nodes.{Node, NodeData, Element, Text, root, child_of, depth_at, name_at, attribute_at, with_attribute, is_element, is_at, changed_at}
@@ -13,7 +14,7 @@ use Rattle.html_tok.specs.Listed.{TokenView, tokens_of}
 use Rattle.html_tok.specs.Pieces.{KindView, text, raw, start, close, skip}
 use Rattle.html_tok.specs.Tags.{attributes_of}
 use Rattle.html_tree.specs.Texts.{text_of, name_of}
-use Rattle.html_tree.specs.Rules.{Rule, rules, void_names, has_name, names_tag}
+use Rattle.html_tree.specs.Rules.{Rule, rules, void_names, names_tag}
 
 -- the nodes so far, and the open elements other than node 0, outermost first
 pub record State : Type 0 where

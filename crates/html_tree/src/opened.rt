@@ -1,7 +1,8 @@
 //! The open elements.
 ghost use Rattle.std.specs.Prelude.{◌≡◌, ◌<◌, [], Some, fold, unwrap_or, slice_get, IsTrue};
+ghost use Rattle.bk_num.specs.Names.{has_name};
 ghost use Rattle.dom.specs.Nodes.{name_at, is_element_at};
-ghost use Rattle.html_tree.specs.Rules.{rules, rule_of, has_name, texts};
+ghost use Rattle.html_tree.specs.Rules.{rules, rule_of, texts};
 ghost use Rattle.html_tree.specs.Tree.{closed_by, after_rule, without, current};
 ghost use Rattle.html_tree.specs.Built.{AreElements};
 ghost use Rattle.html_tree.specs.Scopes.{HaveScopes};

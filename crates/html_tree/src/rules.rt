@@ -2,7 +2,8 @@
 ghost use Rattle.std.specs.Prelude.{◌<◌, Some, length, map, slice_get, ◌≡◌};
 ghost use Rattle.std.specs.List.{list_any};
 ghost use Rattle.std.specs.Str.{bytes_eq};
-ghost use Rattle.html_tree.specs.Rules.{has_name, texts, rules, rule_of, void_names};
+ghost use Rattle.bk_num.specs.Names.{has_name};
+ghost use Rattle.html_tree.specs.Rules.{texts, rules, rule_of, void_names};
 
 /// A row has true where it counts for all start tags but those that it names; then the start tags, the elements of
 /// which the innermost closes, and those that keep it open from inside.
@@ -134,7 +135,7 @@ pub(crate) fn has(names: &[&str], name: &str) -> bool
 }
 
 fn is_among(names: &[&str], name: &str) -> bool
-    ensures { result ≡ list_any (λ n. bytes_eq n.now name.now) names.now }
+    ensures { result ≡ list_any (λ n. bytes_eq name.now n.now) names.now }
 {
-    names.iter().any(|other| *other == name)
+    names.iter().any(|other| name == *other)
 }

@@ -2,10 +2,11 @@
 use Rattle.std.proofs.Common.{◌≡◌, ℕ, zero, suc, ◌+◌, ◌-◌, ◌<◌, ◌≤◌, Bool, true, false, List, [], ◌∷◌, take, drop, length, cond, refl, ap, sym, ◌∙◌, subst, arith, inl, inr, Option, Some, None}
 use Rattle.std.proofs.lemmas.Option.{same_Some}
 use Rattle.std.specs.Prelude.{is_some, slice_get}
+use Rattle.std.specs.Option.{option_or}
 use Rattle.std.proofs.lemmas.Bool.{cases_Bool, cases_eq, true≢false}
 use Rattle.std.proofs.lemmas.Map.Views.{exact_unsigned_eq}
 use Rattle.bk_num.proofs.ListLemmas.{get-taken, get-drop}
-use Rattle.dom.specs.Nodes.{Node, is_at, first_of, first_from, last_from, parents_of, parent_at, flat, next_under, prev_under, next_of, prev_of}
+use Rattle.dom.specs.Nodes.{Node, is_at, first_from, last_from, parents_of, parent_at, flat, next_under, prev_under, next_of, prev_of}
 use Rattle.dom.proofs.DomLemmas.{last-low, last-next, eqb-self}
 use Rattle.selectors.specs.Walk.{chain, first_such, beside, siblings_before, siblings_after}
 use Rattle.selectors.specs.declared.walk.Way.TheVariants as way
@@ -17,7 +18,7 @@ child-at : (o : Option (Option ℕ)) (p : ℕ) → flat o ≡ Some p → o ≡ S
 child-at None p e = cc
 child-at (Some q) p e = ap (λ z. Some z) e
 
-at-least : (o : Option ℕ) (m : ℕ) → ((l : ℕ) → o ≡ Some l → m ≤ l) → (k : ℕ) × (first_of o (Some m) ≡ Some k) × (m ≤ k)
+at-least : (o : Option ℕ) (m : ℕ) → ((l : ℕ) → o ≡ Some l → m ≤ l) → (k : ℕ) × (option_or o (Some m) ≡ Some k) × (m ≤ k)
 at-least None m low = (m, refl, omega arith)
 at-least (Some l) m low = (l, refl, low l refl)
 

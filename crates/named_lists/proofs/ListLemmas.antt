@@ -10,7 +10,7 @@ use Rattle.std.proofs.lemmas.List.{map-append}
 use Rattle.std.proofs.lemmas.List.Elements.{filter-append}
 use Rattle.std.proofs.lemmas.Bool.Decides.{nat_tests}
 use Rattle.indexmap.specs.IndexSet.{insert_key}
-use Rattle.bk_num.proofs.ListLemmas.{get-push, prefix_len-map, bytes_same, bytes_self}
+use Rattle.bk_num.proofs.ListLemmas.{get-push, prefix_len-map, bytes_same, bytes_self, any-map}
 use Rattle.bk_num.specs.Names.{with_name}
 use Rattle.named_lists.specs.Lists.{ListsOf, lists_in, no_lists, of_name, with_new, with_item, with_item_at, with_items, list_at, items_of, AreDistinct, AreListed, AreOfNames}
 
@@ -51,10 +51,6 @@ position-more p xs x = position-first p (xs ++ x ∷ []) ∙ first-more p xs x �
 
 pub of_name-append : {T : Type 0} (xs ys : List (List ℕ × T)) (name : List ℕ) → of_name (xs ++ ys) name ≡ of_name xs name ++ of_name ys name
 of_name-append xs ys name = ap (map (λ e. e.1)) (filter-append (λ e. bytes_eq e.0 name) xs ys) ∙ map-append (λ e. e.1) (filter (λ e. bytes_eq e.0 name) xs) (filter (λ e. bytes_eq e.0 name) ys)
-
-pub any-map : {Y : Type 0} (bs : List ℕ) (ks : List (String Y)) → list_any (bytes_eq bs) (map (λ s. string_bytes s) ks) ≡ list_any (λ k. bytes_eq bs (string_bytes k)) ks
-any-map bs [] = refl
-any-map bs (k ∷ ks) = ap (λ b. bytes_eq bs (string_bytes k) || b) (any-map bs ks)
 
 -- a text goes among the names as a key does
 pub named-key : {Y : Type 0} (ks new : List (String Y)) (k : String Y) (name : List ℕ) → string_bytes k ≡ name → new ≡ insert_key string_eq ks k → map (λ s. string_bytes s) new ≡ with_name (map (λ s. string_bytes s) ks) name

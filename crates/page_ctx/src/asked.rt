@@ -1,8 +1,6 @@
 //! The names that the selectors of page rules ask for (css-page-3, 3).
 
 ghost use Rattle.std.specs.Prelude.{◌≡◌, [], fold, map, IfOk, OnOk};
-ghost use Rattle.std.specs.Str.{bytes_eq};
-ghost use Rattle.std.specs.List.{list_any};
 ghost use Rattle.std.specs.String.{string_bytes};
 ghost use Rattle.bk_num.specs.Names.{with_name};
 ghost use Rattle.page_ctx.specs.Selectors.{all_asked, asked_by, asked_in};
@@ -68,11 +66,4 @@ pub(crate) fn asked_names(alloc: Global, rules: &[PageRule]) -> Result<IndexSet<
         push_selectors(alloc, &mut asked, rule.selectors.as_slice())?;
     }
     Ok(asked)
-}
-
-/// Whether a name is among those that are asked for.
-pub(crate) fn is_asked(asked: &IndexSet<String>, name: &str) -> bool
-    ensures { result ≡ list_any (bytes_eq name.now) (map (λ k. string_bytes k) asked.now.keys) }
-{
-    asked.contains(name)
 }

@@ -15,7 +15,7 @@ ghost use Rattle.page_ctx.specs.Margins.{AreMarginStyles, boxes_by, boxes_of_nam
 ghost use Rattle.page_ctx.specs.Tables as spec;
 
 use crate::applied::{applied_to, page_declared};
-use crate::asked::{asked_names, is_asked};
+use crate::asked::asked_names;
 use crate::cells::cell_by;
 use crate::classes::PageClasses;
 use crate::groups::{
@@ -31,6 +31,7 @@ use boxes::frames::PageKind;
 use boxes::table::{PageCell, PageRow, PageTable};
 use css_page::rules::PageRule;
 use indexmap::IndexSet;
+use named_lists::names::has_name;
 use std::alloc::Global;
 use style::lists::Families;
 use style::names::Names;
@@ -183,7 +184,7 @@ fn has_rules(asked: &IndexSet<String>, name: &str) -> bool
     ensures { result ≡ (list_any (bytes_eq name.now) (map (λ k. string_bytes k) asked.now.keys) ||
         list_any (bytes_eq []) (map (λ k. string_bytes k) asked.now.keys)) }
 {
-    is_asked(asked, name) || is_asked(asked, "")
+    has_name(asked, name) || has_name(asked, "")
 }
 
 /// The same by whether a selector asks for the name. `row` is the row of no name.

@@ -1,16 +1,17 @@
 -- Assignments of names that aren't asked for change nothing that pages show.
 use Rattle.std.proofs.Common.{◌≡◌, ◌∙◌, ℕ, suc, nat_eq, Bool, true, false, cond, List, [], ◌∷◌, Option, None, Some, option_map, map, filter, slice_get, refl, ap, sym, true≢false}
+use Rattle.std.specs.Option.{option_or}
 use Rattle.std.proofs.lemmas.Slice.Eq.{bytes_eq-Decides}
 use Rattle.std.specs.Cmp.Lexicographic.{pointwise}
-use Rattle.std.specs.Str.{bytes_eq}
+use Rattle.bk_num.specs.Names.{has_name}
 use Rattle.boxes.specs.Tree.{Tree}
 use Rattle.boxes.specs.declared.flow.Assign.{Assign}
 use Rattle.boxes.specs.declared.page.Page.{Page}
 use Rattle.page_seq.specs.Places.{first_place, last_or_here, last_place, page_of}
 use Rattle.style.specs.declared.content.Keyword.{Keyword}
 use Rattle.style.specs.declared.content.Keyword.TheVariants as keyword
-use Rattle.strings.specs.Laws.{UnaskedChangeNothing, is_among}
-use Rattle.strings.specs.Shown.{assign_at, entry_of, first_on, is_earlier, is_on, last_on, mark_of, or_else, unless, shown_by, shown_on, starts_page, value_of}
+use Rattle.strings.specs.Laws.{UnaskedChangeNothing}
+use Rattle.strings.specs.Shown.{assign_at, entry_of, first_on, is_earlier, is_on, last_on, mark_of, unless, shown_by, shown_on, starts_page, value_of}
 
 -- two places stand for the same assignment, or neither stands for one
 abbrev ArePicksOf : List Assign → Option ℕ → List Assign → Option ℕ → Type 0
@@ -56,7 +57,7 @@ at_both xs ys (Some i) (Some j) s = s
 at_both xs ys None (Some j) s = absurd s
 at_both xs ys (Some i) None s = absurd s
 
-or_both : (xs ys : List Assign) (o p o' p' : Option ℕ) → ArePicksOf xs o ys p → ArePicksOf xs o' ys p' → ArePicksOf xs (or_else o o') ys (or_else p p')
+or_both : (xs ys : List Assign) (o p o' p' : Option ℕ) → ArePicksOf xs o ys p → ArePicksOf xs o' ys p' → ArePicksOf xs (option_or o o') ys (option_or p p')
 or_both xs ys None None o' p' s t = t
 or_both xs ys (Some i) (Some j) o' p' s t = s
 or_both xs ys None (Some j) o' p' s t = absurd s
@@ -124,8 +125,8 @@ module _ (t : Tree) (pages : List Page) (name : List ℕ) (keep : Assign → Boo
       same : starts (filter keep assigns) ≡ starts assigns
       same = ap (starts_page t (slice_get pages page)) (at_both _ _ _ _ first)
 
-      on : (v : Bool) → ArePicksOf (filter keep assigns) (cond v (or_else (first_on page (numbers (filter keep assigns))) (entry_of page (numbers (filter keep assigns)))) (entry_of page (numbers (filter keep assigns)))) assigns
-          (cond v (or_else (first_on page (numbers assigns)) (entry_of page (numbers assigns))) (entry_of page (numbers assigns)))
+      on : (v : Bool) → ArePicksOf (filter keep assigns) (cond v (option_or (first_on page (numbers (filter keep assigns))) (entry_of page (numbers (filter keep assigns)))) (entry_of page (numbers (filter keep assigns)))) assigns
+          (cond v (option_or (first_on page (numbers assigns)) (entry_of page (numbers assigns))) (entry_of page (numbers assigns)))
       on true = or_both _ _ _ _ _ _ first entry
       on false = entry
 
@@ -136,13 +137,13 @@ module _ (t : Tree) (pages : List Page) (name : List ℕ) (keep : Assign → Boo
       by keyword.FirstExcept = unless_both _ _ _ _ _ _ first entry
 
 -- an assignment of a name that nothing asks for has another name than one that is asked for
-unmarked : (t : Tree) (pages : List Page) (asked : List (List ℕ)) (name : List ℕ) → is_among asked name ≡ true → (a : Assign) → is_among asked a.name ≡ false → mark_of t pages name a ≡ None
+unmarked : (t : Tree) (pages : List Page) (asked : List (List ℕ)) (name : List ℕ) → has_name asked name ≡ true → (a : Assign) → has_name asked a.name ≡ false → mark_of t pages name a ≡ None
 unmarked t pages asked name asks a unasked = by (pointwise nat_eq a.name name) refl
   where
     by : (v : Bool) → pointwise nat_eq a.name name ≡ v → cond v (Some (page_of t pages a.at)) None ≡ None
-    by true e = let same : a.name ≡ name = (bytes_eq-Decides a.name name).0 e in absurd (true≢false (sym asks ∙ (ap (is_among asked) (sym same) ∙ unasked)))
+    by true e = let same : a.name ≡ name = (bytes_eq-Decides a.name name).0 e in absurd (true≢false (sym asks ∙ (ap (has_name asked) (sym same) ∙ unasked)))
     by false e = refl
 
 pub unasked_change_nothing : UnaskedChangeNothing
 unasked_change_nothing t pages assigns asked page name k asks =
-    ap value_of (at_both _ _ _ _ (shown_kept t pages name (λ a. is_among asked a.name) (unmarked t pages asked name asks) assigns page k))
+    ap value_of (at_both _ _ _ _ (shown_kept t pages name (λ a. has_name asked a.name) (unmarked t pages asked name asks) assigns page k))

@@ -1,7 +1,7 @@
 -- What pages know of a string by the assignments of its name is what they know by those of the flow.
 use Rattle.std.proofs.Common.{◌≡◌, ℕ, suc, ◌+◌, ◌==◌, nat_lt, Bool, true, false, cond, List, [], ◌∷◌, Option, None, Some, option_map, map, filter, slice_get, refl, ◌∙◌, ap, arith}
 use Rattle.std.specs.List.{last_or}
-use Rattle.std.specs.Option.{option_map_or}
+use Rattle.std.specs.Option.{option_map_or, option_or}
 use Rattle.std.specs.Str.{bytes_eq}
 use Rattle.std.proofs.lemmas.Bool.{eqb-true}
 use Rattle.boxes.specs.Tree.{Tree}
@@ -9,7 +9,7 @@ use Rattle.boxes.specs.declared.flow.Assign.{Assign}
 use Rattle.boxes.specs.declared.page.Page.{Page}
 use Rattle.page_seq.specs.Places.{first_place, last_or_here, last_place, page_of}
 use Rattle.strings.specs.Assigned.{AreStrings, Named, before_page, marks_named, on_page, shown_of}
-use Rattle.strings.specs.Shown.{assign_at, entry_of, first_on, is_earlier, is_on, last_on, mark_of, marks_of, or_else, shown_on, starts_page}
+use Rattle.strings.specs.Shown.{assign_at, entry_of, first_on, is_earlier, is_on, last_on, mark_of, marks_of, shown_on, starts_page}
 use Rattle.strings.specs.StringFields.{mark_on, marked, marks_with}
 use Rattle.strings.specs.declared.assigned.Mark.{Mark}
 use Rattle.strings.specs.declared.shown.Shown.{Shown}
@@ -64,25 +64,25 @@ module _ (t : Tree) (pages : List Page) (name : List ℕ) where
         by false later = rw none later
 
     abbrev LastLater : ℕ → List Assign → Type 0
-    LastLater b assigns = (x : Option Mark) → place_of (last_or x (passing f (named (suc b) assigns))) ≡ or_else (option_map (λ k. suc b + k) (last_place q (numbers assigns))) (place_of x)
+    LastLater b assigns = (x : Option Mark) → place_of (last_or x (passing f (named (suc b) assigns))) ≡ option_or (option_map (λ k. suc b + k) (last_place q (numbers assigns))) (place_of x)
 
-    last_same : (b : ℕ) (assigns : List Assign) (o : Option Mark) → place_of (last_or o (passing f (named b assigns))) ≡ or_else (option_map (λ k. b + k) (last_place q (numbers assigns))) (place_of o)
+    last_same : (b : ℕ) (assigns : List Assign) (o : Option Mark) → place_of (last_or o (passing f (named b assigns))) ≡ option_or (option_map (λ k. b + k) (last_place q (numbers assigns))) (place_of o)
     last_same b [] o = refl
     last_same b (a ∷ assigns) o = by (bytes_eq a.name name) (λ x. last_same (suc b) assigns x)
       where
-        skip : (l : Option ℕ) (x : Option ℕ) → or_else (option_map (λ k. suc b + k) l) x ≡ or_else (option_map (λ k. b + k) (last_or_here false l)) x
+        skip : (l : Option ℕ) (x : Option ℕ) → option_or (option_map (λ k. suc b + k) l) x ≡ option_or (option_map (λ k. b + k) (last_or_here false l)) x
         skip None x = refl
         skip (Some k) x = ap (λ n. Some n) (omega arith)
 
-        take_it : (l : Option ℕ) (x : Option ℕ) → or_else (option_map (λ k. suc b + k) l) (Some b) ≡ or_else (option_map (λ k. b + k) (last_or_here true l)) x
+        take_it : (l : Option ℕ) (x : Option ℕ) → option_or (option_map (λ k. suc b + k) l) (Some b) ≡ option_or (option_map (λ k. b + k) (last_or_here true l)) x
         take_it None x = ap (λ n. Some n) (omega arith)
         take_it (Some k) x = ap (λ n. Some n) (omega arith)
 
-        on : (w : Bool) → LastLater b assigns → place_of (last_or o (cond w ((entry b a).1 ∷ passing f (named (suc b) assigns)) (passing f (named (suc b) assigns)))) ≡ or_else (option_map (λ k. b + k) (last_or_here w (last_place q (numbers assigns)))) (place_of o)
+        on : (w : Bool) → LastLater b assigns → place_of (last_or o (cond w ((entry b a).1 ∷ passing f (named (suc b) assigns)) (passing f (named (suc b) assigns)))) ≡ option_or (option_map (λ k. b + k) (last_or_here w (last_place q (numbers assigns)))) (place_of o)
         on true later = later (Some (entry b a).1) ∙ take_it (last_place q (numbers assigns)) (place_of o)
         on false later = later o ∙ skip (last_place q (numbers assigns)) (place_of o)
 
-        by : (v : Bool) → LastLater b assigns → place_of (last_or o (passing f (cond v (entry b a ∷ named (suc b) assigns) (named (suc b) assigns)))) ≡ or_else (option_map (λ k. b + k) (last_place q (cond v (Some (page_of t pages a.at)) None ∷ numbers assigns))) (place_of o)
+        by : (v : Bool) → LastLater b assigns → place_of (last_or o (passing f (cond v (entry b a ∷ named (suc b) assigns) (named (suc b) assigns)))) ≡ option_or (option_map (λ k. b + k) (last_place q (cond v (Some (page_of t pages a.at)) None ∷ numbers assigns))) (place_of o)
         by true later = rw (some (page_of t pages a.at)) (on (f (page_of t pages a.at)) later)
         by false later = rw none (later o ∙ skip (last_place q (numbers assigns)) (place_of o))
 
@@ -112,7 +112,7 @@ all_from : (o : Option ℕ) → option_map (λ k. 0 + k) o ≡ o
 all_from None = refl
 all_from (Some k) = ap (λ n. Some n) (omega arith)
 
-or_none : (o : Option ℕ) → or_else o None ≡ o
+or_none : (o : Option ℕ) → option_or o None ≡ o
 or_none None = refl
 or_none (Some k) = refl
 

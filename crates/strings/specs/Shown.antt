@@ -1,6 +1,7 @@
 -- What a page shows of a running string (css-gcpm-3, 1.1.2). A page is its place in the page list, an assignment its
 -- place in the list of assignments.
 use Rattle.std.specs.Prelude.{ℕ, ◌==◌, ◌&&◌, nat_lt, nat_eq, not, Bool, false, List, [], Option, None, Some, length, map, slice_get, if◌then◌else◌}
+use Rattle.std.specs.Option.{option_or}
 use Rattle.std.specs.Cmp.Lexicographic.{pointwise}
 use Rattle.boxes.specs.Tree.{Tree}
 use Rattle.boxes.specs.declared.flow.Assign.{Assign}
@@ -51,11 +52,6 @@ abbrev pub assign_at : List Assign → Option ℕ → Option Assign
 assign_at assigns None = None
 assign_at assigns (Some number) = slice_get assigns number
 
--- the first of two assignments that is there
-abbrev pub or_else : Option ℕ → Option ℕ → Option ℕ
-or_else None other = other
-or_else (Some number) other = Some number
-
 -- the other assignment, where the first is not there
 abbrev pub unless : Option ℕ → Option ℕ → Option ℕ
 unless None other = other
@@ -63,9 +59,9 @@ unless (Some number) other = None
 
 -- which assignment a page shows by a keyword; None is the empty text
 abbrev pub shown_by : Keyword → Shown → Option ℕ
-shown_by keyword.First s = or_else s.first s.entry
-shown_by keyword.Start s = if s.starts then or_else s.first s.entry else s.entry
-shown_by keyword.Last s = or_else s.last s.entry
+shown_by keyword.First s = option_or s.first s.entry
+shown_by keyword.Start s = if s.starts then option_or s.first s.entry else s.entry
+shown_by keyword.Last s = option_or s.last s.entry
 shown_by keyword.FirstExcept s = unless s.first s.entry
 
 -- what a page knows of a string, by the marks of its assignments

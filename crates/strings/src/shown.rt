@@ -2,7 +2,7 @@
 
 ghost use Rattle.std.specs.Prelude.{◌≡◌, ◌<◌, Some, length, map, IfOk};
 ghost use Rattle.page_seq.specs.Places.{NeverFall};
-ghost use Rattle.strings.specs.Shown.{assign_at, or_else, shown_by, string_of, unless, value_of};
+ghost use Rattle.strings.specs.Shown.{assign_at, shown_by, string_of, unless, value_of};
 
 use crate::assigned::Strings;
 use bk_num::name::{Name, NoMem};
@@ -23,15 +23,6 @@ pub struct Shown {
     pub starts: bool,
 }
 
-fn or_else(first: Option<usize>, other: Option<usize>) -> Option<usize>
-    ensures { result ≡ or_else first other }
-{
-    match first {
-        Some(at) => Some(at),
-        None => other,
-    }
-}
-
 fn unless(first: Option<usize>, other: Option<usize>) -> Option<usize>
     ensures { result ≡ unless first other }
 {
@@ -47,15 +38,15 @@ impl Shown {
         ensures { result ≡ shown_by keyword self.now }
     {
         match keyword {
-            Keyword::First => or_else(self.first, self.entry),
+            Keyword::First => self.first.or(self.entry),
             Keyword::Start => {
                 if self.starts {
-                    or_else(self.first, self.entry)
+                    self.first.or(self.entry)
                 } else {
                     self.entry
                 }
             }
-            Keyword::Last => or_else(self.last, self.entry),
+            Keyword::Last => self.last.or(self.entry),
             Keyword::FirstExcept => unless(self.first, self.entry),
         }
     }

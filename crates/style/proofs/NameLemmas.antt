@@ -1,5 +1,5 @@
 -- Names as texts.
-use Rattle.std.proofs.Common.{◌≡◌, ℕ, zero, suc, ◌+◌, ◌-◌, ◌<◌, ◌==◌, Bool, true, false, ◌||◌, cond, List, [], ◌∷◌, ◌++◌, Some, length, map, option_map, slice_get, refl, sym, ◌∙◌, ap, arith}
+use Rattle.std.proofs.Common.{◌≡◌, ℕ, zero, suc, ◌+◌, ◌-◌, ◌<◌, ◌==◌, Bool, true, false, cond, List, [], ◌∷◌, ◌++◌, Some, length, map, option_map, slice_get, refl, sym, ◌∙◌, ap, arith}
 use Rattle.std.proofs.lemmas.List.{map-append}
 use Rattle.std.proofs.lemmas.Option.{slice_get-map}
 use Rattle.std.proofs.lemmas.Slice.Eq.{bytes_eq-Decides}
@@ -7,12 +7,9 @@ use Rattle.std.specs.Str.{bytes_eq}
 use Rattle.std.specs.List.{list_any}
 use Rattle.std.specs.String.{string_bytes, string_eq}
 use Rattle.std.specs.declared.string.String.{String}
+use Rattle.bk_num.proofs.ListLemmas.{any-map}
 use Rattle.indexmap.specs.IndexSet.{insert_key}
 use Rattle.bk_num.specs.Names.{with_name}
-
-any-map : {Y : Type 0} (bs : List ℕ) (ks : List (String Y)) → list_any (bytes_eq bs) (map (λ s. string_bytes s) ks) ≡ list_any (λ k. bytes_eq bs (string_bytes k)) ks
-any-map bs [] = refl
-any-map bs (k ∷ ks) = ap (λ b. bytes_eq bs (string_bytes k) || b) (any-map bs ks)
 
 -- a text that isn't empty goes among the others as a key does
 pub inserted : {Y : Type 0} (ks new : List (String Y)) (k : String Y) (name : List ℕ) → string_bytes k ≡ name → 0 < length name → new ≡ insert_key string_eq ks k → [] ∷ map (λ s. string_bytes s) new ≡ with_name ([] ∷ map (λ s. string_bytes s) ks) name

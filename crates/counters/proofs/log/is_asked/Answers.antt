@@ -1,5 +1,5 @@
 use Rattle.std.proofs.Common.{◌∙◌, sym}
-use Rattle.named_lists.proofs.ListLemmas.{any-map}
+use Rattle.bk_num.proofs.ListLemmas.{any-map}
 use Rattle.counters.proofs.log.is_asked.Goals as goal
 
 pub returns-in-Some : goal.returns-in-Some

@@ -3,8 +3,8 @@ use Rattle.std.specs.String.{string_bytes}
 use Rattle.named_lists.specs.Lists.{ListsOf, lists_in, no_lists}
 use Rattle.counters.specs.declared.scopes.CounterEvent.{CounterEvent}
 use Rattle.counters.specs.Log.{events_in, of_asked}
-use Rattle.counters.specs.Gather.{AreInOrder, AreKept, AreMarksOf, with_changes}
-use Rattle.counters.proofs.NeededLemmas.{kept-changes}
+use Rattle.counters.specs.Gather.{AreInOrder, AreMarksOf, with_changes}
+use Rattle.counters.proofs.NeededLemmas.{AreKept, kept-changes}
 use Rattle.counters.proofs.NumberLemmas.{all-marks, asked-nested, in-order, keep-asked}
 use Rattle.counters.proofs.number.asked_marks.Goals as goal
 

@@ -1,6 +1,7 @@
 use Rattle.std.proofs.Common.{◌≡◌, ◌-◌, true, false, unwrap_or, sym, ◌∙◌, ap, arith, []}
+use Rattle.bk_num.specs.Names.{has_name}
 use Rattle.dom.specs.Nodes.{name_at}
-use Rattle.html_tree.specs.Rules.{has_name, texts}
+use Rattle.html_tree.specs.Rules.{texts}
 use Rattle.html_tree.proofs.OpenedLemmas.{kept-at, closed-take, closed-none, elements-take}
 use Rattle.html_tree.proofs.opened.close_by.Goals as goal
 

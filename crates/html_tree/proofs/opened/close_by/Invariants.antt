@@ -1,6 +1,7 @@
 use Rattle.std.proofs.Common.{◌≡◌, ◌≤◌, length}
+use Rattle.bk_num.specs.Names.{has_name}
 use Rattle.html_tree.specs.Tree.{kept}
-use Rattle.html_tree.specs.Rules.{has_name, texts}
+use Rattle.html_tree.specs.Rules.{texts}
 use Rattle.html_tree.proofs.opened.close_by.Given as goal
 
 abbrev pub invariant-loop-at : goal.invariant-loop-at

@@ -1,7 +1,7 @@
 use Rattle.std.proofs.Common.{rules as steps, ◌≡◌, length, vec_len, ◌∙◌, ap, sym, List, ◌++◌, [], ◌∷◌}
 use Rattle.std.specs.Cow.{cow_str_bytes}
+use Rattle.bk_num.specs.Names.{has_name}
 use Rattle.bk_num.specs.declared.ids.NodeId.{NodeId}
-use Rattle.html_tree.specs.Rules.{has_name}
 use Rattle.html_tree.specs.Built.{waiting}
 use Rattle.html_tree.proofs.BuildLemmas.{closed-grow}
 use Rattle.html_tree.proofs.KeptLemmas.{scopes-take}

@@ -1,7 +1,7 @@
 use Rattle.std.proofs.Common.{◌∙◌, ap, sym, codes, length, List, ◌++◌, [], ◌∷◌}
 use Rattle.std.specs.Cow.{cow_str_bytes}
+use Rattle.bk_num.specs.Names.{has_name}
 use Rattle.bk_num.specs.declared.ids.NodeId.{NodeId}
-use Rattle.html_tree.specs.Rules.{has_name}
 use Rattle.html_tree.specs.Built.{waiting}
 use Rattle.html_tree.specs.Scopes.{AreScopes, HaveScopes}
 use Rattle.html_tree.proofs.BuildLemmas.{closed-grow}
