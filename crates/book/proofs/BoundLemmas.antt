@@ -1,8 +1,8 @@
 -- Pages that settled are pages of their flow, within the bounds of what is painted.
-use Rattle.std.proofs.Common.{◌≤◌, ◌<◌, ◌+◌, ◌-◌, ℕ, ℤ, List, [], ◌∷◌, get_or, sym, subst, arith}
+use Rattle.std.proofs.Common.{◌-◌, ℕ, ℤ, List, [], ◌∷◌, get_or, sym, subst}
 use Rattle.std.proofs.lemmas.List.Elements.{All-cons, All-nil, All-weaker}
-use Rattle.std.proofs.lemmas.Nat.{mod_below}
 use Rattle.std.specs.List.{All}
+use Rattle.columns.specs.Steps.{column_below}
 use Rattle.bk_num.specs.declared.ids.NameId.{NameId}
 use Rattle.boxes.specs.Frames.{IsGoodFrame, PageFrames, column_at, page_at}
 use Rattle.boxes.specs.Steps.{IsRun}
@@ -34,9 +34,6 @@ use Rattle.book.proofs.OrderLemmas.{pages_of_flow}
 -- each frame is a good one
 abbrev pub HasGoodFrames : PageFrames → Type 0
 HasGoodFrames frames = (index : ℕ) (name : NameId) (which : PageKind) → IsGoodFrame (frames.frame_of index name which)
-
-column_below : (count index : ℕ) → 1 ≤ count → column_at count index < count
-column_below count index some = mod_below (index + (count - 1)) count (omega arith)
 
 pub table_good : (count : ℕ) (gap : ℤ) (rows : List PageRow) → AreColumns rows count gap → HasGoodFrames (column_frames rows count gap)
 table_good count gap rows are index name which = good_column count (column_at count index) gap (page_frame_of rows (page_at count index) name which) are.per (column_below count index are.per.low) are.gap_low are.gap_high (good_frame rows are.table (page_at count index) name which) (near_frame rows are.near (page_at count index) name which)

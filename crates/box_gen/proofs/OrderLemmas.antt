@@ -3,6 +3,7 @@ use Rattle.std.proofs.Common.{◌≡◌, ℕ, zero, suc, ◌+◌, ◌<◌, ◌�
 use Rattle.std.specs.List.{flat_map}
 use Rattle.std.proofs.lemmas.Bool.Decides.{nat_tests}
 use Rattle.std.proofs.lemmas.List.{map-append}
+use Rattle.std.proofs.lemmas.Option.{same_Some}
 use Rattle.bk_num.specs.declared.values.Pseudo.TheVariants as pseudo
 use Rattle.boxes.specs.declared.flow.Assign.{Assign}
 use Rattle.boxes.specs.declared.flow.Note.{Note}
@@ -70,10 +71,7 @@ rise-append a (p ∷ ps) b qs c r s = (r.0, rise-append p ps b qs c r.1 s)
 never-falls : (low : Position) (ps : List Position) (high : Position) → Rise low ps high → NeverFall ps
 never-falls low [] high r k a b e f = cc
 never-falls low (p ∷ []) high r k a b e f = cc
-never-falls low (p ∷ q ∷ ps) high r zero a b e f = subst (λ x. is_before b x ≡ false) (some p a e) (subst (λ x. is_before x p ≡ false) (some q b f) (no-later p q r.1.0))
-  where
-    some : (x y : Position) → Some x ≡ Some y → x ≡ y
-    some x y g = cc
+never-falls low (p ∷ q ∷ ps) high r zero a b e f = subst (λ x. is_before b x ≡ false) (same_Some p a e) (subst (λ x. is_before x p ≡ false) (same_Some q b f) (no-later p q r.1.0))
 never-falls low (p ∷ q ∷ ps) high r (suc k) a b e f = never-falls p (q ∷ ps) high r.1 k a b e f
 
 -- ---- where the elements of a run begin

@@ -10,7 +10,7 @@ use Rattle.dom.specs.declared.walk.Step.TheVariants.{Enter, Leave}
 use Rattle.dom.proofs.WalkLemmas.{whole-tour}
 use Rattle.counters.specs.Scopes.{Each}
 use Rattle.counters.specs.Document.{enters, leaves}
-use Rattle.counters.proofs.TourLemmas.{AreSteps, all-steps, all-within}
+use Rattle.counters.proofs.TourLemmas.{AreSteps, all-steps, all-within, enters-only, leaves-only}
 
 abbrev one_if : Bool → ℕ
 one_if true = 1
@@ -42,14 +42,6 @@ once ps p s only (t ∷ rest) a = by (p t) refl (once ps p s only rest a.1)
         let same : length (t ∷ rest) ≡ length (steps_from ps (Some s)) = ap length a.0 ∙ ap (λ (v : Step). length (steps_from ps (Some v))) (only t e) in
         let none = later-none ps p s only rest a.1 (omega (arith, same)) in
         omega (arith, none)
-
-enters-only : (n : ℕ) (s : Step) → enters n s ≡ true → s ≡ Enter (record { 0 = n })
-enters-only n (Leave m) h = cc
-enters-only n (Enter m) h = ap (λ (k : ℕ). Enter (record { 0 = k })) (exact_unsigned_eq m.0 n h)
-
-leaves-only : (n : ℕ) (s : Step) → leaves n s ≡ true → s ≡ Leave (record { 0 = n })
-leaves-only n (Enter m) h = cc
-leaves-only n (Leave m) h = ap (λ (k : ℕ). Leave (record { 0 = k })) (exact_unsigned_eq m.0 n h)
 
 -- ---- the steps of the nodes below a number, added up
 

@@ -1,5 +1,6 @@
 -- What is held after a solid is asked for.
 use Rattle.std.proofs.Common.{◌≡◌, ℕ, ℤ, List, Some, slice_get, sym, ◌∙◌, subst}
+use Rattle.std.proofs.lemmas.Option.{same_Some}
 use Rattle.boxes.specs.Tree.{Tree}
 use Rattle.boxes.specs.declared.leaf.Leaf.{Leaf as LeafData}
 use Rattle.boxes.specs.declared.page.SolidKind.TheVariants.{Line}
@@ -11,7 +12,6 @@ use Rattle.line_fill.specs.declared.kept.KeptLeaf.{KeptLeaf}
 use Rattle.cursor.specs.Asks.{AsksForLine, IsHeldNow, KeepsHeld}
 use Rattle.cursor.specs.Remainder.{IsContent, IsSolid, SolidView, leaf_measure}
 use Rattle.cursor.specs.Remainder.IsContent.{of_line, of_open, of_close}
-use Rattle.seams.proofs.WidthLemmas.{some-same}
 
 -- nothing changes
 pub keeps_all : (kept : List KeptLeaf) → KeepsHeld kept kept
@@ -43,7 +43,7 @@ leaf_is n m e = cc
 pub held_line : (t : Tree) (width : ℤ) (s : SolidView) (old new : List KeptLeaf) (steps steps' : ℕ) → AsksForLine t width s old new steps steps' → IsHeldNow t width new s.placed_at
 held_line t width s old new steps steps' a = λ number leaf names has.
     let n : a.number ≡ number = leaf_is a.number number (sym a.names ∙ names) in
-    let l : a.leaf ≡ leaf = some-same (sym a.has ∙ subst (λ (i : ℕ). slice_get t.leaves i ≡ Some leaf) (sym n) has) in
+    let l : a.leaf ≡ leaf = same_Some _ _ (sym a.has ∙ subst (λ (i : ℕ). slice_get t.leaves i ≡ Some leaf) (sym n) has) in
     subst (λ (x : LeafData). HoldsNow new (asked_of x s.placed_at.offset (leaf_measure t width s.placed_at.event))) l a.asked.asked
 
 -- an edge asks for nothing

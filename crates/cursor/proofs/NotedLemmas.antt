@@ -7,7 +7,7 @@ use Rattle.std.proofs.Math.Dec.{eqb-suc-suc, eqb-suc-zero, eqb-zero-suc}
 use Rattle.std.proofs.lemmas.Bool.{eq-eqb, eqb-true, and_parts}
 use Rattle.std.proofs.lemmas.Bool.Decides.{Decides-int_eq}
 use Rattle.std.proofs.lemmas.Map.Entries.{lookup_head, lookup_tail}
-use Rattle.seams.proofs.WidthLemmas.{some-same}
+use Rattle.std.proofs.lemmas.Option.{same_Some}
 use Rattle.cursor.specs.KeptLines.{LeafAtMeasure, leaf_eq, place_in}
 use Rattle.cursor.specs.LeafPlaces.{at_measure, entries_from, first_in, goes_first, is_free, noted_at}
 use Rattle.cursor.specs.declared.leaf_places.NotedPlace.{NotedPlace}
@@ -37,7 +37,7 @@ hit [] others l k j noted e h = cc
 hit (None ∷ firsts) others l zero j noted e h = cc
 hit (None ∷ firsts) others l (suc k) j noted e h = hit firsts others (suc l) k j noted (omega (arith, e)) h
 hit (Some x ∷ firsts) others l zero j noted e h =
-    let same : x ≡ noted = some-same h in
+    let same : x ≡ noted = same_Some _ _ h in
     lookup_head (leaf_eq (0, j, noted.measure)) ((0, l, x.measure), x.at) (entries_from (suc l) firsts ++ others) (is_equal 0 j 0 l noted.measure x.measure refl (omega (arith, e)) (ap (λ (y : NotedPlace). y.measure) (sym same)))
     ∙ ap (λ (y : NotedPlace). Some y.at) same
 hit (Some x ∷ firsts) others l (suc k) j noted e h =
@@ -66,7 +66,7 @@ module _ (firsts : List (Option NotedPlace)) (others : List (LeafAtMeasure × �
   at_noted : (noted : NotedPlace) → noted_at firsts i ≡ Some noted → (b : Bool) → int_eq noted.measure m ≡ b → lookup (leaf_eq (0, i, m)) (entries_from 0 firsts ++ others) ≡ either_of (if b then Some noted.at else None) (lookup (leaf_eq (0, i, m)) others)
   at_noted noted h true e = subst (λ (v : ℤ). lookup (leaf_eq (0, i, v)) (entries_from 0 firsts ++ others) ≡ Some noted.at) ((Decides-int_eq noted.measure m).0 e) (hit firsts others 0 i i noted (omega arith) h)
   at_noted noted h false e = miss firsts others 0 0 i m (λ k x g z j w.
-      let same : noted ≡ x = some-same (sym h ∙ (ap (noted_at firsts) (omega (arith, j)) ∙ g)) in
+      let same : noted ≡ x = same_Some _ _ (sym h ∙ (ap (noted_at firsts) (omega (arith, j)) ∙ g)) in
       both_ways ((Decides-int_eq noted.measure m).1 (ap (λ (y : NotedPlace). y.measure) same ∙ sym w)) e)
 
   at_leaf : (o : Option NotedPlace) → noted_at firsts i ≡ o → lookup (leaf_eq (0, i, m)) (entries_from 0 firsts ++ others) ≡ either_of (at_measure o m) (lookup (leaf_eq (0, i, m)) others)

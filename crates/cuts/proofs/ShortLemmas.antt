@@ -70,9 +70,6 @@ short_going kept height widest rows r fits s = quiet_more kept height rows r s f
 
 -- ---- counts
 
-none_some : {X : Type 0} {x : X} → ◌≡◌ {A = Option X} None (Some x) → ⊥
-none_some e = cc
-
 false_true : ◌≡◌ {A = Option Bool} (Some false) (Some true) → ⊥
 false_true e = cc
 

@@ -6,7 +6,7 @@ use Rattle.std.proofs.lemmas.List.{drop_all, drop-map, length-map, length-take-l
 use Rattle.std.proofs.lemmas.Option.{get_or_from_slice_get, slice_get-map, slice_get_within}
 use Rattle.std.proofs.lemmas.List.Elements.{All-drop, All-head, All-nil, All-push, All-tail}
 use Rattle.bk_num.proofs.ListLemmas.{get-take, get-drop}
-use Rattle.boxes.proofs.ListLemmas.{get-end, slice_get_at, take_get}
+use Rattle.boxes.proofs.ListLemmas.{get-end, slice_get_at, take-next}
 use Rattle.boxes.specs.Tree.{Tree, Holds, IsTree}
 use Rattle.boxes.specs.declared.flow.Note.{Note}
 use Rattle.boxes.specs.declared.page.SolidKind.{SolidKind}
@@ -287,7 +287,7 @@ step_is faces t width kept from old new k more are grows low there =
       at = s.1;
       is = subst (λ (p : Position). IsSolid faces t width p s.0) here (solid_next faces t width kept from (page_of new) k s.0 are s.1);
       read = solid_read faces t width kept from (page_of new) k s.0 are s.1;
-      now = ap (page_views new) (sym one) ∙ take_get (page_of new) k s.0 s.1 ∙ ap (λ (vs : List SolidView). vs ++ s.0 ∷ []) same;
+      now = ap (page_views new) (sym one) ∙ take-next (page_of new) k s.0 s.1 ∙ ap (λ (vs : List SolidView). vs ++ s.0 ∷ []) same;
       ends = ap (end_of from (page_of new)) (sym one) ∙ end_is from (page_of new) k s.0 s.1;
     }
 

@@ -3,6 +3,7 @@ use Rattle.std.proofs.Common.{◌≡◌, ◌<◌, ◌≤◌, ◌+◌, ℕ, zero,
 use Rattle.std.proofs.lemmas.Bool.Decides.{nat_tests}
 use Rattle.std.proofs.lemmas.Int.{ints}
 use Rattle.std.proofs.lemmas.List.{length-map}
+use Rattle.std.proofs.lemmas.Option.{same_Some}
 use Rattle.metrics.specs.Face.{FontFace}
 use Rattle.boxes.specs.declared.flow.Flow.{Flow}
 use Rattle.boxes.specs.declared.flow.Note.{Note}
@@ -24,7 +25,6 @@ use Rattle.note_list.proofs.NotedLemmas.{called_none}
 use Rattle.note_list.proofs.ReadLemmas.{read_for}
 use Rattle.page_list.specs.Cuts.{IsNotesCut, place_after}
 use Rattle.fragment.proofs.PlaceLemmas.{before_end}
-use Rattle.seams.proofs.WidthLemmas.{some-same}
 
 rest_some : (faces : List FontFace) (t : Tree) (width : ℤ) (at : Position) (k : ℕ) (solids : List SolidView) → solid_after t at.event ≡ Some k → IsRemainder faces t width at solids → 0 < length solids
 rest_some faces t width at k [] found r = absurd (let h : None ≡ Some k = sym r ∙ found in cc)
@@ -35,7 +35,7 @@ noted_some : (faces : List FontFace) (notes : List Note) (width : ℤ) (carried 
 noted_some faces notes width [] list some at n = absurd (omega arith)
 noted_some faces notes width (c ∷ carried) list some at n =
     let own : IsAtSolid notes c = at 0 c (omega arith) in
-    let note : own.note ≡ n.0 = some-same (sym own.has ∙ n.1) in
+    let note : own.note ≡ n.0 = same_Some _ _ (sym own.has ∙ n.1) in
     let found : solid_after n.0.body c.at.event ≡ Some c.at.event = subst (λ (x : Note). solid_after x.body c.at.event ≡ Some c.at.event) note own.solid in
     let low = rest_some faces n.0.body width c.at c.at.event n.2 found n.3 in
     let size : length list ≡ length n.2 + length n.4 = ap (λ (xs : List NotedSolid). length xs) n.6 ∙ length-append (map (noted n.0.body (record { note = c.note; at = c.at; called = false })) n.2) n.4 ∙ ap (λ (k : ℕ). k + length n.4) (length-map n.2 (noted n.0.body (record { note = c.note; at = c.at; called = false }))) in

@@ -156,6 +156,10 @@ module _ (faces : List FontFace) (t : Tree) (w : ℤ) (from : Position) (tree : 
       let events = few_events t tree in
       omega arith
 
+pub both_ok : {A E : Type 0} (P Q : A → Type 0) (r : Result A E) → IfOk r P → IfOk r Q → IfOk r (λ x. P x × Q x)
+both_ok P Q (Ok x) p q = (p, q)
+both_ok P Q (Err e) p q = tt
+
 pub if_ok : {A E : Type 0} (P Q : A → Type 0) (r : Result A E) → ((x : A) → P x → Q x) → IfOk r P → IfOk r Q
 if_ok P Q (Ok x) h p = h x p
 if_ok P Q (Err e) h p = tt

@@ -1,5 +1,5 @@
 -- The points of a word, place by place.
-use Rattle.std.proofs.Common.{◌≡◌, ℕ, zero, suc, ◌+◌, ◌-◌, ◌<◌, ◌≤◌, Bool, true, false, ◌&&◌, ◌%◌, eqb, leb, List, [], ◌∷◌, ◌++◌, length, get_or, map, refl, sym, ap, ◌∙◌, arith, ⊎_elim, if◌then◌else◌, add-one}
+use Rattle.std.proofs.Common.{◌≡◌, ℕ, zero, suc, ◌+◌, ◌-◌, ◌<◌, ◌≤◌, Bool, true, false, ◌&&◌, ◌%◌, eqb, leb, List, [], ◌∷◌, ◌++◌, length, get_or, map, refl, sym, ap, ◌∙◌, arith, ⊎_elim, if◌then◌else◌, add-one, append-nil}
 use Rattle.std.specs.Prelude.{filter}
 use Rattle.std.specs.List.{range_with_len}
 use Rattle.std.specs.Char.{len_utf8}
@@ -10,10 +10,6 @@ use Rattle.std.proofs.lemmas.List.Elements.{filter-append}
 use Rattle.std.proofs.lemmas.List.Sums.{sum_by_more}
 use Rattle.bk_num.proofs.ListLemmas.{range-more}
 use Rattle.hyphen.specs.Points.{is_point, letters_of, offset_of, places_of, points_of}
-
-nothing_more : (l : List ℕ) → l ++ [] ≡ l
-nothing_more [] = refl
-nothing_more (x ∷ l) = ap (λ (m : List ℕ). x ∷ m) (nothing_more l)
 
 -- one more place: a point or none
 places_more : (p : ℕ → Bool) (n : ℕ) → filter p (range_with_len 0 (n + 1)) ≡ filter p (range_with_len 0 n) ++ (if p n then n ∷ [] else [])
@@ -29,7 +25,7 @@ pub places_taken : (p : ℕ → Bool) (n : ℕ) (places : List ℕ) → places �
 places_taken p n places so_far holds = rw (places_more p n, holds, so_far) refl
 
 pub places_passed : (p : ℕ → Bool) (n : ℕ) (places : List ℕ) → places ≡ filter p (range_with_len 0 n) → p n ≡ false → places ≡ filter p (range_with_len 0 (n + 1))
-places_passed p n places so_far fails = so_far ∙ sym (rw (places_more p n, fails) (nothing_more (filter p (range_with_len 0 n))))
+places_passed p n places so_far fails = so_far ∙ sym (rw (places_more p n, fails) (append-nil (filter p (range_with_len 0 n))))
 
 pub points_taken : (f : ℕ → ℕ) (p : ℕ → Bool) (n : ℕ) (points : List ℕ) → points ≡ map f (filter p (range_with_len 0 n)) → p n ≡ true → points ++ f n ∷ [] ≡ map f (filter p (range_with_len 0 (n + 1)))
 points_taken f p n points so_far holds =

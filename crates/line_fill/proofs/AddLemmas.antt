@@ -2,7 +2,7 @@
 use Rattle.std.proofs.Common.{◌≡◌, ◌≢◌, ℕ, suc, ℤ, ◌≤◌, ◌⊎◌, inl, inr, ⊎_elim, List, [], ◌∷◌, ◌++◌, Option, Some, None, Result, Ok, Err, Bool, true, false, cond, eqb, length, slice_get, arith, refl, sym, ◌∙◌, ap, subst, length-append}
 use Rattle.std.specs.Prelude.{IfOk, OnOk, OnErr}
 use Rattle.std.proofs.lemmas.Bool.Decides.{nat_tests}
-use Rattle.std.proofs.lemmas.Option.{slice_get_within}
+use Rattle.std.proofs.lemmas.Option.{slice_get_within, none-some}
 use Rattle.bk_num.proofs.ListLemmas.{get-push, get-keep, get-end, get-before}
 use Rattle.line_fill.specs.Kept.{Grows, IsLeafAt}
 use Rattle.line_fill.specs.KeptLines.{AreRising}
@@ -11,12 +11,11 @@ use Rattle.line_fill.specs.KeptSound.{IsSoundBy}
 use Rattle.line_fill.specs.KeptSteps.{IsAdded}
 use Rattle.line_fill.specs.declared.kept.KeptLeaf.{KeptLeaf}
 use Rattle.line_fill.specs.declared.lines.KeptLine.{KeptLine}
-use Rattle.line_fill.proofs.InsertLemmas.{none_some}
 use Rattle.line_fill.proofs.SameLemmas.{print_same}
 use Rattle.line_fill.specs.Keys.{LeafKey, key_in, print_of}
 
 empty_rise : AreRising []
-empty_rise = λ i j a b h e e'. absurd (none_some e)
+empty_rise = λ i j a b h e e'. absurd (none-some _ e)
 
 module _ (old : List KeptLeaf) (z : KeptLeaf) where
   -- the last of a print among the first ones stays
@@ -72,7 +71,7 @@ module _ (old : List KeptLeaf) (z : KeptLeaf) where
     same = record {
       keeps = λ b l h. let w = h.stands in record { stands = record { at = w.at; leaf = w.leaf; has = get-keep old (z ∷ []) w.at w.leaf w.has; key_is = w.key_is; measure_is = w.measure_is; place = w.place; there = w.there; from_is = w.from_is }; asked = h.asked };
       only = λ b l h. ⊎_elim
-          (λ (w : (h.at ≡ length old) × (h.leaf ≡ z)). absurd (none_some (subst (λ (ls : List KeptLine). slice_get ls h.place ≡ Some l) (ap (λ (v : KeptLeaf). v.lines.items) w.1 ∙ lines) h.there)))
+          (λ (w : (h.at ≡ length old) × (h.leaf ≡ z)). absurd (none-some _ (subst (λ (ls : List KeptLine). slice_get ls h.place ≡ Some l) (ap (λ (v : KeptLeaf). v.lines.items) w.1 ∙ lines) h.there)))
           (λ (w : slice_get old h.at ≡ Some h.leaf). record { at = h.at; leaf = h.leaf; has = w; key_is = h.key_is; measure_is = h.measure_is; place = h.place; there = h.there; from_is = h.from_is })
           (get-push old z h.leaf h.at h.has);
     };

@@ -1,7 +1,7 @@
 -- What is answered where a line is asked of the leaf at a place.
 use Rattle.std.proofs.Common.{◌≡◌, ℕ, ◌+◌, ℤ, inl, inr, ⊎_elim, List, Option, Some, Result, Ok, Err, get_or, length, slice_get, refl, sym, ◌∙◌, ap, subst}
 use Rattle.std.specs.Prelude.{slice_set, IfOk, OnOk, OnErr}
-use Rattle.std.proofs.lemmas.Option.{slice_get_within, slice_get_read}
+use Rattle.std.proofs.lemmas.Option.{slice_get_within, slice_get_read, same_Some}
 use Rattle.metrics.specs.Face.{FontFace}
 use Rattle.boxes.specs.Lines.{LineView}
 use Rattle.boxes.specs.declared.leaf.Leaf.{Leaf}
@@ -12,7 +12,6 @@ use Rattle.line_fill.specs.KeptSound.{IsSoundBy}
 use Rattle.line_fill.specs.KeptSteps.{AsksLine, IsSameLeaf}
 use Rattle.line_fill.specs.declared.kept.KeptLeaf.{KeptLeaf}
 use Rattle.line_fill.specs.declared.lines.KeptLine.{KeptLine}
-use Rattle.line_fill.proofs.InsertLemmas.{some_same}
 use Rattle.line_fill.proofs.SetLemmas.{Goes, IsOwnLine, goes_on, sound_set, places_set, same_lines, has_asked, are_kept, line_is, held, filled}
 use Rattle.line_fill.specs.Keys.{key_in, key_of}
 
@@ -58,7 +57,7 @@ answered {E = E} faces leaf from measure old last at x y steps steps' r sound ke
     has = slice_get_read old (length old) at x refl (slice_get_within old at l.leaf l.has) value
 
     same_x : x ≡ l.leaf
-    same_x = some_same (sym has ∙ l.has)
+    same_x = same_Some _ _ (sym has ∙ l.has)
 
     key : key_in x ≡ key_of leaf
     key = ap key_in same_x ∙ l.key_is

@@ -1,18 +1,12 @@
 -- A line more among lines in order.
-use Rattle.std.proofs.Common.{◌≡◌, ◌≢◌, ℕ, zero, suc, ◌<◌, ◌≤◌, ◌⊎◌, inl, inr, List, [], ◌∷◌, Option, Some, None, length, slice_get, arith, refl, sym, ◌∙◌, ap, subst}
+use Rattle.std.proofs.Common.{◌≡◌, ◌≢◌, ℕ, zero, suc, ◌<◌, ◌≤◌, ◌⊎◌, inl, inr, List, [], ◌∷◌, Some, length, slice_get, arith, refl, sym, ◌∙◌, ap, subst}
 use Rattle.std.specs.Prelude.{slice_set}
 use Rattle.std.specs.List.{insert}
 use Rattle.std.proofs.lemmas.Bool.{cases_lt}
-use Rattle.std.proofs.lemmas.Option.{slice_get_within, slice_get-get_or}
+use Rattle.std.proofs.lemmas.Option.{slice_get_within, slice_get-get_or, same_Some, none-some}
 use Rattle.bk_num.proofs.ListLemmas.{get-set}
 use Rattle.line_fill.specs.KeptLines.{AreRising, IsPlace}
 use Rattle.line_fill.specs.declared.lines.KeptLine.{KeptLine}
-
-pub some_same : {X : Type 0} {x y : X} → ◌≡◌ {A = Option X} (Some x) (Some y) → x ≡ y
-some_same e = cc
-
-pub none_some : {X : Type 0} {x : X} → ◌≡◌ {A = Option X} None (Some x) → ⊥
-none_some e = cc
 
 -- where an element of a list with one more stood before
 pub data Came {X : Type 0} (xs : List X) (i k : ℕ) (y x : X) : Type 0 where
@@ -26,10 +20,10 @@ came_more z xs i k y x (low a b) = low (omega arith) b
 came_more z xs i k y x (high j a l b) = high (suc j) (ap suc a) (omega arith) b
 
 pub get-insert : {X : Type 0} (xs : List X) (i k : ℕ) (y x : X) → i ≤ length xs → slice_get (insert xs i y) k ≡ Some x → Came xs i k y x
-get-insert [] zero zero y x l e = here refl (some_same (sym e))
-get-insert [] zero (suc k) y x l e = absurd (none_some e)
+get-insert [] zero zero y x l e = here refl (same_Some _ _ (sym e))
+get-insert [] zero (suc k) y x l e = absurd (none-some _ e)
 get-insert [] (suc i) k y x l e = absurd (omega arith)
-get-insert (z ∷ xs) zero zero y x l e = here refl (some_same (sym e))
+get-insert (z ∷ xs) zero zero y x l e = here refl (same_Some _ _ (sym e))
 get-insert (z ∷ xs) zero (suc k) y x l e = high k refl (omega arith) e
 get-insert (z ∷ xs) (suc i) zero y x l e = low (omega arith) e
 get-insert (z ∷ xs) (suc i) (suc k) y x l e = came_more z xs i k y x (get-insert xs i k y x (omega arith) e)
@@ -41,7 +35,7 @@ insert-at (z ∷ xs) zero y l = refl
 insert-at (z ∷ xs) (suc i) y l = insert-at xs i y (omega arith)
 
 pub insert-keep : {X : Type 0} (xs : List X) (i k : ℕ) (y x : X) → i ≤ length xs → slice_get xs k ≡ Some x → (j : ℕ) × (slice_get (insert xs i y) j ≡ Some x)
-insert-keep [] i k y x l e = absurd (none_some e)
+insert-keep [] i k y x l e = absurd (none-some _ e)
 insert-keep (z ∷ xs) zero k y x l e = (suc k, e)
 insert-keep (z ∷ xs) (suc i) zero y x l e = (zero, e)
 insert-keep (z ∷ xs) (suc i) (suc k) y x l e = let r = insert-keep xs i k y x (omega arith) e in (suc r.0, r.1)
@@ -90,7 +84,7 @@ rising-set xs place a y up has e = λ i j b c h eb ec.
   where
     same : (i : ℕ) (b old : KeptLine) → slice_get xs i ≡ Some old → ((i ≡ place) × (b ≡ y)) ⊎ ((i ≡ place → ⊥) × (b ≡ old)) → b.line.from ≡ old.line.from
     same i b old eo (inl w) =
-        let s : old ≡ a = some_same (sym eo ∙ (ap (slice_get xs) w.0 ∙ has)) in
+        let s : old ≡ a = same_Some _ _ (sym eo ∙ (ap (slice_get xs) w.0 ∙ has)) in
         ap (λ (l : KeptLine). l.line.from) w.1 ∙ (sym e ∙ ap (λ (l : KeptLine). l.line.from) (sym s))
     same i b old eo (inr w) = ap (λ (l : KeptLine). l.line.from) w.1
 
@@ -101,4 +95,4 @@ one-line xs i j a b up ea eb e = by (cases_lt i j) (cases_lt j i)
     by : (i < j) ⊎ (j ≤ i) → (j < i) ⊎ (i ≤ j) → a ≡ b
     by (inl l) r = let t = up i j a b l ea eb in absurd (omega (arith, t, e))
     by (inr g) (inl l) = let t = up j i b a l eb ea in absurd (omega (arith, t, e))
-    by (inr g) (inr h) = let p : i ≡ j = omega arith in some_same (sym ea ∙ (ap (slice_get xs) p ∙ eb))
+    by (inr g) (inr h) = let p : i ≡ j = omega arith in same_Some _ _ (sym ea ∙ (ap (slice_get xs) p ∙ eb))

@@ -1,12 +1,12 @@
 -- What is held after a pass.
 use Rattle.std.proofs.Common.{◌≡◌, ◌⊎◌, inl, inr, ⊎_elim, ℕ, zero, suc, List, [], ◌∷◌, Some, slice_get, sym, ap, subst, ◌∙◌}
 use Rattle.std.specs.List.{Contains}
+use Rattle.std.proofs.lemmas.Option.{same_Some, none-some}
 use Rattle.bk_num.proofs.ListLemmas.{contains-get, get-contains}
 use Rattle.line_fill.specs.Kept.{AreAsked, Asked, HoldsNow, KeepWhatWasAsked, LeavesAreApart, Stands, asked_of}
 use Rattle.line_fill.specs.declared.kept.KeptLeaf.{KeptLeaf}
 use Rattle.line_fill.specs.declared.lines.KeptLine.{KeptLine}
 use Rattle.line_fill.proofs.AskLemmas.{had_line}
-use Rattle.line_fill.proofs.InsertLemmas.{none_some, some_same}
 
 -- what was asked for in a pass stays so
 now_kept : (asks : List Asked) (old new : List KeptLeaf) (b : Asked) → AreAsked asks old new → HoldsNow old b → HoldsNow new b
@@ -15,8 +15,8 @@ now_kept (a ∷ asks) old new b r h = now_kept asks r.0 new b r.2 (r.1.keeps_now
 
 -- each triple of the list is asked for
 now_asked : (asks : List Asked) (old new : List KeptLeaf) → AreAsked asks old new → (k : ℕ) (b : Asked) → slice_get asks k ≡ Some b → HoldsNow new b
-now_asked [] old new r k b e = absurd (none_some e)
-now_asked (a ∷ asks) old new r zero b e = now_kept asks r.0 new b r.2 (subst (HoldsNow r.0) (some_same e) r.1.asked)
+now_asked [] old new r k b e = absurd (none-some _ e)
+now_asked (a ∷ asks) old new r zero b e = now_kept asks r.0 new b r.2 (subst (HoldsNow r.0) (same_Some _ _ e) r.1.asked)
 now_asked (a ∷ asks) old new r (suc k) b e = now_asked asks r.0 new r.2 k b e
 
 -- and nothing else
@@ -47,4 +47,4 @@ leaves_are_apart leaf other from at measure wide old new apart asked none h = �
 
 -- where no leaf is, no line stands
 pub none_stands : (kept : List KeptLeaf) → kept ≡ [] → (a : Asked) (line : KeptLine) → Stands kept a line → ⊥
-none_stands kept e a line h = none_some (ap (λ (xs : List KeptLeaf). slice_get xs h.at) (sym e) ∙ h.has)
+none_stands kept e a line h = none-some _ (ap (λ (xs : List KeptLeaf). slice_get xs h.at) (sym e) ∙ h.has)

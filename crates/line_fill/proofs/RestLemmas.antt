@@ -2,8 +2,9 @@
 use Rattle.std.proofs.Common.{◌≡◌, ℕ, zero, suc, ◌+◌, ◌-◌, ◌<◌, ◌≤◌, true, ℤ, pos, ◌-ℤ◌, ◌&&◌, List, [], ◌∷◌, length, get_or, drop, drop-cons, map, Option, None, Some, refl, sym, ◌∙◌, ap, subst, arith}
 use Rattle.std.proofs.lemmas.Bool.{and_from, cond-true, cond_both, ne_eqb}
 use Rattle.std.proofs.lemmas.Int.{ints}
-use Rattle.std.proofs.lemmas.List.{drop-drop, drop-map, get_or-drop, get_or-map, length-drop, length-map}
+use Rattle.std.proofs.lemmas.List.{drop-drop, drop-map, get_or-drop, get_or-map, length-drop}
 use Rattle.std.specs.Str.{IsCharBoundary, IsUtf8}
+use Rattle.line_fill.proofs.OffsetLemmas.{stops-count}
 use Rattle.metrics.specs.Face.{FontFace}
 use Rattle.metrics.specs.Widths.{char_at, has_width, is_lead, sum_from}
 use Rattle.boxes.specs.Contents.{IsGoodLeaf}
@@ -151,10 +152,6 @@ stops-later faces leaf from to j plain is l e =
     ∙ ap (λ (xs : List ℕ). map (stop_from (stop_at faces leaf from to).next) (map (stop_at faces leaf from) xs)) is.offsets
     ∙ ap (map (stop_from (stop_at faces leaf from to).next)) (sym (drop-map (stop_at faces leaf from) (suc j) (offsets_of leaf from)))
     ∙ ap (λ (s : Stop). map (stop_from s.next) (drop (suc j) (map (stop_at faces leaf from) (offsets_of leaf from)))) (sym here)
-
-pub stops-count : (faces : List FontFace) (leaf : Leaf) (from : ℕ) → length (stops_of faces leaf from) ≡ length (offsets_of leaf from)
-unfolding stops_of
-stops-count faces leaf from = simp length-map
 
 -- no later line is the leaf's first
 measures-later : (leaf : Leaf) (from to : ℕ) (measure : ℤ) → 0 < to → measures_of leaf to measure ≡ measures_after (measures_of leaf from measure)

@@ -3,7 +3,7 @@ use Rattle.std.proofs.Common.{◌≡◌, ℕ, ◌+◌, ℤ, ◌<◌, ◌≤◌, 
 use Rattle.std.specs.Prelude.{slice_set}
 use Rattle.std.specs.List.{insert}
 use Rattle.std.proofs.lemmas.Bool.{cases_lt}
-use Rattle.std.proofs.lemmas.Option.{slice_get_within, slice_get-get_or}
+use Rattle.std.proofs.lemmas.Option.{slice_get_within, slice_get-get_or, same_Some}
 use Rattle.std.proofs.lemmas.List.{length-set}
 use Rattle.bk_num.proofs.ListLemmas.{get-set, set-get}
 use Rattle.metrics.specs.Face.{FontFace}
@@ -18,7 +18,7 @@ use Rattle.line_fill.specs.KeptSteps.{AsksLine, IsSameLeaf, line_now, step_of}
 use Rattle.line_fill.specs.KeptSteps.AsksLine.{found, fresh}
 use Rattle.line_fill.specs.declared.kept.KeptLeaf.{KeptLeaf}
 use Rattle.line_fill.specs.declared.lines.KeptLine.{KeptLine}
-use Rattle.line_fill.proofs.InsertLemmas.{some_same, Came, get-insert, insert-at, insert-keep, one-line, rising-set}
+use Rattle.line_fill.proofs.InsertLemmas.{Came, get-insert, insert-at, insert-keep, one-line, rising-set}
 use Rattle.line_fill.proofs.InsertLemmas.Came.{here, low, high}
 use Rattle.line_fill.proofs.SameLemmas.{print_same, same_line}
 use Rattle.line_fill.specs.Keys.{LeafKey, key_in, key_of}
@@ -42,7 +42,7 @@ set-goes old from place Chosen a line up has e begun = record {
   place = place;
   there = let t = set-get old place place (line_now line) a has in at_place t.0 t.1 t.2;
   came = λ k l g. let r = get-set old place k (line_now line) l g in ⊎_elim (λ (w : (k ≡ place) × (l ≡ line_now line)). inl w.1) (λ (w : (k ≡ place → ⊥) × (l ≡ r.0)). inr (inl (k, r.1 ∙ ap (λ (x : KeptLine). Some x) (sym w.1)))) r.2;
-  goes = λ k l g. let r = set-get old place k (line_now line) l g in ⊎_elim (λ (w : (k ≡ place) × (r.0 ≡ line_now line)). inl (let s : l ≡ a = some_same (sym g ∙ (ap (slice_get old) w.0 ∙ has)) in ap (λ (x : KeptLine). x.line.from) s ∙ begun)) (λ (w : (k ≡ place → ⊥) × (r.0 ≡ l)). inr (k, r.1 ∙ ap (λ (x : KeptLine). Some x) w.1)) r.2;
+  goes = λ k l g. let r = set-get old place k (line_now line) l g in ⊎_elim (λ (w : (k ≡ place) × (r.0 ≡ line_now line)). inl (let s : l ≡ a = same_Some _ _ (sym g ∙ (ap (slice_get old) w.0 ∙ has)) in ap (λ (x : KeptLine). x.line.from) s ∙ begun)) (λ (w : (k ≡ place → ⊥) × (r.0 ≡ l)). inr (k, r.1 ∙ ap (λ (x : KeptLine). Some x) w.1)) r.2;
 }
   where
     at_place : (z : KeptLine) → slice_get (slice_set old place (line_now line)) place ≡ Some z → ((place ≡ place) × (z ≡ line_now line)) ⊎ ((place ≡ place → ⊥) × (z ≡ a)) → slice_get (slice_set old place (line_now line)) place ≡ Some (line_now line)
@@ -92,7 +92,7 @@ same_leaf x = record { key_is = refl; measure_is = refl; print_is = refl; before
 
 module _ (leaves : List KeptLeaf) (at : ℕ) (x y : KeptLeaf) (has : slice_get leaves at ≡ Some x) (same : IsSameLeaf x y) where
   is_x : (i : ℕ) (w : KeptLeaf) → slice_get leaves i ≡ Some w → i ≡ at → w ≡ x
-  is_x i w e p = some_same (sym e ∙ (ap (slice_get leaves) p ∙ has))
+  is_x i w e p = same_Some _ _ (sym e ∙ (ap (slice_get leaves) p ∙ has))
 
   pub set_same : (i : ℕ) (z : KeptLeaf) → slice_get (slice_set leaves at y) i ≡ Some z → (w : KeptLeaf) × (slice_get leaves i ≡ Some w) × IsSameLeaf w z
   set_same i z e = let r = get-set leaves at i y z e in (r.0, r.1, by r.0 r.1 r.2)

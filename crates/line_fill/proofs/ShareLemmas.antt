@@ -1,7 +1,7 @@
 -- An equal leaf is shared in place of one that is kept.
 use Rattle.std.proofs.Common.{◌≡◌, ◌∙◌, ℕ, ℤ, List, Option, Some, get_or, length, slice_get, refl, sym, ap, subst}
 use Rattle.std.specs.Prelude.{slice_set}
-use Rattle.std.proofs.lemmas.Option.{slice_get_within, slice_get_read}
+use Rattle.std.proofs.lemmas.Option.{slice_get_within, slice_get_read, same_Some}
 use Rattle.line_fill.specs.Kept.{Grows, IsLeafAt}
 use Rattle.line_fill.specs.KeptLines.{AreRising}
 use Rattle.line_fill.specs.KeptSound.{IsSoundBy}
@@ -9,7 +9,6 @@ use Rattle.line_fill.specs.KeptSteps.{IsSameLeaf}
 use Rattle.line_fill.specs.Keys.{LeafKey, key_in}
 use Rattle.line_fill.specs.declared.kept.KeptLeaf.{KeptLeaf}
 use Rattle.line_fill.specs.declared.lines.KeptLine.{KeptLine}
-use Rattle.line_fill.proofs.InsertLemmas.{some_same}
 use Rattle.line_fill.proofs.SetLemmas.{sound_set, places_set, same_lines}
 
 pub record IsShared (old new : List KeptLeaf) (last : ℕ → Option ℕ) (place : ℕ) (key : LeafKey) (measure : ℤ) : Type 0 where
@@ -28,7 +27,7 @@ shared old last at x y key measure sound l value key_is measure_is print_is befo
     has = slice_get_read old (length old) at x refl (slice_get_within old at l.leaf l.has) value
 
     same_x : x ≡ l.leaf
-    same_x = some_same (sym has ∙ l.has)
+    same_x = same_Some _ _ (sym has ∙ l.has)
 
     same : IsSameLeaf x y
     same = record { key_is = key_is ∙ sym (ap key_in same_x ∙ l.key_is); measure_is = measure_is; print_is = print_is; before_is = before_is }

@@ -4,7 +4,7 @@ use Rattle.std.specs.Prelude.{slice_set}
 use Rattle.std.specs.List.{filter}
 use Rattle.std.proofs.lemmas.Bool.{cases_lt}
 use Rattle.std.proofs.lemmas.List.{length-set}
-use Rattle.std.proofs.lemmas.Option.{slice_get_within, slice_get-get_or}
+use Rattle.std.proofs.lemmas.Option.{slice_get_within, slice_get-get_or, same_Some, none-some}
 use Rattle.bk_num.proofs.ListLemmas.{set-get}
 use Rattle.metrics.specs.Face.{FontFace}
 use Rattle.line_fill.specs.LineEnd.{IsLine}
@@ -17,7 +17,6 @@ use Rattle.line_fill.specs.declared.kept.KeptLeaf.{KeptLeaf}
 use Rattle.line_fill.specs.declared.lines.KeptLine.{KeptLine}
 use Rattle.line_fill.specs.declared.lines.Pass.{Pass}
 use Rattle.line_fill.specs.declared.lines.Pass.TheVariants.{Now, Before, Ahead}
-use Rattle.line_fill.proofs.InsertLemmas.{none_some, some_same}
 use Rattle.line_fill.proofs.SameLemmas.{print_same}
 
 -- a line of this pass is asked for
@@ -41,18 +40,18 @@ was_more : (x : KeptLine) (xs : List KeptLine) (y : KeptLine) → Was xs y → W
 was_more x xs y w = record { place = suc w.place; line = w.line; there = w.there; now_is = w.now_is; is = w.is }
 
 pub turn_get : (xs : List KeptLine) (k : ℕ) (y : KeptLine) → slice_get (turned_lines xs) k ≡ Some y → Was xs y
-turn_get [] k y e = absurd (none_some e)
+turn_get [] k y e = absurd (none-some _ e)
 turn_get (x ∷ xs) k y e = by (is_now x) refl k e (λ k' e'. turn_get xs k' y e')
   where
     by : (b : Bool) → is_now x ≡ b → (k : ℕ) → slice_get (map before_of (cond b (x ∷ filter is_now xs) (filter is_now xs))) k ≡ Some y → ((k' : ℕ) → slice_get (turned_lines xs) k' ≡ Some y → Was xs y) → Was (x ∷ xs) y
-    by true n zero e' rest = record { place = zero; line = x; there = refl; now_is = n; is = some_same (sym e') }
+    by true n zero e' rest = record { place = zero; line = x; there = refl; now_is = n; is = same_Some _ _ (sym e') }
     by true n (suc k') e' rest = was_more x xs y (rest k' e')
     by false n k' e' rest = was_more x xs y (rest k' e')
 
 pub get_turn : (xs : List KeptLine) (j : ℕ) (x : KeptLine) → slice_get xs j ≡ Some x → is_now x ≡ true → (k : ℕ) × (slice_get (turned_lines xs) k ≡ Some (before_of x))
-get_turn [] j x e n = absurd (none_some e)
+get_turn [] j x e n = absurd (none-some _ e)
 get_turn (z ∷ zs) zero x e n =
-    let s : z ≡ x = some_same e in
+    let s : z ≡ x = same_Some _ _ e in
     let m : is_now z ≡ true = ap is_now s ∙ n in
     (zero, subst (λ (b : Bool). slice_get (map before_of (cond b (z ∷ filter is_now zs) (filter is_now zs))) zero ≡ Some (before_of x)) (sym m) (ap (λ (v : KeptLine). Some (before_of v)) s))
 get_turn (z ∷ zs) (suc j) x e n = let r = get_turn zs j x e n in by (is_now z) refl r.0 r.1
@@ -65,7 +64,7 @@ tail_rise : (x : KeptLine) (xs : List KeptLine) → AreRising (x ∷ xs) → Are
 tail_rise x xs up = λ i j a b h e f. up (suc i) (suc j) a b (omega arith) e f
 
 pub rising_turn : (xs : List KeptLine) → AreRising xs → AreRising (turned_lines xs)
-rising_turn [] up = λ i j a b h e f. absurd (none_some e)
+rising_turn [] up = λ i j a b h e f. absurd (none-some _ e)
 rising_turn (x ∷ xs) up = by (rising_turn xs (tail_rise x xs up)) (is_now x) refl
   where
     first : AreRising (turned_lines xs) → (i j : ℕ) (a b : KeptLine) → i < j → slice_get (before_of x ∷ turned_lines xs) i ≡ Some a → slice_get (before_of x ∷ turned_lines xs) j ≡ Some b → a.line.from < b.line.from
@@ -73,7 +72,7 @@ rising_turn (x ∷ xs) up = by (rising_turn xs (tail_rise x xs up)) (is_now x) r
     first rest zero (suc j) a b h e f =
         let w = turn_get xs j b f in
         let r = up zero (suc w.place) x w.line (omega arith) refl w.there in
-        let s : a.line.from ≡ x.line.from = ap (λ (v : KeptLine). v.line.from) (sym (some_same e)) in
+        let s : a.line.from ≡ x.line.from = ap (λ (v : KeptLine). v.line.from) (sym (same_Some _ _ e)) in
         let t : b.line.from ≡ w.line.line.from = ap (λ (v : KeptLine). v.line.from) w.is in
         omega (arith, r, s, t)
     first rest (suc i) zero a b h e f = absurd (omega arith)
@@ -109,7 +108,7 @@ turned_more old now at x y t l e is = record {
     by k w h f (inl h') = let r = t.turned k w h' f in (r.0, set_other now at k y (omega arith) ∙ r.1, r.2)
     by k w h f (inr h') =
         let p : k ≡ at = omega arith in
-        let s : w ≡ x = some_same (sym f ∙ (sym (t.rest k h') ∙ (ap (slice_get now) p ∙ has))) in
+        let s : w ≡ x = same_Some _ _ (sym f ∙ (sym (t.rest k h') ∙ (ap (slice_get now) p ∙ has))) in
         let r = set-get now at at y x has in
         (y, ap (slice_get (slice_set now at y)) p ∙ here r.0 r.1 r.2, subst (λ (v : KeptLeaf). IsTurned v y) (sym s) is)
 
@@ -120,7 +119,7 @@ module _ (old new : List KeptLeaf) (t : AreTurned old new) where
       let n : length new ≡ length old = t.long in
       let f = slice_get-get_or old i z (omega (arith, l, n)) in
       let r = t.turned i _ (omega (arith, l, n)) f in
-      let s : r.0 ≡ z = some_same (sym r.1 ∙ e) in
+      let s : r.0 ≡ z = same_Some _ _ (sym r.1 ∙ e) in
       (get_or old i z, f, subst (λ (v : KeptLeaf). IsTurned (get_or old i z) v) s r.2)
 
   there : (i : ℕ) (w : KeptLeaf) → slice_get old i ≡ Some w → (z : KeptLeaf) × (slice_get new i ≡ Some z) × IsTurned w z

@@ -3,6 +3,7 @@ use Rattle.std.proofs.Common.{◌+ℤ◌, ◌≡◌, ◌∙◌, ℕ, ◌+◌, �
 use Rattle.std.proofs.lemmas.List.{take-append-drop}
 use Rattle.std.proofs.Math.Seq.{take-append_seam}
 use Rattle.std.proofs.lemmas.List.Elements.{All-cons, All-head, All-nil, All-push, All-tail, All-take}
+use Rattle.std.proofs.lemmas.Option.{same_Some}
 use Rattle.metrics.specs.Face.{FontFace}
 use Rattle.boxes.specs.Tree.{Tree}
 use Rattle.boxes.specs.declared.flow.Flow.{Flow}
@@ -14,7 +15,6 @@ use Rattle.cursor.specs.Asks.{IsHeldNow, KeepsHeld}
 use Rattle.cursor.specs.KeptLines.{KeptLinesView, StayPlaced}
 use Rattle.line_fill.specs.Kept.{AreKept}
 use Rattle.line_fill.specs.declared.kept.KeptLeaf.{KeptLeaf}
-use Rattle.seams.proofs.WidthLemmas.{some-same}
 use Rattle.note_list.specs.Kept.{AreFlowLines, AreHeldNow, IsHeldIn, NotesHeldNow}
 use Rattle.note_list.specs.Lists.{placed_notes}
 use Rattle.note_list.specs.Places.{IsFront}
@@ -37,7 +37,7 @@ note_lines faces flow number note old new has are kept stay = record {
 }
   where
     same : (n : ℕ) (other : Note) → slice_get flow.notes n ≡ Some other → n ≡ number → other.body ≡ note.body
-    same n other is e = ap (λ (x : Note). x.body) (some-same (sym is ∙ (ap (slice_get flow.notes) e ∙ has)))
+    same n other is e = ap (λ (x : Note). x.body) (same_Some _ _ (sym is ∙ (ap (slice_get flow.notes) e ∙ has)))
 
 -- lines stay held
 pub held_more : (notes : List Note) (width : ℤ) (old new : List KeptLeaf) (list : List NotedSolid) → KeepsHeld old new → AreHeldNow notes width old list → AreHeldNow notes width new list
@@ -49,7 +49,7 @@ placed_more notes width old new placed keeps held = λ k d h note has. held_on n
 -- with the next solid of a note
 pub held_next : (notes : List Note) (note : Note) (body : Tree) (width : ℤ) (old new : List KeptLeaf) (list more : List NotedSolid) (s : NotedSolid) → slice_get notes s.note ≡ Some note → note.body ≡ body → KeepsHeld old new → IsHeldNow body width new s.at → more ≡ list ++ s ∷ [] → AreHeldNow notes width old list → AreHeldNow notes width new more
 held_next notes note body width old new list more s has is keeps now items held =
-    let here : IsHeldIn notes width new s.note s.at = λ other there. subst (λ (t : Tree). IsHeldNow t width new s.at) (sym (ap (λ (x : Note). x.body) (some-same (sym there ∙ has)) ∙ is)) now in
+    let here : IsHeldIn notes width new s.note s.at = λ other there. subst (λ (t : Tree). IsHeldNow t width new s.at) (sym (ap (λ (x : Note). x.body) (same_Some _ _ (sym there ∙ has)) ∙ is)) now in
     subst (AreHeldNow notes width new) (sym items) (All-push (λ x. IsHeldIn notes width new x.note x.at) list s (held_more notes width old new list keeps held) here)
 
 -- some of the first solids are the first ones

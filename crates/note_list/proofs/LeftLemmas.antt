@@ -4,6 +4,7 @@ use Rattle.std.specs.List.{flat_map}
 use Rattle.std.proofs.lemmas.Bool.{eq-eqb, ne_eqb}
 use Rattle.std.proofs.lemmas.Bool.Decides.{nat_tests}
 use Rattle.std.proofs.lemmas.List.Elements.{All-cons}
+use Rattle.std.proofs.lemmas.Option.{same_Some}
 use Rattle.metrics.specs.Face.{FontFace}
 use Rattle.boxes.specs.declared.flow.Note.{Note}
 use Rattle.boxes.specs.declared.place.Position.{Position}
@@ -15,7 +16,6 @@ use Rattle.note_list.specs.Left.{left_at, left_from, left_in, left_part}
 use Rattle.note_list.specs.Lists.{AreNoted, NotePart, is_of, left_after, noted}
 use Rattle.note_list.specs.declared.carried.Carried.{Carried}
 use Rattle.note_list.specs.declared.solid.NotedSolid.{NotedSolid}
-use Rattle.seams.proofs.WidthLemmas.{some-same}
 
 -- the place at which a part begins
 abbrev pub start_of : NotePart → Carried
@@ -67,7 +67,7 @@ left_none faces notes width next low last (p ∷ parts) list h before rise held 
     own = held 0 p (omega arith)
 
     holds : Stands note.body p.at
-    holds = let same : own.note ≡ note = some-same (sym own.has ∙ has) in subst (λ (n : Note). Stands n.body p.at) same (stands own.note.body p.at own.holds)
+    holds = let same : own.note ≡ note = same_Some _ _ (sym own.has ∙ has) in subst (λ (n : Note). Stands n.body p.at) same (stands own.note.body p.at own.holds)
 
     lower : (l : Option ℕ) → Before l low → Before l (suc p.note)
     lower None b = b
@@ -87,7 +87,7 @@ noted_low faces notes width low (p ∷ parts) list k s rise (note, has, solids, 
   where
     by : (ss : List SolidView) (k : ℕ) → slice_get (map (noted note.body p) ss ++ rest) k ≡ Some s → ((i : ℕ) → slice_get rest i ≡ Some s → suc p.note ≤ s.note) → low ≤ s.note
     by [] k e later = let r = rise.0 in let l = later k e in omega arith
-    by (x ∷ ss) zero e later = let same : noted note.body p x ≡ s = some-same e in subst (λ (y : NotedSolid). low ≤ y.note) same rise.0
+    by (x ∷ ss) zero e later = let same : noted note.body p x ≡ s = same_Some _ _ e in subst (λ (y : NotedSolid). low ≤ y.note) same rise.0
     by (x ∷ ss) (suc k) e later = by ss k e later
 
 -- it doesn't matter from which number on notes are left where all are above it
@@ -135,5 +135,5 @@ left_some faces notes width low (p ∷ parts) list k s rise held (note, has, sol
     by at [] r k e later =
         let low_of = noted_low faces notes width (suc p.note) parts rest k s rise.1 more e in
         later k e ∙ close (omega arith)
-    by at (x ∷ ss) r zero e later = here x ss (some-same e) (subst (λ (w : Position). IsRemainder faces note.body width w ss) r.1.1 r.2)
+    by at (x ∷ ss) r zero e later = here x ss (same_Some _ _ e) (subst (λ (w : Position). IsRemainder faces note.body width w ss) r.1.1 r.2)
     by at (x ∷ ss) r (suc k) e later = by r.0 ss r.2 k e later

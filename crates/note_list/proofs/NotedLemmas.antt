@@ -3,6 +3,7 @@ use Rattle.std.proofs.Common.{◌≡◌, ℕ, zero, suc, ◌+◌, ◌-◌, ◌<�
 use Rattle.std.specs.List.{range_with_len}
 use Rattle.std.proofs.lemmas.List.{append_assoc}
 use Rattle.std.proofs.lemmas.List.Elements.{All-cons, All-nil}
+use Rattle.std.proofs.lemmas.Option.{same_Some}
 use Rattle.bk_num.proofs.ListLemmas.{slice_get_at, all-get}
 use Rattle.metrics.specs.Face.{FontFace}
 use Rattle.boxes.specs.declared.flow.Note.{Note}
@@ -13,7 +14,6 @@ use Rattle.note_list.specs.Conditions.{CanBeCut, IsHeld}
 use Rattle.note_list.specs.Lists.{AreNoted, NotePart, called_parts, carried_parts, noted}
 use Rattle.note_list.specs.declared.carried.Carried.{Carried}
 use Rattle.note_list.specs.declared.solid.NotedSolid.{NotedSolid}
-use Rattle.seams.proofs.WidthLemmas.{some-same}
 
 -- ---- parts
 
@@ -49,7 +49,7 @@ noted_one faces notes width p note solids has rem = (note, has, solids, rem, [],
 pub noted_unique : (faces : List FontFace) (notes : List Note) (width : ℤ) (ps : List NotePart) (xs ys : List NotedSolid) → AreNoted faces notes width ps xs → AreNoted faces notes width ps ys → xs ≡ ys
 noted_unique faces notes width [] xs ys p q = p ∙ sym q
 noted_unique faces notes width (p ∷ ps) xs ys r q =
-    let note : r.0 ≡ q.0 = some-same (sym r.1 ∙ q.1) in
+    let note : r.0 ≡ q.0 = same_Some _ _ (sym r.1 ∙ q.1) in
     let solids : r.2 ≡ q.2 = remainder_unique faces q.0.body width p.at r.2 q.2 (subst (λ (n : Note). IsRemainder faces n.body width p.at r.2) note r.3) q.3 in
     let rest : r.4 ≡ q.4 = noted_unique faces notes width ps r.4 q.4 r.5 q.5 in
     r.6 ∙ ap (λ (n : Note). map (noted n.body p) r.2 ++ r.4) note ∙ ap (λ (ss : List SolidView). map (noted q.0.body p) ss ++ r.4) solids ∙ ap (λ (zs : List NotedSolid). map (noted q.0.body p) q.2 ++ zs) rest ∙ sym q.6

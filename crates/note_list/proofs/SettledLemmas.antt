@@ -3,7 +3,7 @@ use Rattle.std.proofs.Common.{◌≡◌, ℕ, suc, ◌<◌, ◌==◌, ℤ, Bool,
 use Rattle.std.specs.List.{flat_map}
 use Rattle.std.proofs.lemmas.Bool.{eq-eqb}
 use Rattle.std.proofs.lemmas.List.Elements.{All-append, All-nil}
-use Rattle.std.proofs.lemmas.Option.{slice_get_within}
+use Rattle.std.proofs.lemmas.Option.{slice_get_within, same_Some}
 use Rattle.metrics.specs.Face.{FontFace}
 use Rattle.boxes.specs.Tree.{Tree}
 use Rattle.boxes.specs.declared.flow.Note.{Note}
@@ -13,7 +13,6 @@ use Rattle.cursor.specs.Remainder.IsContent.{of_line, of_open, of_close}
 use Rattle.cursor.proofs.PartLemmas.{solid_itself}
 use Rattle.seams.specs.Runs.{solid_after}
 use Rattle.seams.proofs.RunLemmas.{after_solid}
-use Rattle.seams.proofs.WidthLemmas.{some-same}
 use Rattle.note_list.specs.Conditions.{IsHeld, NotesAscend}
 use Rattle.note_list.specs.Left.{left_at, left_in, left_part}
 use Rattle.note_list.specs.Lists.{AreNoted, NotePart, carried_parts}
@@ -30,7 +29,7 @@ solid_from : (faces : List FontFace) (t : Tree) (width : ℤ) (from : Position) 
 solid_from faces t width from event s found is = record { found = found ∙ ap (λ (k : ℕ). Some k) at; seam_is = is.seam_is; content = by is.content }
   where
     at : event ≡ s.placed_at.event
-    at = some-same (sym (solid_itself t event (after_solid t from.event event found).1) ∙ is.found)
+    at = same_Some _ _ (sym (solid_itself t event (after_solid t from.event event found).1) ∙ is.found)
 
     by : IsContent faces t width (first_place from event) s → IsContent faces t width from s
     by (of_line l) = of_line (record {
@@ -71,7 +70,7 @@ settled_lists faces notes width (c ∷ cs) more list held are =
     by : (o : Option ℕ) → solid_after own.note.body c.at.event ≡ o → AreNoted faces notes width (carried_parts (left_at c o ++ flat_map (left_part notes) cs) ++ more) list → ((xs : List NotedSolid) → AreNoted faces notes width (carried_parts (flat_map (left_part notes) cs) ++ more) xs → AreNoted faces notes width (carried_parts cs ++ more) xs) → AreNoted faces notes width (carried_parts (c ∷ cs) ++ more) list
     by None none a later = (own.note, own.has, [], none, list, later list a, refl)
     by (Some event) found (note, has, solids, rest, xs, a, is) later =
-        let same : own.note ≡ note = some-same (sym own.has ∙ has) in
+        let same : own.note ≡ note = same_Some _ _ (sym own.has ∙ has) in
         (note, has, solids, solids_from faces note.body width c.at event solids (ap (λ (n : Note). solid_after n.body c.at.event) (sym same) ∙ found) rest, xs, later xs a, is)
 
 -- they go on at solids

@@ -31,7 +31,7 @@ use Rattle.page_list.specs.Looked.{AreFewLines, IsReach, has_line, is_edge, most
 use Rattle.page_list.specs.declared.cut.CutFrom.{CutFrom}
 
 -- ---- the lines of the first solids
-steps_most : (k : SolidKind) → steps_by k ≤ 1
+pub steps_most : (k : SolidKind) → steps_by k ≤ 1
 steps_most (OpenEdge b) = omega arith
 steps_most (CloseEdge b) = omega arith
 steps_most Line = omega arith

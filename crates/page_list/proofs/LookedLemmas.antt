@@ -7,6 +7,7 @@ use Rattle.std.proofs.lemmas.List.{length-map, map-append, take-append-le, take-
 use Rattle.std.proofs.lemmas.List.Elements.{filter-append}
 use Rattle.std.proofs.lemmas.List.Sums.{sum_by-append, sum_by-cons, sum_by-take-le}
 use Rattle.std.proofs.Math.Seq.{take-append_seam, take-length}
+use Rattle.page_list.proofs.FewLemmas.{steps_most}
 use Rattle.metrics.specs.Face.{FontFace}
 use Rattle.boxes.specs.Tree.{Tree}
 use Rattle.boxes.specs.declared.flow.Flow.{Flow}
@@ -94,19 +95,13 @@ pub new_few_noted : (known : Asked → Bool) (notes : List Note) (width : ℤ) (
 new_few_noted known notes width xs ys n h = few_of (λ (s : NotedSolid). s.kind) (new_of_noted known notes width) (λ s e. edge_none s.kind (is_known_noted known notes width s) e) xs ys n h
 
 -- ---- how far a list of notes is looked at
--- a solid has one line at most
-line_most : (k : SolidKind) → steps_by k ≤ 1
-line_most (OpenEdge b) = omega arith
-line_most (CloseEdge b) = omega arith
-line_most Line = omega arith
-
 lines_cons : (s : NotedSolid) (list : List NotedSolid) → lines_in (s ∷ list) ≡ steps_by s.kind + lines_in list
 lines_cons s list = sum_by-cons (λ (x : NotedSolid). steps_by x.kind) s list
 
 -- all lines but one stand before the last solid
 lines_last : (list : List NotedSolid) → lines_in list ≤ lines_in (take (length list - 1) list) + 1
 lines_last [] = omega arith
-lines_last (s ∷ []) = let c = lines_cons s [] in let m = line_most s.kind in omega (arith, c, m)
+lines_last (s ∷ []) = let c = lines_cons s [] in let m = steps_most s.kind in omega (arith, c, m)
 lines_last (s ∷ x ∷ list) =
     let r = lines_last (x ∷ list) in
     let c = lines_cons s (x ∷ list) in

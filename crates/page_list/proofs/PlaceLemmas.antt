@@ -4,6 +4,7 @@ use Rattle.std.proofs.lemmas.Bool.{eq-eqb}
 use Rattle.std.proofs.lemmas.Bool.Decides.{eqb_tells}
 use Rattle.std.proofs.lemmas.List.Elements.{All-cons, All-nil}
 use Rattle.std.specs.List.{All}
+use Rattle.boxes.proofs.TreeFacts.{one_leaf}
 use Rattle.boxes.specs.Tree.{Tree}
 use Rattle.boxes.specs.declared.leaf.Leaf.{Leaf as LeafData}
 use Rattle.boxes.specs.declared.page.Placed.{Placed}
@@ -26,14 +27,6 @@ record EndsLine (t : Tree) (at : Position) : Type 0 where
 -- a line may begin at a place of a tree
 abbrev BeginsLine : Tree → Position → Type 0
 BeginsLine t at = (at.offset ≡ 0) ⊎ EndsLine t at
-
--- an event is one leaf
-one_leaf : (t : Tree) (event m n : ℕ) (a b : LeafData) → slice_get t.events event ≡ Some (Leaf m) → slice_get t.leaves m ≡ Some a → slice_get t.events event ≡ Some (Leaf n) → slice_get t.leaves n ≡ Some b → a ≡ b
-one_leaf t event m n a b names has names' has' =
-    let event_same : Some (Leaf m) ≡ Some (Leaf n) = sym names ∙ names' in
-    let number_same : m ≡ n = cc in
-    let leaf_same : Some a ≡ Some b = sym has ∙ ap (slice_get t.leaves) number_same ∙ has' in
-    cc
 
 -- the next solid begins where a line may
 next_begins : (t : Tree) (at : Position) (p : Placed) → BeginsLine t at → IsNextSolid t at p → BeginsLine t p.at

@@ -1,9 +1,9 @@
 -- What holds of each frame of a table, and of the frame of no page, holds of the frame of whatever page.
-use Rattle.std.proofs.Common.{◌≡◌, ℕ, List, Option, None, Some, slice_get, refl, ◌∙◌, subst, arith}
+use Rattle.std.proofs.Common.{◌≡◌, ℕ, List, Option, None, Some, slice_get, refl, ◌∙◌, arith}
 use Rattle.std.specs.List.{All}
 use Rattle.std.specs.Option.{option_or}
 use Rattle.std.proofs.lemmas.Int.{ints}
-use Rattle.std.proofs.lemmas.Option.{get_or_from_slice_get, slice_get_within}
+use Rattle.bk_num.proofs.ListLemmas.{all-get}
 use Rattle.bk_num.specs.declared.ids.NameId.{NameId}
 use Rattle.boxes.specs.Frames.{IsGoodFrame}
 use Rattle.boxes.specs.Table.{cell_in, cell_of, row_of}
@@ -13,9 +13,6 @@ use Rattle.boxes.specs.declared.table.PageCell.{PageCell}
 use Rattle.boxes.specs.declared.table.PageRow.{PageRow}
 use Rattle.page_seq.specs.Frames.{HasCells, IsGoodTable, frame_in, frame_of, no_frame}
 
-all_get : {X : Type 0} (P : X → Type 0) (xs : List X) (k : ℕ) (x : X) → All P xs → slice_get xs k ≡ Some x → P x
-all_get P xs k x all e = subst P (get_or_from_slice_get xs k x x e) (all k x (slice_get_within xs k x e))
-
 module _ (P : Frame → Type 0) (none : P no_frame) where
   cell_has : (row : Option PageRow) (k : ℕ) → ((r : PageRow) → row ≡ Some r → HasCells P r) →
       P (frame_in (cell_in row k))
@@ -24,15 +21,15 @@ module _ (P : Frame → Type 0) (none : P no_frame) where
     where
       by : (cell : Option PageCell) → slice_get row.cells k ≡ cell → P (frame_in cell)
       by None e = none
-      by (Some cell) e = all_get (λ (x : PageCell). P x.frame) row.cells k cell (has row refl) e
+      by (Some cell) e = all-get (λ (x : PageCell). P x.frame) row.cells k cell (has row refl) e
 
   row_has : (rows : List PageRow) (name : NameId) → All (HasCells P) rows → (r : PageRow) →
       row_of rows name ≡ Some r → HasCells P r
   row_has rows name all r e = by (slice_get rows name.0) refl e
     where
       by : (o : Option PageRow) → slice_get rows name.0 ≡ o → option_or o (slice_get rows 0) ≡ Some r → HasCells P r
-      by None f is = all_get (HasCells P) rows 0 r all is
-      by (Some x) f is = all_get (HasCells P) rows name.0 r all (f ∙ is)
+      by None f is = all-get (HasCells P) rows 0 r all is
+      by (Some x) f is = all-get (HasCells P) rows name.0 r all (f ∙ is)
 
   pub frame_has : (rows : List PageRow) → All (HasCells P) rows → (index : ℕ) (name : NameId) (kind : PageKind) →
       P (frame_of rows index name kind)

@@ -5,6 +5,7 @@ use Rattle.std.proofs.lemmas.Bool.{cases_eq, cases_order, eq-eqb, ne_eqb}
 use Rattle.std.proofs.lemmas.List.Elements.{All-cons, All-nil}
 use Rattle.std.proofs.lemmas.Option.{slice_get_within}
 use Rattle.std.specs.List.{All}
+use Rattle.boxes.proofs.TreeFacts.{one_leaf}
 use Rattle.boxes.specs.Tree.{Tree}
 use Rattle.boxes.specs.declared.flow.Note.{Note}
 use Rattle.boxes.specs.declared.leaf.Leaf.{Leaf as LeafData}
@@ -18,14 +19,6 @@ use Rattle.paint.specs.Pages.{solids_of}
 use Rattle.paint.specs.Parts.{end_by, first_event}
 
 -- ---- the lines of a tree
-
--- an event is one leaf
-one_leaf : (t : Tree) (event m n : ℕ) (a b : LeafData) → slice_get t.events event ≡ Some (Leaf m) → slice_get t.leaves m ≡ Some a → slice_get t.events event ≡ Some (Leaf n) → slice_get t.leaves n ≡ Some b → a ≡ b
-one_leaf t event m n a b names has names' has' =
-    let event_same : Some (Leaf m) ≡ Some (Leaf n) = sym names ∙ names' in
-    let number_same : m ≡ n = cc in
-    let leaf_same : Some a ≡ Some b = sym has ∙ ap (slice_get t.leaves) number_same ∙ has' in
-    cc
 
 -- what is known of the leaf at a solid's event is known of the solid
 pub line_in : (t : Tree) (s : Placed) (number : ℕ) (leaf : LeafData) (r : Bool) → slice_get t.events s.at.event ≡ Some (Leaf number) → slice_get t.leaves number ≡ Some leaf → MatchBool r (IsLineBetween leaf s.at.offset (line_of leaf s).to) (¬ (IsLineBetween leaf s.at.offset (line_of leaf s).to)) → MatchBool r (IsLineIn t s) (¬ (IsLineIn t s))

@@ -1,6 +1,7 @@
 -- The boxes that are open at a place, as a list that grows and falls at its end.
 use Rattle.std.proofs.Common.{◌≡◌, ◌≤◌, ◌<◌, ◌+◌, ◌-◌, ℕ, zero, suc, ℤ, pos, ◌+ℤ◌, List, [], ◌∷◌, ◌++◌, Option, Some, length, take, slice_get, refl, sym, ap, ◌∙◌, arith, length-append, ◌⊎◌, inl, inr, subst}
 use Rattle.std.proofs.Math.Seq.{take-append_seam}
+use Rattle.std.proofs.lemmas.Option.{same_Some}
 use Rattle.boxes.specs.declared.props.BoxProps.{BoxProps}
 use Rattle.boxes.specs.Clones.{clone_edge, clone_edges}
 use Rattle.boxes.specs.Spans.{span_along, span_or, width_in_block}
@@ -9,10 +10,6 @@ use Rattle.boxes.proofs.ListLemmas.{get-push, get-end, get-before, get-take, tak
 use Rattle.seams.specs.declared.open_box.OpenBox.{OpenBox}
 use Rattle.seams.specs.Runs.{width_in}
 use Rattle.seams.specs.Widths.{innermost_in, widths_of, IsBounded, AreBounded}
-
--- what stands in two equal options is equal
-pub some-same : {A : Type 0} {x y : A} → Some x ≡ Some y → x ≡ y
-some-same h = cc
 
 pub widths_size : (t : Tree) (m : ℤ) (boxes : List ℕ) → length (widths_of t m boxes) ≡ length boxes
 widths_size t m [] = refl
@@ -24,7 +21,7 @@ depth_is t m ws [] [] at w same last there = absurd (omega arith)
 depth_is t m ws [] (b ∷ outer) at w same last there =
     let r = widths_size t m outer in
     let place : at ≡ length (widths_of t m outer) = omega arith in
-    some-same (sym there ∙ ap (slice_get ws) place ∙ ap (λ (l : List OpenBox). slice_get l (length (widths_of t m outer))) same ∙ get-end (widths_of t m outer) (innermost_in t m (b ∷ outer)))
+    same_Some _ _ (sym there ∙ ap (slice_get ws) place ∙ ap (λ (l : List OpenBox). slice_get l (length (widths_of t m outer))) same ∙ get-end (widths_of t m outer) (innermost_in t m (b ∷ outer)))
 depth_is t m ws (b ∷ inner) outer at w same last there =
     let r = widths_size t m (inner ++ outer) in
     let long : at < length (widths_of t m (inner ++ outer)) = omega (arith, length-append inner outer) in

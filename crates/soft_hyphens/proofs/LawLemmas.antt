@@ -29,7 +29,7 @@ put-in-none here at (t ∷ ts) h u =
     let same : encoded (put_from here at (chars t)) ≡ t = ap encoded (put-none here at (chars t) h) ∙ encoded-std (chars t) ∙ encodes-chars t (All-head IsUtf8 t ts u) in
     ap₂ (λ (x : List ℕ) (l : List (List ℕ)). x ∷ l) same (put-in-none here (at + length (chars t)) ts h (All-tail IsUtf8 t ts u))
 
-never-put : (ls : List Letter) (k : ℕ) → is_put (λ word place. false) ls k ≡ false
+pub never-put : (ls : List Letter) (k : ℕ) → is_put (λ word place. false) ls k ≡ false
 unfolding is_put
 never-put ls k = by (counts ls (word_begin ls k) (word_end ls k))
   where

@@ -9,7 +9,7 @@ use Rattle.hyphen.specs.Points.{is_point}
 use Rattle.soft_hyphens.specs.Hyphenated.{hyphenated}
 use Rattle.soft_hyphens.specs.Words.{are_auto, codes_of, counts, is_put, is_soft, letters_between, letters_in, most_letters, points_with, word_begin, word_end}
 use Rattle.soft_hyphens.specs.declared.letter.Letter.{Letter}
-use Rattle.soft_hyphens.proofs.LawLemmas.{nothing-is-put}
+use Rattle.soft_hyphens.proofs.LawLemmas.{nothing-is-put, never-put}
 use Rattle.soft_hyphens.proofs.PutLemmas.{put-in-same}
 
 -- no character is one of a text that is hyphenated
@@ -59,10 +59,6 @@ plain-put value ls k p = by (plain-word word (All-take (λ (l : Letter). l.auto 
         let after : Bool = not (is_soft (slice_get ls to)) in
         let none : counts ls from to ≡ false = ap (λ (b : Bool). ((leb (to - from) most_letters && b) && begins) && after) e ∙ uncounted (leb (to - from) most_letters) begins after in
         ap (λ (b : Bool). b && points_with value (codes_of word) (k - from)) none
-
-never-put : (ls : List Letter) (k : ℕ) → is_put (λ word place. false) ls k ≡ false
-unfolding is_put
-never-put ls k = and-false (counts ls (word_begin ls k) (word_end ls k))
 
 -- texts of which none is hyphenated stay
 pub plain-stays : (value : List ℕ → ℕ → ℕ) (autos : List Bool) (ts : List (List ℕ)) → list_any (λ auto. auto) autos ≡ false → All IsUtf8 ts → hyphenated (Some (points_with value)) autos ts ≡ ts

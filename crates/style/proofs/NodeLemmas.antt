@@ -1,7 +1,7 @@
 -- Rows and styles that grow.
 use Rattle.std.proofs.Common.{◌≡◌, ℕ, Bool, get_or, zero, suc, ◌+◌, ◌<◌, ◌≤◌, List, [], ◌∷◌, ◌++◌, Option, None, Some, Result, Ok, Err, OnOk, OnErr, length, length-append, map, option_map, slice_get, slice_set, refl, sym, ◌∙◌, ap, subst, arith, ◌⊎◌, inl, inr}
 use Rattle.std.proofs.lemmas.List.{map-append}
-use Rattle.std.proofs.lemmas.Option.{slice_get-map, slice_get_read}
+use Rattle.std.proofs.lemmas.Option.{slice_get-map, slice_get_read, same_Some}
 use Rattle.bk_num.specs.declared.values.Pseudo.{Pseudo}
 use Rattle.bk_num.specs.declared.values.Pseudo.TheVariants as pseudo
 use Rattle.bk_num.proofs.ListLemmas.{get-push, get-before, get-end}
@@ -57,10 +57,7 @@ view-err (Err a) styles more s rows next e err h = rw (e, err) (nodes-same style
 -- the last entry changed
 pub change-set : {A : Type 0} (f : A → A) (xs : List A) (k : ℕ) (x : A) → k + 1 ≡ length xs → slice_get xs k ≡ Some x → slice_set xs k (f x) ≡ change_last f xs
 change-set f [] k x n h = cc
-change-set f (y ∷ []) zero x n h = ap (λ z. f z ∷ []) (sym (some-is h))
-  where
-    some-is : {A : Type 0} {a b : A} → Some a ≡ Some b → a ≡ b
-    some-is e = cc
+change-set f (y ∷ []) zero x n h = ap (λ z. f z ∷ []) (sym (same_Some _ _ h))
 change-set f (y ∷ []) (suc k) x n h = absurd (omega arith)
 change-set f (y ∷ (z ∷ zs)) zero x n h = absurd (omega arith)
 change-set f (y ∷ (z ∷ zs)) (suc k) x n h = ap (λ ys. y ∷ ys) (change-set f (z ∷ zs) k x (omega arith) h)
@@ -74,10 +71,7 @@ with-number pseudo.Marker i n r l h = record { own = h.own; before = h.before; a
 
 pub sound-put : (n i : ℕ) (p : Pseudo) (rows : List NodeRow) → i < n → AreNumbered n rows → AreNumbered n (change_last (with_number p i) rows)
 sound-put n i p [] l h k r g = cc
-sound-put n i p (q ∷ []) l h zero r g = subst (λ o. HasNumbers n o) (some-is g) (with-number p i n q l (h 0 q refl))
-  where
-    some-is : {a b : NodeRow} → Some a ≡ Some b → a ≡ b
-    some-is e = cc
+sound-put n i p (q ∷ []) l h zero r g = subst (λ o. HasNumbers n o) (same_Some _ _ g) (with-number p i n q l (h 0 q refl))
 sound-put n i p (q ∷ []) l h (suc k) r g = cc
 sound-put n i p (q ∷ (q' ∷ rows)) l h zero r g = h 0 r g
 sound-put n i p (q ∷ (q' ∷ rows)) l h (suc k) r g = sound-put n i p (q' ∷ rows) l (λ j o e. h (suc j) o e) k r g

@@ -1,5 +1,6 @@
 -- What a certificate shows, and that the best plan has one.
 use Rattle.std.proofs.Common.{◌≡◌, ℕ, ◌+◌, ◌≤◌, List, [], ◌∷◌, Option, Some, length, refl, sym, ◌∙◌, ap, subst, arith}
+use Rattle.std.proofs.lemmas.Option.{same_Some}
 use Rattle.total_fit.specs.declared.plan.Stop.{Stop}
 use Rattle.total_fit.specs.declared.plan.Measures.{Measures}
 use Rattle.total_fit.specs.Lines.{AreGoodMeasures, cost_of}
@@ -17,16 +18,13 @@ below-plans ss m ps last lines i (j ∷ js) p =
     let h = lines i j p.0 (plan-within ss m j js p.2) p.1 r.0 r.1 in
     (h.least.0, h.least.1, (let a = h.least.2 in let b = r.2 in omega arith))
 
-same-value : (a b : ℕ) (o : Option ℕ) → o ≡ Some a → o ≡ Some b → a ≡ b
-same-value a b o p q = cc
-
 -- along the plan they are its costs
 exact-cost : (ss : List Stop) (m : Measures) (ps : List (Option ℕ)) → potential_of ps (length ss) ≡ Some 0 →
     (i : ℕ) (ends : List ℕ) → IsPlanFrom ss m i ends → AreExact ss m ps i ends → potential_of ps i ≡ Some (cost_from ss m i ends)
 exact-cost ss m ps last i [] p a = subst (λ (z : ℕ). potential_of ps z ≡ Some 0) (sym p) last
 exact-cost ss m ps last i (j ∷ js) p a =
     let r = exact-cost ss m ps last j js p.2 a.1 in
-    let e = same-value a.0.0 (cost_from ss m j js) (potential_of ps j) a.0.1 r in
+    let e = same_Some a.0.0 (cost_from ss m j js) (sym a.0.1 ∙ r) in
     subst (λ (z : ℕ). potential_of ps i ≡ Some (cost_of ss m i j + z)) e a.0.2
 
 pub certified-least : (ss : List Stop) (m : Measures) (ends : List ℕ) (cost : ℕ) (ps : List (Option ℕ)) →
@@ -34,7 +32,7 @@ pub certified-least : (ss : List Stop) (m : Measures) (ends : List ℕ) (cost : 
 certified-least ss m ends cost ps h other p =
     let own = exact-cost ss m ps h.last 0 ends h.plan h.exact in
     let b = below-plans ss m ps h.last h.lines 0 other p in
-    let e = same-value (cost_from ss m 0 ends) b.0 (potential_of ps 0) own b.1 in
+    let e = same_Some (cost_from ss m 0 ends) b.0 (sym own ∙ b.1) in
     omega (arith, e, b.2)
 
 -- what is left of a plan of least cost is one
@@ -88,7 +86,7 @@ best-certified ss m ends cost ps good few known b e = record {
 pub start-cost : (ss : List Stop) (m : Measures) (ends : List ℕ) (cost : ℕ) (ps : List (Option ℕ)) → ArePotentials ss m ps →
     IsBest ss m ends → potential_of ps 0 ≡ Some cost → cost ≡ cost_from ss m 0 ends
 start-cost ss m ends cost ps known b e =
-    same-value cost (cost_from ss m 0 ends) (potential_of ps 0) e (listed-cost ss m ps 0 ends known b.plan b.least)
+    same_Some cost (cost_from ss m 0 ends) (sym e ∙ listed-cost ss m ps 0 ends known b.plan b.least)
 
 follows-plan : (ss : List Stop) (m : Measures) (ps : List (Option ℕ)) (i : ℕ) (ends : List ℕ) → Follows ss m ps i ends →
     IsPlanFrom ss m i ends × AreExact ss m ps i ends

@@ -2,6 +2,7 @@
 use Rattle.std.proofs.Common.{◌≡◌, ℕ, suc, ◌+◌, ◌^◌, ◌<◌, ◌≤◌, ◌⊎◌, inl, inr, List, [], ◌∷◌, Option, Some, None, length, refl, sym, ◌∙◌, ap, subst, arith, set, get_or-set_same, get_or-set_other, ℤ, ◌+ℤ◌, ◌≤ℤ◌, ◌<ℤ◌}
 use Rattle.std.proofs.lemmas.Int.{ints, clamps}
 use Rattle.std.proofs.lemmas.Bool.{cases_eq, cases_lt}
+use Rattle.std.proofs.lemmas.Option.{same_Some}
 use Rattle.total_fit.specs.declared.plan.Stop.{Stop}
 use Rattle.total_fit.specs.declared.plan.Measures.{Measures}
 use Rattle.total_fit.specs.declared.choice.Choice.{Choice}
@@ -36,9 +37,6 @@ pub choice-closed : (ss : List Stop) (m : Measures) (ps : List (Option ℕ)) (i 
     IsChoice ss m ps i at best → potential_of ps (suc at) ≡ None → IsChoice ss m ps i (suc at) best
 choice-closed ss m ps i at best h none = choice-skips ss m ps i at best h (λ rest f p. cc) (λ f. none)
 
-same-rest : (a b : ℕ) (o : Option ℕ) → o ≡ Some a → o ≡ Some b → a ≡ b
-same-rest a b o p q = cc
-
 -- a line to the next stop that costs more
 pub choice-keeps : (ss : List Stop) (m : Measures) (ps : List (Option ℕ)) (i at rest : ℕ) (c : Choice) →
     IsBestLine ss m ps i at c → potential_of ps (suc at) ≡ Some rest → c.cost < cost_of ss m i (suc at) + rest →
@@ -51,12 +49,12 @@ choice-keeps ss m ps i at rest c h p less = record {
   least = λ j r l w f q. elim (at_or_before j at w) [
     | inl k ↦ h.least j r l k f q
     | inr e ↦
-        rw e (let s = same-rest r rest (potential_of ps (suc at)) (subst (λ (z : ℕ). potential_of ps z ≡ Some r) e q) p in omega arith)
+        rw e (let s = same_Some r rest (sym (subst (λ (z : ℕ). potential_of ps z ≡ Some r) e q) ∙ p) in omega arith)
   ];
   longest = λ j r l w f q t. elim (at_or_before j at w) [
     | inl k ↦ h.longest j r l k f q t
     | inr e ↦
-        absurd (let s = same-rest r rest (potential_of ps (suc at)) (subst (λ (z : ℕ). potential_of ps z ≡ Some r) e q) p in
+        absurd (let s = same_Some r rest (sym (subst (λ (z : ℕ). potential_of ps z ≡ Some r) e q) ∙ p) in
         let t' : c.cost ≡ cost_of ss m i (suc at) + r = subst (λ (z : ℕ). c.cost ≡ cost_of ss m i z + r) e t in omega arith)
   ];
 }
@@ -84,7 +82,7 @@ choice-takes ss m ps i at rest cost best h n low fits p is = record {
   least = λ j r l w f q. elim (at_or_before j at w) [
     | inl k ↦ no-more ss m ps i at cost best h n j r l k f q
     | inr e ↦
-        rw e (let s = same-rest r rest (potential_of ps (suc at)) (subst (λ (z : ℕ). potential_of ps z ≡ Some r) e q) p in omega arith)
+        rw e (let s = same_Some r rest (sym (subst (λ (z : ℕ). potential_of ps z ≡ Some r) e q) ∙ p) in omega arith)
   ];
   longest = λ j r l w f q t. w;
 }

@@ -1,4 +1,4 @@
-use Rattle.std.proofs.Common.{◌≡◌, ◌<◌, zero, suc, drop, take, ◌+◌, ◌≤◌, ◌++◌, ◌∷◌, [], ℕ, ℤ, true, false, None, List, All, length, map, slice_get, rules, refl, sym, ap, ◌∙◌, subst, arith, to_z, of_z, Result, Ok, Err, IfOk}
+use Rattle.std.proofs.Common.{◌≡◌, ◌<◌, zero, suc, drop, take, ◌+◌, ◌≤◌, ◌++◌, ◌∷◌, [], ℕ, ℤ, true, false, None, List, All, length, map, slice_get, rules, refl, sym, ap, ◌∙◌, subst, arith, to_z, of_z}
 use Rattle.std.proofs.lemmas.Int.{ints, to_z-of_z}
 use Rattle.std.proofs.lemmas.List.{length-map, length-take-le}
 use Rattle.std.proofs.lemmas.List.Elements.{All-nil, All-take}
@@ -41,7 +41,7 @@ use Rattle.fragment.proofs.FlowLemmas.{prefix_between, prefix_few}
 use Rattle.fragment.proofs.KeptLemmas.{cut_held}
 use Rattle.fragment.proofs.LooksLemmas.{looks_at, looks_end}
 use Rattle.fragment.proofs.PlaceLemmas.{by_all}
-use Rattle.fragment.proofs.SolidLemmas.{all_views, if_ok}
+use Rattle.fragment.proofs.SolidLemmas.{all_views, if_ok, both_ok}
 use Rattle.fragment.proofs.next_cut.cut_page.Given as given
 use Rattle.fragment.proofs.next_cut.cut_page.Goals as goal
 use Rattle.fragment.proofs.next_cut.cut_page.Goals.{In_ok-count, In_ok-cut}
@@ -289,10 +289,6 @@ returns-clause-keeps g c = read_keeps g (goal.at.returns-clause-keeps g c).In_ok
 pub returns-clause-takes : goal.returns-clause-takes
 returns-clause-takes g c = read_takes g (goal.at.returns-clause-takes g c).In_ok-count
 
-both : {A E : Type 0} (P Q : A → Type 0) (r : Result A E) → IfOk r P → IfOk r Q → IfOk r (λ x. P x × Q x)
-both P Q (Ok x) p q = (p, q)
-both P Q (Err e) p q = tt
-
 pub returns-clause-now : goal.returns-clause-now
 returns-clause-now g c =
     let views : List SolidView = page_views c.prefix.new.ahead c.in_ok-count.count in
@@ -320,7 +316,7 @@ pub returns-then-count-eq0-clause-now : goal.returns-then-count-eq0-clause-now
 returns-then-count-eq0-clause-now g c =
     if_ok _ _ c.cut_end.result
     (λ cut is. cut_held c.args.flow.now c.args.frame.width c.take.new.lines.kept _ [] is.0.count c.take.new.self.list.solids.items cut.solids cut.notes (All-nil (λ (v : SolidView). IsHeldNow c.args.flow.now.main c.args.frame.width c.take.new.lines.kept v.placed_at)) is.0.solids_is (c.in_ok-take.ensures.now (c.in_ok-count.ensures.noted c.in_ok-notes.ensures.now)) is.1)
-    (both _ _ c.cut_end.result c.cut_end.ensures.cut c.cut_end.ensures.front)
+    (both_ok _ _ c.cut_end.result c.cut_end.ensures.cut c.cut_end.ensures.front)
 
 -- where memory is wanting
 pub returns-in_err-count-clause-keeps : goal.returns-in_err-count-clause-keeps

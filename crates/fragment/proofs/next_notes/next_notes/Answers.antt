@@ -1,4 +1,4 @@
-use Rattle.std.proofs.Common.{List, length, ap, arith, rules, to_z, of_z, Result, Ok, Err, IfOk}
+use Rattle.std.proofs.Common.{List, length, ap, arith, rules, to_z, of_z}
 use Rattle.std.proofs.lemmas.Int.{ints, to_z-of_z}
 use mir.Val.{SFits}
 use mir.Syntax.{w64}
@@ -6,7 +6,7 @@ use Rattle.boxes.specs.declared.flow.Note.{Note}
 use Rattle.page_list.proofs.LookedLemmas.{looked_carried}
 use Rattle.fragment.proofs.KeptLemmas.{noted_held}
 use Rattle.fragment.proofs.NotesLemmas.{carried_low, carried_on, notes_cut}
-use Rattle.fragment.proofs.SolidLemmas.{if_ok}
+use Rattle.fragment.proofs.SolidLemmas.{if_ok, both_ok}
 use Rattle.fragment.proofs.next_notes.next_notes.Goals as goal
 
 pub place-requires : goal.place-requires
@@ -36,15 +36,11 @@ returns-clause-cut g c =
     (λ p placed. notes_cut c.args.faces.now c.args.flow.now c.args.frame c.args.carried c.in_ok-list.list (length c.as_slice.result.now) c.in_ok-list.ensures.list c.requires.some c.requires.stands (to_z w64 (of_z w64 c.args.frame.height)) (to_z-of_z w64 c.args.frame.height tall) p placed)
     c.place.ensures.placed
 
-both : {A E : Type 0} (P Q : A → Type 0) (r : Result A E) → IfOk r P → IfOk r Q → IfOk r (λ x. P x × Q x)
-both P Q (Ok x) p q = (p, q)
-both P Q (Err e) p q = tt
-
 pub returns-clause-carried : goal.returns-clause-carried
 returns-clause-carried g c =
     if_ok _ _ c.place.result
     (λ p is. carried_on c.args.flow.now p.left (length c.as_slice.result.now) (ap (λ (notes : List Note). length notes) c.as_slice.ensures) is.0 is.1.0 is.1.1)
-    (both _ _ c.place.result c.place.ensures.held (both _ _ c.place.result c.place.ensures.order c.place.ensures.below))
+    (both_ok _ _ c.place.result c.place.ensures.held (both_ok _ _ c.place.result c.place.ensures.order c.place.ensures.below))
 
 pub returns-clause-lines : goal.returns-clause-lines
 returns-clause-lines g c =

@@ -1,10 +1,10 @@
-use Rattle.std.proofs.Common.{◌≡◌, ◌+◌, List, Result, Ok, Err, refl, sym, subst, FitsSigned, w64}
+use Rattle.std.proofs.Common.{◌≡◌, ◌+◌, List, refl, sym, subst, FitsSigned, w64}
 use Rattle.std.specs.Prelude.{OnOk, OnErr}
 use Rattle.std.proofs.lemmas.Int.{to_z-of_z}
 use Rattle.std.proofs.lemmas.Option.{slice_get_within}
 use Rattle.line_fill.specs.Kept.{AreKept, Asked, HasAsked, Holds, HoldsSame, asked_of}
 use Rattle.line_fill.specs.declared.kept.KeptLeaf.{KeptLeaf}
-use Rattle.line_fill.proofs.AskLemmas.{if_ok, kept_same, asked_through, holds_on, holds_off}
+use Rattle.line_fill.proofs.AskLemmas.{if_ok, kept_same, asked_through, holds_on, holds_off, on_err}
 use Rattle.cursor.specs.KeptLines.{ArePlaced, KeptLinesView, StayPlaced, lines_with}
 use Rattle.cursor.proofs.PlaceLemmas.{placed_grown, placed_twice}
 use Rattle.cursor.proofs.kept_lines.KeptLines.line.Goals as goal
@@ -56,10 +56,6 @@ returns-clause-placed g c =
     subst (λ (v : KeptLinesView). StayPlaced c.args.number.tree c.args.tree.now v (lines_with c.line_in.new.self c.place.new.places)) c.self.view_is
     (placed_twice c.args.tree.now c.args.number.tree c.self.inside.kept c.place.new.kept c.line_in.new.self c.self.inside.places c.place.new.places c.place.new.places c.place.ensures.placed
     (placed_grown c.args.tree.now c.args.number.tree c.place.new.kept c.line_in.new.self c.place.new.places c.place.new.places c.line_in.ensures.places refl))
-
-on_err : {T E : Type 0} {P Q : Type 0} → (P → Q) → (r : Result T E) → OnErr r P → OnErr r Q
-on_err f (Ok x) p = p
-on_err f (Err e) p = f p
 
 same_twice : (old mid new : List KeptLeaf) → HoldsSame old mid → HoldsSame mid new → HoldsSame old new
 same_twice old mid new f g = record { keeps = λ b line h. g.keeps b line (f.keeps b line h); only = λ b line h. f.only b line (g.only b line h) }
