@@ -1,5 +1,5 @@
 -- The four sides of a box, in the order top, right, bottom, left (CSS 2.1, 8.1 and 8.3).
-use Rattle.std.specs.Prelude.{ℕ, List, [], ◌∷◌}
+use Rattle.std.specs.Prelude.{ℕ, List, [], ◌∷◌, Option, slice_get}
 use Rattle.bk_num.specs.declared.sides.BoxSide.{BoxSide}
 use Rattle.bk_num.specs.declared.sides.BoxSide.TheVariants as side
 use Rattle.bk_num.specs.declared.sides.Sides.{Sides}
@@ -10,6 +10,10 @@ place_of side.Top = 0
 place_of side.Right = 1
 place_of side.Bottom = 2
 place_of side.Left = 3
+
+-- the value of a side, where values stand in that order
+abbrev pub at_side : {A : Type 0} → List A → BoxSide → Option A
+at_side values side = slice_get values (place_of side)
 
 -- what a rule gives for each side
 abbrev pub each : {A : Type 0} → (BoxSide → A) → Sides A

@@ -1,6 +1,6 @@
 //! The four sides of a box, and values for them (CSS 2.1, 8).
 
-ghost use Rattle.std.specs.Prelude.{◌≡◌, ◌<◌};
+ghost use Rattle.std.specs.Prelude.{◌≡◌, ◌<◌, Some};
 ghost use Rattle.bk_num.specs.Sides as spec;
 
 /// A side of a box.
@@ -25,6 +25,13 @@ impl BoxSide {
             BoxSide::Left => 3,
         }
     }
+}
+
+/// The value of a side, where values stand in that order.
+pub fn at_side<T: Copy>(values: &[T; 4], side: BoxSide) -> T
+    ensures { spec.at_side values.now side ≡ Some result }
+{
+    values[side.place()]
 }
 
 /// A value for each side of a box.
