@@ -1,6 +1,7 @@
 -- Boxes whose borders and paddings stand again where a page parts them (css-break-3, 5.4: `box-decoration-break`).
 use Rattle.std.specs.Prelude.{◌≡◌, ℕ, ℤ, pos, ◌+ℤ◌, ◌≤ℤ◌, ◌^◌, ◌==◌, List, [], ◌∷◌, Option, None, Some, Bool, false, not, slice_get, if◌then◌else◌}
 use Rattle.std.specs.List.{All, filter, list_any}
+use Rattle.bk_num.specs.declared.sides.BoxSide.{BoxSide}
 use Rattle.boxes.specs.declared.place.Event.{Event}
 use Rattle.boxes.specs.declared.place.Event.TheVariants.{Opens, Closes, Leaf}
 use Rattle.boxes.specs.declared.props.BoxProps.{BoxProps}
@@ -17,14 +18,14 @@ closes_box b (Leaf l) = false
 abbrev pub open_through : Tree → ℕ → List Event → List ℕ
 open_through t from run = filter (λ b. not (list_any (closes_box b) run)) (open_before t.events from)
 
--- the border and padding at a side, 0 the top and 2 the bottom, that stand again where a page parts a box, in a
--- containing block of a width: none where the box is sliced
-abbrev pub clone_edge : ℕ → Option BoxProps → ℤ → ℤ
+-- the border and padding at a side that stand again where a page parts a box, in a containing block of a width: none
+-- where the box is sliced
+abbrev pub clone_edge : BoxSide → Option BoxProps → ℤ → ℤ
 clone_edge side None width = pos 0
 clone_edge side (Some p) width = if p.clones then frame_at p side width else pos 0
 
 -- the sum of these of some open boxes, the innermost first, each in the next one
-abbrev pub clone_edges : Tree → ℤ → ℕ → List ℕ → ℤ
+abbrev pub clone_edges : Tree → ℤ → BoxSide → List ℕ → ℤ
 clone_edges t measure side [] = pos 0
 clone_edges t measure side (b ∷ outer) =
     clone_edges t measure side outer +ℤ clone_edge side (slice_get t.boxes b) (span_along t.boxes measure outer).1
