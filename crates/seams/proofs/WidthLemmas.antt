@@ -3,6 +3,7 @@ use Rattle.std.proofs.Common.{◌≡◌, ◌≤◌, ◌<◌, ◌+◌, ◌-◌, �
 use Rattle.std.proofs.Math.Seq.{take-append_seam}
 use Rattle.std.proofs.lemmas.Option.{same_Some}
 use Rattle.boxes.specs.declared.props.BoxProps.{BoxProps}
+use Rattle.bk_num.specs.declared.sides.BoxSide.TheVariants as side
 use Rattle.boxes.specs.Clones.{clone_edge, clone_edges}
 use Rattle.boxes.specs.Spans.{span_along, span_or, width_in_block}
 use Rattle.boxes.specs.Tree.{Tree, rest_of}
@@ -52,7 +53,7 @@ none_around t m ws (b ∷ c ∷ boxes) same few = absurd (let n = ap length same
 
 -- a box opens
 pub widths_opened : (t : Tree) (m : ℤ) (ws : List OpenBox) (boxes : List ℕ) (b : ℕ) (p : BoxProps) (inner w : OpenBox) → slice_get t.boxes b ≡ Some p → ws ≡ widths_of t m boxes → inner ≡ innermost_in t m boxes →
-    w.width ≡ width_in_block p inner.width → w.head ≡ inner.head +ℤ clone_edge 0 (Some p) inner.width → w.tail ≡ inner.tail +ℤ clone_edge 2 (Some p) inner.width → ws ++ w ∷ [] ≡ widths_of t m (b ∷ boxes)
+    w.width ≡ width_in_block p inner.width → w.head ≡ inner.head +ℤ clone_edge side.Top (Some p) inner.width → w.tail ≡ inner.tail +ℤ clone_edge side.Bottom (Some p) inner.width → ws ++ w ∷ [] ≡ widths_of t m (b ∷ boxes)
 widths_opened t m ws boxes b p inner w there same inner_is width head tail = ap (λ (l : List OpenBox). l ++ w ∷ []) same ∙ ap (λ (x : OpenBox). widths_of t m boxes ++ x ∷ []) own
   where
     made : ℤ → ℤ → ℤ → OpenBox
@@ -61,14 +62,14 @@ widths_opened t m ws boxes b p inner w there same inner_is width head tail = ap 
     width_is : w.width ≡ width_in t m (b ∷ boxes)
     width_is = width ∙ ap (λ (o : OpenBox). width_in_block p o.width) inner_is ∙ ap (λ (o : Option BoxProps). (span_or o (span_along t.boxes m boxes)).1) (sym there)
 
-    head_is : w.head ≡ clone_edges t m 0 (b ∷ boxes)
-    head_is = head ∙ ap (λ (o : OpenBox). o.head +ℤ clone_edge 0 (Some p) o.width) inner_is ∙ ap (λ (o : Option BoxProps). clone_edges t m 0 boxes +ℤ clone_edge 0 o (width_in t m boxes)) (sym there)
+    head_is : w.head ≡ clone_edges t m side.Top (b ∷ boxes)
+    head_is = head ∙ ap (λ (o : OpenBox). o.head +ℤ clone_edge side.Top (Some p) o.width) inner_is ∙ ap (λ (o : Option BoxProps). clone_edges t m side.Top boxes +ℤ clone_edge side.Top o (width_in t m boxes)) (sym there)
 
-    tail_is : w.tail ≡ clone_edges t m 2 (b ∷ boxes)
-    tail_is = tail ∙ ap (λ (o : OpenBox). o.tail +ℤ clone_edge 2 (Some p) o.width) inner_is ∙ ap (λ (o : Option BoxProps). clone_edges t m 2 boxes +ℤ clone_edge 2 o (width_in t m boxes)) (sym there)
+    tail_is : w.tail ≡ clone_edges t m side.Bottom (b ∷ boxes)
+    tail_is = tail ∙ ap (λ (o : OpenBox). o.tail +ℤ clone_edge side.Bottom (Some p) o.width) inner_is ∙ ap (λ (o : Option BoxProps). clone_edges t m side.Bottom boxes +ℤ clone_edge side.Bottom o (width_in t m boxes)) (sym there)
 
     own : w ≡ innermost_in t m (b ∷ boxes)
-    own = ap (λ (z : ℤ). made z w.head w.tail) width_is ∙ ap (λ (z : ℤ). made (width_in t m (b ∷ boxes)) z w.tail) head_is ∙ ap (made (width_in t m (b ∷ boxes)) (clone_edges t m 0 (b ∷ boxes))) tail_is
+    own = ap (λ (z : ℤ). made z w.head w.tail) width_is ∙ ap (λ (z : ℤ). made (width_in t m (b ∷ boxes)) z w.tail) head_is ∙ ap (made (width_in t m (b ∷ boxes)) (clone_edges t m side.Top (b ∷ boxes))) tail_is
 
 -- the innermost box closes
 pub widths_closed : (t : Tree) (m : ℤ) (ws : List OpenBox) (boxes : List ℕ) (n : ℕ) → ws ≡ widths_of t m boxes → suc n ≡ length ws → take n ws ≡ widths_of t m (rest_of boxes)

@@ -1,6 +1,7 @@
 -- The boxes that are open at a place: how wide their contents are (CSS 2.1, 10.3.3), and what of them stands again
 -- where a page parts them (css-break-3, 5.4).
 use Rattle.std.specs.Prelude.{◌≡◌, ℕ, suc, ◌*◌, ◌+◌, ◌^◌, ◌==◌, ℤ, pos, ◌≤ℤ◌, List, [], ◌∷◌, ◌++◌, Some, slice_get, if◌then◌else◌}
+use Rattle.bk_num.specs.declared.sides.BoxSide.TheVariants as side
 use Rattle.boxes.specs.Clones.{clone_edges}
 use Rattle.boxes.specs.Tree.{Tree, open_before}
 use Rattle.boxes.specs.declared.place.Position.{Position}
@@ -13,8 +14,8 @@ use Rattle.seams.specs.Seams.{solid_behind}
 abbrev pub innermost_in : Tree → ℤ → List ℕ → OpenBox
 innermost_in t measure boxes = record {
   width = width_in t measure boxes;
-  head = clone_edges t measure 0 boxes;
-  tail = clone_edges t measure 2 boxes;
+  head = clone_edges t measure side.Top boxes;
+  tail = clone_edges t measure side.Bottom boxes;
 }
 
 -- some open boxes in a frame of a width, the outermost first

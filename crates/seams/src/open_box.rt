@@ -6,6 +6,7 @@ ghost use Rattle.boxes.specs.Contents.{IsGoodBox};
 ghost use Rattle.boxes.specs.Spans.{width_in_block};
 ghost use Rattle.seams.specs.Widths.{IsBounded};
 
+use bk_num::sides::BoxSide;
 use boxes::props::BoxProps;
 use boxes::span::{content_width_in, frame_units};
 
@@ -26,8 +27,8 @@ pub(crate) fn opened_in(props: &BoxProps, outer: OpenBox) -> OpenBox
     requires head { IsRoom outer.head }
     requires tail { IsRoom outer.tail }
     ensures width { result.width ≡ width_in_block props.now outer.width }
-    ensures head { result.head ≡ outer.head +ℤ clone_edge 0 (Some props.now) outer.width }
-    ensures tail { result.tail ≡ outer.tail +ℤ clone_edge 2 (Some props.now) outer.width }
+    ensures head { result.head ≡ outer.head +ℤ clone_edge BoxSide.Top (Some props.now) outer.width }
+    ensures tail { result.tail ≡ outer.tail +ℤ clone_edge BoxSide.Bottom (Some props.now) outer.width }
     ensures bounded { (depth : ℕ) → IsBounded depth outer → IsBounded (depth + 1) result }
 {
     let width = content_width_in(props, outer.width);
@@ -40,7 +41,7 @@ pub(crate) fn opened_in(props: &BoxProps, outer: OpenBox) -> OpenBox
     }
     OpenBox {
         width,
-        head: outer.head + frame_units(props, 0, outer.width),
-        tail: outer.tail + frame_units(props, 2, outer.width),
+        head: outer.head + frame_units(props, BoxSide::Top, outer.width),
+        tail: outer.tail + frame_units(props, BoxSide::Bottom, outer.width),
     }
 }

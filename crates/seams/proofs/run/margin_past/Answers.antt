@@ -1,6 +1,7 @@
 use Rattle.std.proofs.Common.{◌≡◌, ◌≤◌, ◌+◌, ◌==◌, ℕ, suc, ℤ, pos, cond, List, ◌∷◌, Option, Some, IfSome, length, slice_get, subst, sym, ap, ◌∙◌, arith, to_z, of_z}
 use Rattle.std.proofs.lemmas.Int.{ints}
 use mir.Syntax.{w64}
+use Rattle.bk_num.specs.declared.sides.BoxSide.TheVariants as side
 use Rattle.boxes.specs.Tree.{Tree, open_before, open_with, rest_of, depth_of}
 use Rattle.boxes.specs.declared.place.Event.{Event}
 use Rattle.boxes.specs.declared.place.Event.TheVariants.{Opens, Closes, Leaf}
@@ -39,7 +40,7 @@ returns-in-Opens-clause-value c =
     let exact : to_z w64 (of_z w64 c.args.measure) ≡ c.args.measure = omega (arith, ints) in
     let inner : c.innermost.result ≡ width_in t c.args.measure (open_before t.events c.args.at) = simp exact at c.innermost.ensures.width t (open_before t.events c.args.at) c.requires.widths in
     let cast : to_z w64 (of_z w64 c.innermost.result) ≡ c.innermost.result = omega (arith, ints) in
-    let units = c.used_margin-margin.ensures.value ∙ ap (λ (z : ℤ). cond (c.in-Opens.index == 0) (pos 0) (margin_or (slice_get t.boxes c.in-Opens.index) 0 z)) (cast ∙ inner) in
+    let units = c.used_margin-margin.ensures.value ∙ ap (λ (z : ℤ). cond (c.in-Opens.index == 0) (pos 0) (margin_or (slice_get t.boxes c.in-Opens.index) side.Top z)) (cast ∙ inner) in
     subst (λ (o : Option Event). IfSome o (λ e. c.used_margin-margin.result.units ≡ margin_at t c.args.measure c.args.at e)) (sym there) units
 
 pub returns-in-Opens-clause-widths : goal.returns-in-Opens-clause-widths
@@ -64,7 +65,7 @@ returns-in-Closes-clause-value c =
     let gone = c.close_box.ensures t c.args.measure (open_before t.events c.args.at) c.requires.widths in
     let inner : c.innermost-in-Closes.result ≡ width_in t c.args.measure (rest_of (open_before t.events c.args.at)) = simp exact at c.innermost-in-Closes.ensures.width t (rest_of (open_before t.events c.args.at)) gone in
     let cast : to_z w64 (of_z w64 c.innermost-in-Closes.result) ≡ c.innermost-in-Closes.result = omega (arith, ints) in
-    let units = c.used_margin.ensures.value ∙ ap (λ (z : ℤ). cond (c.in-Closes.index == 0) (pos 0) (margin_or (slice_get t.boxes c.in-Closes.index) 2 z)) (cast ∙ inner) in
+    let units = c.used_margin.ensures.value ∙ ap (λ (z : ℤ). cond (c.in-Closes.index == 0) (pos 0) (margin_or (slice_get t.boxes c.in-Closes.index) side.Bottom z)) (cast ∙ inner) in
     subst (λ (o : Option Event). IfSome o (λ e. c.used_margin.result.units ≡ margin_at t c.args.measure c.args.at e)) (sym there) units
 
 pub returns-in-Closes-clause-widths : goal.returns-in-Closes-clause-widths

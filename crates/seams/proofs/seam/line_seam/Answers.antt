@@ -2,6 +2,7 @@ use Rattle.std.proofs.Common.{◌≡◌, ℤ, pos, Bool, ℕ, List, [], None, ap
 use Rattle.std.proofs.lemmas.Int.{ints}
 use mir.Syntax.{w64}
 use Rattle.bk_num.specs.declared.ids.NameId.{NameId}
+use Rattle.bk_num.specs.declared.sides.BoxSide.TheVariants as side
 use Rattle.boxes.specs.Clones.{clone_edges}
 use Rattle.boxes.specs.Tree.{Tree, open_before}
 use Rattle.seams.specs.declared.open_box.OpenBox.{OpenBox}
@@ -31,6 +32,6 @@ returns-clause-value c =
     let tail : to_z w64 (of_z w64 c.at_depth-around.result.tail) ≡ c.at_depth-around.result.tail = omega (arith, ints) in
     let avoid : c.keeps_through.result ≡ is_inside t c.args.event [] = c.keeps_through.ensures ∙ ap (is_inside t c.args.event) (events_none t c.args.event c.args.event (omega arith)) in
     ap (λ (z : ℤ). made z (to_z w64 (of_z w64 c.at_depth-around.result.tail)) c.keeps_through.result c.line_name.result) (head ∙ ap (λ (o : OpenBox). o.head) around)
-    ∙ ap (λ (z : ℤ). made (clone_edges t c.args.measure 0 boxes) z c.keeps_through.result c.line_name.result) (tail ∙ ap (λ (o : OpenBox). o.tail) around)
-    ∙ ap (λ (b : Bool). made (clone_edges t c.args.measure 0 boxes) (clone_edges t c.args.measure 2 boxes) b c.line_name.result) avoid
-    ∙ ap (made (clone_edges t c.args.measure 0 boxes) (clone_edges t c.args.measure 2 boxes) (is_inside t c.args.event [])) c.line_name.ensures
+    ∙ ap (λ (z : ℤ). made (clone_edges t c.args.measure side.Top boxes) z c.keeps_through.result c.line_name.result) (tail ∙ ap (λ (o : OpenBox). o.tail) around)
+    ∙ ap (λ (b : Bool). made (clone_edges t c.args.measure side.Top boxes) (clone_edges t c.args.measure side.Bottom boxes) b c.line_name.result) avoid
+    ∙ ap (made (clone_edges t c.args.measure side.Top boxes) (clone_edges t c.args.measure side.Bottom boxes) (is_inside t c.args.event [])) c.line_name.ensures
