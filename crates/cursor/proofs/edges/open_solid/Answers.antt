@@ -2,6 +2,7 @@ use Rattle.std.proofs.Common.{◌≡◌, ◌∙◌, ◌+◌, ap, sym, subst, ari
 use Rattle.std.specs.Int.{w64}
 use Rattle.std.proofs.lemmas.Int.{to_z-of_z}
 use Rattle.std.proofs.lemmas.Option.{slice_get_within}
+use Rattle.bk_num.specs.declared.sides.BoxSide.TheVariants as side
 use Rattle.boxes.proofs.TreeFacts.{box_there}
 use Rattle.boxes.specs.Tree.{Holds, open_before, rest_of}
 use Rattle.boxes.specs.declared.place.Event.TheVariants.{Opens}
@@ -20,14 +21,13 @@ edge_solid-requires c =
     let t = c.args.tree.now in
     let n = c.requires.next in
     let wide : FitsSigned w64 c.args.width = c.ranges.width in
-    subst (λ (w : ℤ). IsAtEdge t w c.args.event c.args.index 0 c.args.widths.now) (sym (to_z-of_z w64 c.args.width wide)) (record {
+    subst (λ (w : ℤ). IsAtEdge t w c.args.event c.args.index c.args.widths.now) (sym (to_z-of_z w64 c.args.width wide)) (record {
       whole = c.requires.whole;
       depth = c.requires.depth;
       low = n.low;
       high = n.high;
       within = slice_get_within t.events c.args.event _ c.requires.opens;
       number = box_there t c.count-count.ensures.tree c.args.event c.args.index c.requires.opens;
-      side_is = omega arith;
       widths_is = n.widths_is ∙ widths_from t c.args.width c.args.from (place c.args.event 0) c.args.event (stands t c.args.from n.holds) n.found refl (edge_begins t c.args.from c.args.event (stands t c.args.from n.holds) (λ l e. let h = sym c.requires.opens ∙ e in cc));
     })
 
@@ -41,8 +41,8 @@ returns-clause-solid c = λ faces.
     let boxes = around_open t c.args.from.event c.args.event c.args.index s.placed_at n.found there c.edge_solid.ensures.place c.edge_solid.ensures.edge.begins in
     open_here faces t c.args.width c.args.from s c.args.event c.args.index n.found there c.edge_solid.ensures.place
     (subst (λ (w : ℤ). s.seam ≡ seam_of t s.placed_at w) (to_z-of_z w64 c.args.width wide) c.edge_solid.ensures.seam)
-    (subst (λ (bs : List ℕ). IsEdge t c.args.width (OpenEdge c.args.index) 0 c.args.index bs s) boxes
-    (subst (λ (w : ℤ). IsEdge t w (OpenEdge c.args.index) 0 c.args.index (rest_of (open_before t.events (end_of_run t s.placed_at))) s) (to_z-of_z w64 c.args.width wide) c.edge_solid.ensures.edge))
+    (subst (λ (bs : List ℕ). IsEdge t c.args.width (OpenEdge c.args.index) side.Top c.args.index bs s) boxes
+    (subst (λ (w : ℤ). IsEdge t w (OpenEdge c.args.index) side.Top c.args.index (rest_of (open_before t.events (end_of_run t s.placed_at))) s) (to_z-of_z w64 c.args.width wide) c.edge_solid.ensures.edge))
 
 pub returns-clause-widths : goal.returns-clause-widths
 returns-clause-widths c =
