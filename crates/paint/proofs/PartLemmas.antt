@@ -5,6 +5,7 @@ use Rattle.std.proofs.lemmas.List.{drop_all, length-map, map-append}
 use Rattle.std.proofs.lemmas.Option.{slice_get_within}
 use Rattle.std.specs.Option.{ForSome}
 use Rattle.bk_num.specs.Numbers.{last_of}
+use Rattle.bk_num.specs.declared.sides.BoxSide.TheVariants as side
 use Rattle.boxes.specs.Clones.{clone_edge, clone_edges}
 use Rattle.boxes.specs.Spans.{span_or}
 use Rattle.boxes.specs.Tree.{Tree, IsTree, depth_of, open_with, open_before, first_of, rest_of}
@@ -121,10 +122,10 @@ content_bounded t tree o parts boxes inner at n good on opened w = subst (λ i. 
         subst (λ (p : Option Fragment). IsContentWithin (length (b ∷ bs)) (content_or o.width p)) (sym back.1) (subst (λ (l : List ℕ). IsContentWithin (suc (length l)) q.content) boxes_is is.content_bounded)
 
 -- the top edges that stand again of it and of the boxes around it are known
-pub inside_is : (t : Tree) → IsTree t → (m : ℤ) (parts : List Fragment) (boxes : List ℕ) (inner : Option ℕ) (at n : ℕ) → IsOn parts boxes inner at → HaveOpened t m parts → WereBefore t.events n boxes → inside_at parts inner ≡ clone_edges t m 0 boxes
+pub inside_is : (t : Tree) → IsTree t → (m : ℤ) (parts : List Fragment) (boxes : List ℕ) (inner : Option ℕ) (at n : ℕ) → IsOn parts boxes inner at → HaveOpened t m parts → WereBefore t.events n boxes → inside_at parts inner ≡ clone_edges t m side.Top boxes
 inside_is t tree m parts boxes inner at n on opened w = ap (inside_at parts) on.inner_is ∙ by on.places boxes on.are w
   where
-    by : (places bs : List ℕ) → ArePlaces (spine_of parts) places bs → WereBefore t.events n bs → inside_at parts (first_of places) ≡ clone_edges t m 0 bs
+    by : (places bs : List ℕ) → ArePlaces (spine_of parts) places bs → WereBefore t.events n bs → inside_at parts (first_of places) ≡ clone_edges t m side.Top bs
     by [] [] are v = refl
     by [] (b ∷ bs) are v = absurd are
     by (i ∷ places) [] are v = absurd are
@@ -133,8 +134,8 @@ inside_is t tree m parts boxes inner at n on opened w = ap (inside_at parts) on.
         let q : Fragment = back.0 in
         let is : IsOpened t m q = opened i q back.1 in
         let place : q.event ≡ v.0 = opens_once t tree q.event v.0 b (is.opens ∙ ap (λ (x : ℕ). Some (Opens x)) back.2) v.2 in
-        ap inside_or back.1 ∙ is.inside_is ∙ ap (λ (x : ℕ). clone_edges t m 0 (x ∷ open_before t.events q.event)) back.2
-        ∙ ap (λ (k : ℕ). clone_edges t m 0 (b ∷ open_before t.events k)) place ∙ ap (λ (l : List ℕ). clone_edges t m 0 (b ∷ l)) v.3
+        ap inside_or back.1 ∙ is.inside_is ∙ ap (λ (x : ℕ). clone_edges t m side.Top (x ∷ open_before t.events q.event)) back.2
+        ∙ ap (λ (k : ℕ). clone_edges t m side.Top (b ∷ open_before t.events k)) place ∙ ap (λ (l : List ℕ). clone_edges t m side.Top (b ∷ l)) v.3
 
 -- and they are bounded
 pub inside_bounded : (t : Tree) → IsTree t → (m : ℤ) (parts : List Fragment) (boxes : List ℕ) (inner : Option ℕ) (at n : ℕ) → IsOn parts boxes inner at → HaveOpened t m parts → WereBefore t.events n boxes → IsRoomOf (length boxes) (inside_at parts inner)
@@ -226,7 +227,7 @@ of_fields event number outer around content above inside = record { event = even
 
 -- what is written down of a box, field by field
 pub part_same : (t : Tree) (m : ℤ) (parts : List Fragment) (inner : Option ℕ) (event b : ℕ) (around content : Content) (above top : ℤ) → around ≡ content_at m parts inner → content ≡ content_of (span_or (slice_get t.boxes b) (pair_of (content_at m parts inner))) → above ≡ inside_at parts inner →
-    top ≡ clone_edge 0 (slice_get t.boxes b) (content_at m parts inner).width → of_fields event b inner around content above (above +ℤ top) ≡ part_in t m parts inner event b
+    top ≡ clone_edge side.Top (slice_get t.boxes b) (content_at m parts inner).width → of_fields event b inner around content above (above +ℤ top) ≡ part_in t m parts inner event b
 part_same t m parts inner event b around content above top around_is content_is above_is top_is =
     ap₂ (λ (x y : Content). of_fields event b inner x y above (above +ℤ top)) around_is content_is
     ∙ ap₂ (λ (y z : ℤ). of_fields event b inner (content_at m parts inner) (content_of (span_or (slice_get t.boxes b) (pair_of (content_at m parts inner)))) y (y +ℤ z)) above_is top_is
@@ -238,14 +239,14 @@ room_more n above top edge room low high is =
     let most = room.1 in
     subst (λ (z : ℤ). IsRoomOf (suc n) (above +ℤ z)) is (omega (arith, ints, least, low), omega (arith, ints, most, high))
 
-part_opened : (t : Tree) (m : ℤ) (parts : List Fragment) (inner : Option ℕ) (event b : ℕ) → slice_get t.events event ≡ Some (Opens b) → content_at m parts inner ≡ content_along t m (open_before t.events event) → inside_at parts inner ≡ clone_edges t m 0 (open_before t.events event) → ArePartBounds t m parts inner event b →
+part_opened : (t : Tree) (m : ℤ) (parts : List Fragment) (inner : Option ℕ) (event b : ℕ) → slice_get t.events event ≡ Some (Opens b) → content_at m parts inner ≡ content_along t m (open_before t.events event) → inside_at parts inner ≡ clone_edges t m side.Top (open_before t.events event) → ArePartBounds t m parts inner event b →
     IsOpened t m (part_in t m parts inner event b)
 part_opened t m parts inner event b at is above bounds = record {
   opens = at;
   around_is = is;
   content_is = ap (λ (c : Content). content_of (span_or (slice_get t.boxes b) (pair_of c))) is;
   above_is = above;
-  inside_is = ap₂ (λ (z : ℤ) (c : Content). z +ℤ clone_edge 0 (slice_get t.boxes b) c.width) above is;
+  inside_is = ap₂ (λ (z : ℤ) (c : Content). z +ℤ clone_edge side.Top (slice_get t.boxes b) c.width) above is;
   around_bounded = bounds.around;
   content_bounded = bounds.content;
   above_bounded = bounds.above;
@@ -260,7 +261,7 @@ pass_opens t tree m parts new at b inner low there a new_is bounds =
     let q : Fragment = part_in t m parts inner at b in
     let next : suc at ≡ at + 1 = omega arith in
     let content : content_at m parts inner ≡ content_along t m (open_before t.events at) = content_is t tree m parts (open_before t.events at) inner at at a.on a.opened (were_before t.events at low) in
-    let above : inside_at parts inner ≡ clone_edges t m 0 (open_before t.events at) = inside_is t tree m parts (open_before t.events at) inner at at a.on a.opened (were_before t.events at low) in
+    let above : inside_at parts inner ≡ clone_edges t m side.Top (open_before t.events at) = inside_is t tree m parts (open_before t.events at) inner at at a.on a.opened (were_before t.events at low) in
     let on : IsOn (parts ++ q ∷ []) (b ∷ open_before t.events at) (Some (length parts)) (suc at) = on_push parts (open_before t.events at) inner at q refl a.on (omega arith) in
     let boxes : b ∷ open_before t.events at ≡ open_before t.events (suc at) = sym (open-step t.events at (Opens b) there) in
     let pushed : IsOn (parts ++ q ∷ []) (open_before t.events (suc at)) (Some (length parts)) (suc at) = subst (λ l. IsOn (parts ++ q ∷ []) l (Some (length parts)) (suc at)) boxes on in
@@ -344,8 +345,8 @@ started_step t tree m event left k b chain parts new low chain_is cons there new
             let were : WereBefore t.events k (drop (suc left) chain) = subst (λ (n : ℕ). WereBefore t.events n (drop (suc left) chain)) place v.4 in
             let content : content_at m parts (last_of (length parts)) ≡ content_along t m (open_before t.events k) =
             content_is t tree m parts (drop (suc left) chain) (last_of (length parts)) s.next k s.on s.opened were ∙ ap (content_along t m) (sym v.3 ∙ ap (open_before t.events) place) in
-            let above : inside_at parts (last_of (length parts)) ≡ clone_edges t m 0 (open_before t.events k) =
-            inside_is t tree m parts (drop (suc left) chain) (last_of (length parts)) s.next k s.on s.opened were ∙ ap (clone_edges t m 0) (sym v.3 ∙ ap (open_before t.events) place) in
+            let above : inside_at parts (last_of (length parts)) ≡ clone_edges t m side.Top (open_before t.events k) =
+            inside_is t tree m parts (drop (suc left) chain) (last_of (length parts)) s.next k s.on s.opened were ∙ ap (clone_edges t m side.Top) (sym v.3 ∙ ap (open_before t.events) place) in
             let on : IsOn (parts ++ q ∷ []) (b ∷ drop (suc left) chain) (Some (length parts)) (suc k) = on_push parts (drop (suc left) chain) (last_of (length parts)) s.next q refl s.on (s.low k were) in
             let size : suc (length parts) ≡ length (parts ++ q ∷ []) = (rw length-append (omega arith)) in
             let on_all : IsOn (parts ++ q ∷ []) (drop left chain) (last_of (length (parts ++ q ∷ []))) (suc k) =

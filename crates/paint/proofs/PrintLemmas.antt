@@ -6,6 +6,8 @@ use Rattle.std.specs.List.{flat_map, range_with_len}
 use Rattle.std.proofs.lemmas.Grind.{flat_map-append}
 use Rattle.std.proofs.lemmas.List.Folds.{flat_map-map}
 use Rattle.std.proofs.lemmas.Option.{get_or_from_slice_get, slice_get_within}
+use Rattle.bk_num.specs.Sides.{at_side}
+use Rattle.bk_num.specs.declared.sides.BoxSide.TheVariants as side
 use Rattle.bk_num.specs.declared.values.Color.{Color}
 use Rattle.metrics.specs.Face.{FontFace}
 use Rattle.boxes.specs.Contents.{IsGoodLeaf}
@@ -135,10 +137,10 @@ edge_none thick color a (Some y) = border_none thick color (record { x = a.x; y 
 
 sides_none : (p : BoxProps) (a : Area) (upper lower : Option ℤ) → texts_in (side_rects p a upper lower) ≡ []
 sides_none p a upper lower =
-    let top : List Item = edge_rects (units_at p.border 0) (slice_get p.colors 0) a upper in
-    let right : List Item = border_rects (units_at p.border 1) (slice_get p.colors 1) (right_area a (units_at p.border 1)) in
-    let bottom : List Item = edge_rects (units_at p.border 2) (slice_get p.colors 2) a lower in
-    let left : List Item = border_rects (units_at p.border 3) (slice_get p.colors 3) (left_area a (units_at p.border 3)) in
+    let top : List Item = edge_rects (units_at p.border side.Top) (at_side p.colors side.Top) a upper in
+    let right : List Item = border_rects (units_at p.border side.Right) (at_side p.colors side.Right) (right_area a (units_at p.border side.Right)) in
+    let bottom : List Item = edge_rects (units_at p.border side.Bottom) (at_side p.colors side.Bottom) a lower in
+    let left : List Item = border_rects (units_at p.border side.Left) (at_side p.colors side.Left) (left_area a (units_at p.border side.Left)) in
     texts_append top (right ++ (bottom ++ left)) [] [] (edge_none _ _ _ _)
     (texts_append right (bottom ++ left) [] [] (border_none _ _ _) (texts_append bottom left [] [] (edge_none _ _ _ _) (border_none _ _ _)))
 
@@ -149,7 +151,7 @@ box_none p a upper lower = texts_append (background_rects p.background a) (side_
 fragment_none : (o : SolidOrigin) (p : BoxProps) (outer : Content) (reach upper lower : Option VerticalExtent) → texts_in (fragment_rects o p outer reach upper lower) ≡ []
 unfolding fragment_rects
 fragment_none o p outer None upper lower = refl
-fragment_none o p outer (Some e) upper lower = box_none p (fragment_area o (border_in p outer) e) (upper_top o upper) (lower_top o (units_at p.border 2) lower)
+fragment_none o p outer (Some e) upper lower = box_none p (fragment_area o (border_in p outer) e) (upper_top o upper) (lower_top o (units_at p.border side.Bottom) lower)
 
 opened_none : (t : Tree) (o : SolidOrigin) (solids : List Placed) (k : ℕ) (e : Option Event) → texts_in (opened_rects t o solids k e) ≡ []
 opened_none t o solids k None = refl

@@ -1,5 +1,7 @@
 -- The rectangles of a box, one after another.
-use Rattle.std.proofs.Common.{◌≡◌, ◌∙◌, ℤ, List, ◌++◌, Option, Some, slice_get, sym, ap, append_assoc}
+use Rattle.std.proofs.Common.{◌≡◌, ◌∙◌, ℤ, List, ◌++◌, Option, Some, sym, ap, append_assoc}
+use Rattle.bk_num.specs.Sides.{at_side}
+use Rattle.bk_num.specs.declared.sides.BoxSide.TheVariants as side
 use Rattle.bk_num.specs.declared.values.Color.{Color}
 use Rattle.boxes.specs.Spans.{units_at}
 use Rattle.boxes.specs.declared.item.Item.{Item}
@@ -15,14 +17,14 @@ border_same thick thin color c a b same is area = ap (λ (z : ℤ). border_rects
 
 pub sides_joined : (p : BoxProps) (a right left : Area) (upper lower : Option ℤ) (w0 w1 w2 w3 : ℤ) (c0 c1 c2 c3 : Color) (x0 x1 x2 x3 x4 : List Item) →
     x1 ≡ x0 ++ edge_rects w0 (Some c0) a upper → x2 ≡ x1 ++ border_rects w1 (Some c1) right → x3 ≡ x2 ++ edge_rects w2 (Some c2) a lower → x4 ≡ x3 ++ border_rects w3 (Some c3) left →
-    w0 ≡ units_at p.border 0 → w1 ≡ units_at p.border 1 → w2 ≡ units_at p.border 2 → w3 ≡ units_at p.border 3 →
-    slice_get p.colors 0 ≡ Some c0 → slice_get p.colors 1 ≡ Some c1 → slice_get p.colors 2 ≡ Some c2 → slice_get p.colors 3 ≡ Some c3 →
-    right ≡ right_area a (units_at p.border 1) → left ≡ left_area a (units_at p.border 3) → x4 ≡ x0 ++ side_rects p a upper lower
+    w0 ≡ units_at p.border side.Top → w1 ≡ units_at p.border side.Right → w2 ≡ units_at p.border side.Bottom → w3 ≡ units_at p.border side.Left →
+    at_side p.colors side.Top ≡ Some c0 → at_side p.colors side.Right ≡ Some c1 → at_side p.colors side.Bottom ≡ Some c2 → at_side p.colors side.Left ≡ Some c3 →
+    right ≡ right_area a (units_at p.border side.Right) → left ≡ left_area a (units_at p.border side.Left) → x4 ≡ x0 ++ side_rects p a upper lower
 sides_joined p a right left upper lower w0 w1 w2 w3 c0 c1 c2 c3 x0 x1 x2 x3 x4 e1 e2 e3 e4 v0 v1 v2 v3 k0 k1 k2 k3 right_is left_is =
-    let r0 : List Item = edge_rects (units_at p.border 0) (slice_get p.colors 0) a upper in
-    let r1 : List Item = border_rects (units_at p.border 1) (slice_get p.colors 1) (right_area a (units_at p.border 1)) in
-    let r2 : List Item = edge_rects (units_at p.border 2) (slice_get p.colors 2) a lower in
-    let r3 : List Item = border_rects (units_at p.border 3) (slice_get p.colors 3) (left_area a (units_at p.border 3)) in
+    let r0 : List Item = edge_rects (units_at p.border side.Top) (at_side p.colors side.Top) a upper in
+    let r1 : List Item = border_rects (units_at p.border side.Right) (at_side p.colors side.Right) (right_area a (units_at p.border side.Right)) in
+    let r2 : List Item = edge_rects (units_at p.border side.Bottom) (at_side p.colors side.Bottom) a lower in
+    let r3 : List Item = border_rects (units_at p.border side.Left) (at_side p.colors side.Left) (left_area a (units_at p.border side.Left)) in
     let f1 : x1 ≡ x0 ++ r0 = e1 ∙ ap (λ (l : List Item). x0 ++ l) (edge_same w0 _ _ c0 a upper v0 k0) in
     let f2 : x2 ≡ x1 ++ r1 = e2 ∙ ap (λ (l : List Item). x1 ++ l) (border_same w1 _ _ c1 right _ v1 k1 right_is) in
     let f3 : x3 ≡ x2 ++ r2 = e3 ∙ ap (λ (l : List Item). x2 ++ l) (edge_same w2 _ _ c2 a lower v2 k2) in

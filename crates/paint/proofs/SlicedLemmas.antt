@@ -2,6 +2,7 @@
 use Rattle.std.proofs.Common.{◌≡◌, ℕ, zero, suc, ℤ, ◌+ℤ◌, Bool, true, false, cond, ◌||◌, nat_lt, List, [], ◌∷◌, ◌++◌, Option, Some, None, slice_get, refl, sym, ap, ap₂, ◌∙◌, ◌⊎◌, inl, inr}
 use Rattle.std.specs.List.{flat_map, list_any}
 use Rattle.std.proofs.lemmas.Bool.{cases_eq, ne_eqb, eq-eqb}
+use Rattle.bk_num.specs.declared.sides.BoxSide.TheVariants as side
 use Rattle.boxes.specs.Spans.{frame_at, span_along}
 use Rattle.boxes.specs.Tree.{Tree, IsTree}
 use Rattle.boxes.specs.declared.item.Item.{Item}
@@ -25,7 +26,7 @@ lower_sliced t b width bottom reach sliced = by (slice_get t.boxes b) refl reach
     by : (p : Option BoxProps) → slice_get t.boxes b ≡ p → (r : Option VerticalExtent) → lower_again p width bottom r ≡ None
     by None is r = refl
     by (Some p) is None = refl
-    by (Some p) is (Some e) = ap (λ (v : Bool). here v (record { top = lowest bottom e; bottom = lowest bottom e +ℤ frame_at p 2 width })) (sym (ap does_clone is) ∙ sliced)
+    by (Some p) is (Some e) = ap (λ (v : Bool). here v (record { top = lowest bottom e; bottom = lowest bottom e +ℤ frame_at p side.Bottom width })) (sym (ap does_clone is) ∙ sliced)
 
 along_sliced : (t : Tree) (m : ℤ) (reach : ℕ → Option VerticalExtent) (b : ℕ) (bottom : Option ℤ) (boxes : List ℕ) → clones_at t b ≡ false → lower_along t m reach b bottom boxes ≡ None
 along_sliced t m reach b bottom [] sliced = refl

@@ -3,6 +3,7 @@
 use Rattle.std.specs.Prelude.{ℕ, suc, ℤ, ◌+ℤ◌, List, [], ◌∷◌, Option, None, Some, Bool, ◌&&◌, ◌==◌, slice_get, if◌then◌else◌}
 use Rattle.std.specs.Int.{int_max}
 use Rattle.std.specs.List.{last_or, list_any}
+use Rattle.bk_num.specs.declared.sides.BoxSide.TheVariants as side
 use Rattle.boxes.specs.Clones.{clone_edges, open_through}
 use Rattle.boxes.specs.Spans.{frame_at, span_along}
 use Rattle.boxes.specs.Tree.{Tree, is_leaf, open_before}
@@ -56,8 +57,8 @@ upper_again p above inside = here p.clones (record { top = above; bottom = insid
 -- where a box that an event opens has its upper edge again: if it is parted at the page's start
 abbrev pub head_edge : Tree → ℤ → List Placed → ℕ → ℕ → BoxProps → Option VerticalExtent
 head_edge t measure solids k b p = if list_any (λ c. c == b) (parted_before t (first_solid solids)) then
-    upper_again p (clone_edges t measure 0 (open_before t.events k))
-    (clone_edges t measure 0 (b ∷ open_before t.events k)) else None
+    upper_again p (clone_edges t measure side.Top (open_before t.events k))
+    (clone_edges t measure side.Top (b ∷ open_before t.events k)) else None
 
 -- ---- lower edges
 
@@ -71,7 +72,7 @@ abbrev pub lower_again : Option BoxProps → ℤ → Option ℤ → Option Verti
 lower_again None width inner reach = None
 lower_again (Some p) width inner None = None
 lower_again (Some p) width inner (Some e) =
-    here p.clones (record { top = lowest inner e; bottom = lowest inner e +ℤ frame_at p 2 width })
+    here p.clones (record { top = lowest inner e; bottom = lowest inner e +ℤ frame_at p side.Bottom width })
 
 -- down to where the clone boxes reach, with a box more around those inside it
 abbrev pub bottom_with : Option ℤ → Option VerticalExtent → Option ℤ

@@ -1,6 +1,7 @@
 -- The boxes that are open at a place of a tree, with the places of their contents and border boxes (CSS 2.1, 10.3.3).
 use Rattle.std.specs.Prelude.{◌≡◌, ◌≤◌, ◌^◌, ◌*◌, ◌+◌, ◌≤ℤ◌, pos, neg_ℤ, ℕ, suc, ℤ, ◌+ℤ◌, List, [], ◌∷◌, ◌++◌, ◌==◌, Some, length, slice_get, if◌then◌else◌}
 use Rattle.bk_num.specs.Limits.{most_open}
+use Rattle.bk_num.specs.declared.sides.BoxSide.TheVariants as side
 use Rattle.boxes.specs.declared.props.BoxProps.{BoxProps}
 use Rattle.boxes.specs.Spans.{frame_at, left_in_block, span_along, width_in_block}
 use Rattle.boxes.specs.Tree.{Tree, open_before}
@@ -67,7 +68,7 @@ open_left t o at b = (content_along t o.width (boxes_from b (open_before t.event
 
 -- the width of the border box of a box in a containing block of a width
 abbrev pub border_width : BoxProps → ℤ → ℤ
-border_width p width = width_in_block p width +ℤ (frame_at p 3 width +ℤ frame_at p 1 width)
+border_width p width = width_in_block p width +ℤ (frame_at p side.Left width +ℤ frame_at p side.Right width)
 
 -- the left and the width of the border box of a box in a containing block: its left margin stands before it
 unfoldable pub border_in : BoxProps → Content → Content

@@ -2,6 +2,7 @@
 use Rattle.std.specs.Prelude.{◌≡◌, ◌<◌, ◌≤◌, ◌≤ℤ◌, ◌^◌, ◌*◌, ◌++◌, ◌+ℤ◌, ℕ, ℤ, pos, suc, List, [], ◌∷◌, Option, None, Some, Bool, true, false, not, ◌&&◌, ◌||◌, ◌==◌, nat_lt, map, length, slice_get, slice_set, if◌then◌else◌}
 use Rattle.std.specs.List.{filter}
 use Rattle.std.specs.Option.{ForSome, option_or}
+use Rattle.bk_num.specs.declared.sides.BoxSide.TheVariants as side
 use Rattle.boxes.specs.Clones.{clone_edge, clone_edges}
 use Rattle.boxes.specs.Spans.{span_or}
 use Rattle.boxes.specs.Tree.{Tree, first_of, is_opening, open_before}
@@ -133,8 +134,8 @@ pub record IsOpened (t : Tree) (measure : ℤ) (p : Fragment) : Type 0 where
   pub opens : slice_get t.events p.event ≡ Some (Opens p.number)
   pub around_is : p.around ≡ content_along t measure (open_before t.events p.event)
   pub content_is : p.content ≡ content_along t measure (p.number ∷ open_before t.events p.event)
-  pub above_is : p.above ≡ clone_edges t measure 0 (open_before t.events p.event)
-  pub inside_is : p.inside ≡ clone_edges t measure 0 (p.number ∷ open_before t.events p.event)
+  pub above_is : p.above ≡ clone_edges t measure side.Top (open_before t.events p.event)
+  pub inside_is : p.inside ≡ clone_edges t measure side.Top (p.number ∷ open_before t.events p.event)
   pub around_bounded : IsContentWithin (length (open_before t.events p.event)) p.around
   pub content_bounded : IsContentWithin (suc (length (open_before t.events p.event))) p.content
   pub above_bounded : IsRoomOf (length (open_before t.events p.event)) p.above
@@ -198,7 +199,7 @@ part_in t measure parts inner event b = record {
   content = content_of (span_or (slice_get t.boxes b) (pair_of (content_at measure parts inner)));
   above = inside_at parts inner;
   inside =
-      inside_at parts inner +ℤ clone_edge 0 (slice_get t.boxes b) (content_at measure parts inner).width;
+      inside_at parts inner +ℤ clone_edge side.Top (slice_get t.boxes b) (content_at measure parts inner).width;
   reach = None;
   upper = None;
   lower = None;

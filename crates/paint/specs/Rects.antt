@@ -1,7 +1,9 @@
 -- The rectangles of a box on a page: its background, then its borders top, right, bottom and left (CSS 2.1, E.2;
 -- css-break-3, 5.4).
-use Rattle.std.specs.Prelude.{ℤ, pos, ◌+ℤ◌, ◌-ℤ◌, List, [], ◌∷◌, ◌++◌, Option, None, Some, slice_get, if◌then◌else◌}
+use Rattle.std.specs.Prelude.{ℤ, pos, ◌+ℤ◌, ◌-ℤ◌, List, [], ◌∷◌, ◌++◌, Option, None, Some, if◌then◌else◌}
 use Rattle.std.specs.Ordering.{int_eq}
+use Rattle.bk_num.specs.Sides.{at_side}
+use Rattle.bk_num.specs.declared.sides.BoxSide.TheVariants as side
 use Rattle.bk_num.specs.declared.values.Color.{Color}
 use Rattle.boxes.specs.Spans.{units_at}
 use Rattle.boxes.specs.declared.item.Item.{Item}
@@ -55,10 +57,12 @@ lower_top o thick (Some e) = Some ((o.top +ℤ e.bottom) -ℤ thick)
 -- the borders of a fragment: top, right, bottom and left, each in its colour
 abbrev pub side_rects : BoxProps → Area → Option ℤ → Option ℤ → List Item
 side_rects p a upper lower =
-    edge_rects (units_at p.border 0) (slice_get p.colors 0) a upper
-    ++ (border_rects (units_at p.border 1) (slice_get p.colors 1) (right_area a (units_at p.border 1))
-    ++ (edge_rects (units_at p.border 2) (slice_get p.colors 2) a lower
-    ++ border_rects (units_at p.border 3) (slice_get p.colors 3) (left_area a (units_at p.border 3))))
+    edge_rects (units_at p.border side.Top) (at_side p.colors side.Top) a upper
+    ++ (border_rects (units_at p.border side.Right) (at_side p.colors side.Right)
+    (right_area a (units_at p.border side.Right))
+    ++ (edge_rects (units_at p.border side.Bottom) (at_side p.colors side.Bottom) a lower
+    ++ border_rects (units_at p.border side.Left) (at_side p.colors side.Left)
+    (left_area a (units_at p.border side.Left))))
 
 -- the background of a fragment, then its borders, where the tops of the upper and the lower one are known
 unfoldable pub box_rects : BoxProps → Area → Option ℤ → Option ℤ → List Item
@@ -70,4 +74,5 @@ unfoldable pub fragment_rects : SolidOrigin → BoxProps → Content → Option 
     Option VerticalExtent → List Item
 fragment_rects o p outer None upper lower = []
 fragment_rects o p outer (Some e) upper lower =
-    box_rects p (fragment_area o (border_in p outer) e) (upper_top o upper) (lower_top o (units_at p.border 2) lower)
+    box_rects p (fragment_area o (border_in p outer) e) (upper_top o upper)
+    (lower_top o (units_at p.border side.Bottom) lower)

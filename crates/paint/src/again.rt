@@ -20,6 +20,7 @@ ghost use Rattle.paint.specs.declared.parts.Fragment.{Fragment};
 use crate::extent::VerticalExtent;
 use crate::item::SolidOrigin;
 use crate::parts::{Fragment, Reached};
+use bk_num::sides::BoxSide;
 use boxes::page::Placed;
 use boxes::place::Event;
 use boxes::props::BoxProps;
@@ -133,7 +134,7 @@ fn foot_of(props: &BoxProps, part: &Fragment, inner: Option<i64>) -> Option<Vert
         let top = lowest(inner, extent);
         return Some(VerticalExtent {
             top,
-            bottom: top + frame_units(props, 2, part.around.width),
+            bottom: top + frame_units(props, BoxSide::Bottom, part.around.width),
         });
     }
     None

@@ -8,6 +8,7 @@ ghost use Rattle.paint.specs.Bounds.{IsGoodOrigin};
 ghost use Rattle.paint.specs.Opens.{AreBoxesWithin, IsContentWithin, IsNear, IsWide, border_in, border_width, boxes_from, content_along, opens_of};
 
 use crate::item::SolidOrigin;
+use bk_num::sides::BoxSide;
 use boxes::props::BoxProps;
 use boxes::span::{Content, content_width_in, frame_units, left_margin_in};
 
@@ -26,7 +27,8 @@ fn border_width(props: &BoxProps, width: i64) -> i64
     ensures value { result ≡ border_width props.now width }
     ensures within { IsWithin (2 ^ 42) result }
 {
-    content_width_in(props, width) + (frame_units(props, 3, width) + frame_units(props, 1, width))
+    content_width_in(props, width)
+        + (frame_units(props, BoxSide::Left, width) + frame_units(props, BoxSide::Right, width))
 }
 
 /// The border box of a box in the content of the box around it.

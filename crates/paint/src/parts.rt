@@ -12,6 +12,7 @@ ghost use Rattle.paint.specs.Parts.{AreMerged, Extends, HaveOuters, IsHandedOn, 
 use crate::extent::{VerticalExtent, join};
 use crate::item::SolidOrigin;
 use bk_num::name::NoMem;
+use bk_num::sides::BoxSide;
 use boxes::place::Event;
 use boxes::props::BoxProps;
 use boxes::span::{Content, content_in, frame_units};
@@ -70,12 +71,12 @@ fn inside_at(parts: &[Fragment], inner: Option<usize>) -> i64
 fn top_edge(props: &BoxProps, around: Content) -> i64
     requires good { IsGoodBox props.now }
     requires wide { IsWide around }
-    ensures value { result ≡ clone_edge 0 (Some props.now) around.width }
+    ensures value { result ≡ clone_edge BoxSide.Top (Some props.now) around.width }
     ensures low { pos 0 ≤ℤ result }
     ensures high { result ≤ℤ pos (2 ^ 28) }
 {
     if props.clones {
-        frame_units(props, 0, around.width)
+        frame_units(props, BoxSide::Top, around.width)
     } else {
         0
     }

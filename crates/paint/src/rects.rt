@@ -1,6 +1,6 @@
 //! Items of backgrounds and borders.
 
-ghost use Rattle.std.specs.Prelude.{◌≡◌, ◌<◌, ◌∷◌, [], ◌^◌, length, All, OnOk, Some, slice_get};
+ghost use Rattle.std.specs.Prelude.{◌≡◌, ◌<◌, ◌∷◌, [], ◌^◌, length, All, OnOk, Some};
 ghost use Rattle.std.specs.List.{flat_map};
 ghost use Rattle.std.specs.Option.{ForSome};
 ghost use Rattle.bk_num.specs.Numbers.{IsWithin};
@@ -22,6 +22,7 @@ use crate::item::{Area, Canvas, ItemRef, SolidOrigin};
 use crate::opens::border_in;
 use crate::parts::Fragment;
 use bk_num::name::NoMem;
+use bk_num::sides::{BoxSide, at_side};
 use bk_num::values::Color;
 use boxes::page::Placed;
 use boxes::props::BoxProps;
@@ -118,19 +119,11 @@ fn push_edge<'a>(
 }
 
 /// The width of a border, in units.
-fn border_at(props: &BoxProps, side: usize) -> i64
-    requires { side < 4 }
+fn border_at(props: &BoxProps, side: BoxSide) -> i64
     ensures value { result ≡ units_at props.now.border side }
     ensures within { IsWithin (2 ^ 27) result }
 {
-    i64::from(props.border[side].units())
-}
-
-fn color_at(colors: &[Color], side: usize) -> Color
-    requires { side < length colors.now }
-    ensures { slice_get colors.now side ≡ Some result }
-{
-    colors[side]
+    i64::from(at_side(&props.border, side).units())
 }
 
 /// The area of a left border of a fragment.
@@ -177,28 +170,36 @@ fn push_sides<'a>(
     sides: &BorderPlaces,
 ) -> Result<(), NoMem>
     requires faces { HaveItemFaces faces.now out.old.items }
-    requires right { sides.now.right ≡ right_area sides.now.area (units_at props.now.border 1) }
+    requires right { sides.now.right ≡ right_area sides.now.area (units_at props.now.border BoxSide.Right) }
     ensures items { OnOk result (Adds faces.now out.old.items
         (side_rects props.now sides.now.area sides.now.upper sides.now.lower) out.new.items) }
     ensures faces { OnOk result (HaveItemFaces faces.now out.new.items) }
 {
-    let (top, bottom) = (border_at(props, 0), border_at(props, 2));
-    let (right, left) = (border_at(props, 1), border_at(props, 3));
+    let top = border_at(props, BoxSide::Top);
+    let right = border_at(props, BoxSide::Right);
+    let bottom = border_at(props, BoxSide::Bottom);
+    let left = border_at(props, BoxSide::Left);
     let colors = &props.colors;
     push_edge(
         out,
         faces,
         top,
-        color_at(colors, 0),
+        at_side(colors, BoxSide::Top),
         sides.area,
         sides.upper,
     )?;
-    push_border(out, faces, right, color_at(colors, 1), sides.right)?;
+    push_border(
+        out,
+        faces,
+        right,
+        at_side(colors, BoxSide::Right),
+        sides.right,
+    )?;
     push_edge(
         out,
         faces,
         bottom,
-        color_at(colors, 2),
+        at_side(colors, BoxSide::Bottom),
         sides.area,
         sides.lower,
     )?;
@@ -206,7 +207,7 @@ fn push_sides<'a>(
         out,
         faces,
         left,
-        color_at(colors, 3),
+        at_side(colors, BoxSide::Left),
         left_area(sides.area, left),
     )?;
     Ok(())
@@ -260,15 +261,15 @@ fn sides_of(origin: &SolidOrigin, props: &BoxProps, part: &Fragment, area: Area)
     requires part { IsNearPart part.now }
     requires near { IsNearArea area }
     ensures area { result.area ≡ area }
-    ensures right { result.right ≡ right_area area (units_at props.now.border 1) }
+    ensures right { result.right ≡ right_area area (units_at props.now.border BoxSide.Right) }
     ensures upper { result.upper ≡ upper_top origin.now part.now.upper }
-    ensures lower { result.lower ≡ lower_top origin.now (units_at props.now.border 2) part.now.lower }
+    ensures lower { result.lower ≡ lower_top origin.now (units_at props.now.border BoxSide.Bottom) part.now.lower }
 {
     BorderPlaces {
         area,
-        right: right_area(area, border_at(props, 1)),
+        right: right_area(area, border_at(props, BoxSide::Right)),
         upper: upper_top(origin, part.upper),
-        lower: lower_top(origin, border_at(props, 2), part.lower),
+        lower: lower_top(origin, border_at(props, BoxSide::Bottom), part.lower),
     }
 }
 
@@ -289,7 +290,7 @@ fn push_fragment<'a>(
     ensures items { OnOk result (Adds canvas.now.faces.now out.old.items
         (box_rects props.now (fragment_area canvas.now.origin (spec.border_in props.now part.now.around) extent)
         (upper_top canvas.now.origin part.now.upper) (lower_top canvas.now.origin
-        (units_at props.now.border 2) part.now.lower)) out.new.items) }
+        (units_at props.now.border BoxSide.Bottom) part.now.lower)) out.new.items) }
     ensures faces { OnOk result (HaveItemFaces canvas.now.faces.now out.new.items) }
 {
     let area = fragment_area(&canvas.origin, &border_in(props, &part.around), extent);

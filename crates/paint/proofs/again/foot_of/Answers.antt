@@ -2,6 +2,7 @@ use Rattle.std.proofs.Common.{◌≡◌, ◌+ℤ◌, ◌∙◌, ℤ, Bool, Optio
 use Rattle.std.proofs.lemmas.Int.{ints}
 use mir.Syntax.{w64}
 use Rattle.bk_num.specs.Limits.{most_open}
+use Rattle.bk_num.specs.declared.sides.BoxSide.TheVariants as side
 use Rattle.boxes.specs.Spans.{frame_at}
 use Rattle.paint.specs.Bounds.{IsNearBottom}
 use Rattle.paint.specs.Clones.{lower_again, lowest}
@@ -27,11 +28,11 @@ returns-then-props-clause-value c =
     let low = c.requires.wide.low in
     let high = c.requires.wide.high in
     let wide : to_z w64 (of_z w64 width) ≡ width = omega (arith, ints, low, high) in
-    let height : c.frame_units.result ≡ frame_at p 2 width = c.frame_units.ensures.value ∙ ap (frame_at p 2) wide in
+    let height : c.frame_units.result ≡ frame_at p side.Bottom width = c.frame_units.ensures.value ∙ ap (frame_at p side.Bottom) wide in
     let top_exact : to_z w64 (of_z w64 top) ≡ top = omega (arith, ints, near) in
     let exact : to_z w64 (of_z w64 (to_z w64 (of_z w64 top) +ℤ to_z w64 (of_z w64 c.frame_units.result))) ≡ top +ℤ c.frame_units.result = omega (arith, ints, near) in
     ap₂ edge top_exact exact ∙ ap₂ (λ (x y : ℤ). edge x (x +ℤ y)) c.lowest-top.ensures height
-    ∙ sym (ap (lower_again (Some p) width c.args.inner) c.in-Some.is ∙ ap (λ (v : Bool). cond v (edge (lowest c.args.inner e) (lowest c.args.inner e +ℤ frame_at p 2 width)) None) c.if-props.true)
+    ∙ sym (ap (lower_again (Some p) width c.args.inner) c.in-Some.is ∙ ap (λ (v : Bool). cond v (edge (lowest c.args.inner e) (lowest c.args.inner e +ℤ frame_at p side.Bottom width)) None) c.if-props.true)
 
 pub returns-then-props-clause-near : goal.returns-then-props-clause-near
 returns-then-props-clause-near c = λ n inner x is.
@@ -45,4 +46,4 @@ returns-then-props-clause-near c = λ n inner x is.
     foot_near n top c.frame_units.result x near c.frame_units.ensures.low c.frame_units.ensures.high (sym (ap₂ edge top_exact exact) ∙ is)
 
 pub returns-clause-value : goal.returns-clause-value
-returns-clause-value c = sym (ap (lower_again (Some c.args.props.now) c.args.part.now.around.width c.args.inner) c.in-Some.is ∙ ap (λ (v : Bool). cond v (edge (lowest c.args.inner c.in-Some.extent) (lowest c.args.inner c.in-Some.extent +ℤ frame_at c.args.props.now 2 c.args.part.now.around.width)) None) c.if-props.false)
+returns-clause-value c = sym (ap (lower_again (Some c.args.props.now) c.args.part.now.around.width c.args.inner) c.in-Some.is ∙ ap (λ (v : Bool). cond v (edge (lowest c.args.inner c.in-Some.extent) (lowest c.args.inner c.in-Some.extent +ℤ frame_at c.args.props.now side.Bottom c.args.part.now.around.width)) None) c.if-props.false)

@@ -1,6 +1,7 @@
 use Rattle.std.proofs.Common.{◌≡◌, ◌∙◌, ◌+ℤ◌, ◌++◌, ◌∷◌, [], ℕ, ℤ, suc, List, Option, Some, length, slice_get, sym, ap, ap₂, subst, arith, to_z, of_z}
 use mir.Syntax.{w64}
 use Rattle.std.proofs.lemmas.Int.{ints}
+use Rattle.bk_num.specs.declared.sides.BoxSide.TheVariants as side
 use Rattle.boxes.proofs.TreeFacts.{box_good}
 use Rattle.boxes.specs.Clones.{clone_edge}
 use Rattle.boxes.specs.Spans.{span_in, span_or}
@@ -30,8 +31,8 @@ returns-clause-part c =
     let content_is : c.content_in.result ≡ content_of (span_or (slice_get t.boxes c.args.number) (pair_of outer)) =
     ap content_of c.content_in.ensures.value ∙ ap (λ (x : Content). content_of (span_in p (pair_of x))) around_is ∙ ap (λ (o : Option BoxProps). content_of (span_or o (pair_of outer))) (sym c.props-props.ensures) in
     let above_is : c.inside_at-above.result ≡ inside_at c.args.parts.now.items c.args.inner = c.inside_at-above.ensures ∙ ap (λ (ps : List Fragment). inside_at ps c.args.inner) c.deref-2.ensures.value in
-    let top_is : c.top_edge.result ≡ clone_edge 0 (slice_get t.boxes c.args.number) outer.width =
-    c.top_edge.ensures.value ∙ ap (λ (x : Content). clone_edge 0 (Some p) x.width) around_is ∙ ap (λ (o : Option BoxProps). clone_edge 0 o outer.width) (sym c.props-props.ensures) in
+    let top_is : c.top_edge.result ≡ clone_edge side.Top (slice_get t.boxes c.args.number) outer.width =
+    c.top_edge.ensures.value ∙ ap (λ (x : Content). clone_edge side.Top (Some p) x.width) around_is ∙ ap (λ (o : Option BoxProps). clone_edge side.Top o outer.width) (sym c.props-props.ensures) in
     let room = c.requires.above in
     let least = room.0 in
     let most = room.1 in
@@ -63,6 +64,6 @@ returns-clause-inside c =
     let around : Content = c.content_at-around.result in
     let outer : Content = content_at c.args.origin.now.width c.args.parts.now.items c.args.inner in
     let around_is : around ≡ outer = c.content_at-around.ensures ∙ ap (λ (ps : List Fragment). content_at c.args.origin.now.width ps c.args.inner) c.deref.ensures.value in
-    let top_is : c.top_edge.result ≡ clone_edge 0 (slice_get t.boxes c.args.number) outer.width =
-    c.top_edge.ensures.value ∙ ap (λ (x : Content). clone_edge 0 (Some p) x.width) around_is ∙ ap (λ (o : Option BoxProps). clone_edge 0 o outer.width) (sym c.props-props.ensures) in
+    let top_is : c.top_edge.result ≡ clone_edge side.Top (slice_get t.boxes c.args.number) outer.width =
+    c.top_edge.ensures.value ∙ ap (λ (x : Content). clone_edge side.Top (Some p) x.width) around_is ∙ ap (λ (o : Option BoxProps). clone_edge side.Top o outer.width) (sym c.props-props.ensures) in
     room_more (length (open_before t.events c.args.event)) (inside_at c.args.parts.now.items c.args.inner) c.top_edge.result _ c.requires.above c.top_edge.ensures.low c.top_edge.ensures.high top_is

@@ -15,4 +15,4 @@ returns-clause-items c =
     sides_joined c.args.props.now s.area s.right c.left_area.result s.upper s.lower _ _ _ _ _ _ _ _ _ _ _ _ _
     c.in_ok-push_edge.ensures.items c.in_ok-push_border.ensures.items c.in_ok-push_edge-2.ensures.items c.in_ok-push_border-2.ensures.items
     (top ∙ c.border_at-top.ensures.value) (right ∙ c.border_at-right.ensures.value) (bottom ∙ c.border_at-bottom.ensures.value) (left ∙ c.border_at-left.ensures.value)
-    c.color_at.ensures c.color_at-2.ensures c.color_at-3.ensures c.color_at-4.ensures c.requires.right (c.left_area.ensures ∙ ap (left_area s.area) (left ∙ c.border_at-left.ensures.value))
+    c.at_side.ensures c.at_side-2.ensures c.at_side-3.ensures c.at_side-4.ensures c.requires.right (c.left_area.ensures ∙ ap (left_area s.area) (left ∙ c.border_at-left.ensures.value))
