@@ -3,7 +3,9 @@ use Rattle.std.proofs.Common.{◌≡◌, ◌==◌, ℕ, zero, suc, ℤ, pos, ◌
 use Rattle.std.proofs.lemmas.Int.{ints, clamps}
 use Rattle.std.proofs.lemmas.Option.{slice_get-map}
 use Rattle.bk_num.specs.Lengths.{used_of}
-use Rattle.bk_num.specs.Ranges.{IsNotNegative}
+use Rattle.bk_num.specs.Sides.{at_side}
+use Rattle.bk_num.specs.declared.sides.BoxSide.{BoxSide}
+use Rattle.bk_num.specs.declared.sides.BoxSide.TheVariants as side
 use Rattle.metrics.specs.Face.{FontFace}
 use Rattle.boxes.specs.Clones.{clone_edge, clone_edges, open_through}
 use Rattle.boxes.specs.Contents.{IsGoodBox}
@@ -11,7 +13,7 @@ use Rattle.boxes.specs.Spans.{content_width, frame_at, span_along, span_or, unit
 use Rattle.boxes.specs.Tree.{Tree, IsTree, open_before}
 use Rattle.boxes.specs.declared.place.Position.{Position}
 use Rattle.boxes.specs.declared.props.BoxProps.{BoxProps}
-use Rattle.boxes.proofs.SpanLemmas.{all_get, units_low, used_low, used_or_low}
+use Rattle.boxes.proofs.SpanLemmas.{padding_low, units_low, used_low}
 use Rattle.boxes.proofs.TreeFacts.{box_good}
 use Rattle.seams.specs.Runs.{events_in, run_end, run_start, solid_after}
 use Rattle.seams.specs.Seams.{line_seam, seam_before, seam_of, solid_behind}
@@ -22,10 +24,10 @@ use Rattle.cuts.specs.Rows.{HaveTails}
 use Rattle.page_list.specs.Cuts.{row_of, rows_of}
 
 -- a good box's border and padding
-frame_low : (p : BoxProps) (side : ℕ) (width : ℤ) → IsGoodBox p → pos 0 ≤ℤ width → pos 0 ≤ℤ frame_at p side width
-frame_low p side width good low =
-    let units : pos 0 ≤ℤ units_at p.border side = units_low p.border side good.borders in
-    let used : pos 0 ≤ℤ used_or_zero (slice_get p.padding side) width = used_or_low (slice_get p.padding side) width (λ len e. all_get IsNotNegative p.padding side len good.paddings e) low in
+frame_low : (p : BoxProps) (s : BoxSide) (width : ℤ) → IsGoodBox p → pos 0 ≤ℤ width → pos 0 ≤ℤ frame_at p s width
+frame_low p s width good low =
+    let units : pos 0 ≤ℤ units_at p.border s = units_low p.border s good.borders in
+    let used : pos 0 ≤ℤ used_or_zero (at_side p.padding s) width = padding_low p.padding s width good.paddings low in
     omega (arith, ints)
 
 -- and its content
@@ -45,23 +47,23 @@ module _ (t : Tree) (tree : IsTree t) (measure : ℤ) (wide : pos 0 ≤ℤ measu
       by None e low = low
       by (Some p) e low = width_low p (span_along t.boxes measure outer).1 (box_good t tree b p e) low
 
-  edge_low : (side b : ℕ) (width : ℤ) → pos 0 ≤ℤ width → pos 0 ≤ℤ clone_edge side (slice_get t.boxes b) width
-  edge_low side b width low = by (slice_get t.boxes b) refl
+  edge_low : (s : BoxSide) (b : ℕ) (width : ℤ) → pos 0 ≤ℤ width → pos 0 ≤ℤ clone_edge s (slice_get t.boxes b) width
+  edge_low s b width low = by (slice_get t.boxes b) refl
     where
-      by : (o : Option BoxProps) → slice_get t.boxes b ≡ o → pos 0 ≤ℤ clone_edge side o width
+      by : (o : Option BoxProps) → slice_get t.boxes b ≡ o → pos 0 ≤ℤ clone_edge s o width
       by None e = omega (arith, ints)
       by (Some p) e = chosen p.clones
         where
-          chosen : (clones : Bool) → pos 0 ≤ℤ cond clones (frame_at p side width) (pos 0)
-          chosen true = frame_low p side width (box_good t tree b p e) low
+          chosen : (clones : Bool) → pos 0 ≤ℤ cond clones (frame_at p s width) (pos 0)
+          chosen true = frame_low p s width (box_good t tree b p e) low
           chosen false = omega (arith, ints)
 
   -- what stands again of open boxes
-  pub edges_low : (side : ℕ) (boxes : List ℕ) → pos 0 ≤ℤ clone_edges t measure side boxes
-  edges_low side [] = omega (arith, ints)
-  edges_low side (b ∷ outer) =
-      let more = edges_low side outer in
-      let here = edge_low side b (span_along t.boxes measure outer).1 (along_low outer) in
+  pub edges_low : (s : BoxSide) (boxes : List ℕ) → pos 0 ≤ℤ clone_edges t measure s boxes
+  edges_low s [] = omega (arith, ints)
+  edges_low s (b ∷ outer) =
+      let more = edges_low s outer in
+      let here = edge_low s b (span_along t.boxes measure outer).1 (along_low outer) in
       omega (arith, ints)
 
   tail_low : (at : Position) → pos 0 ≤ℤ (seam_of t at measure).tail
@@ -74,8 +76,8 @@ module _ (t : Tree) (tree : IsTree t) (measure : ℤ) (wide : pos 0 ≤ℤ measu
       before = solid_behind t after
 
       by : (b : Bool) → pos 0 ≤ℤ (cond b (seam_before t at.event measure) (line_seam t at.event measure)).tail
-      by true = edges_low 2 (open_through t (run_start t before) (events_in t (run_start t before) (run_end t after)))
-      by false = edges_low 2 (open_before t.events at.event)
+      by true = edges_low side.Bottom (open_through t (run_start t before) (events_in t (run_start t before) (run_end t after)))
+      by false = edges_low side.Bottom (open_before t.events at.event)
 
   view_low : (faces : List FontFace) (from : Position) (xs : List SolidView) → IsRemainder faces t measure from xs → (k : ℕ) (s : SolidView) → slice_get xs k ≡ Some s → pos 0 ≤ℤ s.seam.tail
   view_low faces from [] r k s e = absurd (cc)
