@@ -11,7 +11,7 @@ use crate::keys::PageKey;
 use bk_num::ids::FaceId;
 use bk_num::name::NoMem;
 use boxes::page::Page;
-use boxes::table::cell_number;
+use boxes::table::cell_place;
 use css_rules::margin_boxes::MARGIN_BOXES;
 use indexmap::IndexMap;
 use metrics::chosen::choose;
@@ -85,7 +85,7 @@ fn key_of(page: &Page) -> PageKey
 {
     PageKey {
         name: page.name.0,
-        cell: cell_number(page.index, page.kind),
+        cell: cell_place(page.index, page.kind).number(),
     }
 }
 

@@ -20,7 +20,7 @@ use bk_num::items::Items;
 use bk_num::name::{Name, NoMem};
 use bk_num::values::Align;
 use boxes::frames::PageKind;
-use boxes::table::cell_number;
+use boxes::table::cell_place;
 use computed_values::fonts::used_line_height;
 use computed_values::given::chosen;
 use css_page::values::{PageLong, Upright};
@@ -264,7 +264,7 @@ fn style_in<'a, 's>(
         spec.style_of (spec.filled (map spec.cells_in rows.entry.now)) index name kind place }
 {
     let cells = cells_of(rows, name)?;
-    let boxes = cells.as_slice().get(cell_number(index, kind))?;
+    let boxes = cells.as_slice().get(cell_place(index, kind).number())?;
     style_at(boxes.as_slice(), place)
 }
 
