@@ -60,6 +60,16 @@ impl JoinedLines {
     }
 }
 
+/// Takes the first items of a list away. Those that are left move to its start.
+fn remove_first<T: Copy>(items: &mut Vec<T>, count: usize)
+    requires { count ≤ length items.old.items }
+    ensures { items.new.items ≡ drop count items.old.items }
+{
+    let count_in_all = items.len();
+    items.copy_within(count..count_in_all, 0);
+    items.truncate(count_in_all - count);
+}
+
 /// The solids that are read, in a frame of a width in units, one after the other, each with what a cut reads of it.
 /// `first` is the number of the first one of a page: those before it stand on earlier pages.
 #[derive(Drop)]
@@ -121,11 +131,8 @@ impl<'t> Ahead<'t> {
         ensures width { self.new.width ≡ self.old.width }
         ensures first { self.new.first ≡ 0 }
     {
-        let left = self.solids.len() - self.first;
-        self.solids.rotate_left(self.first);
-        self.solids.truncate(left);
-        self.rows.rotate_left(self.first);
-        self.rows.truncate(left);
+        remove_first(&mut self.solids, self.first);
+        remove_first(&mut self.rows, self.first);
         self.joined = JoinedLines {
             from: self.joined.from.saturating_sub(self.first),
             to: self.joined.to.saturating_sub(self.first),

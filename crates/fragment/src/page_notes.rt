@@ -30,6 +30,9 @@ use seams::widths::Widths;
 use std::alloc::Global;
 use std::sync::ledger::Ledger;
 
+/// Room for the areas after the solids of most pages, so that their list seldom grows.
+const AREAS_AT_FIRST: usize = 64;
+
 /// The notes of a page: their list, how many notes are called up to the last solid that is read, and, after each solid,
 /// the area of the notes that have to stand on the page where it ends there, in units of 1/64 px.
 #[derive(Drop)]
@@ -82,7 +85,7 @@ impl PageNotes {
         Ok(PageNotes {
             list: NoteList::carried(alloc, flow, faces, carried, frame, widths, lines, steps)?,
             called: called_before(flow, at),
-            areas: Vec::new(alloc),
+            areas: Vec::with_capacity(alloc, AREAS_AT_FIRST)?,
         })
     }
 

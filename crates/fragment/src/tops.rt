@@ -71,7 +71,7 @@ pub(crate) fn place_all(
     ensures low { IfOk result (λ p. pos 0 ≤ℤ p.foot) }
     ensures high { IfOk result (λ p. p.foot ≤ℤ pos (2 ^ 61)) }
 {
-    let mut items = Vec::new(alloc);
+    let mut items = Vec::with_capacity(alloc, solids.len())?;
     let mut reach = Reach::START;
     let head = &solids[0];
     let first = gap_above(&head.seam, true, kept);

@@ -92,7 +92,7 @@ fn ordinary(alloc: Global, text: &str, spans: &[Span]) -> Result<Offsets, NoMem>
     requires spans { AreSpans text.now 0 spans.now }
     ensures { IfOk result (λ places. places ≡ opportunities_of text.now spans.now) }
 {
-    let mut places = Items::of(Vec::with_capacity(alloc, text.len() / 8)?);
+    let mut places = Items::of(Vec::with_capacity(alloc, text.len() / 4)?);
     let mut before = '\0';
     for (at, next) in text.char_indices() {
         let is_place = is_opportunity(text, spans, before, next, at);

@@ -119,7 +119,7 @@ fn place_all(alloc: Global, solids: &[NotedSolid]) -> Result<Items<PlacedNote>, 
     requires small { All IsSmallNote (note_rows solids.now) }
     ensures { IfOk result (λ items. items ≡ placed_notes separator solids.now) }
 {
-    let mut items = Items::new(alloc);
+    let mut items = Items::of(Vec::with_capacity(alloc, solids.len())?);
     let mut reach = Reach {
         bottom: SEPARATOR,
         extent: SEPARATOR,
