@@ -47,10 +47,10 @@ fn is_stop(stop: Stop, mark: u8) -> bool
 
 /// Whether a token ends a part of a sheet (css-syntax-3, 5.3).
 #[tactic(auto, unfolding(crate::specs::Parts::ends))]
-pub fn ends(stop: Stop, open: &OpenBrackets, token: &CssToken<'_>) -> bool
-    ensures { result ≡ spec.ends stop open.now (item_in token.now) }
+pub fn ends(stop: Stop, brackets: &OpenBrackets, token: &CssToken<'_>) -> bool
+    ensures { result ≡ spec.ends stop brackets.now (item_in token.now) }
 {
-    open.is_outside() && is_stop(stop, token.mark())
+    brackets.is_outside() && is_stop(stop, token.mark())
 }
 
 /// How a part of a sheet ends.
