@@ -11,7 +11,7 @@ use Rattle.std.proofs.lemmas.Option.{slice_get-map, slice_get_read, slice_get_wi
 use Rattle.dom.specs.Nodes.{Node, NodeData, root, changed_at, is_at, first_from, last_from, parents_of, parent_at, flat, last_child_of, next_under, prev_under, depth_of, depth_at, reach_of, is_element, is_element_at, is_element_node, element_parent, element_parents_of, element_count, elements_under, IsTree, HasPlace}
 use Rattle.dom.specs.declared.rows.Row.{Row}
 use Rattle.dom.specs.Links.{IsRowOf, root_row, change, linked_before, linked_at}
-use Rattle.dom.specs.DomFields.{node_of, joined, IsLinked, AreSound}
+use Rattle.dom.specs.DomFields.{node_of, joined, IsLinked, AreSoundRows}
 use Rattle.dom.specs.Answers.{is_below_all}
 use Rattle.std.specs.List.{count_by}
 use Rattle.std.proofs.lemmas.List.Sums.{sum_by-append, count_by-le-length}
@@ -49,7 +49,7 @@ pub parent_of-row : (rows : List Row) (whats : List NodeData) (k : ℕ) (r : Row
 parent_of-row rows whats k r l h = ap flat (parent-in rows whats k r l h)
 
 -- the row that is read, with its links
-pub linked-row : (rows : List Row) (whats : List NodeData) (k : ℕ) (r : Row) → AreSound rows whats → k < length rows → r ≡ get_or rows k r → IsLinked (parents_in rows whats) (elements_in rows whats) k r
+pub linked-row : (rows : List Row) (whats : List NodeData) (k : ℕ) (r : Row) → AreSoundRows rows whats → k < length rows → r ≡ get_or rows k r → IsLinked (parents_in rows whats) (elements_in rows whats) k r
 linked-row rows whats k r sound h e = sound.linked k r (slice_get_read rows (length rows) k r refl h e)
 
 -- one more node: the first and the last of a parent's children
@@ -574,7 +574,7 @@ pub record IsAdded (rows : List Row) (whats : List NodeData) (p : ℕ) (last : O
   pub deep : reach_of new.depth what ≤ 201
   pub new_row : IsNewRow (joined rows whats) (elements_in rows whats) p last new
 
-pub sound-add : (rows : List Row) (whats : List NodeData) (p : ℕ) (last : Option ℕ) (m : ℕ) (new : Row) (what : NodeData) → AreSound rows whats → IsAdded rows whats p last m new what → AreSound (linked_at (rows ++ new ∷ []) p last (length rows) m) (whats ++ what ∷ [])
+pub sound-add : (rows : List Row) (whats : List NodeData) (p : ℕ) (last : Option ℕ) (m : ℕ) (new : Row) (what : NodeData) → AreSoundRows rows whats → IsAdded rows whats p last m new what → AreSoundRows (linked_at (rows ++ new ∷ []) p last (length rows) m) (whats ++ what ∷ [])
 sound-add rows whats p last m new what sound a = record {
   count = length-append whats (what ∷ []) ∙ ap (λ n. n + 1) sound.count ∙ sym (length-append rows (new ∷ [])) ∙ sym (length-linked (rows ++ new ∷ []) p last (length rows) m);
   tree = rw nodes (tree-push (joined rows whats) p (node_of new what) sound.tree (omega (arith, a.inside, size)) (omega (arith, a.few, size)) a.element a.new_row.parent a.new_row.depth a.deep);
@@ -617,11 +617,11 @@ sound-add rows whats p last m new what sound a = record {
                 (subst (λ i. Changes p last (length (parents_in rows whats)) m i new r) (e ∙ count) (subst (λ o. Changes p last (length (parents_in rows whats)) m k o r) v same)))
             of (inr g) = linked-old (parents_in rows whats) (elements_in rows whats) p k m (is_element what) last old r (parent-in rows whats k old sound.count g) same_size a.last_is a.count (sound.linked k old g) same
 
-pub few-elements : (rows : List Row) (whats : List NodeData) (k : ℕ) → AreSound rows whats → element_count (elements_in rows whats) k ≤ 400000
+pub few-elements : (rows : List Row) (whats : List NodeData) (k : ℕ) → AreSoundRows rows whats → element_count (elements_in rows whats) k ≤ 400000
 few-elements rows whats k s = let l = count_by-le-length (is_at k) (elements_in rows whats) in let n = s.tree.few in let m = length-joined rows whats s.count in omega (arith, length-elements rows whats s.count)
 
 -- what the readers of a node give
-module _ (rows : List Row) (whats : List NodeData) (k : ℕ) (r : Row) (s : AreSound rows whats) (h : k < length rows) (e : r ≡ get_or rows k r) where
+module _ (rows : List Row) (whats : List NodeData) (k : ℕ) (r : Row) (s : AreSoundRows rows whats) (h : k < length rows) (e : r ≡ get_or rows k r) where
   row-at : slice_get rows k ≡ Some r
   row-at = slice_get_read rows (length rows) k r refl h e
 
@@ -670,7 +670,7 @@ reach-new depth what h shallow = by (is_element what) shallow
 
 -- ---- the first document
 
-pub sound-root : AreSound (root_row ∷ []) (root.what ∷ [])
+pub sound-root : AreSoundRows (root_row ∷ []) (root.what ∷ [])
 sound-root = record {
   count = refl;
   tree = record { few = omega arith; some = omega arith; deep = deep; placed = placed };

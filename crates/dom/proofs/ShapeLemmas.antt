@@ -7,7 +7,7 @@ use Rattle.std.specs.Option.{option_and_then}
 use Rattle.dom.specs.Nodes.{Node, NodeData, Element, Text, parents_of, element_parents_of, element_parent, depth_of, depth_at, is_element, is_element_at, is_element_node, IsTree, HasPlace, attributed, part_of, changed_at, with_attribute}
 use Rattle.dom.specs.Order.{comes_after}
 use Rattle.dom.specs.declared.rows.Row.{Row}
-use Rattle.dom.specs.DomFields.{node_of, joined, AreSound}
+use Rattle.dom.specs.DomFields.{node_of, joined, AreSoundRows}
 
 -- what a document's shape knows of a node
 pub record Shape : Type 0 where
@@ -152,7 +152,7 @@ joined-with (r ∷ rows) (w ∷ whats) (suc i) key value l = left (slice_get wha
     right None = refl
     right (Some x) = refl
 
-pub sound-with : (rows : List Row) (whats : List NodeData) (i : ℕ) (key value : List ℕ) → AreSound rows whats → AreSound rows (changed_at (attributed key value) whats i (slice_get whats i))
+pub sound-with : (rows : List Row) (whats : List NodeData) (i : ℕ) (key value : List ℕ) → AreSoundRows rows whats → AreSoundRows rows (changed_at (attributed key value) whats i (slice_get whats i))
 sound-with rows whats i key value s = record {
   count = length-changed (attributed key value) whats i ∙ s.count;
   tree = rw nodes (tree-same (joined rows whats) (with_attribute (joined rows whats) i key value) same s.tree);

@@ -17,7 +17,7 @@ use Rattle.std.specs.List.{list_any}
 use Rattle.std.specs.Option.{option_and_then}
 use Rattle.bk_num.proofs.ListLemmas.{bytes_same, bytes_self, get-append, get-push, get-end}
 use Rattle.dom.specs.Spans.{between, Fits}
-use Rattle.dom.specs.StoreFields.{name_of, pair_of, attributes_of, node_of, nodes_from, ItemFits, EntryFits, AreSound}
+use Rattle.dom.specs.StoreFields.{name_of, pair_of, attributes_of, node_of, nodes_from, ItemFits, EntryFits, AreSoundItems}
 use Rattle.dom.specs.declared.texts.Span.{Span}
 use Rattle.dom.specs.declared.store.Item.{Item}
 use Rattle.dom.specs.declared.store.Item.TheVariants as item
@@ -52,7 +52,7 @@ module _ (names : List (List ℕ)) (texts : List ℕ) (names' : List (List ℕ))
   item-grow (item.Element k) f = (let c = grow.count in omega arith)
   item-grow (item.Text s) f = grow.fits s f
 
-  pub sound-grow : (es : List (Key × Span)) (is : List Item) → AreSound names texts es is → AreSound names' texts' es is
+  pub sound-grow : (es : List (Key × Span)) (is : List Item) → AreSoundItems names texts es is → AreSoundItems names' texts' es is
   sound-grow es is s = record {
     items = λ k i g. item-grow i (s.items k i g);
     entries = λ k e g. (let f = s.entries k e g in let c = grow.count in record { node = f.node; name = omega (arith, f.name); value = grow.fits e.1 f.value });
@@ -146,12 +146,12 @@ pub grow-both : (names : List (List ℕ)) (texts more name : List ℕ) → IsUtf
 grow-both names texts more name u = (let g = grow-name names texts name in record { name = g.name; count = g.count; text = λ s f. between-append texts more s f; fits = λ s f. fits-append texts more s u f })
 
 -- the nodes stay
-pub nodes-kept : (names names' : List (List ℕ)) (texts texts' : List ℕ) (es : List (Key × Span)) (is : List Item) → Grow names texts names' texts' → AreSound names texts es is → nodes_from names' texts' es 0 is ≡ nodes_from names texts es 0 is
+pub nodes-kept : (names names' : List (List ℕ)) (texts texts' : List ℕ) (es : List (Key × Span)) (is : List Item) → Grow names texts names' texts' → AreSoundItems names texts es is → nodes_from names' texts' es 0 is ≡ nodes_from names texts es 0 is
 nodes-kept names names' texts texts' es is g s = nodes-grow names texts names' texts' g (length is) 0 es is s.entries s.items
 
 -- ---- one more item
 
-pub sound-push : (names : List (List ℕ)) (texts : List ℕ) (es : List (Key × Span)) (is : List Item) (i : Item) → AreSound names texts es is → ItemFits names texts i → AreSound names texts es (is ++ i ∷ [])
+pub sound-push : (names : List (List ℕ)) (texts : List ℕ) (es : List (Key × Span)) (is : List Item) (i : Item) → AreSoundItems names texts es is → ItemFits names texts i → AreSoundItems names texts es (is ++ i ∷ [])
 sound-push names texts es is i s f = record { items = λ k j g. item j k (get-push is i j k g); entries = λ k e g. entry e (s.entries k e g) }
   where
     item : (j : Item) (k : ℕ) → (((k ≡ length is) × (j ≡ i)) ⊎ (slice_get is k ≡ Some j)) → ItemFits names texts j
@@ -172,7 +172,7 @@ place-name names name = subst (λ b. (slice_get (cond b names (names ++ name ∷
         (p.1, p.0)
 
 -- an element that is added
-pub element-added : (names : List (List ℕ)) (texts : List ℕ) (es : List (Key × Span)) (is : List Item) (name : List ℕ) → AreSound names texts es is
+pub element-added : (names : List (List ℕ)) (texts : List ℕ) (es : List (Key × Span)) (is : List Item) (name : List ℕ) → AreSoundItems names texts es is
     → nodes_from (with_name names name) texts es 0 (is ++ item.Element (place_of names name) ∷ []) ≡ nodes_from names texts es 0 is ++ Element name [] ∷ []
 element-added names texts es is name s =
     let g = grow-name names texts name in
@@ -180,16 +180,16 @@ element-added names texts es is name s =
     nodes-push (with_name names name) texts es 0 is (item.Element (place_of names name))
     ∙ rw (nodes-kept names (with_name names name) texts texts es is g s, (place-name names name).0, none-past (with_name names name) texts (length is) (0 + length is) es (omega arith) t.entries) refl
 
-pub element-sound : (names : List (List ℕ)) (texts : List ℕ) (es : List (Key × Span)) (is : List Item) (name : List ℕ) → AreSound names texts es is
-    → AreSound (with_name names name) texts es (is ++ item.Element (place_of names name) ∷ [])
+pub element-sound : (names : List (List ℕ)) (texts : List ℕ) (es : List (Key × Span)) (is : List Item) (name : List ℕ) → AreSoundItems names texts es is
+    → AreSoundItems (with_name names name) texts es (is ++ item.Element (place_of names name) ∷ [])
 element-sound names texts es is name s = sound-push (with_name names name) texts es is (item.Element (place_of names name)) (sound-grow names texts (with_name names name) texts (grow-name names texts name) es is s) (place-name names name).1
 
-pub text-added : (names : List (List ℕ)) (texts more : List ℕ) (es : List (Key × Span)) (is : List Item) (span : Span) → IsUtf8 more → AreSound names texts es is → between (texts ++ more) span ≡ more
+pub text-added : (names : List (List ℕ)) (texts more : List ℕ) (es : List (Key × Span)) (is : List Item) (span : Span) → IsUtf8 more → AreSoundItems names texts es is → between (texts ++ more) span ≡ more
     → nodes_from names (texts ++ more) es 0 (is ++ item.Text span ∷ []) ≡ nodes_from names texts es 0 is ++ Text more ∷ []
 text-added names texts more es is span u s b = nodes-push names (texts ++ more) es 0 is (item.Text span) ∙ rw (nodes-kept names names texts (texts ++ more) es is (grow-text names texts more u) s, b) refl
 
-pub text-sound : (names : List (List ℕ)) (texts more : List ℕ) (es : List (Key × Span)) (is : List Item) (span : Span) → IsUtf8 more → AreSound names texts es is → Fits (texts ++ more) span
-    → AreSound names (texts ++ more) es (is ++ item.Text span ∷ [])
+pub text-sound : (names : List (List ℕ)) (texts more : List ℕ) (es : List (Key × Span)) (is : List Item) (span : Span) → IsUtf8 more → AreSoundItems names texts es is → Fits (texts ++ more) span
+    → AreSoundItems names (texts ++ more) es (is ++ item.Text span ∷ [])
 text-sound names texts more es is span u s f = sound-push names (texts ++ more) es is (item.Text span) (sound-grow names texts names (texts ++ more) (grow-text names texts more u) es is s) f
 
 -- ---- what is read
@@ -269,7 +269,7 @@ none-map f (Some x) h = cc
 
 -- ---- one more attribute
 
-pub attr-sound : (names : List (List ℕ)) (texts : List ℕ) (es : List (Key × Span)) (is : List Item) (e : Key × Span) → AreSound names texts es is → EntryFits names texts (length is) e → AreSound names texts (es ++ e ∷ []) is
+pub attr-sound : (names : List (List ℕ)) (texts : List ℕ) (es : List (Key × Span)) (is : List Item) (e : Key × Span) → AreSoundItems names texts es is → EntryFits names texts (length is) e → AreSoundItems names texts (es ++ e ∷ []) is
 attr-sound names texts es is e s f = record { items = s.items; entries = λ k d g. by d k (get-push es e d k g) }
   where
     by : (d : Key × Span) (k : ℕ) → (((k ≡ length es) × (d ≡ e)) ⊎ (slice_get es k ≡ Some d)) → EntryFits names texts (length is) d
@@ -289,7 +289,7 @@ key-yes n k q e = (let b = and_parts (n == q.node) (k == q.name) e in (sym (exac
 pub key-is : (n k : ℕ) (q : Key) → q.node ≡ n → q.name ≡ k → is_key n k q ≡ true
 key-is n k q a b = and_from (n == q.node) (k == q.name) (eq-eqb n q.node (sym a)) (eq-eqb k q.name (sym b))
 
-pub fits-found : (names : List (List ℕ)) (texts : List ℕ) (es : List (Key × Span)) (is : List Item) (test : Key → Bool) (s : Span) → AreSound names texts es is → lookup test es ≡ Some s → Fits texts s
+pub fits-found : (names : List (List ℕ)) (texts : List ℕ) (es : List (Key × Span)) (is : List Item) (test : Key → Bool) (s : Span) → AreSoundItems names texts es is → lookup test es ≡ Some s → Fits texts s
 fits-found names texts es is test s sound g = (let f = lookup-in test es s g in subst (Fits texts) f.3 (sound.entries f.0 f.1 f.2).value)
 
 -- a number past all is in no key
@@ -337,15 +337,15 @@ pub none-not : {A B : Type 0} (f : A → B) (o : Option A) (q : Option B) → op
 none-not f None q e h = sym e
 none-not f (Some x) q e h = cc
 
-pub attr-added : (names : List (List ℕ)) (texts value name : List ℕ) (es : List (Key × Span)) (is : List Item) (n : ℕ) (span : Span) → IsUtf8 value → AreSound names texts es is → between (texts ++ value) span ≡ value
+pub attr-added : (names : List (List ℕ)) (texts value name : List ℕ) (es : List (Key × Span)) (is : List Item) (n : ℕ) (span : Span) → IsUtf8 value → AreSoundItems names texts es is → between (texts ++ value) span ≡ value
     → nodes_from (with_name names name) (texts ++ value) (es ++ (record { node = n; name = place_of names name }, span) ∷ []) 0 is ≡ changed_at (attributed name value) (nodes_from names texts es 0 is) n (slice_get (nodes_from names texts es 0 is) n)
 attr-added names texts value name es is n span u s b =
     nodes-with (with_name names name) (texts ++ value) es (record { node = n; name = place_of names name }, span) 0 n is (sym (zero-add n))
     ∙ rw (nodes-kept names (with_name names name) texts (texts ++ value) es is (grow-both names texts value name u) s, b, (place-name names name).0) refl
 
-pub attr-kept : (names : List (List ℕ)) (texts value name : List ℕ) (es : List (Key × Span)) (is : List Item) → IsUtf8 value → AreSound names texts es is → AreSound (with_name names name) (texts ++ value) es is
+pub attr-kept : (names : List (List ℕ)) (texts value name : List ℕ) (es : List (Key × Span)) (is : List Item) → IsUtf8 value → AreSoundItems names texts es is → AreSoundItems (with_name names name) (texts ++ value) es is
 attr-kept names texts value name es is u s = sound-grow names texts (with_name names name) (texts ++ value) (grow-both names texts value name u) es is s
 
-pub attr-sound-with : (names : List (List ℕ)) (texts value name : List ℕ) (es : List (Key × Span)) (is : List Item) (n : ℕ) (span : Span) → IsUtf8 value → AreSound names texts es is → n < length is → Fits (texts ++ value) span
-    → AreSound (with_name names name) (texts ++ value) (es ++ (record { node = n; name = place_of names name }, span) ∷ []) is
+pub attr-sound-with : (names : List (List ℕ)) (texts value name : List ℕ) (es : List (Key × Span)) (is : List Item) (n : ℕ) (span : Span) → IsUtf8 value → AreSoundItems names texts es is → n < length is → Fits (texts ++ value) span
+    → AreSoundItems (with_name names name) (texts ++ value) (es ++ (record { node = n; name = place_of names name }, span) ∷ []) is
 attr-sound-with names texts value name es is n span u s inside f = attr-sound (with_name names name) (texts ++ value) es is (record { node = n; name = place_of names name }, span) (attr-kept names texts value name es is u s) (record { node = inside; name = (place-name names name).1; value = f })

@@ -30,13 +30,13 @@ pub record IsLinked (ps es : List (Option ℕ)) (k : ℕ) (r : Row) : Type 0 whe
   pub elements : r.elements ≡ element_count es k
 
 -- rows and what they are: one row a node, each linked as the parents' numbers say
-pub record AreSound (rows : List Row) (whats : List NodeData) : Type 0 where
+pub record AreSoundRows (rows : List Row) (whats : List NodeData) : Type 0 where
   pub count : length whats ≡ length rows
   pub tree : IsTree (joined rows whats)
   pub linked : (k : ℕ) (r : Row) → slice_get rows k ≡ Some r →
       IsLinked (parents_of (joined rows whats)) (element_parents_of (joined rows whats)) k r
 
 -- a document: sound rows, and for each id the first element that has it
-pub record IsSound (a : Inside) : Type 0 where
-  pub rows : AreSound a.rows.items a.store
+pub record IsSoundDom (a : Inside) : Type 0 where
+  pub rows : AreSoundRows a.rows.items a.store
   pub firsts : (id : List ℕ) → IsFirstOf (nodes_of a) id (first_in a.ids id)

@@ -9,7 +9,7 @@ abbrev pub names_of : Inside → List (List ℕ)
 names_of a = map (λ s. string_bytes s) a.set.keys
 
 -- names: as many as a number can name, each once
-pub record IsSound (a : Inside) : Type 0 where
+pub record AreSoundNames (a : Inside) : Type 0 where
   pub few : length a.set.keys ≤ 4294967295
   pub unique : IsUnique string_eq a.set
   pub once : AreOnce (names_of a)

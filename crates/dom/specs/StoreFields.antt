@@ -55,10 +55,10 @@ pub record EntryFits (names : List (List ℕ)) (texts : List ℕ) (count : ℕ) 
   pub value : Fits texts e.1
 
 -- each item and each attribute fits the names and the texts
-pub record AreSound (names : List (List ℕ)) (texts : List ℕ) (es : List (Key × Span)) (is : List Item) : Type 0 where
+pub record AreSoundItems (names : List (List ℕ)) (texts : List ℕ) (es : List (Key × Span)) (is : List Item) : Type 0 where
   pub items : (k : ℕ) (i : Item) → slice_get is k ≡ Some i → ItemFits names texts i
   pub entries : (k : ℕ) (e : Key × Span) → slice_get es k ≡ Some e → EntryFits names texts (length is) e
 
 -- a store: its items and attributes fit its names and texts
-abbrev pub IsSound : Inside → Type 0
-IsSound a = AreSound a.names a.texts a.attributes.entries a.items.items
+abbrev pub IsSoundStore : Inside → Type 0
+IsSoundStore a = AreSoundItems a.names a.texts a.attributes.entries a.items.items

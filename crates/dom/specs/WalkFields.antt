@@ -37,6 +37,6 @@ abbrev pub walk_of : Inside → WalkView
 walk_of w = record { nodes = w.dom.now; steps = steps_from (parents_of w.dom.now) w.next }
 
 -- a walk stands at a node of a sound tree, or at its end
-pub record IsSound (w : Inside) : Type 0 where
+pub record IsSoundWalk (w : Inside) : Type 0 where
   pub tree : IsTree w.dom.now
   pub within : IfSome w.next (λ s. node_of s < length w.dom.now)

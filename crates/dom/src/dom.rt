@@ -63,11 +63,11 @@ impl Model for Dom {
 
     ghost Value = { List Node };
 
-    ghost use Rattle.dom.specs.DomFields.{nodes_of, IsSound};
+    ghost use Rattle.dom.specs.DomFields.{nodes_of, IsSoundDom};
 
     ghost view = { nodes_of };
 
-    ghost invariant = { IsSound };
+    ghost invariant = { IsSoundDom };
 }
 
 impl Dom {

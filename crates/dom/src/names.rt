@@ -23,11 +23,11 @@ impl Model for Names {
 
     ghost Value = { List (List ℕ) };
 
-    ghost use Rattle.dom.specs.NameFields.{names_of, IsSound};
+    ghost use Rattle.dom.specs.NameFields.{names_of, AreSoundNames};
 
     ghost view = { names_of };
 
-    ghost invariant = { IsSound };
+    ghost invariant = { AreSoundNames };
 }
 
 impl Names {

@@ -56,11 +56,11 @@ impl Model for Store {
 
     ghost Value = { List NodeData };
 
-    ghost use Rattle.dom.specs.StoreFields.{nodes_of, IsSound};
+    ghost use Rattle.dom.specs.StoreFields.{nodes_of, IsSoundStore};
 
     ghost view = { nodes_of };
 
-    ghost invariant = { IsSound };
+    ghost invariant = { IsSoundStore };
 }
 
 /// The value of a node's attribute.

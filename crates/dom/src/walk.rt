@@ -29,11 +29,11 @@ impl<'a> Model for Walk<'a> {
 
     ghost Value = { WalkView };
 
-    ghost use Rattle.dom.specs.WalkFields.{walk_of, IsSound};
+    ghost use Rattle.dom.specs.WalkFields.{walk_of, IsSoundWalk};
 
     ghost view = { walk_of };
 
-    ghost invariant = { IsSound };
+    ghost invariant = { IsSoundWalk };
 }
 
 impl<'a> Walk<'a> {

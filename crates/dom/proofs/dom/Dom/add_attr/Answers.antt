@@ -1,7 +1,7 @@
 use Rattle.std.proofs.Common.{◌≡◌, Bool, true, false, List, [], ◌∷◌, ℕ, Option, slice_get, if◌then◌else◌, sym, ◌∙◌}
 use Rattle.std.specs.Str.{bytes_eq}
 use Rattle.dom.specs.Nodes.{NodeData, attribute_in, attributed, changed_at}
-use Rattle.dom.specs.DomFields.{joined, AreSound}
+use Rattle.dom.specs.DomFields.{joined, AreSoundRows}
 use Rattle.dom.specs.Order.{IsFirstOf}
 use Rattle.dom.specs.declared.rows.Row.{Row}
 use Rattle.dom.proofs.ShapeLemmas.{element-read, part-read, sound-with, joined-with, joined-ok, answer-of}
@@ -11,11 +11,11 @@ use Rattle.dom.proofs.dom.Dom.add_attr.Goals as goal
 pub add_attr-requires : goal.add_attr-requires
 add_attr-requires c = element-read c.self.inside.rows.items c.self.inside.store c.args.node.0 c.self.invariant.rows.count (rw (← c.self.view_is) at c.requires.element)
 
-rows-if : (rows : List Row) (whats : List NodeData) (i : ℕ) (key value : List ℕ) (b : Bool) → AreSound rows whats → AreSound rows (if b then changed_at (attributed key value) whats i (slice_get whats i) else whats)
+rows-if : (rows : List Row) (whats : List NodeData) (i : ℕ) (key value : List ℕ) (b : Bool) → AreSoundRows rows whats → AreSoundRows rows (if b then changed_at (attributed key value) whats i (slice_get whats i) else whats)
 rows-if rows whats i key value true s = sound-with rows whats i key value s
 rows-if rows whats i key value false s = s
 
-firsts-if : (rows : List Row) (whats : List NodeData) (i : ℕ) (key value id : List ℕ) (b : Bool) (r : Option ℕ) → AreSound rows whats → bytes_eq (105 ∷ 100 ∷ []) key ≡ false → IsFirstOf (joined rows whats) id r
+firsts-if : (rows : List Row) (whats : List NodeData) (i : ℕ) (key value id : List ℕ) (b : Bool) (r : Option ℕ) → AreSoundRows rows whats → bytes_eq (105 ∷ 100 ∷ []) key ≡ false → IsFirstOf (joined rows whats) id r
     → IsFirstOf (joined rows (if b then changed_at (attributed key value) whats i (slice_get whats i) else whats)) id r
 firsts-if rows whats i key value id true r s differ h = rw (joined-with rows whats i key value s.count) (first-other (joined rows whats) i value id key differ r h)
 firsts-if rows whats i key value id false r s differ h = h
