@@ -55,7 +55,8 @@ pub record EntryFits (names : List (List ℕ)) (texts : List ℕ) (count : ℕ) 
   pub value : Fits texts e.1
 
 -- each item and each attribute fits the names and the texts
-pub record AreSoundItems (names : List (List ℕ)) (texts : List ℕ) (es : List (Key × Span)) (is : List Item) : Type 0 where
+pub record AreSoundItems (names : List (List ℕ)) (texts : List ℕ) (es : List (Key × Span))
+    (is : List Item) : Type 0 where
   pub items : (k : ℕ) (i : Item) → slice_get is k ≡ Some i → ItemFits names texts i
   pub entries : (k : ℕ) (e : Key × Span) → slice_get es k ≡ Some e → EntryFits names texts (length is) e
 
