@@ -11,7 +11,7 @@ use Rattle.std.proofs.lemmas.Slice.Eq.{bytes_eq-Decides}
 use Rattle.bk_num.proofs.ListLemmas.{bytes_same}
 use Rattle.metrics.specs.Face.{FontFace, no_face}
 use Rattle.metrics.specs.Choice.{IsNearer, closer, lesser, GoesBefore, by_style, by_weight, HasName, IsChosen, apart, is_named, name_of}
-use Rattle.metrics.proofs.ChoiceLemmas.{chosen, chosen_once, position-none, position-some}
+use Rattle.metrics.proofs.ChoiceLemmas.{chosen, chosen_once, position-none, position-some, unlike_same}
 use Rattle.metrics.specs.Chosen.{FaceIsChosen, face_by, goes_before, is_first, is_nearer}
 
 nearer-yes : (asked m n : ℕ) → IsNearer asked m n → is_nearer asked m n ≡ true
@@ -47,14 +47,6 @@ before-is italic weight f g h = by (beq f.italic g.italic) refl h
         let a : f.italic ≡ italic = (booleans_Decides f.italic italic).0 k in
         by_style a (λ q. let s : beq f.italic g.italic ≡ true = (booleans_Decides f.italic g.italic).1 (a ∙ sym q) in absurd (cc))
 
-pub alike : (a b c : Bool) → a ≢ c → b ≢ c → a ≡ b
-alike true true c h k = refl
-alike false false c h k = refl
-alike true false true h k = absurd (h refl)
-alike true false false h k = absurd (k refl)
-alike false true true h k = absurd (k refl)
-alike false true false h k = absurd (h refl)
-
 -- a chosen face goes before each of its name
 first-before : (faces : List FontFace) (name : List ℕ) (italic : Bool) (weight k : ℕ) (c : IsChosen faces name italic weight k) (j : ℕ) (g : FontFace) → HasName faces name j g → GoesBefore italic weight c.face g
 first-before faces name italic weight k c j g has = styled (beq g.italic italic) refl c.candidate.style
@@ -65,7 +57,7 @@ first-before faces name italic weight k c j g has = styled (beq g.italic italic)
     styled : (b : Bool) → beq g.italic italic ≡ b → (f.italic ≡ italic) ⊎ ((i : ℕ) (o : FontFace) → HasName faces name i o → o.italic ≢ italic) → GoesBefore italic weight f g
     styled true e (inl s) = let q : g.italic ≡ italic = (booleans_Decides g.italic italic).0 e in by_weight (s ∙ sym q) (c.nearest j g (record { named = has; style = inl q }))
     styled false e (inl s) = by_style s (λ q. let y : beq g.italic italic ≡ true = (booleans_Decides g.italic italic).1 q in absurd (cc))
-    styled b e (inr n) = by_weight (alike f.italic g.italic italic (n k f c.candidate.named) (n j g has)) (c.nearest j g (record { named = has; style = inr n }))
+    styled b e (inr n) = by_weight (unlike_same f.italic g.italic italic (n k f c.candidate.named) (n j g has)) (c.nearest j g (record { named = has; style = inr n }))
 
 named-at : (faces : List FontFace) (name : List ℕ) (j : ℕ) (d : FontFace) → j < length faces → is_named name (get_or faces j d) ≡ true → HasName faces name j (get_or faces j d)
 named-at faces name j d l e = record { is = slice_get-get_or faces j d l; named = bytes_same (get_or faces j d).name name e }
