@@ -1,7 +1,6 @@
 -- The flow of a document (CSS 2.1, 9.2; css-gcpm-3).
-use Rattle.std.specs.Prelude.{ℕ, suc, ◌==◌, ℤ, Bool, true, false, not, List, [], ◌∷◌, ◌++◌, Option, None, Some, map, filter, length, codes, if◌then◌else◌}
+use Rattle.std.specs.Prelude.{ℕ, suc, ◌==◌, ℤ, Bool, true, false, not, List, [], ◌∷◌, ◌++◌, Option, None, Some, map, filter, length, if◌then◌else◌}
 use Rattle.std.specs.List.{flat_map}
-use Rattle.std.specs.Str.{bytes_eq}
 use Rattle.bk_num.specs.declared.values.Pseudo.{Pseudo}
 use Rattle.bk_num.specs.declared.values.Pseudo.TheVariants as pseudo
 use Rattle.boxes.specs.declared.flow.Assign.{Assign}
@@ -17,6 +16,7 @@ use Rattle.counters.specs.Markers.{has_marker}
 use Rattle.inline_text.specs.declared.space.TextPart.{TextPart}
 use Rattle.soft_hyphens.specs.Words.{Points}
 use Rattle.style.specs.declared.style.Style.{Style}
+use Rattle.style.specs.Counters.{is_page_counter}
 use Rattle.style.specs.Nodes.{style_at}
 use Rattle.style.specs.Styles.{initial_style}
 use Rattle.box_gen.specs.Faced.{StyleIn}
@@ -257,7 +257,7 @@ strings_of src starts = flat_map (λ a. assigns_at a.at (src.assigned a.node.0))
 
 -- whether a counter is that of pages
 abbrev pub is_page : List ℕ × ℤ → Bool
-is_page c = bytes_eq c.0 (codes "page")
+is_page c = is_page_counter c.0
 
 -- the values to which counters of pages are reset
 abbrev pub page_values : List (List ℕ × ℤ) → List ℤ

@@ -50,6 +50,7 @@ use hyphen::Patterns;
 use metrics::Faces;
 use soft_hyphens::hyphenator::Hyphenator;
 use std::alloc::Global;
+use style::lists::is_page_counter;
 use style::style::Style;
 
 /// Adds running strings that are assigned at a place.
@@ -104,7 +105,7 @@ fn push_reset(
     ensures { OnOk result (resets.new.items ≡ resets.old.items ++
         resets_at at (page_values ((counter.now, value) ∷ []))) }
 {
-    if counter.as_str() == "page" {
+    if is_page_counter(counter.as_str()) {
         resets.push(Reset { value, at })?;
     }
     Ok(())

@@ -4,7 +4,7 @@ use Rattle.std.proofs.Common.{◌≡◌, ◌≤◌, ◌<◌, ℕ, ◌+◌, ◌-�
 use Rattle.std.proofs.lemmas.Nat.{div-mul-add, mod-mul-add, mod_below}
 use Rattle.std.proofs.lemmas.Bool.{cases_lt, ne_eqb}
 use Rattle.std.proofs.Math.Nat.{div-add-mod'}
-use Rattle.boxes.specs.Frames.{IsPerPage, column_at, is_left, meets_by, meets_side, page_at, side_of}
+use Rattle.boxes.specs.Frames.{IsPerPage, column_at, is_left, meets_by, meets_by_parity, page_at, side_of}
 use Rattle.boxes.specs.declared.frames.Demand.{Demand}
 use Rattle.boxes.specs.declared.frames.Demand.TheVariants.{Column, Page, Left, Right}
 use Rattle.columns.specs.Columns.{is_free_column}
@@ -78,19 +78,15 @@ not_first count index Right free low =
     ap (λ (b : Bool). b && not (is_left (side_of (page_at count index))))
     (ne_eqb (column_at count index) 0 (λ e. omega arith))
 
--- what the first frame of a page meets
-abbrev pub meets_first : ℕ → Demand → Bool
-meets_first page d = meets_side (side_of page) d
-
 pub by_first : (count index : ℕ) (d : Demand) → column_at count index ≡ 0 →
-    meets_by count index d ≡ meets_first (page_at count index) d
+    meets_by count index d ≡ meets_by_parity (page_at count index) d
 by_first count index Column e = refl
 by_first count index Page e = ap (λ n. eqb n 0) e
 by_first count index Left e = ap (λ n. eqb n 0 && is_left (side_of (page_at count index))) e
 by_first count index Right e = ap (λ n. eqb n 0 && not (is_left (side_of (page_at count index)))) e
 
 -- one of two pages meets a demand
-pub one_of_two : (page : ℕ) (d : Demand) → (meets_first page d ≡ true) ⊎ (meets_first (page + 1) d ≡ true)
+pub one_of_two : (page : ℕ) (d : Demand) → (meets_by_parity page d ≡ true) ⊎ (meets_by_parity (page + 1) d ≡ true)
 one_of_two page Column = inl refl
 one_of_two page Page = inl refl
 one_of_two page Left = by (is_left (side_of page)) (side_turns page)
@@ -127,19 +123,19 @@ column_within {count} per index d =
     let later = page_later count (index + n.0) some n.1.first in
     let more : (index + n.0) + count ≡ index + (n.0 + count) = omega arith in
     ⊎_elim
-    (λ (h : meets_first (page_at count (index + n.0)) d ≡ true).
+    (λ (h : meets_by_parity (page_at count (index + n.0)) d ≡ true).
     (n.0, omega arith, by_first count (index + n.0) d n.1.first ∙ h))
-    (λ (h : meets_first (page_at count (index + n.0) + 1) d ≡ true). (
+    (λ (h : meets_by_parity (page_at count (index + n.0) + 1) d ≡ true). (
       n.0 + count,
       omega arith,
       ap (λ i. meets_by count i d) (sym more) ∙
-          (by_first count ((index + n.0) + count) d later.first ∙ (ap (λ p. meets_first p d) later.page ∙ h)),
+          (by_first count ((index + n.0) + count) d later.first ∙ (ap (λ p. meets_by_parity p d) later.page ∙ h)),
     ))
     (one_of_two (page_at count (index + n.0)) d)
 
 -- where the first frame of the next page misses, that of the page after it is the first to meet
 module _ (count index left : ℕ) (d : Demand) (some : 1 ≤ count) (n : IsNextFirst count index left)
-    (misses : meets_first (page_at count (index + left)) d ≡ false) where
+    (misses : meets_by_parity (page_at count (index + left)) d ≡ false) where
   later : IsPageLater count (index + left)
   later = page_later count (index + left) some n.first
 
@@ -148,18 +144,18 @@ module _ (count index left : ℕ) (d : Demand) (some : 1 ≤ count) (n : IsNextF
       let more : (index + left) + count ≡ index + (left + count) = omega arith in
       ap (λ i. meets_by count i d) (sym more) ∙
       (by_first count ((index + left) + count) d later.first ∙
-      (ap (λ p. meets_first p d) later.page ∙ by (one_of_two (page_at count (index + left)) d)))
+      (ap (λ p. meets_by_parity p d) later.page ∙ by (one_of_two (page_at count (index + left)) d)))
     where
-      by : (meets_first (page_at count (index + left)) d ≡ true) ⊎
-          (meets_first (page_at count (index + left) + 1) d ≡ true) →
-          meets_first (page_at count (index + left) + 1) d ≡ true
+      by : (meets_by_parity (page_at count (index + left)) d ≡ true) ⊎
+          (meets_by_parity (page_at count (index + left) + 1) d ≡ true) →
+          meets_by_parity (page_at count (index + left) + 1) d ≡ true
       by (inl h) = absurd (let f : true ≡ false = sym h ∙ misses in cc)
       by (inr h) = h
 
   unfree : is_free_column d ≡ false
   unfree = by d misses
     where
-      by : (e : Demand) → meets_first (page_at count (index + left)) e ≡ false → is_free_column e ≡ false
+      by : (e : Demand) → meets_by_parity (page_at count (index + left)) e ≡ false → is_free_column e ≡ false
       by Column h = absurd (cc)
       by Page h = refl
       by Left h = refl

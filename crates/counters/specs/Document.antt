@@ -8,6 +8,7 @@ use Rattle.dom.specs.Nodes.{Node, parents_of, parent_at, IsTree}
 use Rattle.dom.specs.Walk.{steps_of}
 use Rattle.dom.specs.declared.walk.Step.{Step}
 use Rattle.dom.specs.declared.walk.Step.TheVariants.{Enter, Leave}
+use Rattle.style.specs.Counters.{is_page_counter}
 use Rattle.style.specs.declared.content.Part.{Part}
 use Rattle.style.specs.declared.content.Part.TheVariants as part
 use Rattle.style.specs.declared.style.Style.{Style}
@@ -89,7 +90,7 @@ by_style root note pseudo.Marker (Some s) = by_generated s
 
 -- `page` counts pages, and isn't a counter of the document
 abbrev pub not_page : List (List ℕ × Act) → List (List ℕ × Act)
-not_page l = filter (λ c. not (bytes_eq c.0 (codes "page"))) l
+not_page l = filter (λ c. not (is_page_counter c.0)) l
 
 -- elements that aren't shown change no counter
 abbrev pub changes_in : ℕ → Pseudo → Option NodeStyles → List (List ℕ × Act)

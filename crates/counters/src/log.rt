@@ -13,6 +13,7 @@ use indexmap::{IndexMap, IndexSet};
 use std::alloc::Global;
 use std::marker::Model;
 use std::rc::Rc;
+use style::lists::is_page_counter;
 
 /// A place's number, and where scopes end that begin at it.
 #[derive(Clone, Copy)]
@@ -76,7 +77,7 @@ pub(crate) fn push_change<'s>(
     ensures { OnOk result (changes_in changes.new.items ≡
         changes_in changes.old.items ++ not_page ((name.entry.now, act) ∷ [])) }
 {
-    if name != "page" {
+    if !is_page_counter(name) {
         changes.push((name, act))?;
     }
     Ok(())

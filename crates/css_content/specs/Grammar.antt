@@ -16,7 +16,7 @@ use Rattle.style.specs.declared.content.Link.{Link}
 use Rattle.style.specs.declared.content.Link.TheVariants as link
 use Rattle.style.specs.declared.content.Part.{Part}
 use Rattle.style.specs.declared.content.Part.TheVariants as part
-use Rattle.style.specs.Counters.{most_counters}
+use Rattle.style.specs.Counters.{is_page_counter, most_counters}
 use Rattle.css_content.specs.Basics.{word_argument, whole}
 use Rattle.css_content.specs.Numerals.{styles}
 use Rattle.css_content.specs.declared.content.ContentPlace.{ContentPlace}
@@ -47,7 +47,7 @@ attr_arguments = do
 -- `page` counts the page's number, and `pages` how many pages there are (css-page-3, 7.1)
 abbrev pub page_counter : List ℕ → NumStyle → Option Part
 page_counter name s =
-    if pointwise nat_eq name (codes "page") then Some (part.Page s)
+    if is_page_counter name then Some (part.Page s)
     else (if pointwise nat_eq name (codes "pages") then Some (part.Pages s) else None)
 
 -- every other name counts in the flow

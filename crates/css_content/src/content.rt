@@ -20,6 +20,7 @@ use css_words::words::{
 };
 use std::alloc::Global;
 use style::content::{Content, Keyword, Link, Part};
+use style::lists::is_page_counter;
 
 /// Where a list of content stands.
 #[derive(Clone, Copy, Debug, PartialEq, Eq)]
@@ -75,7 +76,7 @@ fn attr_arguments(alloc: Global, reader: &mut Reader<'_>) -> Result<Part, Unread
 fn page_counter(name: &str, style: NumStyle) -> Option<Part>
     ensures { result ≡ spec.page_counter name.now style }
 {
-    if name == "page" {
+    if is_page_counter(name) {
         Some(Part::Page(style))
     } else if name == "pages" {
         Some(Part::Pages(style))

@@ -6,12 +6,12 @@ use Rattle.bk_num.specs.declared.values.Pseudo.{Pseudo}
 use Rattle.bk_num.specs.declared.values.Pseudo.TheVariants as pseudo
 use Rattle.counters.specs.Numerals.{numeral_of, number_text}
 use Rattle.dom.specs.Nodes.{Node}
+use Rattle.style.specs.Counters.{is_page_counter}
 use Rattle.style.specs.declared.content.Link.{Link}
 use Rattle.style.specs.Nodes.{NodeStyles}
 use Rattle.gen_text.specs.declared.table.Entry.{Entry}
 use Rattle.gen_text.specs.Table.{page_text}
 use Rattle.gen_text.specs.Target.{IsTarget}
-use Rattle.gen_text.specs.References.{is_page}
 
 -- `attr()`: the value, or nothing where there is none
 abbrev pub attribute_text : Option (List ℕ) → List ℕ
@@ -39,7 +39,7 @@ value_text values name style (Some t) = innermost_text style (values t pseudo.El
 -- `target-counter()`: for `page` the number of the target's page in the table, for another counter its innermost value
 -- at the target
 abbrev pub reference_text : (ℕ → Pseudo → List ℕ → List ℤ) → List Entry → List ℕ → NumStyle → Option ℕ → List ℕ
-reference_text values table name style t = if is_page name then page_text table t style
+reference_text values table name style t = if is_page_counter name then page_text table t style
     else value_text values name style t
 
 -- a text with what a reference prints at its end

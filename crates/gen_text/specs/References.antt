@@ -1,25 +1,21 @@
 -- Page references: `target-counter()` with the counter `page` (css-gcpm-3).
-use Rattle.std.specs.Prelude.{◌≡◌, ◌↔◌, ◌⊎◌, ℕ, ◌<◌, Bool, true, false, if◌then◌else◌, List, [], ◌∷◌, ◌++◌, Option, None, Some, length, map, get_or, codes, Contains}
-use Rattle.std.specs.Str.{bytes_eq}
+use Rattle.std.specs.Prelude.{◌≡◌, ◌↔◌, ◌⊎◌, ℕ, ◌<◌, Bool, true, false, if◌then◌else◌, List, [], ◌∷◌, ◌++◌, Option, None, Some, length, map, get_or, Contains}
 use Rattle.std.specs.List.{flat_map}
 use Rattle.std.specs.List.Sorted.{IsStrictlyIncreasing}
 use Rattle.bk_num.specs.declared.ids.NodeId.{NodeId}
 use Rattle.bk_num.specs.declared.values.Pseudo.TheVariants as pseudo
 use Rattle.dom.specs.Nodes.{Node}
 use Rattle.style.specs.declared.content.Link.{Link}
+use Rattle.style.specs.Counters.{is_page_counter}
 use Rattle.style.specs.declared.content.Part.{Part}
 use Rattle.style.specs.declared.content.Part.TheVariants as part
 use Rattle.style.specs.declared.style.Style.{Style}
 use Rattle.style.specs.Nodes.{NodeStyles, style_at}
 use Rattle.gen_text.specs.Target.{IsTarget}
 
--- whether a counter is the one of pages
-abbrev pub is_page : List ℕ → Bool
-is_page name = bytes_eq name (codes "page")
-
 -- the link of a page reference
 abbrev pub links_by : Part → List Link
-links_by (part.Target link name style) = if is_page name then link ∷ [] else []
+links_by (part.Target link name style) = if is_page_counter name then link ∷ [] else []
 links_by (part.Text t) = []
 links_by (part.Attr name) = []
 links_by (part.Counter name style) = []

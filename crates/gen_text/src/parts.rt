@@ -16,6 +16,7 @@ use counters::at::CounterAt;
 use dom::Dom;
 use std::alloc::Global;
 use style::content::Link;
+use style::lists::is_page_counter;
 use style::styles::Styles;
 
 /// Appends what `attr()` prints: the value of an attribute, or nothing where the node has none of the name.
@@ -167,7 +168,7 @@ fn print_at(
         reference_text (counter_values counters.now) table.now name.now style (option_map (λ n. n.0) target)) }
     ensures err { OnErr result (string_bytes into.new ≡ string_bytes into.old) }
 {
-    if name == "page" {
+    if is_page_counter(name) {
         return print_page(alloc, table, target, style, into);
     }
     print_value(alloc, target, name, style, counters, into)

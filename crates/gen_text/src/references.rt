@@ -15,6 +15,7 @@ use bk_num::values::Pseudo;
 use dom::Dom;
 use std::alloc::Global;
 use style::content::{Content, Link, Part};
+use style::lists::is_page_counter;
 use style::styles::Styles;
 
 /// The shown elements that page references lead to, ascending, each once. A page reference is `target-counter()` with
@@ -98,7 +99,7 @@ fn mark_part(dom: &Dom, styles: &Styles, node: NodeId, part: &Part, marks: &mut 
     ensures marks { Marks dom.now styles.now node.0 (links_by part.now) marks.old marks.new }
 {
     if let Part::Target(link, name, _) = part {
-        if name.as_str() == "page" {
+        if is_page_counter(name.as_str()) {
             mark_target(dom, styles, node, link, marks);
         }
     }

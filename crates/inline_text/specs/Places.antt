@@ -5,13 +5,14 @@ use Rattle.std.specs.List.{filter, list_any}
 use Rattle.std.specs.Str.{chars}
 use Rattle.unicode_segmentation.specs.Grapheme.{graphemes}
 use Rattle.unicode_segmentation.specs.Segments.{with_offsets}
+use Rattle.bk_num.specs.Chars.{hyphen, soft_hyphen, zero_width_space}
 use Rattle.boxes.specs.Wraps.{wraps_anywhere}
 use Rattle.boxes.specs.declared.leaf.Span.{Span}
 
 -- the characters after which a line may end: space, hyphen-minus, soft hyphen, zero width space, hyphen, en dash and em
 -- dash
 abbrev pub breaking : List ℕ
-breaking = 32 ∷ 45 ∷ 173 ∷ 8203 ∷ 8208 ∷ 8211 ∷ 8212 ∷ []
+breaking = 32 ∷ hyphen ∷ soft_hyphen ∷ zero_width_space ∷ 8208 ∷ 8211 ∷ 8212 ∷ []
 
 -- whether a line may end between two characters: after one of those, and before neither a space nor a newline
 abbrev pub is_break : ℕ → ℕ → Bool

@@ -9,6 +9,7 @@ ghost use Rattle.boxes.specs.declared.leaf.Span.{Span};
 ghost use Rattle.inline_text.specs.Places as spec;
 ghost use Rattle.inline_text.specs.Places.{ends_in, passes, wraps, opportunities_of, emergencies_of};
 
+use bk_num::chars::{HYPHEN, SOFT_HYPHEN, ZERO_WIDTH_SPACE};
 use bk_num::items::Items;
 use bk_num::name::NoMem;
 use boxes::leaf::{Offsets, Span};
@@ -21,7 +22,7 @@ fn is_break(before: char, next: char) -> bool
 {
     matches!(
         before,
-        ' ' | '-' | '\u{AD}' | '\u{200B}' | '\u{2010}' | '\u{2013}' | '\u{2014}'
+        ' ' | HYPHEN | SOFT_HYPHEN | ZERO_WIDTH_SPACE | '\u{2010}' | '\u{2013}' | '\u{2014}'
     ) && !matches!(next, ' ' | '\n')
 }
 

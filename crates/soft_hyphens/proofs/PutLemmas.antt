@@ -3,8 +3,8 @@ use Rattle.std.proofs.Common.{◌≡◌, ◌∙◌, ℕ, suc, ◌+◌, ◌≤◌
 use Rattle.std.specs.Char.{encode_utf8}
 use Rattle.std.specs.Str.{chars, encode_utf8_all}
 use Rattle.std.specs.Prelude.{OnOk}
+use Rattle.bk_num.specs.Chars.{soft_hyphen}
 use Rattle.soft_hyphens.specs.Hyphenated.{encoded, put_from, put_in}
-use Rattle.soft_hyphens.specs.Words.{soft_hyphen}
 
 -- UTF-8 as std has it
 pub encoded-std : (cs : List ℕ) → encoded cs ≡ encode_utf8_all cs

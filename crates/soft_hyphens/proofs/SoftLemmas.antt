@@ -6,11 +6,11 @@ use Rattle.std.specs.List.{prefix_len, range_with_len, slice_range}
 use Rattle.std.proofs.Math.Seq.{drop-append_seam, take-append_seam}
 use Rattle.std.proofs.lemmas.Bool.Decides.{nat_tests}
 use Rattle.std.proofs.lemmas.Str.{drop_past_char, len_utf8_bounds, length-encode}
+use Rattle.bk_num.specs.Chars.{soft_hyphen}
 use Rattle.hyphen.specs.Points.{offset_of}
 use Rattle.hyphen.proofs.PointLemmas.{offset_none}
 use Rattle.soft_hyphens.specs.Hyphenated.{encoded, put_from}
 use Rattle.soft_hyphens.specs.Pass.{offsets_in, soft_bytes, softened}
-use Rattle.soft_hyphens.specs.Words.{soft_hyphen}
 use Rattle.soft_hyphens.proofs.OffsetLemmas.{offset-cons}
 use Rattle.soft_hyphens.proofs.SliceLemmas.{slice-grows}
 

@@ -2,7 +2,8 @@
 use Rattle.std.specs.Prelude.{ℕ, suc, ◌+◌, Bool, List, [], ◌∷◌, ◌++◌, length, Option, None, Some, if◌then◌else◌}
 use Rattle.std.specs.Char.{encode_utf8}
 use Rattle.std.specs.Str.{chars}
-use Rattle.soft_hyphens.specs.Words.{Points, is_put, letters_in, soft_hyphen}
+use Rattle.bk_num.specs.Chars.{soft_hyphen}
+use Rattle.soft_hyphens.specs.Words.{Points, is_put, letters_in}
 
 -- characters as UTF-8
 abbrev pub encoded : List ℕ → List ℕ

@@ -3,8 +3,8 @@ use Rattle.std.specs.Prelude.{ℕ, ◌+◌, Bool, List, [], ◌∷◌, ◌++◌,
 use Rattle.std.specs.Char.{encode_utf8}
 use Rattle.std.specs.List.{range_with_len, slice_range}
 use Rattle.std.specs.Str.{chars}
+use Rattle.bk_num.specs.Chars.{soft_hyphen}
 use Rattle.hyphen.specs.Points.{offset_of}
-use Rattle.soft_hyphens.specs.Words.{soft_hyphen}
 use Rattle.soft_hyphens.specs.declared.letter.Letter.{Letter}
 
 -- characters with whether they are hyphenated

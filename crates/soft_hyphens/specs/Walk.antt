@@ -3,9 +3,10 @@ use Rattle.std.specs.Prelude.{◌≡◌, ℕ, ◌+◌, ◌-◌, ◌≤◌, ◌<�
 use Rattle.std.specs.Char.{len_utf8}
 use Rattle.std.specs.List.{All, slice_range}
 use Rattle.std.specs.Str.{chars, IsCharBoundary}
+use Rattle.bk_num.specs.Chars.{soft_hyphen}
 use Rattle.hyphen.specs.Points.{offset_of}
 use Rattle.soft_hyphens.specs.Pass.{offsets_before}
-use Rattle.soft_hyphens.specs.Words.{Points, are_auto, codes_of, is_of_word, is_put, is_soft, letters_between, soft_hyphen}
+use Rattle.soft_hyphens.specs.Words.{Points, are_auto, codes_of, is_of_word, is_put, is_soft, letters_between}
 use Rattle.soft_hyphens.specs.declared.letter.Letter.{Letter}
 use Rattle.soft_hyphens.specs.declared.walk.Walk.{Walk}
 

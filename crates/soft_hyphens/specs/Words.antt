@@ -2,14 +2,11 @@
 use Rattle.std.specs.Prelude.{ℕ, suc, ◌+◌, ◌-◌, Bool, true, false, not, List, [], ◌∷◌, ◌++◌, map, length, take, drop, reverse, slice_get, Option, None, Some, nat_le, ◌==◌, ◌&&◌, ◌||◌, if◌then◌else◌}
 use Rattle.std.specs.Char.{to_ascii_lowercase}
 use Rattle.std.specs.Str.{chars}
+use Rattle.bk_num.specs.Chars.{soft_hyphen}
 use Rattle.hyphen.specs.Meaning.{value_in}
 use Rattle.hyphen.specs.Points.{is_point}
 use Rattle.hyphen.specs.declared.patterns.Patterns.{Patterns}
 use Rattle.soft_hyphens.specs.declared.letter.Letter.{Letter}
-
--- the soft hyphen, U+00AD
-abbrev pub soft_hyphen : ℕ
-soft_hyphen = 173
 
 -- how many characters a word has at most that is hyphenated
 abbrev pub most_letters : ℕ

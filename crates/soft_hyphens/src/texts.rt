@@ -7,6 +7,7 @@ ghost use Rattle.inline_text.specs.Joined.{ends_from, joined, laid_texts};
 ghost use Rattle.soft_hyphens.specs.Hyphenated.{put_in};
 ghost use Rattle.soft_hyphens.specs.Pass.{chars_in, offsets_in, soft_bytes, softened};
 
+use bk_num::chars::SOFT_HYPHEN;
 use bk_num::name::NoMem;
 use inline_text::joined::JoinedText;
 use std::alloc::Global;
@@ -30,7 +31,7 @@ fn put_part(made: &mut JoinedText, number: usize, part: &str) -> Result<(), NoMe
     ensures bytes { OnOk result (made.new.bytes ≡ made.old.bytes ++ (part.now ++ soft_bytes)) }
 {
     made.push_str(number, part)?;
-    made.push(number, '\u{AD}')?;
+    made.push(number, SOFT_HYPHEN)?;
     Ok(())
 }
 

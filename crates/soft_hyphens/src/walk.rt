@@ -4,19 +4,21 @@ ghost use Rattle.std.specs.Prelude.{◌≡◌, ℕ, ◌+◌, ◌-◌, ◌≤◌,
 ghost use Rattle.std.specs.Char.{encode_utf8, len_utf8};
 ghost use Rattle.std.specs.List.{All};
 ghost use Rattle.std.specs.Str.{chars, IsCharBoundary};
+ghost use Rattle.bk_num.specs.Chars.{soft_hyphen};
 ghost use Rattle.bk_num.specs.Limits.{most_text_bytes};
 ghost use Rattle.hyphen.specs.Meaning.{value_in};
 ghost use Rattle.inline_text.specs.Joined.{ends_from, joined};
 ghost use Rattle.soft_hyphens.specs.Known.{word_points};
 ghost use Rattle.soft_hyphens.specs.Pass.{letters_with, offsets_before, offsets_in};
 ghost use Rattle.soft_hyphens.specs.Walk.{IsIn, IsOver, after_letter, after_other, counts_by};
-ghost use Rattle.soft_hyphens.specs.Words.{codes_of, is_of_word, is_put, is_soft, letters_in, points_with, soft_hyphen};
+ghost use Rattle.soft_hyphens.specs.Words.{codes_of, is_of_word, is_put, is_soft, letters_in, points_with};
 ghost use Rattle.soft_hyphens.specs.declared.letter.Letter.{Letter};
 
 use crate::hyphenator::{Hyphenator, LEAST_LETTERS};
 use crate::letter::Letter;
 use crate::texts::piece;
 use crate::word::is_of_word;
+use bk_num::chars::SOFT_HYPHEN;
 use bk_num::name::NoMem;
 use std::alloc::Global;
 
@@ -30,7 +32,7 @@ const BYTES_A_POINT: usize = 8;
 fn is_soft_hyphen(c: char) -> bool
     ensures { result ≡ (c == soft_hyphen) }
 {
-    c == '\u{AD}'
+    c == SOFT_HYPHEN
 }
 
 /// Where a walk over a run has come to: the byte offset and the place; and the word that it is in, by the offset and

@@ -2,6 +2,7 @@
 
 ghost use Rattle.std.specs.Prelude.{◌≡◌, ◌<◌, ◌≤◌, [], ◌∷◌, ◌++◌, IfOk, OnOk, OnErr, codes, length, unsigned_abs};
 ghost use Rattle.bk_num.specs.Written.{most_whole};
+ghost use Rattle.style.specs.Counters as spec;
 ghost use Rattle.style.specs.Counters.{AreCounters, LimitAgrees, most_counters};
 
 use crate::content::Content;
@@ -16,6 +17,13 @@ pub const MOST_COUNTERS: u32 = 64;
 pub fn limit_agrees()
     ensures { LimitAgrees }
 {}
+
+/// Whether a counter is `page`, which counts pages and no elements (css-page-3, 7.1).
+pub fn is_page_counter(name: &str) -> bool
+    ensures { result ≡ spec.is_page_counter name.now }
+{
+    name == "page"
+}
 
 /// The families of a font, the wanted one first. Contracts see the list of their names.
 #[derive(Drop)]
