@@ -7,6 +7,7 @@ use Rattle.std.proofs.lemmas.List.{drop-drop}
 use Rattle.std.proofs.lemmas.List.Folds.{list_all-append}
 use Rattle.std.proofs.lemmas.Grind.{flat_map-append}
 use Rattle.std.specs.List.{flat_map, list_all}
+use Rattle.counters.specs.Document.{leaves}
 use Rattle.bk_num.specs.declared.ids.NodeId.{NodeId}
 use Rattle.bk_num.proofs.ListLemmas.{get-drop}
 use Rattle.dom.specs.Nodes.{Node, NodeData, Element, Text, is_at, flat, first_from, next_under, next_of, first_child_of, parents_of, parent_at, depth_of, depth_at, is_element, is_element_node, is_element_at, text_in, part_of, text_at, IsTree, HasPlace}
@@ -20,7 +21,7 @@ use Rattle.dom.proofs.IdLemmas.{length-parents}
 use Rattle.style.specs.Nodes.{NodeStyles}
 use Rattle.gen_text.specs.declared.own.Ending.{Ending}
 use Rattle.gen_text.specs.declared.own.Ending.TheVariants as ending
-use Rattle.gen_text.specs.Own.{is_left_out, way_below, is_kept, kept_text, texts_below, own_text, added, ending_after, text_of_step, goes_out, step_to, step_inside, step_out, step_on, step_beyond, step_after}
+use Rattle.gen_text.specs.Own.{is_left_out, way_below, is_kept, kept_text, texts_below, own_text, added, ending_after, text_of_step, step_to, step_inside, step_out, step_on, step_beyond, step_after}
 use Rattle.gen_text.specs.Parts.{attribute_text}
 use Rattle.gen_text.proofs.WordLemmas.{added-all, added-append}
 
@@ -302,7 +303,7 @@ turn-leave nodes styles tree e n todo within rest = by (next_of (parents_of node
         }
     by None h = parent-turn nodes styles tree e n todo within rest h
 
-turn : (nodes : List Node) (styles : List NodeStyles) → IsTree nodes → (e : ℕ) (s : Step) (todo : List Step) → Left nodes styles e s todo → goes_out e s ≡ false → node_of s < length nodes → Turn nodes styles e s (step_after nodes styles s) todo
+turn : (nodes : List Node) (styles : List NodeStyles) → IsTree nodes → (e : ℕ) (s : Step) (todo : List Step) → Left nodes styles e s todo → leaves e s ≡ false → node_of s < length nodes → Turn nodes styles e s (step_after nodes styles s) todo
 turn nodes styles tree e s todo (entering n _ r rest is) going within = turn-enter nodes styles tree e n todo r rest is within
 turn nodes styles tree e s todo (leaving n _ rest) going within = turn-leave nodes styles tree e n todo within rest
 turn nodes styles tree e s todo (ended n _ same is) going within = (let w = eq-eqb n.0 e same in cc)
@@ -338,7 +339,7 @@ going_start nodes styles e s old l is = record {
   text = ap (λ t. old ++ t) (added-all (texts_below nodes styles e));
 }
 
-pub going_turn : (nodes : List Node) (styles : List NodeStyles) → IsTree nodes → (e : ℕ) (s next : Step) (t u : Ending) (old new more : List ℕ) → Going nodes styles e s t old new → goes_out e s ≡ false → next ≡ step_after nodes styles s → more ≡ new ++ added t (text_of_step nodes s) → u ≡ ending_after t (text_of_step nodes s) → Going nodes styles e next u old more × (length (steps_from (parents_of nodes) (Some next)) < length (steps_from (parents_of nodes) (Some s)))
+pub going_turn : (nodes : List Node) (styles : List NodeStyles) → IsTree nodes → (e : ℕ) (s next : Step) (t u : Ending) (old new more : List ℕ) → Going nodes styles e s t old new → leaves e s ≡ false → next ≡ step_after nodes styles s → more ≡ new ++ added t (text_of_step nodes s) → u ≡ ending_after t (text_of_step nodes s) → Going nodes styles e next u old more × (length (steps_from (parents_of nodes) (Some next)) < length (steps_from (parents_of nodes) (Some s)))
 going_turn nodes styles tree e s next t u old new more going on is grown ends =
     let w = turn nodes styles tree e s going.todo going.left on going.within in
     let x : List ℕ = text_of_step nodes s in
@@ -352,10 +353,10 @@ going_turn nodes styles tree e s next t u old new more going on is grown ends =
       rw is w.fewer,
     )
 
-pub going_end : (nodes : List Node) (styles : List NodeStyles) → IsTree nodes → (e : ℕ) (s : Step) (t : Ending) (old new : List ℕ) → Going nodes styles e s t old new → goes_out e s ≡ true → new ≡ old ++ own_text nodes styles e
+pub going_end : (nodes : List Node) (styles : List NodeStyles) → IsTree nodes → (e : ℕ) (s : Step) (t : Ending) (old new : List ℕ) → Going nodes styles e s t old new → leaves e s ≡ true → new ≡ old ++ own_text nodes styles e
 going_end nodes styles tree e s t old new going is = sym (append-nil new) ∙ ap (λ l. new ++ added t (flat_map (kept_text nodes styles e) l)) (sym (by s going.todo going.left is)) ∙ going.text
   where
-    by : (s : Step) (todo : List Step) → Left nodes styles e s todo → goes_out e s ≡ true → todo ≡ []
+    by : (s : Step) (todo : List Step) → Left nodes styles e s todo → leaves e s ≡ true → todo ≡ []
     by s todo (entering n _ r rest q) h = cc
     by s todo (leaving n _ rest) h = let a = rest-above nodes styles tree e n.0 todo rest in let b = exact_unsigned_eq n.0 e h in absurd (omega (arith, a, b))
     by s todo (ended n _ same q) h = q

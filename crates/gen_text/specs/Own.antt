@@ -119,8 +119,3 @@ step_beyond nodes n = step_on n (next_of (parents_of nodes) n) (parent_at (paren
 abbrev pub step_after : List Node → List NodeStyles → Step → Step
 step_after nodes styles (Enter n) = if is_left_out nodes styles n.0 then Leave n else step_inside nodes n.0
 step_after nodes styles (Leave n) = step_beyond nodes n.0
-
--- whether a step goes out of a node
-abbrev pub goes_out : ℕ → Step → Bool
-goes_out e (Enter n) = false
-goes_out e (Leave n) = n.0 == e

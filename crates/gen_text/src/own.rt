@@ -1,10 +1,11 @@
 //! An element's own text, which `content()` prints (css-gcpm-3, "string-set").
 
 ghost use Rattle.std.specs.Prelude.{◌≡◌, ◌<◌, ◌++◌, IfOk, OnOk, OnErr, length, option_map, string_bytes};
+ghost use Rattle.counters.specs.Document.{leaves};
 ghost use Rattle.css_tok.specs.Lengths.{is_blank};
 ghost use Rattle.dom.specs.Nodes.{parent_at, parents_of};
 ghost use Rattle.dom.specs.Walk.{node_of};
-ghost use Rattle.gen_text.specs.Own.{added, added_by_char, ending_after, ending_by, goes_out, is_left_out, own_text, spaced, step_after, step_beyond, step_inside, step_out, text_of_step};
+ghost use Rattle.gen_text.specs.Own.{added, added_by_char, ending_after, ending_by, is_left_out, own_text, spaced, step_after, step_beyond, step_inside, step_out, text_of_step};
 ghost use Rattle.gen_text.specs.Parts.{attribute_text};
 
 use crate::table::print_text;
@@ -149,7 +150,7 @@ fn after(dom: &Dom, styles: &Styles, step: Step) -> Step
 
 /// Whether a step goes out of a node.
 fn goes_out(step: Step, node: NodeId) -> bool
-    ensures { result ≡ goes_out node.0 step }
+    ensures { result ≡ leaves node.0 step }
 {
     match step {
         Step::Enter(_) => false,
