@@ -3,13 +3,21 @@ use Rattle.std.specs.Prelude.{◌≡◌, ℕ, ◌+◌, ◌<◌, ◌≤◌, ℤ, 
 use Rattle.total_fit.specs.declared.plan.Stop.{Stop}
 use Rattle.total_fit.specs.declared.plan.Measures.{Measures}
 use Rattle.total_fit.specs.declared.choice.Choice.{Choice}
-use Rattle.total_fit.specs.Lines.{Fits, cost_of, reach_of, stop_of}
+use Rattle.total_fit.specs.Lines.{AreGoodMeasures, AreGoodStops, Fits, cost_of, reach_of, stop_of}
 use Rattle.total_fit.specs.Plans.{IsPotential, potential_of}
 
 -- the potentials from a stop on
 abbrev pub ArePotentialsFrom : List Stop → Measures → List (Option ℕ) → ℕ → Type 0
 ArePotentialsFrom stops measures potentials from =
     (k : ℕ) → from ≤ k → k ≤ length stops → IsPotential stops measures k (potential_of potentials k)
+
+-- the best line from a stop can be chosen: the potentials of all later stops are known
+pub record CanChoose (stops : List Stop) (measures : Measures) (potentials : List (Option ℕ))
+    (from : ℕ) : Type 0 where
+  pub good : AreGoodStops stops
+  pub bounded : AreGoodMeasures measures
+  pub count : length potentials ≡ length stops + 1
+  pub known : ArePotentialsFrom stops measures potentials (from + 1)
 
 -- of the lines that fit, end no later than `last` and have a plan after them: one that costs least with that plan, and
 -- of these the longest

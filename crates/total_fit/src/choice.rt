@@ -1,8 +1,8 @@
 //! The best line from a stop on, where it is known what the later stops cost.
 
 ghost use Rattle.std.specs.Prelude.{◌≡◌, ◌+◌, ◌<◌, ◌≤◌, length, IfOk};
-ghost use Rattle.total_fit.specs.Choices.{AreLeastReaches, ArePotentialsFrom, IsChoice, cost_in};
-ghost use Rattle.total_fit.specs.Lines.{AreGoodMeasures, AreGoodStops};
+ghost use Rattle.total_fit.specs.Choices.{AreLeastReaches, CanChoose, IsChoice, cost_in};
+ghost use Rattle.total_fit.specs.Lines.{AreGoodStops};
 ghost use Rattle.total_fit.specs.Plans.{potential_of};
 
 use crate::line::{begin_at, line_cost, measure_at, reach_at};
@@ -60,10 +60,7 @@ fn better(
     at: usize,
     best: Option<Choice>,
 ) -> Option<Choice>
-    requires good { AreGoodStops stops.now }
-    requires measures { AreGoodMeasures measures }
-    requires count { length potentials.now ≡ length stops.now + 1 }
-    requires known { ArePotentialsFrom stops.now measures potentials.now (from + 1) }
+    requires can { CanChoose stops.now measures potentials.now from }
     requires order { from ≤ at }
     requires within { at < length stops.now }
     requires so_far { IsChoice stops.now measures potentials.now from at best }
@@ -90,11 +87,8 @@ pub(crate) fn best_line(
     potentials: &[Option<u128>],
     from: usize,
 ) -> Option<Choice>
-    requires good { AreGoodStops stops.now }
-    requires measures { AreGoodMeasures measures }
+    requires can { CanChoose stops.now measures potentials.now from }
     requires reaches { AreLeastReaches stops.now reaches.now }
-    requires count { length potentials.now ≡ length stops.now + 1 }
-    requires known { ArePotentialsFrom stops.now measures potentials.now (from + 1) }
     requires from { from ≤ length stops.now }
     ensures { IsChoice stops.now measures potentials.now from (length stops.now) result }
 {
