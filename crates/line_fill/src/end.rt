@@ -1,9 +1,9 @@
 //! Where a line of a leaf ends.
 
 ghost use Rattle.std.specs.Prelude.{◌≡◌, ◌≢◌, ◌<◌, ◌≤◌, ◌+◌, ◌-◌, ◌*◌, ◌^◌, pos, ◌≤ℤ◌, ◌<ℤ◌, ◌+ℤ◌, length, slice_index, slice_index_or, max, Some, MatchOption, MatchBool, ◌⊎◌, ◌||◌, if◌then◌else◌};
-ghost use Rattle.std.specs.List.{All};
 ghost use Rattle.boxes.specs.Contents.{AreSpans, IsGoodLeaf};
 ghost use Rattle.boxes.specs.declared.leaf.Span.{Span};
+ghost use Rattle.line_fill.specs.Conditions.{CanFill};
 ghost use Rattle.line_fill.specs.LineEnd.{IsLineEnd, IsOrdinary, IsEmergency};
 ghost use Rattle.line_fill.specs.Widths.{is_hyphened};
 ghost use Rattle.line_fill.specs.Fill.{FitsIn, IsFilled, IsSpanOf};
@@ -136,9 +136,7 @@ pub(crate) fn first_span(text: &str, spans: &[Span], from: usize) -> usize
 
 /// Where a line ends.
 pub(crate) fn line_end(faces: &Faces, leaf: &Leaf, room: LineRoom) -> usize
-    requires good { IsGoodLeaf leaf.now }
-    requires few { length leaf.now.text < 2 ^ 32 }
-    requires faced { All (λ s. s.face.0 < length faces.now) leaf.now.spans }
+    requires can { CanFill faces.now leaf.now }
     requires from { room.from < length leaf.now.text }
     ensures { IsLineEnd (FitsIn faces.now leaf.now room.from room.units)
         (IsOrdinary leaf.now.text leaf.now.places room.from)

@@ -6,6 +6,7 @@ ghost use Rattle.std.specs.Str.{IsCharBoundary};
 ghost use Rattle.std.specs.HashMap.{get};
 ghost use Rattle.metrics.specs.Face.{FontFace};
 ghost use Rattle.boxes.specs.Contents.{IsGoodLeaf};
+ghost use Rattle.line_fill.specs.Conditions.{CanAsk};
 ghost use Rattle.line_fill.specs.LineEnd.{IsLine};
 ghost use Rattle.line_fill.specs.Keys.{key_of, print_of};
 ghost use Rattle.line_fill.specs.Kept.{AreKept, Asked, Grows, HasAsked, HasTurned, Holds, HoldsSame, IsLeafAt, KeepsPlaces, asked_of};
@@ -103,10 +104,7 @@ fn ask_anew<L: Ledger>(
     place: usize,
     steps: &mut Steps<L>,
 ) -> Result<Line, NoMem>
-    requires good { IsGoodLeaf leaf.now }
-    requires faced { All (λ s. s.face.0 < length faces.now) leaf.now.spans }
-    requires from { from < length leaf.now.text }
-    requires measure { unsigned_abs measure ≤ 2 ^ 40 }
+    requires can { CanAsk faces.now leaf.now from measure }
     requires rising { AreRising kept.old.lines.items }
     requires place { IsPlace kept.old.lines.items from place }
     requires none { IsFound kept.old.lines.items place from None }
@@ -134,10 +132,7 @@ fn ask<L: Ledger>(
     measure: i64,
     steps: &mut Steps<L>,
 ) -> Result<Line, NoMem>
-    requires good { IsGoodLeaf leaf.now }
-    requires faced { All (λ s. s.face.0 < length faces.now) leaf.now.spans }
-    requires from { from < length leaf.now.text }
-    requires measure { unsigned_abs measure ≤ 2 ^ 40 }
+    requires can { CanAsk faces.now leaf.now from measure }
     requires rising { AreRising kept.old.lines.items }
     ensures same { IsSameLeaf kept.old kept.new }
     ensures line { IfOk result (λ line. AsksLine faces.now leaf.now from measure kept.old.lines.items line

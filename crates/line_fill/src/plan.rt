@@ -4,6 +4,7 @@ ghost use Rattle.std.specs.Prelude.{◌≡◌, ◌+◌, ◌-◌, ◌<◌, ◌≤
 ghost use Rattle.std.specs.List.{All};
 ghost use Rattle.boxes.specs.Contents.{IsGoodLeaf};
 ghost use Rattle.total_fit.specs.Plans.{HasNoPlan, IsBest};
+ghost use Rattle.line_fill.specs.Conditions.{CanFill};
 ghost use Rattle.line_fill.specs.Filled.{AreFilled};
 ghost use Rattle.line_fill.specs.Paragraphs.{IsParagraph};
 ghost use Rattle.line_fill.specs.Stops.{measures_of, offsets_of, stops_of};
@@ -35,9 +36,7 @@ fn best_of(
     measure: i64,
     paragraph: Paragraph,
 ) -> Result<Option<Plan>, NoMem>
-    requires good { IsGoodLeaf leaf.now }
-    requires few { length leaf.now.text < 2 ^ 32 }
-    requires faced { All (λ s. s.face.0 < length faces.now) leaf.now.spans }
+    requires can { CanFill faces.now leaf.now }
     requires measure { unsigned_abs measure ≤ 2 ^ 40 }
     requires paragraph { IsParagraph leaf.now paragraph }
     requires from { paragraph.from ≡ from }
@@ -97,9 +96,7 @@ fn planned(
     measure: i64,
     paragraph: Paragraph,
 ) -> Result<Option<Filled>, NoMem>
-    requires good { IsGoodLeaf leaf.now }
-    requires few { length leaf.now.text < 2 ^ 32 }
-    requires faced { All (λ s. s.face.0 < length faces.now) leaf.now.spans }
+    requires can { CanFill faces.now leaf.now }
     requires fit { leaf.now.fit ≡ true }
     requires measure { unsigned_abs measure ≤ 2 ^ 40 }
     requires paragraph { IsParagraph leaf.now paragraph }

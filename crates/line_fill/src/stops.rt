@@ -6,6 +6,7 @@ ghost use Rattle.boxes.specs.Contents.{IsGoodLeaf};
 ghost use Rattle.metrics.specs.Widths.{sum_from};
 ghost use Rattle.bk_num.specs.Numbers.{IsWithin};
 ghost use Rattle.total_fit.specs.Lines.{IsGoodStop};
+ghost use Rattle.line_fill.specs.Conditions.{CanFill};
 ghost use Rattle.line_fill.specs.LineEnd.{stop_of};
 ghost use Rattle.line_fill.specs.Paragraphs.{IsParagraph, IsPassed};
 ghost use Rattle.line_fill.specs.Stops.{first_wide, next_of, stop_at, stops_of};
@@ -75,9 +76,7 @@ fn pass_to(
     to: usize,
     line_width: LineWidth,
 ) -> LineWidth
-    requires good { IsGoodLeaf leaf.now }
-    requires few { length leaf.now.text < 2 ^ 32 }
-    requires faced { All (λ s. s.face.0 < length faces.now) leaf.now.spans }
+    requires can { CanFill faces.now leaf.now }
     requires from { from < length leaf.now.text }
     requires order { at ≤ to }
     requires within { to ≤ stop_of leaf.now.text from }
@@ -114,9 +113,7 @@ fn with_own(total: i64, paired: u32, own: u32) -> i64
 /// Where the line begins that begins at a place, measured from an earlier one: up to and with the first character that
 /// has a width there, less that character's own advance. `total` is the width up to the place.
 fn next_at(faces: &Faces, leaf: &Leaf, from: usize, to: usize, end: usize, total: i64) -> i64
-    requires good { IsGoodLeaf leaf.now }
-    requires few { length leaf.now.text < 2 ^ 32 }
-    requires faced { All (λ s. s.face.0 < length faces.now) leaf.now.spans }
+    requires can { CanFill faces.now leaf.now }
     requires order { from ≤ to }
     requires within { end ≤ length leaf.now.text }
     requires total { total ≡ pos (sum_from (unit_at faces.now leaf.now from) from (to - from)) }
@@ -142,9 +139,7 @@ fn stop_at(
     end: usize,
     line_width: LineWidth,
 ) -> Stop
-    requires good { IsGoodLeaf leaf.now }
-    requires few { length leaf.now.text < 2 ^ 32 }
-    requires faced { All (λ s. s.face.0 < length faces.now) leaf.now.spans }
+    requires can { CanFill faces.now leaf.now }
     requires from { from < length leaf.now.text }
     requires end { end ≡ stop_of leaf.now.text from }
     requires passed { IsPassed faces.now leaf.now from to line_width }
@@ -167,9 +162,7 @@ pub(crate) fn stops(
     leaf: &Leaf,
     paragraph: Paragraph,
 ) -> Result<Vec<Stop>, NoMem>
-    requires good { IsGoodLeaf leaf.now }
-    requires few { length leaf.now.text < 2 ^ 32 }
-    requires faced { All (λ s. s.face.0 < length faces.now) leaf.now.spans }
+    requires can { CanFill faces.now leaf.now }
     requires paragraph { IsParagraph leaf.now paragraph }
     ensures value { IfOk result (λ stops. stops.items ≡ stops_of faces.now leaf.now paragraph.from) }
     ensures good { IfOk result (λ stops. All IsGoodStop stops.items) }

@@ -56,7 +56,7 @@ inside c =
     let more : c.loop-index.index < length c.as_slice-ends.result.now = search rules in
     let rest = rw (to_z-of_z w64 c.args.measure fits) at c.loop-index.invariant.rest in
     let at = rw c.requires.from at c.offset-at.ensures in
-    rw at (ahead-inside c.args.faces.now c.args.leaf.now c.args.from c.args.measure c.as_slice-ends.result.now c.loop-index.index c.requires.good c.loop-index.invariant.low more rest)
+    rw at (ahead-inside c.args.faces.now c.args.leaf.now c.args.from c.args.measure c.as_slice-ends.result.now c.loop-index.index c.requires.can.good c.loop-index.invariant.low more rest)
 
 pub begins_plain-requires : goal.begins_plain-requires
 begins_plain-requires c = rw (c.as_bytes.ensures.value, c.as_str-text.ensures) (inside (goal.at.begins_plain-requires c).After-offset-at)
@@ -82,13 +82,13 @@ loop-index-preserved c =
     let plain : begins_plain c.args.leaf.now.text (get_or (offsets_of c.args.leaf.now c.args.from) (get_or c.as_slice-ends.result.now (c.loop-index.index - 1) 0 - 1) 0) ≡ true = rw (told, c.as_bytes.ensures.value, c.as_str-text.ensures, at) at (sym c.begins_plain.ensures) in
     let begins : c.line_to.result.from ≡ get_or (offsets_of c.args.leaf.now c.args.from) (get_or c.as_slice-ends.result.now (c.loop-index.index - 1) 0 - 1) 0 = c.line_to.ensures.from ∙ at in
     let to : c.line_to.result.to ≡ get_or (offsets_of c.args.leaf.now c.args.from) (get_or c.as_slice-ends.result.now c.loop-index.index 0 - 1) 0 = rw c.requires.from at c.line_to.ensures.to in
-    let ends = ahead-line c.args.faces.now c.args.leaf.now c.args.from c.args.measure c.as_slice-ends.result.now c.loop-index.index c.requires.good c.loop-index.invariant.low more rest utf8 plain c.requires.fit c.requires.stops in
+    let ends = ahead-line c.args.faces.now c.args.leaf.now c.args.from c.args.measure c.as_slice-ends.result.now c.loop-index.index c.requires.can.good c.loop-index.invariant.low more rest utf8 plain c.requires.fit c.requires.stops in
     let line : IsOwnLine c.args.faces.now c.args.leaf.now c.args.measure c.line_to.result = record {
       begins = refl;
       ends = rw (begins, to) ends;
       hyphen = c.line_to.ensures.hyphen;
     } in
-    let left = ahead-rest c.args.faces.now c.args.leaf.now c.args.from c.args.measure c.as_slice-ends.result.now c.loop-index.index c.requires.good c.loop-index.invariant.low more rest utf8 plain in
+    let left = ahead-rest c.args.faces.now c.args.leaf.now c.args.from c.args.measure c.as_slice-ends.result.now c.loop-index.index c.requires.can.good c.loop-index.invariant.low more rest utf8 plain in
     let next : c.loop-index.index ≡ c.loop-index.index + 1 - 1 = omega arith in
     rw (to_z-of_z w64 c.args.measure fits, c.in_ok-push.ensures.items) (record {
       low = omega arith;

@@ -7,10 +7,10 @@ use Rattle.line_fill.proofs.StopLemmas.{passed-on}
 use Rattle.line_fill.proofs.stops.pass_to.Goals as goal
 
 pub pen-pen-requires-clause-face : goal.pen-pen-requires-clause-face
-pen-pen-requires-clause-face c = All-contains (λ (s : Span). s.face.0 < length c.args.faces.now) c.args.leaf.now.spans c.span_at-span.result.now c.requires.faced c.span_at-span.ensures.listed
+pen-pen-requires-clause-face c = All-contains (λ (s : Span). s.face.0 < length c.args.faces.now) c.args.leaf.now.spans c.span_at-span.result.now c.requires.can.faced c.span_at-span.ensures.listed
 
 pub pen-pen-requires-clause-size : goal.pen-pen-requires-clause-size
-pen-pen-requires-clause-size c = (All-contains IsGoodSpan c.args.leaf.now.spans c.span_at-span.result.now c.requires.good.sizes c.span_at-span.ensures.listed).size
+pen-pen-requires-clause-size c = (All-contains IsGoodSpan c.args.leaf.now.spans c.span_at-span.result.now c.requires.can.good.sizes c.span_at-span.ensures.listed).size
 
 pub loop-at-preserved : goal.loop-at-preserved
 loop-at-preserved c =

@@ -14,7 +14,7 @@ next_at-next-requires-clause-within c =
 pub next_at-next-requires-clause-small : goal.next_at-next-requires-clause-small
 next_at-next-requires-clause-small c =
     let fits : FitsSigned w64 c.args.line_width.total = search rules in
-    rw (to_z-of_z w64 c.args.line_width.total fits) (passed-small c.args.faces.now c.args.leaf.now c.args.from c.args.to c.args.line_width c.requires.from c.requires.few c.requires.passed)
+    rw (to_z-of_z w64 c.args.line_width.total fits) (passed-small c.args.faces.now c.args.leaf.now c.args.from c.args.to c.args.line_width c.requires.from c.requires.can.few c.requires.passed)
 
 pub returns-clause-good : goal.returns-clause-good
 returns-clause-good c =
@@ -23,4 +23,4 @@ returns-clause-good c =
     let next : FitsSigned w64 c.next_at-next.result = search rules in
     rw (to_z-of_z w64 c.args.line_width.shown shown, to_z-of_z w64 c.from-hyphen.result hyphen, to_z-of_z w64 c.next_at-next.result next)
     (good-stop c.args.faces.now c.args.leaf.now c.args.from c.args.to c.args.line_width c.from-hyphen.result c.next_at-next.result c.hyphen_at.result
-    c.requires.from c.requires.few c.requires.passed c.from-hyphen.ensures c.hyphen_at.ensures.most c.next_at-next.ensures.good)
+    c.requires.from c.requires.can.few c.requires.passed c.from-hyphen.ensures c.hyphen_at.ensures.most c.next_at-next.ensures.good)
