@@ -2,6 +2,7 @@
 use Rattle.std.specs.Prelude.{◌≡◌, ◌≤◌, ◌<◌, ◌^◌, ℕ, ◌+◌, ◌-◌, ◌*◌, ℤ, pos, neg_ℤ, ◌≤ℤ◌, ◌+ℤ◌, Bool, false, if◌then◌else◌, List, length, slice_index_or, Some}
 use Rattle.std.specs.List.{All}
 use Rattle.metrics.specs.Face.{FontFace}
+use Rattle.boxes.specs.Contents.{IsGoodLeaf}
 use Rattle.boxes.specs.declared.leaf.Leaf.{Leaf}
 use Rattle.boxes.specs.declared.leaf.Span.{Span}
 use Rattle.metrics.specs.Widths.{sum_from}
@@ -10,6 +11,7 @@ use Rattle.line_place.specs.declared.sums.Sums.{Sums}
 use Rattle.line_place.specs.declared.pieces.Piece.{Piece}
 use Rattle.line_place.specs.declared.place.Run.{Run}
 use Rattle.line_place.specs.declared.place.Setting.{Setting}
+use Rattle.line_place.specs.Conditions.{HasFaces}
 use Rattle.line_place.specs.Runs.{Covers, is_free, share_of}
 
 -- 1 for a place that counts, else 0
@@ -43,6 +45,13 @@ pub record ArePieces (leaf : Leaf) (from to : ℕ) (pieces : List Piece) : Type 
   pub within : to ≤ length leaf.text
   pub covers : Covers from pieces to
   pub inside : All (IsInside leaf.spans) pieces
+
+-- the pieces of a part of a leaf's text can be summed: their leaf is good and its faces are there
+pub record CanSum (faces : List FontFace) (leaf : Leaf) (from to : ℕ) (pieces : List Piece) : Type 0 where
+  pub good : IsGoodLeaf leaf
+  pub faced : HasFaces faces leaf
+  pub few : to < 2 ^ 32
+  pub parted : ArePieces leaf from to pieces
 
 -- a line begins and has slack within bounds that no sum of places passes
 pub record IsBounded (s : Setting) : Type 0 where

@@ -13,7 +13,7 @@ ghost use Rattle.line_place.specs.Conditions.{HasFaces, IsInLeaf};
 ghost use Rattle.line_place.specs.Placing as spec;
 ghost use Rattle.line_place.specs.Placing.{IsRunIn, free_end, hyphens_of, number_at, runs_of, setting_of, shift_of, slack_of};
 ghost use Rattle.line_place.specs.Runs.{is_free, line_pieces};
-ghost use Rattle.line_place.specs.Sums.{ArePieces, AreSums, IsBounded, count_free, run_of};
+ghost use Rattle.line_place.specs.Sums.{AreSums, CanSum, IsBounded, count_free, run_of};
 
 use crate::pieces::{Ends, Piece, pieces_of};
 use crate::place::{Run, Setting, left, push_runs};
@@ -68,10 +68,7 @@ fn shift_of(align: Align, slack: u64) -> u64
 
 /// What some pieces have that cover a part of a line.
 fn sum_pieces(faces: &Faces, leaf: &Leaf, ends: Ends, pieces: &[Piece]) -> Sums
-    requires good { IsGoodLeaf leaf.now }
-    requires faced { HasFaces faces.now leaf.now }
-    requires few { ends.to < 2 ^ 32 }
-    requires pieces { ArePieces leaf.now ends.from ends.to pieces.now }
+    requires { CanSum faces.now leaf.now ends.from ends.to pieces.now }
     ensures { AreSums faces.now leaf.now ends.free ends.from ends.to result }
 {
     let spans = leaf.spans.as_slice();
