@@ -1,4 +1,5 @@
 pub mod Gathering
+pub mod InputLemmas
 pub mod Walkable
 pub mod HyphenLemmas
 pub mod RunLawLemmas

@@ -42,8 +42,12 @@ IsSetIn faces (kind.Inline s) = s.now.faces ≡ faces
 IsSetIn faces (kind.Block s) = s.now.faces ≡ faces
 IsSetIn faces (kind.Note s) = s.now.faces ≡ faces
 
+-- the style of an element that is shown is in range, and chooses among the faces of the input
+pub record IsFacedKind (input : FlowInput) (k : NodeKind) : Type 0 where
+  pub faces : IsSetIn input.faces.now k
+  pub range : HasRange k
+
 -- what a node is to the flow, set in its faces and in range
 pub record IsKindOf (input : FlowInput) (n : ℕ) (k : NodeKind) : Type 0 where
   pub role : role_in k ≡ role_of (source_in input) n
-  pub faces : IsSetIn input.faces.now k
-  pub range : HasRange k
+  pub faced : IsFacedKind input k

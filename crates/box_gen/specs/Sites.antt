@@ -10,6 +10,7 @@ use Rattle.boxes.specs.Tree.{HaveOwners, takes_box, takes_leaf, with_box, with_l
 use Rattle.box_gen.specs.declared.inline.InlineStart.{InlineStart}
 use Rattle.box_gen.specs.declared.leaf.LeafStyle.{LeafStyle}
 use Rattle.box_gen.specs.declared.put.Site.{Site}
+use Rattle.box_gen.specs.declared.put.TreeRoom.{TreeRoom}
 use Rattle.box_gen.specs.Flow.{Built, built, shut, starts_by}
 use Rattle.box_gen.specs.Leaves.{leaf_by}
 
@@ -21,6 +22,11 @@ built_in site = built site.tree site.starts.items site.pending.items
 abbrev pub leaf_bytes : List Leaf → ℕ
 leaf_bytes [] = 0
 leaf_bytes (l ∷ ls) = length l.text + leaf_bytes ls
+
+-- the room of a tree is no more than that of a flow
+pub record IsGoodRoom (room : TreeRoom) : Type 0 where
+  pub bytes : room.bytes ≤ most_text_bytes
+  pub events : room.events ≤ most_events
 
 -- the bytes of the leaves are counted, and not too many
 pub record IsCounted (site : Site) : Type 0 where
@@ -38,6 +44,11 @@ pub record IsWithinRoom (site : Site) : Type 0 where
 pub record HasRoom (site : Site) : Type 0 where
   pub few : length site.tree.events < 7999990
   pub left : length site.tree.events + 10 < site.room.events
+
+-- a step may be taken: the tree is within its room, which has place for its events
+pub record TakesStep (site : Site) : Type 0 where
+  pub within : IsWithinRoom site
+  pub room : HasRoom site
 
 -- a run may be put into a tree, in an anonymous box or not: it has room for more events, a box or a leaf may stand
 -- there, and the markers that wait are those of open boxes and of no negative size

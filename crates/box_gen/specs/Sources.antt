@@ -1,5 +1,5 @@
 -- What a flow is made from, as the arguments have it.
-use Rattle.std.specs.Prelude.{◌≡◌, ◌<◌, ◌&&◌, not, true, IsTrue, List, Option, Some, length, option_map, slice_get}
+use Rattle.std.specs.Prelude.{◌≡◌, ◌<◌, ◌&&◌, not, true, ℕ, IsTrue, List, Option, Some, length, option_map, slice_get}
 use Rattle.std.specs.List.{All}
 use Rattle.bk_num.specs.declared.values.Pseudo.TheVariants as pseudo
 use Rattle.boxes.specs.declared.flow.Start.{Start}
@@ -12,6 +12,7 @@ use Rattle.style.specs.Nodes.{NodeStyles, is_note_in, is_shown_in, style_at}
 pub use Rattle.style.specs.Ranges.{AreInRange, IsInRange}
 use Rattle.style.specs.Styles.{initial_style}
 use Rattle.box_gen.specs.declared.input.FlowInput.{FlowInput}
+use Rattle.box_gen.specs.Faced.{StyleIn}
 use Rattle.box_gen.specs.Faces.{face_of}
 use Rattle.box_gen.specs.KnownFaces.{KnowsFaces}
 use Rattle.box_gen.specs.Markers.{list_values}
@@ -57,6 +58,16 @@ pub record IsInput (i : FlowInput) : Type 0 where
   pub faces : i.known.now.initial.faces ≡ i.faces.now
   pub known : KnowsFaces i.texts.now.styles.now i.faces.now i.known.now
   pub ranges : AreInRange i.texts.now.styles.now
+
+-- a number is that of a node of the input's document
+pub record IsNodeOf (i : FlowInput) (n : ℕ) : Type 0 where
+  pub input : IsInput i
+  pub node : n < length i.texts.now.dom.now
+
+-- a style is in range, and chooses among the faces of the input
+pub record IsFacedIn (i : FlowInput) (s : StyleIn) : Type 0 where
+  pub faces : s.faces ≡ i.faces.now
+  pub range : IsInRange s.style
 
 -- the elements that begin somewhere are nodes of a document
 abbrev pub AreWithin : List Node → List Start → Type 0

@@ -1,7 +1,6 @@
 //! The walk over the nodes of a document, step by step.
 
-ghost use Rattle.std.specs.Prelude.{◌≡◌, ◌<◌, ◌≤◌, ◌++◌, ◌∷◌, ◌==◌, List, [], None, filter, length, not, IfErr, OnOk, IsSome, IsTrue};
-ghost use Rattle.bk_num.specs.Limits.{most_events, most_text_bytes};
+ghost use Rattle.std.specs.Prelude.{◌≡◌, ◌<◌, ◌++◌, ◌∷◌, ◌==◌, List, [], None, filter, length, not, IfErr, OnOk, IsSome, IsTrue};
 ghost use Rattle.boxes.specs.Tree.{innermost_of, takes_box};
 ghost use Rattle.bk_num.specs.declared.values.Pseudo.TheVariants as pseudo;
 ghost use Rattle.dom.specs.Walk.{node_of};
@@ -10,9 +9,9 @@ ghost use Rattle.box_gen.specs.Flow as spec;
 ghost use Rattle.box_gen.specs.Flow.{closed, leads_of, opened};
 ghost use Rattle.box_gen.specs.Items as item;
 ghost use Rattle.box_gen.specs.Gather.{adds, begun, ended, make};
-ghost use Rattle.box_gen.specs.Kinds.{HasRange, IsKindOf, IsSetIn, role_in};
-ghost use Rattle.box_gen.specs.Sites.{HasRoom, IsWithinRoom, built_in, leaf_bytes};
-ghost use Rattle.box_gen.specs.Sources.{IsInput, IsInRange, source_in};
+ghost use Rattle.box_gen.specs.Kinds.{IsFacedKind, IsKindOf, role_in};
+ghost use Rattle.box_gen.specs.Sites.{IsGoodRoom, IsWithinRoom, TakesStep, built_in, leaf_bytes};
+ghost use Rattle.box_gen.specs.Sources.{IsFacedIn, IsInput, IsInRange, IsNodeOf, source_in};
 ghost use Rattle.box_gen.specs.Steps.{CanBegin, CanEnd, CanEnterNode, CanLeaveNode, CanStep, styles_of, walk_in};
 ghost use Rattle.box_gen.specs.Walk as walk;
 ghost use Rattle.box_gen.specs.Walk.{after_step, enter_node, leave_node};
@@ -46,8 +45,7 @@ pub(crate) struct FlowBuilder<'a> {
 
 /// A tree without events, which has this room.
 pub(crate) fn new_site(alloc: Global, room: TreeRoom) -> Site
-    requires bytes { room.bytes ≤ most_text_bytes }
-    requires events { room.events ≤ most_events }
+    requires { IsGoodRoom room }
     ensures built { built_in result ≡ spec.nothing }
     ensures within { IsWithinRoom result }
     ensures room { result.room ≡ room }
@@ -64,8 +62,7 @@ pub(crate) fn new_site(alloc: Global, room: TreeRoom) -> Site
 
 /// The builder before the first step.
 pub(crate) fn new_builder<'a>(alloc: Global, room: TreeRoom) -> FlowBuilder<'a>
-    requires bytes { room.bytes ≤ most_text_bytes }
-    requires events { room.events ≤ most_events }
+    requires { IsGoodRoom room }
     ensures walk { (styles : List NodeStyles) → walk_in styles result ≡ walk.walk (make spec.nothing []) [] None }
     ensures within { IsWithinRoom result.site }
     ensures room { result.site.room ≡ room }
@@ -129,8 +126,7 @@ fn open_box(
     faced: &FacedStyle<'_>,
     site: &mut Site,
 ) -> Result<(), NoMem>
-    requires faces { faced.now.faces ≡ input.now.faces.now }
-    requires range { IsInRange faced.now.style }
+    requires faced { IsFacedIn input.now faced.now }
     requires few { length site.old.tree.events < 7999995 }
     requires place { IsTrue (takes_box site.old.tree.events) }
     ensures built { OnOk result (built_in site.new ≡
@@ -183,8 +179,7 @@ fn enter_inline<'a>(
     faced: &FacedStyle<'_>,
     run: &mut InlineRun<'a>,
 ) -> Result<(), NoMem>
-    requires input { IsInput input.now }
-    requires node { node.0 < length input.now.texts.now.dom.now }
+    requires node { IsNodeOf input.now node.0 }
     requires faces { faced.now.faces ≡ input.now.faces.now }
     ensures { OnOk result (run.new ≡ (run.old ++ item.Start node ∷ []) ++
         spec.first_items (source_in input.now) faced.now.style node.0) }
@@ -195,8 +190,7 @@ fn enter_inline<'a>(
 
 /// Enters a note element: its call stands where it would begin.
 fn enter_note<'a>(input: &FlowInput<'a>, node: NodeId, run: &mut InlineRun<'a>) -> Result<(), NoMem>
-    requires input { IsInput input.now }
-    requires node { node.0 < length input.now.texts.now.dom.now }
+    requires { IsNodeOf input.now node.0 }
     ensures { OnOk result (run.new ≡
         (run.old ++ item.Start node ∷ []) ++
         spec.generated_items (source_in input.now) node.0 pseudo.Call) }
@@ -213,12 +207,9 @@ fn enter_block<'a>(
     faced: &FacedStyle<'_>,
     builder: &mut FlowBuilder<'a>,
 ) -> Result<(), BuildErr>
-    requires input { IsInput input.now }
-    requires node { node.0 < length input.now.texts.now.dom.now }
-    requires faces { faced.now.faces ≡ input.now.faces.now }
-    requires range { IsInRange faced.now.style }
-    requires within { IsWithinRoom builder.old.site }
-    requires room { HasRoom builder.old.site }
+    requires node { IsNodeOf input.now node.0 }
+    requires faced { IsFacedIn input.now faced.now }
+    requires site { TakesStep builder.old.site }
     requires can { CanBegin (source_in input.now)
         (walk.innermost (styles_of input.now.texts.now.styles.now builder.old.blocks.items))
         (make (built_in builder.old.site) builder.old.run) }
@@ -265,12 +256,9 @@ pub(crate) fn leave_block<'a>(
     faced: &FacedStyle<'_>,
     builder: &mut FlowBuilder<'a>,
 ) -> Result<(), BuildErr>
-    requires input { IsInput input.now }
-    requires node { node.0 < length input.now.texts.now.dom.now }
-    requires faces { faced.now.faces ≡ input.now.faces.now }
-    requires range { IsInRange faced.now.style }
-    requires within { IsWithinRoom builder.old.site }
-    requires room { HasRoom builder.old.site }
+    requires node { IsNodeOf input.now node.0 }
+    requires faced { IsFacedIn input.now faced.now }
+    requires site { TakesStep builder.old.site }
     requires can { CanEnd (source_in input.now) faced.now.style
         (adds (spec.last_items (source_in input.now) node.0)
         (make (built_in builder.old.site) builder.old.run)) }
@@ -314,12 +302,10 @@ fn enter<'a>(
     kind: NodeKind<'a>,
     builder: &mut FlowBuilder<'a>,
 ) -> Result<(), BuildErr>
-    requires input { IsInput input.now }
-    requires node { node.0 < length input.now.texts.now.dom.now }
+    requires node { IsNodeOf input.now node.0 }
     requires kind { IsKindOf input.now node.0 kind }
     requires shown { builder.old.unshown ≡ None }
-    requires within { IsWithinRoom builder.old.site }
-    requires room { HasRoom builder.old.site }
+    requires site { TakesStep builder.old.site }
     requires can { CanEnterNode (source_in input.now) (role_in kind)
         (walk_in input.now.texts.now.styles.now builder.old) }
     ensures walk { OnOk result (walk_in input.now.texts.now.styles.now builder.new ≡
@@ -363,13 +349,10 @@ fn leave<'a>(
     kind: NodeKind<'a>,
     builder: &mut FlowBuilder<'a>,
 ) -> Result<(), BuildErr>
-    requires input { IsInput input.now }
-    requires node { node.0 < length input.now.texts.now.dom.now }
-    requires faces { IsSetIn input.now.faces.now kind }
-    requires range { HasRange kind }
+    requires node { IsNodeOf input.now node.0 }
+    requires kind { IsFacedKind input.now kind }
     requires shown { builder.old.unshown ≡ None }
-    requires within { IsWithinRoom builder.old.site }
-    requires room { HasRoom builder.old.site }
+    requires site { TakesStep builder.old.site }
     requires can { CanLeaveNode (source_in input.now) node.0 (role_in kind)
         (walk_in input.now.texts.now.styles.now builder.old) }
     ensures walk { OnOk result (walk_in input.now.texts.now.styles.now builder.new ≡
@@ -403,10 +386,8 @@ pub(crate) fn pass<'a>(
     step: Step,
     builder: &mut FlowBuilder<'a>,
 ) -> Result<(), BuildErr>
-    requires input { IsInput input.now }
-    requires node { node_of step < length input.now.texts.now.dom.now }
-    requires within { IsWithinRoom builder.old.site }
-    requires room { HasRoom builder.old.site }
+    requires node { IsNodeOf input.now (node_of step) }
+    requires site { TakesStep builder.old.site }
     requires can { CanStep (source_in input.now) (walk_in input.now.texts.now.styles.now builder.old) step }
     ensures walk { OnOk result (walk_in input.now.texts.now.styles.now builder.new ≡
         after_step (source_in input.now) (walk_in input.now.texts.now.styles.now builder.old) step) }

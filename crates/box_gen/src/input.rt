@@ -1,10 +1,10 @@
 //! What a flow is made from.
 
-ghost use Rattle.std.specs.Prelude.{◌≡◌, ◌<◌, true, IfSome, Some, length, option_map};
+ghost use Rattle.std.specs.Prelude.{◌≡◌, true, IfSome, Some, option_map};
 ghost use Rattle.bk_num.specs.declared.values.Pseudo.TheVariants as pseudo;
 ghost use Rattle.style.specs.Nodes.{style_at};
 ghost use Rattle.box_gen.specs.Kinds.{HasRange, IsSetIn, role_in, shown_in};
-ghost use Rattle.box_gen.specs.Sources.{IsInput, IsInRange, source_in};
+ghost use Rattle.box_gen.specs.Sources.{IsInput, IsInRange, IsNodeOf, source_in};
 ghost use Rattle.box_gen.specs.Trees as spec;
 ghost use Rattle.box_gen.specs.Walk.{element_style, style_around};
 
@@ -116,8 +116,7 @@ fn shown_style<'a>(input: &FlowInput<'a>, node: NodeId) -> Option<&'a FacedStyle
 
 /// What a node is to the flow.
 pub(crate) fn kind_of<'a>(input: &FlowInput<'a>, node: NodeId) -> NodeKind<'a>
-    requires input { IsInput input.now }
-    requires node { node.0 < length input.now.texts.now.dom.now }
+    requires { IsNodeOf input.now node.0 }
     ensures role { role_in result ≡ spec.role_of (source_in input.now) node.0 }
     ensures faces { IsSetIn input.now.faces.now result }
     ensures range { HasRange result }
@@ -154,8 +153,7 @@ pub(crate) fn style_of<'a>(input: &FlowInput<'a>, node: NodeId) -> &'a FacedStyl
 
 /// The style of the element around a node.
 pub(crate) fn style_around<'a>(input: &FlowInput<'a>, node: NodeId) -> &'a FacedStyle<'a>
-    requires input { IsInput input.now }
-    requires node { node.0 < length input.now.texts.now.dom.now }
+    requires { IsNodeOf input.now node.0 }
     ensures value { result.now.style ≡ style_around (source_in input.now) node.0 }
     ensures faces { result.now.faces ≡ input.now.faces.now }
 {

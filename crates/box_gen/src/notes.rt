@@ -3,7 +3,6 @@
 ghost use Rattle.std.specs.Prelude.{
   ◌≡◌,
   ◌<◌,
-  ◌≤◌,
   ◌+◌,
   ◌++◌,
   ◌∷◌,
@@ -29,8 +28,8 @@ ghost use Rattle.box_gen.specs.Bodies as bodies;
 ghost use Rattle.box_gen.specs.Bodies.{CanInNote, CanNotes, after_both, note_begun, note_ended, noted, notes_after, outside};
 ghost use Rattle.box_gen.specs.Flow.{bodies_of, built_of, last_items, note_root};
 ghost use Rattle.box_gen.specs.Gather.{adds};
-ghost use Rattle.box_gen.specs.Sites.{HasRoom, IsWithinRoom, built_in, leaf_bytes};
-ghost use Rattle.box_gen.specs.Sources.{IsInput, IsInRange, source_in};
+ghost use Rattle.box_gen.specs.Sites.{HasRoom, IsGoodRoom, IsWithinRoom, TakesStep, built_in, leaf_bytes};
+ghost use Rattle.box_gen.specs.Sources.{IsFacedIn, IsInput, IsInRange, IsNodeOf, source_in};
 ghost use Rattle.box_gen.specs.Steps.{CanEnd, CanStep, walk_in};
 ghost use Rattle.box_gen.specs.Trees.{in_note};
 ghost use Rattle.box_gen.specs.Walk as walk;
@@ -75,8 +74,7 @@ fn room_after(site: &Site) -> TreeRoom
 /// The root of a note: the box of its element, which hangs no marker.
 fn note_site(alloc: Global, node: NodeId, style: &Style, room: TreeRoom) -> Result<Site, NoMem>
     requires range { IsInRange style.now }
-    requires bytes { room.bytes ≤ most_text_bytes }
-    requires events { room.events ≤ most_events }
+    requires room { IsGoodRoom room }
     requires some { 0 < room.events }
     ensures built { IfOk result (λ site. built_in site ≡ note_root node.0 style.now) }
     ensures within { IfOk result (λ site. IsWithinRoom site) }
@@ -96,13 +94,10 @@ fn note_builder<'a>(
     faced: &FacedStyle<'_>,
     room: TreeRoom,
 ) -> Result<FlowBuilder<'a>, NoMem>
-    requires input { IsInput input.now }
-    requires node { node.0 < length input.now.texts.now.dom.now }
+    requires node { IsNodeOf input.now node.0 }
     requires own { style_at input.now.texts.now.styles.now node.0 pseudo.Element ≡ Some faced.now.style }
-    requires faces { faced.now.faces ≡ input.now.faces.now }
-    requires range { IsInRange faced.now.style }
-    requires bytes { room.bytes ≤ most_text_bytes }
-    requires events { room.events ≤ most_events }
+    requires faced { IsFacedIn input.now faced.now }
+    requires room { IsGoodRoom room }
     requires some { 0 < room.events }
     ensures walk { IfOk result (λ b. walk_in input.now.texts.now.styles.now b ≡
         note_begun (source_in input.now) node.0 faced.now.style) }
@@ -130,11 +125,9 @@ fn begin_note<'a>(
     faced: &FacedStyle<'_>,
     main: &Site,
 ) -> Result<FlowBuilder<'a>, BuildErr>
-    requires input { IsInput input.now }
-    requires node { node.0 < length input.now.texts.now.dom.now }
+    requires node { IsNodeOf input.now node.0 }
     requires own { style_at input.now.texts.now.styles.now node.0 pseudo.Element ≡ Some faced.now.style }
-    requires faces { faced.now.faces ≡ input.now.faces.now }
-    requires range { IsInRange faced.now.style }
+    requires faced { IsFacedIn input.now faced.now }
     requires within { IsWithinRoom main.now }
     requires room { length main.now.tree.events < main.now.room.events }
     ensures walk { IfOk result (λ b. walk_in input.now.texts.now.styles.now b ≡
@@ -158,10 +151,8 @@ fn pass_outside<'a>(
     step: Step,
     main: &mut FlowBuilder<'a>,
 ) -> Result<Option<FlowBuilder<'a>>, BuildErr>
-    requires input { IsInput input.now }
-    requires node { node_of step < length input.now.texts.now.dom.now }
-    requires within { IsWithinRoom main.old.site }
-    requires room { HasRoom main.old.site }
+    requires node { IsNodeOf input.now (node_of step) }
+    requires site { TakesStep main.old.site }
     requires can { CanStep (source_in input.now) (walk_in input.now.texts.now.styles.now main.old) step }
     ensures walk { OnOk result (walk_in input.now.texts.now.styles.now main.new ≡
         after_step (source_in input.now) (walk_in input.now.texts.now.styles.now main.old) step) }
@@ -202,10 +193,8 @@ fn end_note<'a>(
     node: NodeId,
     body: FlowBuilder<'a>,
 ) -> Result<Site, BuildErr>
-    requires input { IsInput input.now }
-    requires node { node.0 < length input.now.texts.now.dom.now }
-    requires within { IsWithinRoom body.site }
-    requires room { HasRoom body.site }
+    requires node { IsNodeOf input.now node.0 }
+    requires site { TakesStep body.site }
     requires can { CanEnd (in_note (source_in input.now))
         (walk.innermost (walk_in input.now.texts.now.styles.now body).blocks)
         (adds (last_items (in_note (source_in input.now)) node.0)
@@ -262,8 +251,7 @@ fn end_inside<'a>(
     main: &mut FlowBuilder<'a>,
     bodies: &mut Vec<Site>,
 ) -> Result<(), BuildErr>
-    requires input { IsInput input.now }
-    requires node { node_of step < length input.now.texts.now.dom.now }
+    requires node { IsNodeOf input.now (node_of step) }
     requires shared { AreShared main.old.site bodies.old.items }
     requires body { IsBody main.old body }
     requires room { HasRoom body.site }
@@ -293,10 +281,8 @@ fn pass_body<'a>(
     step: Step,
     body: &mut FlowBuilder<'a>,
 ) -> Result<(), BuildErr>
-    requires input { IsInput input.now }
-    requires node { node_of step < length input.now.texts.now.dom.now }
-    requires within { IsWithinRoom body.old.site }
-    requires room { HasRoom body.old.site }
+    requires node { IsNodeOf input.now (node_of step) }
+    requires site { TakesStep body.old.site }
     requires can { CanInNote (in_note (source_in input.now))
         (walk_in input.now.texts.now.styles.now body.old) step false }
     ensures walk { OnOk result (walk_in input.now.texts.now.styles.now body.new ≡
@@ -319,8 +305,7 @@ fn pass_inside<'a>(
     main: &mut FlowBuilder<'a>,
     bodies: &mut Vec<Site>,
 ) -> Result<Option<FlowBuilder<'a>>, BuildErr>
-    requires input { IsInput input.now }
-    requires node { node_of step < length input.now.texts.now.dom.now }
+    requires node { IsNodeOf input.now (node_of step) }
     requires shared { AreShared main.old.site bodies.old.items }
     requires body { IsBody main.old body }
     requires room { HasRoom body.site }
@@ -354,8 +339,7 @@ fn pass_all<'a>(
     step: Step,
     walker: &mut Walker<'a>,
 ) -> Result<(), BuildErr>
-    requires input { IsInput input.now }
-    requires node { node_of step < length input.now.texts.now.dom.now }
+    requires node { IsNodeOf input.now (node_of step) }
     requires sound { AreSoundWalks walker.old }
     requires can { CanStep (source_in input.now) (walk_in input.now.texts.now.styles.now walker.old.main) step }
     requires notes { CanNotes (source_in input.now) (over_in walker.old.main)

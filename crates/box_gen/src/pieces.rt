@@ -8,7 +8,7 @@ ghost use Rattle.box_gen.specs.Flow.{generated_items, styled_in, text_item};
 ghost use Rattle.box_gen.specs.Items as item;
 ghost use Rattle.box_gen.specs.Items.{text_in};
 ghost use Rattle.box_gen.specs.Represented as represented;
-ghost use Rattle.box_gen.specs.Sources.{IsInput, source_in};
+ghost use Rattle.box_gen.specs.Sources.{IsNodeOf, source_in};
 
 use crate::faced::FacedStyle;
 use crate::inline::{GeneratedText, InlineText, StyledText};
@@ -76,8 +76,7 @@ fn push_generated<'a>(
     pseudo: Pseudo,
     run: &mut InlineRun<'a>,
 ) -> Result<(), NoMem>
-    requires input { IsInput input.now }
-    requires node { node.0 < length input.now.texts.now.dom.now }
+    requires { IsNodeOf input.now node.0 }
     ensures { OnOk result (run.new ≡
         run.old ++ generated_items (source_in input.now) node.0 pseudo) }
 {
@@ -116,8 +115,7 @@ pub(crate) fn push_first<'a>(
     faced: &FacedStyle<'_>,
     run: &mut InlineRun<'a>,
 ) -> Result<(), NoMem>
-    requires input { IsInput input.now }
-    requires node { node.0 < length input.now.texts.now.dom.now }
+    requires node { IsNodeOf input.now node.0 }
     requires faces { faced.now.faces ≡ input.now.faces.now }
     ensures { OnOk result (run.new ≡
         run.old ++ spec.first_items (source_in input.now) faced.now.style node.0) }
@@ -133,8 +131,7 @@ pub(crate) fn push_call<'a>(
     node: NodeId,
     run: &mut InlineRun<'a>,
 ) -> Result<(), NoMem>
-    requires input { IsInput input.now }
-    requires node { node.0 < length input.now.texts.now.dom.now }
+    requires { IsNodeOf input.now node.0 }
     ensures { OnOk result (run.new ≡
         run.old ++ generated_items (source_in input.now) node.0 pseudo.Call) }
 {
@@ -149,8 +146,7 @@ pub(crate) fn push_note_first<'a>(
     faced: &FacedStyle<'_>,
     run: &mut InlineRun<'a>,
 ) -> Result<(), NoMem>
-    requires input { IsInput input.now }
-    requires node { node.0 < length input.now.texts.now.dom.now }
+    requires node { IsNodeOf input.now node.0 }
     requires faces { faced.now.faces ≡ input.now.faces.now }
     ensures { OnOk result (run.new ≡
         run.old ++ spec.note_first_items (source_in input.now) faced.now.style node.0) }
@@ -166,8 +162,7 @@ pub(crate) fn push_last<'a>(
     node: NodeId,
     run: &mut InlineRun<'a>,
 ) -> Result<(), NoMem>
-    requires input { IsInput input.now }
-    requires node { node.0 < length input.now.texts.now.dom.now }
+    requires { IsNodeOf input.now node.0 }
     ensures { OnOk result (run.new ≡
         run.old ++ spec.last_items (source_in input.now) node.0) }
 {

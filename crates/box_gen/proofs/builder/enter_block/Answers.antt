@@ -29,7 +29,7 @@ returns-clause-within c =
     let e = ap (λ (b : Built). length b.tree.events) is in
     let o = ap (λ (b : Built). length b.tree.events) c.in-Ok.ensures.built in
     let a = length-append site.tree.events (Opens (length site.tree.boxes) ∷ []) in
-    within-step c.args.builder.now.site site c.open_box.new.site c.requires.within c.requires.room.left c.in_ok-put_run.ensures.count c.in_ok-put_run.ensures.room (omega (arith, e, run)) c.in-Ok.ensures.room c.in-Ok.ensures.bytes (ap (λ (b : Built). leaf_bytes b.tree.leaves) c.in-Ok.ensures.built) (omega (arith, o, a))
+    within-step c.args.builder.now.site site c.open_box.new.site c.requires.site.within c.requires.site.room.left c.in_ok-put_run.ensures.count c.in_ok-put_run.ensures.room (omega (arith, e, run)) c.in-Ok.ensures.room c.in-Ok.ensures.bytes (ap (λ (b : Built). leaf_bytes b.tree.leaves) c.in-Ok.ensures.built) (omega (arith, o, a))
 
 pub returns-in_err-put_run-clause-cause : goal.returns-in_err-put_run-clause-cause
 returns-in_err-put_run-clause-cause c =

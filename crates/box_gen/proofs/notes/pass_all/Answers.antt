@@ -17,8 +17,11 @@ use Rattle.box_gen.proofs.notes.pass_all.Goals as goal
 pub pass_inside-requires-clause-body : goal.pass_inside-requires-clause-body
 pass_inside-requires-clause-body c = c.requires.sound.body c.in-Some.inside (sym c.in-Some.ensures.value)
 
-pub pass_outside-requires-clause-room : goal.pass_outside-requires-clause-room
-pass_outside-requires-clause-room c = main-room c.args.input.now.texts.now.styles.now c.args.walker.now c.requires.sound c.requires.room
+pub pass_outside-requires-clause-site : goal.pass_outside-requires-clause-site
+pass_outside-requires-clause-site c = record {
+  within = c.requires.sound.shared.within;
+  room = main-room c.args.input.now.texts.now.styles.now c.args.walker.now c.requires.sound c.requires.room;
+}
 
 pub pass_inside-requires-clause-room : goal.pass_inside-requires-clause-room
 pass_inside-requires-clause-room c =

@@ -11,5 +11,5 @@ begin_note-requires-clause-room c =
     let is = ap (λ (w : Walk). length w.gathered.built.tree.events) c.in_ok-pass.ensures.walk in
     let few = step-few (source_in c.args.input.now) (walk_in c.args.input.now.texts.now.styles.now c.args.main.now) c.args.step in
     let same = ap (λ (r : TreeRoom). r.events) c.in_ok-pass.ensures.room in
-    let left = c.requires.room.left in
+    let left = c.requires.site.room.left in
     omega (arith, is, few, same, left)
