@@ -67,12 +67,12 @@ loop-at-init c =
     let gap : to_z w64 (of_z w64 c.gap_above-first.result) ≡ first_gap c.args.kept views = to_z-of_z w64 c.gap_above-first.result fits ∙ c.gap_above-first.ensures.top refl ∙ ap (first_gap c.args.kept) (sym rest) in
     let none : pos 0 +ℤ to_z w64 (of_z w64 c.gap_above-first.result) ≡ to_z w64 (of_z w64 c.gap_above-first.result) = omega (arith, ints) in
     let under : c.push_below.new.reach.bottom ≡ first_gap c.args.kept views +ℤ s.height = c.push_below.ensures.bottom ∙ ap (λ (z : ℤ). z +ℤ s.height) (none ∙ gap) in
-    let pushed : c.push_below.new.items.items ≡ c.new-items.result.items ++ placed_at (first_gap c.args.kept views) (solid_view s) ∷ [] = c.in_ok-push_below.ensures.placed ∙ ap (λ (z : ℤ). c.new-items.result.items ++ placed_at z (solid_view s) ∷ []) (none ∙ gap) in
-    let one : c.push_below.new.items.items ≡ placed_at (first_gap c.args.kept views) (solid_view s) ∷ [] = pushed ∙ ap (λ (ps : List Placed). ps ++ placed_at (first_gap c.args.kept views) (solid_view s) ∷ []) c.new-items.ensures.items in
+    let pushed : c.push_below.new.items.items ≡ c.in_ok-items.items.items ++ placed_at (first_gap c.args.kept views) (solid_view s) ∷ [] = c.in_ok-push_below.ensures.placed ∙ ap (λ (z : ℤ). c.in_ok-items.items.items ++ placed_at z (solid_view s) ∷ []) (none ∙ gap) in
+    let one : c.push_below.new.items.items ≡ placed_at (first_gap c.args.kept views) (solid_view s) ∷ [] = pushed ∙ ap (λ (ps : List Placed). ps ++ placed_at (first_gap c.args.kept views) (solid_view s) ∷ []) c.in_ok-items.ensures.items in
     let bottom = c.push_below.ensures.bottom in
     let extent = c.push_below.ensures.extent in
     record {
-      placed = place_begun _ _ views (solid_view s) c.new-items.result.items _ (view_at solids 0 s there) c.new-items.ensures.items under pushed;
+      placed = place_begun _ _ views (solid_view s) c.in_ok-items.items.items _ (view_at solids 0 s there) c.in_ok-items.ensures.items under pushed;
       foot = extent ∙ sym (ap (foot_from (pos 0)) one ∙ ap (int_max (pos 0)) (sym under));
       low = omega (arith, ints);
       high = omega (arith, ints);
