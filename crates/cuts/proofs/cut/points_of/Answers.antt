@@ -31,7 +31,7 @@ placed c =
 far : (c : After-area_at) → ReachesWithin most_entries c.place_row.new.reach
 far c =
     let in_rows = c.loop-at-test.true in
-    let few = c.requires.few in
+    let few = c.requires.rows.few in
     reached_low (c.loop-at.at + 1) most_entries c.place_row.new.reach (omega arith) (placed c).reached
 
 pub place_row-requires-clause-top : goal.place_row-requires-clause-top
@@ -110,7 +110,7 @@ loop-at-preserved c =
 pub returns-then-is_limit : goal.returns-then-is_limit
 returns-then-is_limit c =
     let end = c.is_limit.ensures.limit c.if-is_limit.true in
-    choose c.args.rows.now (FitsTold c.args.room.now.kept c.args.rows.now c.args.room.now.height c.args.areas.now) (LooseTold c.args.room.now.kept c.args.rows.now c.args.room.now.height c.args.room.now.carried) c.loop-at.at c.loop-at.points c.loop-at.invariant.seen (omega (arith, end)) c.requires.some c.requires.between
+    choose c.args.rows.now (FitsTold c.args.room.now.kept c.args.rows.now c.args.room.now.height c.args.areas.now) (LooseTold c.args.room.now.kept c.args.rows.now c.args.room.now.height c.args.room.now.carried) c.loop-at.at c.loop-at.points c.loop-at.invariant.seen (omega (arith, end)) c.requires.rows.some c.requires.rows.between
 
 pub returns-then-are_all : goal.returns-then-are_all
 returns-then-are_all c =
@@ -124,10 +124,10 @@ returns-then-are_all c =
     let extent = (placed (goal.at.returns-then-are_all c).After-area_at).extent in
     let over : height <ℤ rows_extent kept rows (suc c.loop-at.at) = subst (λ (z : ℤ). height <ℤ z) extent (subst (λ (z : ℤ). z <ℤ c.place_row.new.reach.extent) (to_z-of_z w64 height tall) all.1) in
     choose rows (FitsTold kept rows height c.args.areas.now) (LooseTold kept rows height c.args.room.now.carried) (limit_of rows) _
-    (seen_past kept rows height c.args.areas.now c.args.room.now.carried (suc c.loop-at.at) _ (small_tails rows c.requires.small) c.requires.areas c.requires.carried.low over all.0 (omega (arith, low)) (seen_now d extent (omega (arith, low)))) (omega arith) c.requires.some c.requires.between
+    (seen_past kept rows height c.args.areas.now c.args.room.now.carried (suc c.loop-at.at) _ (small_tails rows c.requires.rows.small) c.requires.areas c.requires.carried.low over all.0 (omega (arith, low)) (seen_now d extent (omega (arith, low)))) (omega arith) c.requires.rows.some c.requires.rows.between
 
 pub returns : goal.returns
 returns c =
     let all = limit_within c.args.rows.now in
     let over = c.loop-at-test.false in
-    choose c.args.rows.now (FitsTold c.args.room.now.kept c.args.rows.now c.args.room.now.height c.args.areas.now) (LooseTold c.args.room.now.kept c.args.rows.now c.args.room.now.height c.args.room.now.carried) c.loop-at.at c.loop-at.points c.loop-at.invariant.seen (omega (arith, all, over)) c.requires.some c.requires.between
+    choose c.args.rows.now (FitsTold c.args.room.now.kept c.args.rows.now c.args.room.now.height c.args.areas.now) (LooseTold c.args.room.now.kept c.args.rows.now c.args.room.now.height c.args.room.now.carried) c.loop-at.at c.loop-at.points c.loop-at.invariant.seen (omega (arith, all, over)) c.requires.rows.some c.requires.rows.between

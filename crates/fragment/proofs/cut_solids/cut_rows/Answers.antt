@@ -14,17 +14,18 @@ use Rattle.fragment.proofs.cut_solids.cut_rows.Goals as goal
 size_is : (t : Tree) (solids : List Solid) (rows : List SolidRow) → rows ≡ rows_of t (map solid_view solids) → length rows ≡ length solids
 size_is t solids rows is = ap (λ (rs : List SolidRow). length rs) is ∙ length-map (map solid_view solids) (row_of t) ∙ length-map solids solid_view
 
-pub cut_noted-requires-clause-some : goal.cut_noted-requires-clause-some
-cut_noted-requires-clause-some c = let size = size_is c.args.tree.now c.args.solids.now c.args.rows.now c.requires.solids.rows_are in let some = c.requires.solids.some in omega arith
-
-pub cut_noted-requires-clause-few : goal.cut_noted-requires-clause-few
-cut_noted-requires-clause-few c = let size = size_is c.args.tree.now c.args.solids.now c.args.rows.now c.requires.solids.rows_are in let few = c.requires.solids.few in omega arith
-
-pub cut_noted-requires-clause-small : goal.cut_noted-requires-clause-small
-cut_noted-requires-clause-small c = subst (All IsSmallRow) (sym c.requires.solids.rows_are) (small_rows c.args.tree.now c.args.solids.now c.requires.solids.small)
-
-pub cut_noted-requires-clause-between : goal.cut_noted-requires-clause-between
-cut_noted-requires-clause-between c = subst AreForcedBetween (sym c.requires.solids.rows_are) c.requires.solids.between
+pub cut_noted-requires-clause-rows : goal.cut_noted-requires-clause-rows
+cut_noted-requires-clause-rows c =
+    let size = size_is c.args.tree.now c.args.solids.now c.args.rows.now c.requires.solids.rows_are in
+    let some = c.requires.solids.some in
+    let few = c.requires.solids.few in
+    record {
+      some = omega arith;
+      few = omega arith;
+      small = subst (All IsSmallRow) (sym c.requires.solids.rows_are) (small_rows c.args.tree.now c.args.solids.now c.requires.solids.small);
+      between = subst AreForcedBetween (sym c.requires.solids.rows_are) c.requires.solids.between;
+      joins = c.requires.joined;
+    }
 
 pub returns-clause-best : goal.returns-clause-best
 returns-clause-best c = λ list n told.
