@@ -4,7 +4,8 @@ use Rattle.std.specs.Map.{lookup}
 use Rattle.std.specs.Ordering.{int_eq}
 use Rattle.boxes.specs.Tree.{Tree}
 use Rattle.boxes.specs.declared.leaf.Leaf.{Leaf}
-use Rattle.line_fill.specs.Kept.{Asked, Holds, IsLeafAt}
+use Rattle.metrics.specs.Face.{FontFace}
+use Rattle.line_fill.specs.Kept.{AreKept, Asked, Holds, IsLeafAt}
 use Rattle.line_fill.specs.Keys.{key_of}
 use Rattle.line_fill.specs.declared.kept.KeptLeaf.{KeptLeaf}
 
@@ -35,7 +36,12 @@ ArePlaced number t lines = (l at : ℕ) (measure : ℤ) (leaf : Leaf) →
     place_in lines.places (number, l, measure) ≡ Some at → slice_get t.leaves l ≡ Some leaf →
     IsLeafAt lines.kept at (key_of leaf) measure
 
--- this stays so for a tree, and for those that have other numbers
+-- kept lines of some faces, with places of the leaves of a tree with a number
+pub record AreLinesOf (faces : List FontFace) (number : ℕ) (t : Tree) (lines : KeptLinesView) : Type 0 where
+  pub kept : AreKept faces lines.kept
+  pub placed : ArePlaced number t lines
+
+-- places that are noted stay those of their leaves, for a tree, and for those that have other numbers
 abbrev pub StayPlaced : ℕ → Tree → KeptLinesView → KeptLinesView → Type 0
 StayPlaced number t old new = (other : ℕ) (tree : Tree) → (other ≡ number → tree ≡ t) →
     ArePlaced other tree old → ArePlaced other tree new

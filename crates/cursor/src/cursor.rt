@@ -8,7 +8,7 @@ ghost use Rattle.cursor.specs.Asks.{AsksNext};
 ghost use Rattle.cursor.specs.Conditions.{CanBeLaidOut, IsGreedy};
 ghost use Rattle.cursor.specs.Cursors.{CanGoOn, next_place};
 ghost use Rattle.cursor.specs.Fields.{solid_view};
-ghost use Rattle.cursor.specs.KeptLines.{ArePlaced, StayPlaced};
+ghost use Rattle.cursor.specs.KeptLines.{AreLinesOf, StayPlaced};
 ghost use Rattle.cursor.specs.Remainder.{IsSmallSolid, IsSolid, steps_of};
 ghost use Rattle.seams.specs.Runs.{solid_after};
 
@@ -125,8 +125,7 @@ impl<'t> Cursor<'t> {
         lines: &mut KeptLines,
         steps: &mut Steps<L>,
     ) -> Result<Option<Solid<'t>>, NoMem>
-        requires kept { AreKept self.old.faces lines.old.kept }
-        requires places { ArePlaced number self.old.tree lines.old }
+        requires { AreLinesOf self.old.faces number self.old.tree lines.old }
         ensures solid { IfOk result (λ o. MatchOption o (solid_after self.old.tree self.old.at.event ≡ None)
             (λ s. IsSolid self.old.faces self.old.tree self.old.width self.old.at (solid_view s))) }
         ensures goes { MatchResult result

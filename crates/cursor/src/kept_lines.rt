@@ -10,7 +10,7 @@ ghost use Rattle.boxes.specs.declared.leaf.Leaf.{Leaf};
 ghost use Rattle.line_fill.specs.LineEnd.{IsLine};
 ghost use Rattle.line_fill.specs.Keys.{key_of};
 ghost use Rattle.line_fill.specs.Kept.{AreKept, Asked, HasAsked, HasTurned, Holds, HoldsSame, IsLeafAt, asked_of};
-ghost use Rattle.cursor.specs.KeptLines.{ArePlaced, StayPlaced, lines_with};
+ghost use Rattle.cursor.specs.KeptLines.{AreLinesOf, ArePlaced, StayPlaced, lines_with};
 
 use crate::leaf_places::{LeafNumber, LeafPlaces};
 use bk_num::name::NoMem;
@@ -99,8 +99,7 @@ impl KeptLines {
         requires faced { All (λ s. s.face.0 < length faces.now) leaf.now.spans }
         requires from { from < length leaf.now.text }
         requires measure { unsigned_abs measure ≤ 2 ^ 40 }
-        requires kept { AreKept faces.now self.old.kept }
-        requires placed { ArePlaced number.tree tree.now self.old }
+        requires lines { AreLinesOf faces.now number.tree tree.now self.old }
         ensures line { IfOk result (λ line. IsLine faces.now leaf.now from measure line) }
         ensures end { IfOk result (λ line. IsCharBoundary leaf.now.text line.to) }
         ensures kept { AreKept faces.now self.new.kept }

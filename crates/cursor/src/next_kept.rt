@@ -8,7 +8,7 @@ ghost use Rattle.line_fill.specs.Kept.{AreKept, HoldsSame};
 ghost use Rattle.cursor.specs.Asks.{AsksForLine, AsksNext, IsHeldNow, KeepsHeld, TakesSteps};
 ghost use Rattle.cursor.specs.Conditions.{CanBeLaidOut, IsNext};
 ghost use Rattle.cursor.specs.Fields.{solid_view};
-ghost use Rattle.cursor.specs.KeptLines.{ArePlaced, StayPlaced};
+ghost use Rattle.cursor.specs.KeptLines.{AreLinesOf, StayPlaced};
 ghost use Rattle.cursor.specs.Remainder.{IsSmallSolid, IsSolid, steps_of};
 ghost use Rattle.seams.specs.Runs.{solid_after};
 ghost use Rattle.seams.specs.Widths.{widths_at};
@@ -48,8 +48,7 @@ fn line_solid_kept<'t, L: Ledger>(
     requires tree { CanBeLaidOut faces.now tree.now }
     requires next { IsNext tree.now width from widths.old found.event }
     requires leaf { slice_get tree.now.events found.event ≡ Some (event.Leaf found.number) }
-    requires kept { AreKept faces.now lines.old.kept }
-    requires places { ArePlaced number tree.now lines.old }
+    requires lines { AreLinesOf faces.now number tree.now lines.old }
     ensures solid { IfOk result (λ s. IsSolid faces.now tree.now width from (solid_view s)) }
     ensures small { IfOk result (λ s. IsSmallSolid (solid_view s)) }
     ensures kind { IfOk result (λ s. s.kind ≡ SolidKind.Line) }
@@ -111,8 +110,7 @@ pub fn next_solid_kept<'t, L: Ledger>(
     requires low { pos 0 ≤ℤ width }
     requires high { width ≤ℤ pos (2 ^ 30) }
     requires widths { widths.old ≡ widths_at tree.now width from }
-    requires kept { AreKept faces.now lines.old.kept }
-    requires places { ArePlaced number tree.now lines.old }
+    requires lines { AreLinesOf faces.now number tree.now lines.old }
     ensures solid { IfOk result (λ o. MatchOption o (solid_after tree.now from.event ≡ None)
         (λ s. IsSolid faces.now tree.now width from (solid_view s))) }
     ensures placed { IfOk result (λ o. IfSome o (λ s. Holds tree.now s.placed_at)) }

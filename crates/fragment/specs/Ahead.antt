@@ -1,5 +1,5 @@
 -- The solids that are read, from page to page.
-use Rattle.std.specs.Prelude.{◌≡◌, ℕ, zero, suc, ℤ, ◌≤◌, ◌<◌, List, [], ◌∷◌, Some, true, length, map, take, drop, slice_get}
+use Rattle.std.specs.Prelude.{◌≡◌, ℕ, zero, suc, ℤ, pos, ◌^◌, ◌≤ℤ◌, ◌≤◌, ◌<◌, List, [], ◌∷◌, Some, true, length, map, take, drop, slice_get}
 use Rattle.std.specs.List.{All}
 use Rattle.metrics.specs.Face.{FontFace}
 use Rattle.boxes.specs.Steps.{IsRun}
@@ -12,6 +12,8 @@ use Rattle.cuts.specs.Rows.{is_joined}
 use Rattle.cuts.specs.declared.row.SolidRow.{SolidRow}
 use Rattle.line_fill.specs.declared.kept.KeptLeaf.{KeptLeaf}
 use Rattle.page_list.specs.Cuts.{rows_of}
+use Rattle.seams.specs.Widths.{widths_at}
+use Rattle.seams.specs.declared.open_box.OpenBox.{OpenBox}
 use Rattle.fragment.specs.declared.ahead.Ahead.{Ahead}
 use Rattle.fragment.specs.declared.ahead.JoinedLines.{JoinedLines}
 
@@ -59,6 +61,14 @@ pub record IsPageAhead (faces : List FontFace) (t : Tree) (width : ℤ) (kept : 
   pub are : AreAhead faces t width kept from (page_of a)
   pub rows : a.rows.items ≡ rows_of t (map solid_view a.solids.items)
   pub joined : AreJoinedWithin a.joined a.rows.items
+
+-- a page is read on behind all that is read of it, in a frame of a width from 0 to 2^30 units, with the widths there
+pub record CanReadOn (faces : List FontFace) (t : Tree) (kept : List KeptLeaf) (from : Position)
+    (widths : List OpenBox) (a : Ahead) : Type 0 where
+  pub low : pos 0 ≤ℤ a.width
+  pub high : a.width ≤ℤ pos (2 ^ 30)
+  pub are : IsPageAhead faces t a.width kept from a
+  pub widths_is : widths ≡ widths_at t a.width (end_of from (page_of a) (length (page_of a)))
 
 -- those that are read for some page
 abbrev pub IsAhead : List FontFace → Tree → List KeptLeaf → Ahead → Type 0

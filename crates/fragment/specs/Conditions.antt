@@ -6,6 +6,7 @@ use Rattle.boxes.specs.Frames.{IsGoodFrame}
 use Rattle.boxes.specs.Tree.{Tree, Holds}
 use Rattle.boxes.specs.declared.flow.Flow.{Flow}
 use Rattle.boxes.specs.declared.frames.Frame.{Frame}
+use Rattle.boxes.specs.declared.place.Position.{Position}
 use Rattle.cursor.specs.Fields.{solid_view}
 use Rattle.cursor.specs.KeptLines.{KeptLinesView}
 use Rattle.cursor.specs.Remainder.{IsSmallSolid}
@@ -15,7 +16,7 @@ use Rattle.cuts.specs.declared.row.PageRoom.{PageRoom}
 use Rattle.cuts.specs.declared.row.SolidRow.{SolidRow}
 use Rattle.cursor.specs.declared.solid.Solid.{Solid}
 use Rattle.metrics.specs.Face.{FontFace}
-use Rattle.note_list.specs.Conditions.{CanBePaged, IsAtSolid, IsHeld, NotesAscend}
+use Rattle.note_list.specs.Conditions.{AreCarried, CanBePaged, IsAtSolid, IsHeld, NotesAscend}
 use Rattle.note_list.specs.Kept.{AreFlowLines}
 use Rattle.note_list.specs.Reads.{EndInNotes, IsReady}
 use Rattle.note_list.specs.declared.carried.Carried.{Carried}
@@ -34,6 +35,13 @@ pub record ArePageSolids (t : Tree) (solids : List Solid) (rows : List SolidRow)
   pub small : All (λ s. IsSmallSolid (solid_view s)) solids
   pub between : AreForcedBetween (rows_of t (map solid_view solids))
   pub rows_are : rows ≡ rows_of t (map solid_view solids)
+
+-- a page of a frame begins at a place of a flow, and what is carried to it goes on at solids
+pub record BeginsPage (f : Flow) (at : Position) (parts : List Carried) (page : Frame) : Type 0 where
+  pub holds : Holds f.main at
+  pub carried : AreCarried f at parts
+  pub stands : All (IsAtSolid f.notes) parts
+  pub frame : IsGoodFrame page
 
 -- the notes of a page are read, and what is carried to it is of notes below the first that is called on it, in order,
 -- and goes on at solids

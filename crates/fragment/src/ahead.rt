@@ -6,11 +6,11 @@ ghost use Rattle.boxes.specs.Tree.{Holds, Tree, depth_of};
 ghost use Rattle.boxes.specs.declared.place.Position.{Position};
 ghost use Rattle.cursor.specs.Asks.{AsksNext, KeepsHeld, TakesSteps};
 ghost use Rattle.cursor.specs.Conditions.{CanBeLaidOut};
-ghost use Rattle.cursor.specs.KeptLines.{ArePlaced, StayPlaced};
+ghost use Rattle.cursor.specs.KeptLines.{AreLinesOf, StayPlaced};
 ghost use Rattle.cursor.specs.Remainder.{SolidView, steps_of};
 ghost use Rattle.cursor.specs.declared.solid.Solid.{Solid};
 ghost use Rattle.cuts.specs.Prefixes.{AreJoined};
-ghost use Rattle.fragment.specs.Ahead.{AreJoinedWithin, IsAhead, IsPageAhead, end_of, page_of};
+ghost use Rattle.fragment.specs.Ahead.{AreJoinedWithin, CanReadOn, IsAhead, IsPageAhead, end_of, page_of};
 ghost use Rattle.line_fill.specs.Kept.{AreKept};
 ghost use Rattle.line_fill.specs.declared.kept.KeptLeaf.{KeptLeaf};
 ghost use Rattle.metrics.specs.Face.{FontFace};
@@ -250,14 +250,9 @@ impl<'t> Ahead<'t> {
     ) -> Result<bool, NoMem>
         requires tree { CanBeLaidOut faces.now tree.now }
         requires holds { Holds tree.now from }
-        requires low { pos 0 ≤ℤ self.old.width }
-        requires high { self.old.width ≤ℤ pos (2 ^ 30) }
-        requires ahead { IsPageAhead faces.now tree.now self.old.width lines.old.kept from self.old }
+        requires page { CanReadOn faces.now tree.now lines.old.kept from widths.old self.old }
         requires number { number ≤ length (page_of self.old) }
-        requires widths { widths.old ≡ widths_at tree.now self.old.width
-            (end_of from (page_of self.old) (length (page_of self.old))) }
-        requires kept { AreKept faces.now lines.old.kept }
-        requires places { ArePlaced 0 tree.now lines.old }
+        requires lines { AreLinesOf faces.now 0 tree.now lines.old }
         ensures width { self.new.width ≡ self.old.width }
         ensures ahead { IfOk result (λ ended.
             IsPageAhead faces.now tree.now self.old.width lines.new.kept from self.new) }

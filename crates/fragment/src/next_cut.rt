@@ -5,6 +5,7 @@ ghost use Rattle.boxes.specs.Frames.{IsGoodFrame};
 ghost use Rattle.boxes.specs.Tree.{Holds};
 ghost use Rattle.cursor.specs.Asks.{KeepsHeld, TakesSteps};
 ghost use Rattle.fragment.specs.Ahead.{IsAhead};
+ghost use Rattle.fragment.specs.Conditions.{BeginsPage};
 ghost use Rattle.fragment.specs.Kept.{IsPageHeld};
 ghost use Rattle.fragment.specs.Misses.{NoLaterFits};
 ghost use Rattle.note_list.specs.Conditions.{AreCarried, CanBePaged, IsAtSolid};
@@ -47,10 +48,7 @@ pub(crate) fn cut_page<'t, L: Ledger>(
     steps: &mut Steps<L>,
 ) -> Result<Cut, NoMem>
     requires flow { CanBePaged faces.now flow.now }
-    requires holds { Holds flow.now.main from.at }
-    requires carried { AreCarried flow.now from.at carried }
-    requires stands { All (IsAtSolid flow.now.notes) carried }
-    requires frame { IsGoodFrame frame }
+    requires page { BeginsPage flow.now from.at carried frame }
     requires kept { AreFlowLines faces.now flow.now lines.old }
     requires ahead { IsAhead faces.now flow.now.main lines.old.kept ahead.old }
     ensures kept { AreFlowLines faces.now flow.now lines.new }

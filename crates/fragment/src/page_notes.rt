@@ -10,7 +10,7 @@ ghost use Rattle.cuts.specs.Areas.{IsArea, area_after};
 ghost use Rattle.note_list.specs.Conditions.{AreCarried, CanBePaged};
 ghost use Rattle.note_list.specs.declared.carried.Carried.{Carried};
 ghost use Rattle.note_list.specs.Kept.{AreFlowLines, AreHeldNow};
-ghost use Rattle.note_list.specs.Reads.{EndInNotes, IsReady};
+ghost use Rattle.note_list.specs.Reads.{IsPageList};
 ghost use Rattle.note_list.specs.Known.{StepsForNotes};
 ghost use Rattle.note_list.specs.Short.{IsShortList};
 ghost use Rattle.fragment.specs.Reads.{AreRead, called_by};
@@ -103,8 +103,7 @@ impl PageNotes {
         requires flow { CanBePaged faces.now flow.now }
         requires holds { Holds flow.now.main end }
         requires frame { IsGoodFrame frame }
-        requires ready { IsReady self.old.list }
-        requires ends { EndInNotes flow.now.notes self.old.list }
+        requires list { IsPageList flow.now.notes self.old.list }
         requires called { self.old.called ≤ called_by flow.now.main flow.now.notes end }
         requires kept { AreFlowLines faces.now flow.now lines.old }
         ensures kept { AreFlowLines faces.now flow.now lines.new }
@@ -149,8 +148,7 @@ impl PageNotes {
         requires flow { CanBePaged faces.now flow.now }
         requires holds { Holds flow.now.main end }
         requires frame { IsGoodFrame frame }
-        requires ready { IsReady self.old.list }
-        requires ends { EndInNotes flow.now.notes self.old.list }
+        requires list { IsPageList flow.now.notes self.old.list }
         requires called { self.old.called ≤ called_by flow.now.main flow.now.notes end }
         requires kept { AreFlowLines faces.now flow.now lines.old }
         ensures kept { AreFlowLines faces.now flow.now lines.new }

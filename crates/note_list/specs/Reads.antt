@@ -33,6 +33,16 @@ pub record IsReady (l : NoteList) : Type 0 where
 abbrev pub EndInNotes : List Note → NoteList → Type 0
 EndInNotes notes l = All (λ s. IsHeld notes (record { note = s.note; at = s.end })) l.solids.items
 
+-- the list of a page's notes is ready, and its solids end at places of their bodies
+pub record IsPageList (notes : List Note) (l : NoteList) : Type 0 where
+  pub ready : IsReady l
+  pub ends : EndInNotes notes l
+
+-- a list is ready, and has room for a solid more
+pub record CanGrow (l : NoteList) : Type 0 where
+  pub ready : IsReady l
+  pub room : l.over ≡ false
+
 -- whether a note that is called on the page begins with one of some solids
 abbrev pub has_begin : List NotedSolid → Bool
 has_begin list = list_any (λ s. s.row.begins) list

@@ -7,7 +7,7 @@ ghost use Rattle.cuts.specs.Areas.{IsArea, Tells};
 ghost use Rattle.note_list.specs.Conditions.{CanBePaged, IsHeld};
 ghost use Rattle.note_list.specs.Kept.{AreFlowLines, AreHeldNow};
 ghost use Rattle.note_list.specs.Lists.{AreNoted, called_parts, note_rows};
-ghost use Rattle.note_list.specs.Reads.{EndInNotes, IsCarriedList, IsReadOf, IsReady};
+ghost use Rattle.note_list.specs.Reads.{EndInNotes, IsCarriedList, IsPageList, IsReadOf, IsReady};
 ghost use Rattle.note_list.specs.Known.{StepsForNotes};
 ghost use Rattle.note_list.specs.Short.{IsShortList};
 ghost use Rattle.note_list.specs.declared.solid.NotedSolid.{NotedSolid};
@@ -110,8 +110,7 @@ impl NoteList {
         requires flow { CanBePaged faces.now flow.now }
         requires frame { IsGoodFrame frame }
         requires within { to ≤ length flow.now.notes }
-        requires ready { IsReady self.old }
-        requires ends { EndInNotes flow.now.notes self.old }
+        requires list { IsPageList flow.now.notes self.old }
         requires kept { AreFlowLines faces.now flow.now lines.old }
         ensures kept { AreFlowLines faces.now flow.now lines.new }
         ensures keeps { KeepsHeld lines.old.kept lines.new.kept }

@@ -6,14 +6,14 @@ ghost use Rattle.boxes.specs.Frames.{IsGoodFrame};
 ghost use Rattle.boxes.specs.Tree.{Holds};
 ghost use Rattle.boxes.specs.declared.flow.Note.{Note};
 ghost use Rattle.cursor.specs.Asks.{KeepsHeld, TakesSteps};
-ghost use Rattle.cursor.specs.KeptLines.{ArePlaced, StayPlaced};
+ghost use Rattle.cursor.specs.KeptLines.{AreLinesOf, StayPlaced};
 ghost use Rattle.cuts.specs.Areas.{IsArea};
 ghost use Rattle.line_fill.specs.Kept.{AreKept};
 ghost use Rattle.note_list.specs.Calls.{start_place};
 ghost use Rattle.note_list.specs.Conditions.{CanBeCut, CanBePaged, IsHeld};
 ghost use Rattle.note_list.specs.Kept.{AreFlowLines, AreHeldNow};
 ghost use Rattle.note_list.specs.Lists.{AreNoted, carried_parts, note_rows};
-ghost use Rattle.note_list.specs.Reads.{EndInNotes, HasReadOn, IsReadOf, IsReady};
+ghost use Rattle.note_list.specs.Reads.{CanGrow, EndInNotes, HasReadOn, IsPageList, IsReadOf, IsReady};
 ghost use Rattle.note_list.specs.Known.{StepsForNotes};
 ghost use Rattle.note_list.specs.Short.{IsShortList};
 ghost use Rattle.note_list.specs.declared.solid.NotedSolid.{NotedSolid};
@@ -142,11 +142,9 @@ impl NoteList {
         requires body { CanBeCut faces.now body.now }
         requires frame { IsGoodFrame frame }
         requires holds { Holds body.now part.at }
-        requires ready { IsReady self.old }
-        requires room { self.old.over ≡ false }
+        requires list { CanGrow self.old }
         requires few { part.note < most_entries }
-        requires kept { AreKept faces.now lines.old.kept }
-        requires placed { ArePlaced (part.note + 1) body.now lines.old }
+        requires lines { AreLinesOf faces.now (part.note + 1) body.now lines.old }
         ensures kept { AreKept faces.now lines.new.kept }
         ensures placed { StayPlaced (part.note + 1) body.now lines.old lines.new }
         ensures keeps { KeepsHeld lines.old.kept lines.new.kept }
@@ -212,8 +210,7 @@ impl NoteList {
         requires frame { IsGoodFrame frame }
         requires held { IsHeld flow.now.notes part }
         requires start { called ≡ true → part.at ≡ start_place }
-        requires ready { IsReady self.old }
-        requires ends { EndInNotes flow.now.notes self.old }
+        requires list { IsPageList flow.now.notes self.old }
         requires kept { AreFlowLines faces.now flow.now lines.old }
         ensures kept { AreFlowLines faces.now flow.now lines.new }
         ensures keeps { KeepsHeld lines.old.kept lines.new.kept }
@@ -256,8 +253,7 @@ impl NoteList {
         requires flow { CanBePaged faces.now flow.now }
         requires frame { IsGoodFrame frame }
         requires carried { All (IsHeld flow.now.notes) carried.now }
-        requires ready { IsReady self.old }
-        requires ends { EndInNotes flow.now.notes self.old }
+        requires list { IsPageList flow.now.notes self.old }
         requires kept { AreFlowLines faces.now flow.now lines.old }
         ensures kept { AreFlowLines faces.now flow.now lines.new }
         ensures keeps { KeepsHeld lines.old.kept lines.new.kept }

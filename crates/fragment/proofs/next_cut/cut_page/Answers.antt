@@ -63,11 +63,10 @@ room_was g c =
     (λ height list is. to_z-of_z w64 c.own_area.result fits ∙ c.own_area.ensures.area height list is)
 
 -- ---- where no solid is left
-pub take-requires-clause-ready : goal.take-requires-clause-ready
-take-requires-clause-ready g c = (read g (goal.at.take-requires-clause-ready g c).In_ok-count).read.ready
-
-pub take-requires-clause-ends : goal.take-requires-clause-ends
-take-requires-clause-ends g c = (read g (goal.at.take-requires-clause-ends g c).In_ok-count).read.held
+pub take-requires-clause-list : goal.take-requires-clause-list
+take-requires-clause-list g c =
+    let all = (read g (goal.at.take-requires-clause-list g c).In_ok-count).read in
+    record { ready = all.ready; ends = all.held }
 
 -- nothing is read where nothing is left
 empty : (g : given.Over) (c : In_ok-count g) → c.in_ok-count.count ≡ 0 → page_views c.prefix.new.ahead c.in_ok-count.count ≡ []
@@ -112,16 +111,16 @@ pub cut_end-requires-clause-cut : goal.cut_end-requires-clause-cut
 cut_end-requires-clause-cut g c =
     let d = (goal.at.cut_end-requires-clause-cut g c).In_ok-count in
     let all = all_read c.args.faces.now c.args.flow.now c.args.frame c.args.from c.args.carried (page_views c.prefix.new.ahead c.in_ok-count.count) c.prefix.new.notes c.take.new.self (empty g d c.if-count-eq0.true) c.in_ok-take.ensures.read (read g d) in
-    let low = c.requires.frame.height_low in
-    let high = c.requires.frame.height_high in
+    let low = c.requires.page.frame.height_low in
+    let high = c.requires.page.frame.height_high in
     record {
       areas = all.small;
       ready = all.ready;
       ends = all.held;
-      carried = c.requires.carried.held;
-      stands = c.requires.stands;
-      order = c.requires.carried.order;
-      before = subst (λ (n : ℕ). All (λ p. p.note < n) c.args.carried) (sym c.in_ok-notes.ensures.read.called) c.requires.carried.called;
+      carried = c.requires.page.carried.held;
+      stands = c.requires.page.stands;
+      order = c.requires.page.carried.order;
+      before = subst (λ (n : ℕ). All (λ p. p.note < n) c.args.carried) (sym c.in_ok-notes.ensures.read.called) c.requires.page.carried.called;
       count = c.requires.flow.count;
       low = omega (arith, ints);
       high = omega (arith, ints);
@@ -144,12 +143,12 @@ returns-then-count-eq0-clause-cut g c =
     (λ height list is. to_z-of_z w64 c.own_area.result fits ∙ c.own_area.ensures.area height list is) in
     let first : c.in_ok-notes.notes.called ≡ called_before c.args.flow.now.main c.args.flow.now.notes c.args.from.at = c.in_ok-notes.ensures.read.called in
     if_ok _ _ c.cut_end.result
-    (λ cut is. end_cut c.args.faces.now c.args.flow.now c.args.frame c.args.from c.args.carried c.requires.flow c.requires.holds c.requires.carried (ended g d c.if-count-eq0.true) c.take.new.self (room g d) all was cut
+    (λ cut is. end_cut c.args.faces.now c.args.flow.now c.args.frame c.args.from c.args.carried c.requires.flow c.requires.page.holds c.requires.page.carried (ended g d c.if-count-eq0.true) c.take.new.self (room g d) all was cut
     (subst (λ (n : ℕ). CutsAt c.args.flow.now c.args.from.kept c.args.frame.height c.args.carried n (λ list. AreTold c.args.frame.height list c.take.new.self.list.own 0 (area_after c.take.new.self.areas.items (length c.take.new.self.areas.items)) (room g d)) c.take.new.self.list [] cut) first
     (subst (λ (z : ℤ). CutsAt c.args.flow.now c.args.from.kept z c.args.carried c.in_ok-notes.notes.called (λ list. AreTold z list c.take.new.self.list.own 0 (area_after c.take.new.self.areas.items (length c.take.new.self.areas.items)) (room g d)) c.take.new.self.list [] cut) (to_z-of_z w64 c.args.frame.height tall) is))) c.cut_end.ensures.cut
 
 pub returns-then-count-eq0-clause-inside : goal.returns-then-count-eq0-clause-inside
-returns-then-count-eq0-clause-inside g c = if_ok _ _ c.cut_end.result (λ cut is. flow_inside c.args.faces.now c.args.flow.now c.args.frame c.args.from c.args.carried cut c.requires.flow.main.is c.requires.frame.width_low is) (returns-then-count-eq0-clause-cut g c)
+returns-then-count-eq0-clause-inside g c = if_ok _ _ c.cut_end.result (λ cut is. flow_inside c.args.faces.now c.args.flow.now c.args.frame c.args.from c.args.carried cut c.requires.flow.main.is c.requires.page.frame.width_low is) (returns-then-count-eq0-clause-cut g c)
 
 -- ---- where some are read
 views_size : (g : given.Over) (c : In_ok-count g) → length (page_views c.prefix.new.ahead c.in_ok-count.count) ≡ c.in_ok-count.count
@@ -193,30 +192,30 @@ cut_solids-requires-clause-solids g c =
     let size : length (map solid_view items) ≡ length items = length-map items solid_view in
     let all : length (map solid_view items) ≡ length views = ap (λ (vs : List SolidView). length vs) same in
     let some = some_read g d c.if-count-eq0.false in
-    let few = prefix_few c.args.faces.now t c.args.frame c.args.from.at c.args.from.kept c.prefix.new.notes.list.own c.prefix.new.notes.areas.items (room g d) c.requires.flow.main.is c.requires.holds views (tells g d) c.requires.flow.main.bytes in
+    let few = prefix_few c.args.faces.now t c.args.frame c.args.from.at c.args.from.kept c.prefix.new.notes.list.own c.prefix.new.notes.areas.items (room g d) c.requires.flow.main.is c.requires.page.holds views (tells g d) c.requires.flow.main.bytes in
     let are = reads_are g d in
     record {
       some = omega (arith, some, size, all);
       few = omega (arith, few, size, all);
       placed = all_views (λ v. Holds t v.placed_at) items (subst (All (λ (v : SolidView). Holds t v.placed_at)) (sym same) (λ k x h. (are k x h).placed));
       small = all_views IsSmallSolid items (subst (All IsSmallSolid) (sym same) (λ k x h. (are k x h).small));
-      between = subst (λ (vs : List SolidView). AreForcedBetween (rows_of t vs)) (sym same) (prefix_between c.args.faces.now t c.args.frame c.args.from.at c.args.from.kept c.prefix.new.notes.list.own c.prefix.new.notes.areas.items (room g d) c.requires.flow.main.is c.requires.holds views (tells g d));
+      between = subst (λ (vs : List SolidView). AreForcedBetween (rows_of t vs)) (sym same) (prefix_between c.args.faces.now t c.args.frame c.args.from.at c.args.from.kept c.prefix.new.notes.list.own c.prefix.new.notes.areas.items (room g d) c.requires.flow.main.is c.requires.page.holds views (tells g d));
       rows_are = c.page_rows-rows.ensures ∙ page_rows_are c.args.faces.now t c.args.frame.width c.prefix.new.lines.kept c.args.from.at c.prefix.new.ahead c.in_ok-count.ensures.ahead c.in_ok-count.count ∙ ap (rows_of t) (sym same);
     }
 
 pub cut_solids-requires-clause-cut : goal.cut_solids-requires-clause-cut
 cut_solids-requires-clause-cut g c =
     let all = (read g (goal.at.cut_solids-requires-clause-cut g c).In_ok-count).read in
-    let low = c.requires.frame.height_low in
-    let high = c.requires.frame.height_high in
+    let low = c.requires.page.frame.height_low in
+    let high = c.requires.page.frame.height_high in
     record {
       areas = all.small;
       ready = all.ready;
       ends = all.held;
-      carried = c.requires.carried.held;
-      stands = c.requires.stands;
-      order = c.requires.carried.order;
-      before = subst (λ (n : ℕ). All (λ p. p.note < n) c.args.carried) (sym c.in_ok-notes.ensures.read.called) c.requires.carried.called;
+      carried = c.requires.page.carried.held;
+      stands = c.requires.page.stands;
+      order = c.requires.page.carried.order;
+      before = subst (λ (n : ℕ). All (λ p. p.note < n) c.args.carried) (sym c.in_ok-notes.ensures.read.called) c.requires.page.carried.called;
       count = c.requires.flow.count;
       low = omega (arith, ints);
       high = omega (arith, ints);
@@ -229,7 +228,7 @@ cut_solids-requires-clause-called g c j some =
     let views : List SolidView = page_views c.prefix.new.ahead c.in_ok-count.count in
     let same : map solid_view c.page-solids.result.now ≡ views = ap (λ (xs : List Solid). map solid_view xs) c.page-solids.ensures ∙ page_views_are c.prefix.new.ahead c.in_ok-count.count in
     let first : c.in_ok-notes.notes.called ≡ called_before t c.args.flow.now.notes c.args.from.at = c.in_ok-notes.ensures.read.called in
-    let low = called_low c.args.faces.now c.args.flow.now c.args.frame c.args.from c.args.carried c.requires.flow c.requires.holds c.requires.carried views c.prefix.new.notes (room g d) (tells g d) (read g d) (room_was g d) j some in
+    let low = called_low c.args.faces.now c.args.flow.now c.args.frame c.args.from c.args.carried c.requires.flow c.requires.page.holds c.requires.page.carried views c.prefix.new.notes (room g d) (tells g d) (read g d) (room_was g d) j some in
     subst (λ (vs : List SolidView). c.in_ok-notes.notes.called ≤ called_before t c.args.flow.now.notes (place_after t (slice_get vs j))) (sym same) (omega (arith, first, low))
 
 pub begin-requires : goal.begin-requires
@@ -237,15 +236,15 @@ begin-requires g c = rows_size c.args.faces.now c.args.flow.now.main c.args.ahea
 
 pub prefix-requires : goal.prefix-requires
 prefix-requires g c =
-    let low = c.requires.frame.height_low in
-    let high = c.requires.frame.height_high in
+    let low = c.requires.page.frame.height_low in
+    let high = c.requires.page.frame.height_high in
     let tall : SFits w64 c.args.frame.height = omega (arith, ints) in
     let least = c.own_area.ensures.small.low in
     let most = c.own_area.ensures.small.high in
     record {
       flow = c.requires.flow;
-      holds = c.requires.holds;
-      frame = c.requires.frame;
+      holds = c.requires.page.holds;
+      frame = c.requires.page.frame;
       kept = refl;
       height = to_z-of_z w64 c.args.frame.height tall;
       carried = record { low = omega (arith, ints); high = omega (arith, ints) };
@@ -268,13 +267,13 @@ returns-clause-cut g c =
     let own = c.prefix.new.notes.list.own in
     let areas = c.prefix.new.notes.areas.items in
     let t : Tree = c.args.flow.now.main in
-    flow_cut c.args.faces.now c.args.flow.now c.args.frame c.args.from c.args.carried c.requires.flow c.requires.holds c.requires.carried views c.prefix.new.notes (room g d) (tells g d) (read g d) (room_was g d) c.requires.frame.width_low c.in_ok-cut.cut (some_read g d c.if-count-eq0.false)
+    flow_cut c.args.faces.now c.args.flow.now c.args.frame c.args.from c.args.carried c.requires.flow c.requires.page.holds c.requires.page.carried views c.prefix.new.notes (room g d) (tells g d) (read g d) (room_was g d) c.requires.page.frame.width_low c.in_ok-cut.cut (some_read g d c.if-count-eq0.false)
     (subst (λ (n : ℕ). CutsAt c.args.flow.now c.args.from.kept c.args.frame.height c.args.carried n (λ list. AreAreas c.args.from.kept (rows_of t views) c.args.frame.height list own areas (room g d)) c.prefix.new.notes.list views c.in_ok-cut.cut) first
     (subst (λ (z : ℤ). CutsAt c.args.flow.now c.args.from.kept z c.args.carried c.in_ok-notes.notes.called (λ list. AreAreas c.args.from.kept (rows_of t views) z list own areas (room g d)) c.prefix.new.notes.list views c.in_ok-cut.cut) (to_z-of_z w64 c.args.frame.height tall)
     (subst (λ (vs : List SolidView). CutsAt c.args.flow.now c.args.from.kept (to_z w64 (of_z w64 c.args.frame.height)) c.args.carried c.in_ok-notes.notes.called (λ list. AreAreas c.args.from.kept (rows_of t vs) (to_z w64 (of_z w64 c.args.frame.height)) list own areas (room g d)) c.prefix.new.notes.list vs c.in_ok-cut.cut) (views_are g (goal.at.returns-clause-cut g c).In_ok-cut) c.in_ok-cut.ensures.cut)))
 
 pub returns-clause-inside : goal.returns-clause-inside
-returns-clause-inside g c = flow_inside c.args.faces.now c.args.flow.now c.args.frame c.args.from c.args.carried c.in_ok-cut.cut c.requires.flow.main.is c.requires.frame.width_low (returns-clause-cut g c)
+returns-clause-inside g c = flow_inside c.args.faces.now c.args.flow.now c.args.frame c.args.from c.args.carried c.in_ok-cut.cut c.requires.flow.main.is c.requires.page.frame.width_low (returns-clause-cut g c)
 
 -- what is held once the page is read
 read_keeps : (g : given.Over) (c : In_ok-count g) → KeepsHeld c.args.lines.now.kept c.prefix.new.lines.kept
@@ -335,7 +334,7 @@ read_steps g c known held =
 pub returns-clause-lines : goal.returns-clause-lines
 returns-clause-lines g c =
     let d = (goal.at.returns-clause-lines g c).In_ok-count in
-    looks_at c.args.faces.now c.args.flow.now c.args.frame c.args.from c.args.carried c.requires.flow c.requires.holds c.requires.carried c.requires.frame.height_low (page_views c.prefix.new.ahead c.in_ok-count.count) c.prefix.new.notes (room g d) (tells g d) (read g d) (room_was g d)
+    looks_at c.args.faces.now c.args.flow.now c.args.frame c.args.from c.args.carried c.requires.flow c.requires.page.holds c.requires.page.carried c.requires.page.frame.height_low (page_views c.prefix.new.ahead c.in_ok-count.count) c.prefix.new.notes (room g d) (tells g d) (read g d) (room_was g d)
     c.args.lines.now.kept c.args.steps.now c.prefix.new.steps c.in_ok-count.ensures.few (c.in_ok-count.ensures.short c.in_ok-notes.ensures.short) (read_steps g d)
 
 end_steps : (g : given.Over) (c : In_ok-count g) (list : List NotedSolid) (steps : ℕ) → c.in_ok-count.count ≡ 0 → StepsForNotes c.args.flow.now.notes c.args.frame.width c.prefix.new.lines.kept c.prefix.new.notes.list.solids.items list c.prefix.new.steps steps →
@@ -351,7 +350,7 @@ returns-then-count-eq0-clause-lines g c =
     let d = (goal.at.returns-then-count-eq0-clause-lines g c).In_ok-count in
     let all = all_read c.args.faces.now c.args.flow.now c.args.frame c.args.from c.args.carried (page_views c.prefix.new.ahead c.in_ok-count.count) c.prefix.new.notes c.take.new.self (empty g d c.if-count-eq0.true) c.in_ok-take.ensures.read (read g d) in
     if_ok _ _ c.cut_end.result
-    (λ cut near. looks_end c.args.faces.now c.args.flow.now c.args.frame c.args.from c.args.carried c.requires.flow c.requires.holds c.requires.carried c.requires.frame.height_low (ended g d c.if-count-eq0.true) c.take.new.self all
+    (λ cut near. looks_end c.args.faces.now c.args.flow.now c.args.frame c.args.from c.args.carried c.requires.flow c.requires.page.holds c.requires.page.carried c.requires.page.frame.height_low (ended g d c.if-count-eq0.true) c.take.new.self all
     c.args.lines.now.kept c.args.steps.now c.take.new.steps (c.in_ok-take.ensures.short (c.in_ok-count.ensures.short c.in_ok-notes.ensures.short)) (end_steps g d c.take.new.self.list.solids.items c.take.new.steps c.if-count-eq0.true c.in_ok-take.ensures.lines))
     c.cut_end.ensures.near
 

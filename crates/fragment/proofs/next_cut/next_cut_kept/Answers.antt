@@ -3,11 +3,16 @@ use Rattle.fragment.proofs.SettledLemmas.{settled_cut, settled_looks}
 use Rattle.fragment.proofs.SolidLemmas.{if_ok}
 use Rattle.fragment.proofs.next_cut.next_cut_kept.Goals as goal
 
-pub cut_page-requires-clause-carried : goal.cut_page-requires-clause-carried
-cut_page-requires-clause-carried g c = record {
-  held = c.in_ok-settled.ensures.held;
-  called = c.in_ok-settled.ensures.below (called_before c.args.flow.now.main c.args.flow.now.notes c.args.from.at) c.requires.carried.called;
-  order = c.in_ok-settled.ensures.order;
+pub cut_page-requires-clause-page : goal.cut_page-requires-clause-page
+cut_page-requires-clause-page g c = record {
+  holds = c.requires.holds;
+  carried = record {
+    held = c.in_ok-settled.ensures.held;
+    called = c.in_ok-settled.ensures.below (called_before c.args.flow.now.main c.args.flow.now.notes c.args.from.at) c.requires.carried.called;
+    order = c.in_ok-settled.ensures.order;
+  };
+  stands = c.in_ok-settled.ensures.stands;
+  frame = c.requires.frame;
 }
 
 pub cut_page-requires-clause-ahead : goal.cut_page-requires-clause-ahead

@@ -29,6 +29,14 @@ use Rattle.fragment.proofs.paginate.flow_pages.Given as given
 use Rattle.fragment.proofs.paginate.flow_pages.Goals.{After-page_of-page}
 use Rattle.fragment.proofs.paginate.flow_pages.Goals as goal
 
+pub cut_page-requires-clause-page : goal.cut_page-requires-clause-page
+cut_page-requires-clause-page g c = record {
+  holds = c.loop-turn.invariant.holds;
+  carried = c.loop-turn.invariant.carries;
+  stands = c.loop-turn.invariant.stands;
+  frame = c.frame-frame.ensures.good;
+}
+
 pub loop-turn-init : goal.loop-turn-init
 loop-turn-init g c = rw c.new-pages.ensures.items (rw c.new-carried.ensures (record {
   holds = start_holds c.args.flow.now.main;

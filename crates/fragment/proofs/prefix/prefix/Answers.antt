@@ -318,14 +318,28 @@ reads_past g c carried free stacked r =
 pub settle-requires-clause-holds : goal.settle-requires-clause-holds
 settle-requires-clause-holds g c = ends_hold c.args.faces.now c.args.flow.now.main c.args.frame.width c.args.lines.now.kept c.args.from.at (page_of c.args.ahead.now) (length (page_of c.args.ahead.now)) c.requires.holds c.requires.ahead_is.are (omega arith)
 
+pub read-requires-clause-page : goal.read-requires-clause-page
+read-requires-clause-page g c =
+    let t : Tree = c.args.flow.now.main in
+    let a : Ahead = c.loop-ended.ahead in
+    let is = c.loop-ended.invariant.ahead in
+    record {
+      low = subst (λ (w : ℤ). pos 0 ≤ℤ w) (sym is.wide) c.requires.frame.width_low;
+      high = subst (λ (w : ℤ). w ≤ℤ pos (2 ^ 30)) (sym is.wide) c.requires.frame.width_high;
+      are = subst (λ (w : ℤ). IsPageAhead c.args.faces.now t w c.loop-ended.lines.kept c.args.from.at a) (sym is.wide) is;
+      widths_is = c.loop-ended.invariant.widths ∙ ap (λ (w : ℤ). widths_at t w (end_of c.args.from.at (page_of a) (length (page_of a)))) (sym is.wide);
+    }
+
+pub read-requires-clause-lines : goal.read-requires-clause-lines
+read-requires-clause-lines g c = record { kept = c.loop-ended.invariant.kept.kept; placed = c.loop-ended.invariant.kept.main }
+
 pub area-requires : goal.area-requires
 area-requires g c = (first_read g (goal.at.area-requires g c).After-row).read.small
 
-pub take_inside-requires-clause-ready : goal.take_inside-requires-clause-ready
-take_inside-requires-clause-ready g c = (first_read g (goal.at.take_inside-requires-clause-ready g c).After-row).read.ready
-
-pub take_inside-requires-clause-ends : goal.take_inside-requires-clause-ends
-take_inside-requires-clause-ends g c = (first_read g (goal.at.take_inside-requires-clause-ends g c).After-row).read.held
+pub take_inside-requires-clause-list : goal.take_inside-requires-clause-list
+take_inside-requires-clause-list g c =
+    let all = (first_read g (goal.at.take_inside-requires-clause-list g c).After-row).read in
+    record { ready = all.ready; ends = all.held }
 
 pub take_inside-requires-clause-kept : goal.take_inside-requires-clause-kept
 take_inside-requires-clause-kept g c = main_lines c.args.faces.now c.args.flow.now c.loop-ended.lines c.read.new.lines c.loop-ended.invariant.kept c.read.ensures.kept c.read.ensures.places

@@ -4,7 +4,7 @@ use Rattle.std.proofs.lemmas.Int.{ints, to_z-of_z}
 use Rattle.cursor.specs.Cursors.{CursorView}
 use Rattle.cursor.specs.Fields.{solid_view}
 use Rattle.cursor.specs.Remainder.{IsSolid}
-use Rattle.cursor.specs.KeptLines.{StayPlaced}
+use Rattle.cursor.specs.KeptLines.{AreLinesOf, StayPlaced}
 use Rattle.line_fill.specs.Kept.{AreKept}
 use Rattle.seams.specs.Widths.{widths_at}
 use Rattle.cursor.proofs.cursor.Cursor.next_kept.Goals as goal
@@ -18,8 +18,8 @@ returns-in-Ok-Some-clause-solid g c =
     subst (λ (v : CursorView). IsSolid v.faces v.tree v.width v.at (solid_view c.in-Ok-Some.solid)) c.self.view_is
     (subst (λ (w : ℤ). IsSolid c.self.inside.faces.now c.self.inside.tree.now w c.self.inside.at (solid_view c.in-Ok-Some.solid)) (to_z-of_z w64 c.self.inside.width wide) is)
 
-pub next_solid_kept-requires-clause-kept : goal.next_solid_kept-requires-clause-kept
-next_solid_kept-requires-clause-kept g c = subst (λ (v : CursorView). AreKept v.faces c.args.lines.now.kept) (sym c.self.view_is) c.requires.kept
+pub next_solid_kept-requires-clause-lines : goal.next_solid_kept-requires-clause-lines
+next_solid_kept-requires-clause-lines g c = subst (λ (v : CursorView). AreLinesOf v.faces c.args.number v.tree c.args.lines.now) (sym c.self.view_is) c.requires
 
 pub invariant_of-self-in-Ok-Some : goal.invariant_of-self-in-Ok-Some
 invariant_of-self-in-Ok-Some g c =

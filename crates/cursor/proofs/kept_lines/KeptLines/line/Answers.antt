@@ -13,11 +13,11 @@ pub place-requires-clause-leaf : goal.place-requires-clause-leaf
 place-requires-clause-leaf g c = slice_get_within c.args.tree.now.leaves c.args.number.leaf c.args.leaf.now c.requires.leaf
 
 pub place-requires-clause-placed : goal.place-requires-clause-placed
-place-requires-clause-placed g c = subst (ArePlaced c.args.number.tree c.args.tree.now) (sym c.self.view_is) c.requires.placed
+place-requires-clause-placed g c = subst (ArePlaced c.args.number.tree c.args.tree.now) (sym c.self.view_is) c.requires.lines.placed
 
 pub returns-in_err-at-clause-kept : goal.returns-in_err-at-clause-kept
 returns-in_err-at-clause-kept g c =
-    kept_same c.args.faces.now c.self.inside.kept c.place.new.kept c.place.ensures.same (subst (λ (v : KeptLinesView). AreKept c.args.faces.now v.kept) (sym c.self.view_is) c.requires.kept)
+    kept_same c.args.faces.now c.self.inside.kept c.place.new.kept c.place.ensures.same (subst (λ (v : KeptLinesView). AreKept c.args.faces.now v.kept) (sym c.self.view_is) c.requires.lines.kept)
 
 pub returns-in_err-at-clause-placed : goal.returns-in_err-at-clause-placed
 returns-in_err-at-clause-placed g c =
@@ -25,7 +25,7 @@ returns-in_err-at-clause-placed g c =
 
 pub line_in-requires-clause-kept : goal.line_in-requires-clause-kept
 line_in-requires-clause-kept g c =
-    kept_same c.args.faces.now c.self.inside.kept c.place.new.kept c.place.ensures.same (subst (λ (v : KeptLinesView). AreKept c.args.faces.now v.kept) (sym c.self.view_is) c.requires.kept)
+    kept_same c.args.faces.now c.self.inside.kept c.place.new.kept c.place.ensures.same (subst (λ (v : KeptLinesView). AreKept c.args.faces.now v.kept) (sym c.self.view_is) c.requires.lines.kept)
 
 pub returns-clause-asked : goal.returns-clause-asked
 returns-clause-asked g c =

@@ -22,7 +22,7 @@ use Rattle.fragment.proofs.ahead.Ahead.read.Goals.{Else-is_err, In-Some}
 
 -- ---- a solid that is read already
 pub returns-then-number-count-clause-ahead : goal.returns-then-number-count-clause-ahead
-returns-then-number-count-clause-ahead g c = c.requires.ahead
+returns-then-number-count-clause-ahead g c = c.requires.page.are
 
 pub returns-then-number-count-clause-more : goal.returns-then-number-count-clause-more
 returns-then-number-count-clause-more g c = ([], sym (append-nil (page_of c.args.self.now)))
@@ -41,7 +41,7 @@ returns-then-number-count-clause-asks g c =
     let size = page_size c.args.self.now in
     let less = c.if-number-count.true in
     let s = slice_get_at (page_of c.args.self.now) c.args.number (omega (arith, size, less)) in
-    let are = c.requires.ahead.are in
+    let are = c.requires.page.are.are in
     subst (λ (o : Option SolidView). AsksNext c.args.tree.now c.args.self.now.width o c.args.lines.now.kept c.args.lines.now.kept c.args.steps.now c.args.steps.now) (sym s.1)
     (asks_again c.args.faces.now c.args.tree.now c.args.self.now.width (end_of c.args.from (page_of c.args.self.now) c.args.number) s.0 c.args.lines.now.kept c.args.steps.now
     (solid_next c.args.faces.now c.args.tree.now c.args.self.now.width c.args.lines.now.kept c.args.from (page_of c.args.self.now) c.args.number s.0 are s.1)
@@ -67,26 +67,26 @@ all_read a n past = let size = page_size a in omega (arith, size, past)
 pub next_solid_kept-requires-clause-holds : goal.next_solid_kept-requires-clause-holds
 next_solid_kept-requires-clause-holds g c =
     subst (Holds c.args.tree.now) (sym (end_is_at c.args.self.now c.args.from c.end_of-at.result c.len.result (c.len.ensures ∙ c.args.self.now.solids.ok.0) c.end_of-at.ensures))
-    (ends_hold c.args.faces.now c.args.tree.now c.args.self.now.width c.args.lines.now.kept c.args.from (page_of c.args.self.now) (length (page_of c.args.self.now)) c.requires.holds c.requires.ahead.are (omega arith))
+    (ends_hold c.args.faces.now c.args.tree.now c.args.self.now.width c.args.lines.now.kept c.args.from (page_of c.args.self.now) (length (page_of c.args.self.now)) c.requires.holds c.requires.page.are.are (omega arith))
 
 -- ---- none is left
 pub returns-in_default-next-clause-asks : goal.returns-in_default-next-clause-asks
 returns-in_default-next-clause-asks g c =
     subst (λ (o : Option SolidView). AsksNext c.args.tree.now c.args.self.now.width o c.args.lines.now.kept c.next_solid_kept.new.lines.kept c.args.steps.now c.next_solid_kept.new.steps) (sym (past_none (page_of c.args.self.now) c.args.number (all_read c.args.self.now c.args.number (omega (arith, c.if-number-count.false)))))
-    (subst (λ (w : ℤ). AsksNext c.args.tree.now w None c.args.lines.now.kept c.next_solid_kept.new.lines.kept c.args.steps.now c.next_solid_kept.new.steps) (wide c.args.self.now.width c.requires.low c.requires.high) (rw c.in_default-next.is at c.in-Ok.ensures.asks))
+    (subst (λ (w : ℤ). AsksNext c.args.tree.now w None c.args.lines.now.kept c.next_solid_kept.new.lines.kept c.args.steps.now c.next_solid_kept.new.steps) (wide c.args.self.now.width c.requires.page.low c.requires.page.high) (rw c.in_default-next.is at c.in-Ok.ensures.asks))
 
 -- ---- the next one
 solid_is : (g : given.Over) (c : In-Some g) → IsSolid c.args.faces.now c.args.tree.now c.args.self.now.width (end_of c.args.from (page_of c.args.self.now) (length (page_of c.args.self.now))) (solid_view c.in-Some.solid)
 solid_is g c =
     subst (λ (p : Position). IsSolid c.args.faces.now c.args.tree.now c.args.self.now.width p (solid_view c.in-Some.solid)) (end_is_at c.args.self.now c.args.from c.end_of-at.result c.len.result (c.len.ensures ∙ c.args.self.now.solids.ok.0) c.end_of-at.ensures)
-    (subst (λ (w : ℤ). IsSolid c.args.faces.now c.args.tree.now w c.end_of-at.result (solid_view c.in-Some.solid)) (wide c.args.self.now.width c.requires.low c.requires.high) (rw c.in-Some.is at c.in-Ok.ensures.solid))
+    (subst (λ (w : ℤ). IsSolid c.args.faces.now c.args.tree.now w c.end_of-at.result (solid_view c.in-Some.solid)) (wide c.args.self.now.width c.requires.page.low c.requires.page.high) (rw c.in-Some.is at c.in-Ok.ensures.solid))
 
 solid_reads : (g : given.Over) (c : In-Some g) → IsReadSolid c.args.tree.now c.args.self.now.width c.next_solid_kept.new.lines.kept (solid_view c.in-Some.solid)
 solid_reads g c = record {
   placed = rw c.in-Some.is at c.in-Ok.ensures.placed;
   ends = rw c.in-Some.is at c.in-Ok.ensures.holds;
   small = rw c.in-Some.is at c.in-Ok.ensures.small;
-  held = subst (λ (w : ℤ). IsHeldNow c.args.tree.now w c.next_solid_kept.new.lines.kept c.in-Some.solid.placed_at) (wide c.args.self.now.width c.requires.low c.requires.high) (rw c.in-Some.is at c.in-Ok.ensures.now);
+  held = subst (λ (w : ℤ). IsHeldNow c.args.tree.now w c.next_solid_kept.new.lines.kept c.in-Some.solid.placed_at) (wide c.args.self.now.width c.requires.page.low c.requires.page.high) (rw c.in-Some.is at c.in-Ok.ensures.now);
 }
 
 abbrev read_on : (g : given.Over) → Else-is_err g → Ahead
@@ -98,7 +98,7 @@ items_are g c =
     c.push.ensures.items ∙ rw ok refl ∙ ap (λ (xs : List Solid). xs ++ c.in-Some.solid ∷ []) c.push_row.ensures.solids
 
 page_now : (g : given.Over) (c : Else-is_err g) → IsPageAhead c.args.faces.now c.args.tree.now c.args.self.now.width c.next_solid_kept.new.lines.kept c.args.from c.args.self.now
-page_now g c = page_on c.args.faces.now c.args.tree.now c.args.self.now.width c.args.lines.now.kept c.next_solid_kept.new.lines.kept c.args.from c.args.self.now c.next_solid_kept.ensures.keeps c.requires.ahead
+page_now g c = page_on c.args.faces.now c.args.tree.now c.args.self.now.width c.args.lines.now.kept c.next_solid_kept.new.lines.kept c.args.from c.args.self.now c.next_solid_kept.ensures.keeps c.requires.page.are
 
 -- it stands after all that are read
 here : (a : Ahead) (n : ℕ) → n ≤ length (page_of a) → length a.solids.items - a.first ≤ n → n ≡ length (page_of a)
@@ -109,30 +109,30 @@ returns-clause-ahead g c =
     let some = (goal.at.returns-clause-ahead g c).In-Some in
     let d = (goal.at.returns-clause-ahead g c).Else-is_err in
     page_pushed c.args.faces.now c.args.tree.now c.args.self.now.width c.next_solid_kept.new.lines.kept c.args.from c.args.self.now (read_on g d) c.in-Some.solid c.row_of.result (page_now g d) (items_are g d) c.in_ok-push_row.ensures.rows c.row_of.ensures
-    (c.in_ok-push_row.ensures.joined c.requires.ahead.joined) c.push_row.ensures.width c.push_row.ensures.first (solid_is g some) (solid_reads g some)
+    (c.in_ok-push_row.ensures.joined c.requires.page.are.joined) c.push_row.ensures.width c.push_row.ensures.first (solid_is g some) (solid_reads g some)
 
 pub returns-clause-more : goal.returns-clause-more
 returns-clause-more g c =
     let d = (goal.at.returns-clause-more g c).Else-is_err in
-    (solid_view c.in-Some.solid ∷ [], page_grows c.args.self.now (read_on g d) c.in-Some.solid c.requires.ahead.within (items_are g d) c.push_row.ensures.first)
+    (solid_view c.in-Some.solid ∷ [], page_grows c.args.self.now (read_on g d) c.in-Some.solid c.requires.page.are.within (items_are g d) c.push_row.ensures.first)
 
 pub returns-clause-widths : goal.returns-clause-widths
 returns-clause-widths g c =
     let d = (goal.at.returns-clause-widths g c).Else-is_err in
     (rw c.in-Some.is at c.in-Ok.ensures.widths)
-    ∙ ap (λ (w : ℤ). widths_at c.args.tree.now w c.in-Some.solid.end) (wide c.args.self.now.width c.requires.low c.requires.high)
-    ∙ ap (widths_at c.args.tree.now c.args.self.now.width) (sym (page_end c.args.from c.args.self.now (read_on g d) (solid_view c.in-Some.solid) (page_grows c.args.self.now (read_on g d) c.in-Some.solid c.requires.ahead.within (items_are g d) c.push_row.ensures.first)))
+    ∙ ap (λ (w : ℤ). widths_at c.args.tree.now w c.in-Some.solid.end) (wide c.args.self.now.width c.requires.page.low c.requires.page.high)
+    ∙ ap (widths_at c.args.tree.now c.args.self.now.width) (sym (page_end c.args.from c.args.self.now (read_on g d) (solid_view c.in-Some.solid) (page_grows c.args.self.now (read_on g d) c.in-Some.solid c.requires.page.are.within (items_are g d) c.push_row.ensures.first)))
 
 pub returns-clause-asks : goal.returns-clause-asks
 returns-clause-asks g c =
     let d = (goal.at.returns-clause-asks g c).Else-is_err in
     subst (λ (o : Option SolidView). AsksNext c.args.tree.now c.args.self.now.width o c.args.lines.now.kept c.next_solid_kept.new.lines.kept c.args.steps.now c.next_solid_kept.new.steps)
-    (sym (page_last c.args.self.now (read_on g d) (solid_view c.in-Some.solid) c.args.number (page_grows c.args.self.now (read_on g d) c.in-Some.solid c.requires.ahead.within (items_are g d) c.push_row.ensures.first) (here c.args.self.now c.args.number c.requires.number (omega (arith, c.if-number-count.false)))))
-    (subst (λ (w : ℤ). AsksNext c.args.tree.now w (Some (solid_view c.in-Some.solid)) c.args.lines.now.kept c.next_solid_kept.new.lines.kept c.args.steps.now c.next_solid_kept.new.steps) (wide c.args.self.now.width c.requires.low c.requires.high) (rw c.in-Some.is at c.in-Ok.ensures.asks))
+    (sym (page_last c.args.self.now (read_on g d) (solid_view c.in-Some.solid) c.args.number (page_grows c.args.self.now (read_on g d) c.in-Some.solid c.requires.page.are.within (items_are g d) c.push_row.ensures.first) (here c.args.self.now c.args.number c.requires.number (omega (arith, c.if-number-count.false)))))
+    (subst (λ (w : ℤ). AsksNext c.args.tree.now w (Some (solid_view c.in-Some.solid)) c.args.lines.now.kept c.next_solid_kept.new.lines.kept c.args.steps.now c.next_solid_kept.new.steps) (wide c.args.self.now.width c.requires.page.low c.requires.page.high) (rw c.in-Some.is at c.in-Ok.ensures.asks))
 
 pub returns-clause-step : goal.returns-clause-step
 returns-clause-step g c =
     let d = (goal.at.returns-clause-step g c).Else-is_err in
     subst (λ (o : Option SolidView). MatchOption o (c.next_solid_kept.new.steps ≡ c.args.steps.now) (λ x. c.next_solid_kept.new.steps ≤ c.args.steps.now + steps_of x))
-    (sym (page_last c.args.self.now (read_on g d) (solid_view c.in-Some.solid) c.args.number (page_grows c.args.self.now (read_on g d) c.in-Some.solid c.requires.ahead.within (items_are g d) c.push_row.ensures.first) (here c.args.self.now c.args.number c.requires.number (omega (arith, c.if-number-count.false)))))
+    (sym (page_last c.args.self.now (read_on g d) (solid_view c.in-Some.solid) c.args.number (page_grows c.args.self.now (read_on g d) c.in-Some.solid c.requires.page.are.within (items_are g d) c.push_row.ensures.first) (here c.args.self.now c.args.number c.requires.number (omega (arith, c.if-number-count.false)))))
     (rw c.in-Some.is at c.in-Ok.ensures.step)

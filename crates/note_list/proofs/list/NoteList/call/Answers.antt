@@ -11,8 +11,8 @@ use Rattle.note_list.proofs.list.NoteList.call.Goals as goal
 
 pub loop-note-init : goal.loop-note-init
 loop-note-init g c = record {
-  ready = c.requires.ready;
-  ends = c.requires.ends;
+  ready = c.requires.list.ready;
+  ends = c.requires.list.ends;
   own = refl;
   low = omega arith;
   high = omega arith;
@@ -45,6 +45,9 @@ loop-note-preserved g c =
       takes = takes_twice c.args.lines.now.kept c.loop-note.lines.kept c.read.new.lines.kept c.args.steps.now c.loop-note.steps c.read.new.steps c.loop-note.invariant.keeps c.read.ensures.keeps c.loop-note.invariant.takes c.in_ok-read.ensures.takes;
       now = λ h. c.in_ok-read.ensures.now (c.loop-note.invariant.now h);
     }
+
+pub read-requires-clause-list : goal.read-requires-clause-list
+read-requires-clause-list g c = record { ready = c.loop-note.invariant.ready; ends = c.loop-note.invariant.ends }
 
 pub read-requires-clause-held : goal.read-requires-clause-held
 read-requires-clause-held g c =

@@ -13,8 +13,11 @@ use Rattle.note_list.proofs.ReadLemmas.{counts_told}
 use Rattle.note_list.proofs.ShortLemmas.{short_same, short_start}
 use Rattle.note_list.proofs.list.NoteList.carried.Goals as goal
 
-pub read_carried-requires-clause-ends : goal.read_carried-requires-clause-ends
-read_carried-requires-clause-ends g c = subst (All (EndsIn c.args.flow.now.notes)) (sym c.new-list.ensures.none) (All-nil (EndsIn c.args.flow.now.notes))
+pub read_carried-requires-clause-list : goal.read_carried-requires-clause-list
+read_carried-requires-clause-list g c = record {
+  ready = c.new-list.ensures.ready;
+  ends = subst (All (EndsIn c.args.flow.now.notes)) (sym c.new-list.ensures.none) (All-nil (EndsIn c.args.flow.now.notes));
+}
 
 pub returns-clause-ends : goal.returns-clause-ends
 returns-clause-ends g c = subst (All (EndsIn c.args.flow.now.notes)) (sym c.in_ok-hold.ensures.solids) c.in_ok-read_carried.ensures.ends

@@ -41,10 +41,16 @@ read_body-requires-clause-few g c =
     let few = c.requires.flow.count in
     omega (arith, low, few)
 
-pub read_body-requires-clause-placed : goal.read_body-requires-clause-placed
-read_body-requires-clause-placed g c =
+pub read_body-requires-clause-list : goal.read_body-requires-clause-list
+read_body-requires-clause-list g c = record { ready = c.requires.list.ready; room = c.if-self.false }
+
+pub read_body-requires-clause-lines : goal.read_body-requires-clause-lines
+read_body-requires-clause-lines g c =
     let note : Note = c.requires.held.note in
-    subst (λ (t : Tree). ArePlaced (c.args.part.note + 1) t c.args.lines.now) (sym (c.body_of-body.ensures note c.requires.held.has)) (c.requires.kept.notes c.args.part.note note c.requires.held.has)
+    record {
+      kept = c.requires.kept.kept;
+      placed = subst (λ (t : Tree). ArePlaced (c.args.part.note + 1) t c.args.lines.now) (sym (c.body_of-body.ensures note c.requires.held.has)) (c.requires.kept.notes c.args.part.note note c.requires.held.has);
+    }
 
 pub returns-in_err-read_body-clause-kept : goal.returns-in_err-read_body-clause-kept
 returns-in_err-read_body-clause-kept g c =

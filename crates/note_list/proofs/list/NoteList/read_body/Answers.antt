@@ -30,8 +30,8 @@ pub solids-init : goal.solids-init
 solids-init g c =
     let wide : SFits w64 c.args.frame.width = (let low = c.requires.frame.width_low in let high = c.requires.frame.width_high in omega (arith, ints)) in
     record {
-      ready = c.requires.ready;
-      room = c.requires.room;
+      ready = c.requires.list.ready;
+      room = c.requires.list.room;
       holds = c.requires.holds;
       widths = c.widths_at.ensures ∙ ap (λ (w : ℤ). widths_at c.args.body.now w c.args.part.at) (to_z-of_z w64 c.args.frame.width wide);
       begun = refl;
@@ -40,7 +40,7 @@ solids-init g c =
       reads = reads_start c.args.faces.now c.args.body.now c.args.frame.width _ c.args.self.now.solids.items;
       short = λ s. s;
       lines = λ notes note has same known are. omega arith;
-      kept = c.requires.kept;
+      kept = c.requires.lines.kept;
       placed = λ other tree same was. was;
       keeps = keeps_all c.args.lines.now.kept;
       takes = takes_none c.args.lines.now.kept c.args.lines.now.kept c.args.steps.now;
@@ -93,8 +93,11 @@ lines_on g c notes note has same = λ known are.
     noted_steps known notes c.args.frame.width note body p s c.args.lines.now.kept c.solids.lines.kept c.next_solid_kept.new.lines.kept c.args.self.now.solids.items c.solids.self.solids.items c.add.new.self.solids.items c.args.steps.now c.solids.steps c.next_solid_kept.new.steps has same are c.solids.invariant.keeps asks
     (rw c.in-Some.is at c.in-Ok.ensures.step) items (c.solids.invariant.lines notes note has same known are)
 
-pub next_solid_kept-requires-clause-places : goal.next_solid_kept-requires-clause-places
-next_solid_kept-requires-clause-places g c = c.solids.invariant.placed (c.args.part.note + 1) c.args.body.now (λ e. refl) c.requires.placed
+pub next_solid_kept-requires-clause-lines : goal.next_solid_kept-requires-clause-lines
+next_solid_kept-requires-clause-lines g c = record {
+  kept = c.solids.invariant.kept;
+  placed = c.solids.invariant.placed (c.args.part.note + 1) c.args.body.now (λ e. refl) c.requires.lines.placed;
+}
 
 pub solids-preserved : goal.solids-preserved
 solids-preserved g c =

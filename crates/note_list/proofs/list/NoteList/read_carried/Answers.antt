@@ -11,8 +11,8 @@ use Rattle.note_list.proofs.list.NoteList.read_carried.Goals as goal
 
 pub loop-at-init : goal.loop-at-init
 loop-at-init g c = record {
-  ready = c.requires.ready;
-  ends = c.requires.ends;
+  ready = c.requires.list.ready;
+  ends = c.requires.list.ends;
   calls = calls_none c.args.faces.now c.args.flow.now.notes c.args.frame.width c.args.frame.height c.args.self.now;
   short = λ h. h;
   lines = λ known are. omega arith;
@@ -24,6 +24,9 @@ loop-at-init g c = record {
 
 pub returns-then-self-clause-list : goal.returns-then-self-clause-list
 returns-then-self-clause-list g c = carry_rest c.args.faces.now c.args.flow.now.notes c.args.frame.width c.args.frame.height c.args.carried.now c.loop-at.at c.args.self.now c.loop-at.self c.requires.flow.notes c.requires.carried c.if-self.true c.loop-at.invariant.calls
+
+pub read-requires-clause-list : goal.read-requires-clause-list
+read-requires-clause-list g c = record { ready = c.loop-at.invariant.ready; ends = c.loop-at.invariant.ends }
 
 pub read-requires-clause-held : goal.read-requires-clause-held
 read-requires-clause-held g c = all-get (IsHeld c.args.flow.now.notes) c.args.carried.now c.loop-at.at c.part.result c.requires.carried c.part.ensures
