@@ -5,11 +5,12 @@ ghost use Rattle.boxes.specs.Contents.{IsGoodLeaf};
 ghost use Rattle.line_fill.specs.LineEnd.{stop_of};
 ghost use Rattle.line_fill.specs.Paragraphs.{IsParagraph};
 ghost use Rattle.line_fill.specs.Stops.{offsets_of};
+ghost use Rattle.total_fit.specs.Lines.{most_stops};
 
 use crate::places::count_up_to;
 use boxes::leaf::Leaf;
 
-/// The most stops for which a plan is made.
+/// The most stops for which a plan is made, as specs name them.
 const MOST_STOPS: usize = 4096;
 
 /// What is left of a paragraph from `from` on: it ends at `end`, and the places of its leaf before that have the
@@ -54,8 +55,8 @@ pub(crate) fn paragraph_at(leaf: &Leaf, from: usize) -> Option<Paragraph>
     requires good { IsGoodLeaf leaf.now }
     requires few { length leaf.now.text < 2 ^ 32 }
     requires from { from < length leaf.now.text }
-    ensures { MatchOption result (4096 < length (offsets_of leaf.now from))
-        (λ p. (p.from ≡ from) × (length (offsets_of leaf.now from) ≤ 4096) × IsParagraph leaf.now p) }
+    ensures { MatchOption result (most_stops < length (offsets_of leaf.now from))
+        (λ p. (p.from ≡ from) × (length (offsets_of leaf.now from) ≤ most_stops) × IsParagraph leaf.now p) }
 {
     let bytes = leaf.text.as_str().as_bytes();
     let places = leaf.places.as_slice();

@@ -3,6 +3,7 @@
 ghost use Rattle.std.specs.Prelude.{◌≡◌, ◌+◌, ◌-◌, ◌<◌, ◌≤◌, ◌^◌, [], true, length, slice_index, unsigned_abs, IfNone, IfOk, IfSome};
 ghost use Rattle.std.specs.List.{All};
 ghost use Rattle.boxes.specs.Contents.{IsGoodLeaf};
+ghost use Rattle.total_fit.specs.Lines.{most_stops};
 ghost use Rattle.total_fit.specs.Plans.{HasNoPlan, IsBest};
 ghost use Rattle.line_fill.specs.Conditions.{CanFill};
 ghost use Rattle.line_fill.specs.Filled.{AreFilled};
@@ -40,7 +41,7 @@ fn best_of(
     requires measure { unsigned_abs measure ≤ 2 ^ 40 }
     requires paragraph { IsParagraph leaf.now paragraph }
     requires from { paragraph.from ≡ from }
-    requires stops { length (offsets_of leaf.now from) ≤ 4096 }
+    requires stops { length (offsets_of leaf.now from) ≤ most_stops }
     ensures none { IfOk result (λ found. IfNone found
         (HasNoPlan (stops_of faces.now leaf.now from) (measures_of leaf.now from measure))) }
     ensures best { IfOk result (λ found. IfSome found (λ plan.
@@ -101,7 +102,7 @@ fn planned(
     requires measure { unsigned_abs measure ≤ 2 ^ 40 }
     requires paragraph { IsParagraph leaf.now paragraph }
     requires from { paragraph.from ≡ from }
-    requires stops { length (offsets_of leaf.now from) ≤ 4096 }
+    requires stops { length (offsets_of leaf.now from) ≤ most_stops }
     ensures none { IfOk result (λ found. IfNone found
         (HasNoPlan (stops_of faces.now leaf.now from) (measures_of leaf.now from measure))) }
     ensures lines { IfOk result (λ found. IfSome found (AreFilled faces.now leaf.now from measure)) }

@@ -13,10 +13,14 @@ pub record IsGoodStop (stop : Stop) : Type 0 where
   pub hyphen : IsWithin (2 ^ 60) stop.hyphen
   pub next : IsWithin (2 ^ 60) stop.next
 
+-- the most stops of a paragraph that is planned as a whole: a longer one is filled line by line
+abbrev pub most_stops : ℕ
+most_stops = 4096
+
 -- the stops of a paragraph, in order: its legal breakpoints, and its end as the last one
 pub record AreGoodStops (stops : List Stop) : Type 0 where
   pub some : 1 ≤ length stops
-  pub few : length stops ≤ 4096
+  pub few : length stops ≤ most_stops
   pub each : All IsGoodStop stops
 
 pub record AreGoodMeasures (measures : Measures) : Type 0 where
