@@ -16,15 +16,14 @@ ghost use Rattle.seams.specs.Widths.{widths_at};
 use crate::edges::{close_solid, open_solid};
 use crate::kept_lines::KeptLines;
 use crate::leaf_places::LeafNumber;
-use crate::leaves::{LeafAt, begin_of, end_at};
-use crate::lines::text_of;
+use crate::leaves::{LeafAt, begin_of};
+use crate::lines::solid_of;
 use crate::solid::Solid;
 use bk_num::name::NoMem;
 use bk_num::steps::Steps;
 use boxes::page::SolidKind;
 use boxes::place::{Event, Position};
 use boxes::tree::BoxTree;
-use line_place::extent::line_height;
 use metrics::Faces;
 use seams::run::solid_after;
 use seams::seam::{seam_along, widths_at};
@@ -68,7 +67,8 @@ fn line_solid_kept<'t, L: Ledger>(
     let _count = tree.count();
     let at = begin_of(found, from);
     let leaf = tree.leaf(found.number);
-    let text = leaf.text.as_str();
+    // a text that is read is known to be UTF-8, so that a line of it begins at a character
+    let _text = leaf.text.as_str();
     let seam = seam_along(tree, at, width, widths);
     let measure = widths.innermost(width);
     let of = LeafNumber {
@@ -79,16 +79,7 @@ fn line_solid_kept<'t, L: Ledger>(
         widths_at(tree, from, width, widths);
         return Err(NoMem);
     };
-    let extent = line_height(faces, leaf, line);
-    Ok(Solid {
-        placed_at: at,
-        end: end_at(at.event, text.len(), line.to()),
-        kind: SolidKind::Line,
-        line: Some(line),
-        height: extent.height,
-        seam,
-        text: text_of(text, line),
-    })
+    Ok(solid_of(faces, leaf, at, line, seam))
 }
 
 /// The first solid at or after a place of a tree with a number, in a frame of a width in units from 0 to 2^30, or None
