@@ -6,6 +6,7 @@ use Rattle.std.specs.Str.{IsCharBoundary, IsUtf8, chars}
 use Rattle.std.proofs.lemmas.List.{take-append-drop, take-append-le}
 use Rattle.std.proofs.lemmas.List.Elements.{All-head, All-tail}
 use Rattle.std.proofs.lemmas.Str.{IsCharBoundary-start, IsUtf8-between, chars-append, encodes-chars}
+use Rattle.bk_num.specs.Chars.{soft_hyphen}
 use Rattle.inline_text.specs.declared.space.Collapser.{Collapser}
 use Rattle.inline_text.specs.declared.space.TextPart.{TextPart}
 use Rattle.inline_text.specs.Joined.{AreTexts, ends_from, joined, laid_texts}
@@ -13,7 +14,7 @@ use Rattle.inline_text.specs.Passed.{HasPassed}
 use Rattle.inline_text.specs.Space.{collapsed}
 use Rattle.inline_text.proofs.GrowLemmas.{Grows, passed-grows}
 use Rattle.soft_hyphens.specs.Hyphenated.{encoded, hyphenated, put_from, put_in}
-use Rattle.soft_hyphens.specs.Words.{Points, is_put, letters_in, soft_hyphen}
+use Rattle.soft_hyphens.specs.Words.{Points, is_put, letters_in}
 use Rattle.soft_hyphens.proofs.PutLemmas.{encoded-append, encoded-std}
 
 -- what is put makes nothing shorter
