@@ -9,6 +9,12 @@ use Rattle.boxes.specs.declared.flow.Flow.{Flow}
 use Rattle.boxes.specs.declared.flow.Note.{Note}
 use Rattle.boxes.specs.declared.leaf.Leaf.{Leaf as LeafData}
 use Rattle.line_place.specs.Conditions.{HasFaces}
+use Rattle.paint.specs.Bounds.{IsGoodOrigin}
+use Rattle.paint.specs.Opens.{AreOpen}
+use Rattle.paint.specs.Views.{HaveItemFaces}
+use Rattle.paint.specs.declared.item.Canvas.{Canvas}
+use Rattle.paint.specs.declared.item.ItemRef.{ItemRef}
+use Rattle.paint.specs.declared.opens.PlacedBox.{PlacedBox}
 
 -- the faces of a leaf and of its markers are there
 pub record IsFaced (faces : List FontFace) (leaf : LeafData) : Type 0 where
@@ -29,3 +35,10 @@ pub record CanFlowBePainted (faces : List FontFace) (flow : Flow) : Type 0 where
   pub main : CanBePainted faces flow.main
   pub notes : CanNotesBePainted faces flow.notes
   pub sliced : All (λ note. AreSliced note.body.boxes) flow.notes
+
+-- items can be added on a canvas at an event: solids stand from a good origin, the boxes that are open there are known,
+-- and the faces of the items so far are there
+pub record CanPaintAt (canvas : Canvas) (at : ℕ) (opens : List PlacedBox) (items : List ItemRef) : Type 0 where
+  pub origin : IsGoodOrigin canvas.origin
+  pub boxes : AreOpen canvas.tree.now canvas.origin at opens
+  pub faces : HaveItemFaces canvas.faces.now items

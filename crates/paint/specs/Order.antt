@@ -1,5 +1,6 @@
 -- In which order the solids of a page stand: in that of its flow.
 use Rattle.std.specs.Prelude.{◌≡◌, ◌<◌, ◌≤◌, ℕ, List, [], ◌∷◌, Option, None, Some, length, slice_get}
+use Rattle.std.specs.List.{All}
 use Rattle.boxes.specs.Tree.{Tree}
 use Rattle.boxes.specs.declared.flow.Flow.{Flow}
 use Rattle.boxes.specs.declared.flow.Note.{Note}
@@ -8,7 +9,7 @@ use Rattle.boxes.specs.declared.page.Page.{Page}
 use Rattle.boxes.specs.declared.page.Placed.{Placed}
 use Rattle.boxes.specs.declared.place.Event.TheVariants.{Leaf}
 use Rattle.line_fill.specs.LineEnd.{IsLineBetween}
-use Rattle.paint.specs.Bounds.{IsBoundedPage}
+use Rattle.paint.specs.Bounds.{IsBoundedPage, IsNearSolid}
 use Rattle.paint.specs.Items.{line_of}
 
 -- a solid that stands at a leaf of a tree is a line of it between two places
@@ -41,6 +42,11 @@ AreNotesInOrder notes note from ((n, s) ∷ placed) = (note ≤ n) × (note ≡ 
 -- the solids of the note of a number, if there is one, are in order
 abbrev pub HasOrder : List Note → ℕ → List Placed → Type 0
 HasOrder notes n solids = (note : Note) → slice_get notes n ≡ Some note → AreInOrder note.body 0 solids
+
+-- solids that can be painted as those of the note of a number: they are near, and in order
+pub record AreOfNote (notes : List Note) (n : ℕ) (solids : List Placed) : Type 0 where
+  pub near : All IsNearSolid solids
+  pub order : HasOrder notes n solids
 
 -- a page whose solids stand in the order of a flow, within bounds
 pub record IsPageOf (flow : Flow) (page : Page) : Type 0 where

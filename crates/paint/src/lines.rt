@@ -9,9 +9,9 @@ ghost use Rattle.line_place.specs.Conditions.{IsInLeaf};
 ghost use Rattle.line_place.specs.Extents.{extent_of};
 ghost use Rattle.paint.specs.Areas.{area_of};
 ghost use Rattle.paint.specs.Bounds.{IsGoodOrigin, IsNearSolid};
-ghost use Rattle.paint.specs.Conditions.{IsFaced};
+ghost use Rattle.paint.specs.Conditions.{CanPaintAt, IsFaced};
 ghost use Rattle.paint.specs.Items.{lead_item, line_items, line_of, words_items};
-ghost use Rattle.paint.specs.Opens.{AreOpen, IsNear, IsWide};
+ghost use Rattle.paint.specs.Opens.{IsNear, IsWide};
 ghost use Rattle.paint.specs.Views.{Adds, HaveItemFaces, area_item};
 
 use crate::item::{Canvas, ItemRef, area_at};
@@ -62,9 +62,7 @@ fn push_first<'a>(
 ) -> Result<(), NoMem>
     requires good { IsGoodLeaf leaf.now }
     requires faced { IsFaced canvas.now.faces.now leaf.now }
-    requires origin { IsGoodOrigin canvas.now.origin }
-    requires opens { AreOpen canvas.now.tree.now canvas.now.origin at opens.now }
-    requires faces { HaveItemFaces canvas.now.faces.now out.old.items }
+    requires place { CanPaintAt canvas.now at opens.now out.old.items }
     ensures items { OnOk result (Adds canvas.now.faces.now out.old.items
         ((if line.from == 0 then map (lead_item canvas.now.faces.now canvas.now.tree.now canvas.now.origin
         (open_before canvas.now.tree.now.events at) baseline) leaf.now.leads else [])) out.new.items) }
@@ -91,12 +89,10 @@ fn push_words<'a>(
 ) -> Result<(), NoMem>
     requires good { IsGoodLeaf leaf.now }
     requires faced { IsFaced canvas.now.faces.now leaf.now }
-    requires origin { IsGoodOrigin canvas.now.origin }
-    requires opens { AreOpen canvas.now.tree.now canvas.now.origin at opens.now }
+    requires place { CanPaintAt canvas.now at opens.now out.old.items }
     requires line { IsInLeaf leaf.now line }
     requires wide { IsWide content.now }
     requires near { IsNear content.now }
-    requires faces { HaveItemFaces canvas.now.faces.now out.old.items }
     ensures items { OnOk result (Adds canvas.now.faces.now out.old.items
         (words_items canvas.now.faces.now canvas.now.tree.now canvas.now.origin
         (open_before canvas.now.tree.now.events at) leaf.now line content.now baseline) out.new.items) }
@@ -158,11 +154,9 @@ pub(crate) fn push_line<'a>(
 ) -> Result<(), NoMem>
     requires good { IsGoodLeaf leaf.now }
     requires faced { IsFaced canvas.now.faces.now leaf.now }
-    requires origin { IsGoodOrigin canvas.now.origin }
+    requires place { CanPaintAt canvas.now s.now.at.event opens.now out.old.items }
     requires solid { IsNearSolid s.now }
     requires between { IsLineBetween leaf.now s.now.at.offset (line_of leaf.now s.now).to }
-    requires opens { AreOpen canvas.now.tree.now canvas.now.origin s.now.at.event opens.now }
-    requires faces { HaveItemFaces canvas.now.faces.now out.old.items }
     ensures items { OnOk result (Adds canvas.now.faces.now out.old.items
         (line_items canvas.now.faces.now canvas.now.tree.now canvas.now.origin s.now leaf.now) out.new.items) }
     ensures faces { OnOk result (HaveItemFaces canvas.now.faces.now out.new.items) }

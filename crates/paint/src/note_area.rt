@@ -9,7 +9,7 @@ ghost use Rattle.paint.specs.Bounds.{IsGoodOrigin, IsNearSolid};
 ghost use Rattle.paint.specs.Conditions.{CanNotesBePainted};
 ghost use Rattle.paint.specs.Groups.{GoesOn};
 ghost use Rattle.paint.specs.Items.{for_some};
-ghost use Rattle.paint.specs.Order.{AreNotesInOrder, HasOrder};
+ghost use Rattle.paint.specs.Order.{AreNotesInOrder, AreOfNote};
 ghost use Rattle.paint.specs.Pages.{area_items, area_origin, note_items, separator_area, separator_at, tree_items};
 ghost use Rattle.paint.specs.Views.{Adds, HaveItemFaces, items_in};
 
@@ -104,9 +104,8 @@ fn push_note<'a>(
 ) -> Result<(), NoMem>
     requires bodies { CanNotesBePainted faces.now notes.now }
     requires origin { IsGoodOrigin origin }
-    requires solids { All IsNearSolid group.now.solids.items }
+    requires solids { AreOfNote notes.now group.now.number group.now.solids.items }
     requires number { group.now.number < length notes.now }
-    requires order { HasOrder notes.now group.now.number group.now.solids.items }
     requires faces { HaveItemFaces faces.now out.old.items }
     ensures items { OnOk result (Adds faces.now out.old.items
         (for_some (λ (note : Note). tree_items faces.now note.body origin group.now.solids.items)
@@ -135,10 +134,9 @@ fn turn_to<'a>(
 ) -> Result<(), NoMem>
     requires bodies { CanNotesBePainted faces.now notes.now }
     requires origin { IsGoodOrigin origin }
-    requires solids { All IsNearSolid group.old.solids.items }
+    requires solids { AreOfNote notes.now group.old.number group.old.solids.items }
     requires later { group.old.number ≤ next }
     requires most { next ≤ length notes.now }
-    requires order { HasOrder notes.now group.old.number group.old.solids.items }
     requires faces { HaveItemFaces faces.now out.old.items }
     ensures items { OnOk result (GoesOn faces.now notes.now origin
         (items_in faces.now out.old.items) group.old.number group.old.solids.items

@@ -1,13 +1,13 @@
 //! Items of the solids of a tree.
 
-ghost use Rattle.std.specs.Prelude.{◌<◌, length, All, OnOk};
+ghost use Rattle.std.specs.Prelude.{All, OnOk};
 ghost use Rattle.std.specs.Option.{ForSome};
 ghost use Rattle.std.specs.List.{flat_map};
 ghost use Rattle.paint.specs.Bounds.{IsGoodOrigin, IsNearSolid};
-ghost use Rattle.paint.specs.Conditions.{CanBePainted};
+ghost use Rattle.paint.specs.Conditions.{CanBePainted, CanPaintAt};
 ghost use Rattle.paint.specs.Items.{solid_items};
 ghost use Rattle.paint.specs.Opens.{AreOpen};
-ghost use Rattle.paint.specs.Order.{AreInOrder, IsLineIn};
+ghost use Rattle.paint.specs.Order.{AreInOrder, StandsIn};
 ghost use Rattle.paint.specs.Views.{Adds, HaveItemFaces};
 
 use crate::edges::push_edge;
@@ -30,12 +30,9 @@ fn push_solid<'a>(
     s: &Placed,
 ) -> Result<(), NoMem>
     requires tree { CanBePainted canvas.now.faces.now canvas.now.tree.now }
-    requires origin { IsGoodOrigin canvas.now.origin }
+    requires place { CanPaintAt canvas.now s.now.at.event opens.now out.old.items }
     requires solid { IsNearSolid s.now }
-    requires within { s.now.at.event < length canvas.now.tree.now.events }
-    requires line { IsLineIn canvas.now.tree.now s.now }
-    requires opens { AreOpen canvas.now.tree.now canvas.now.origin s.now.at.event opens.now }
-    requires faces { HaveItemFaces canvas.now.faces.now out.old.items }
+    requires stands { StandsIn canvas.now.tree.now s.now }
     ensures items { OnOk result (Adds canvas.now.faces.now out.old.items
         (solid_items canvas.now.faces.now canvas.now.tree.now canvas.now.origin s.now) out.new.items) }
     ensures faces { OnOk result (HaveItemFaces canvas.now.faces.now out.new.items) }
@@ -74,8 +71,7 @@ pub(crate) fn push_next<'a>(
     requires tree { CanBePainted canvas.now.faces.now canvas.now.tree.now }
     requires origin { IsGoodOrigin canvas.now.origin }
     requires solid { IsNearSolid s.now }
-    requires within { s.now.at.event < length canvas.now.tree.now.events }
-    requires line { IsLineIn canvas.now.tree.now s.now }
+    requires stands { StandsIn canvas.now.tree.now s.now }
     requires opens { ForSome reached (λ at. AreOpen canvas.now.tree.now canvas.now.origin at opens.old.items) }
     requires faces { HaveItemFaces canvas.now.faces.now out.old.items }
     ensures items { OnOk result (Adds canvas.now.faces.now out.old.items

@@ -22,11 +22,17 @@ turn_to-requires-clause-later c = left_later c.args.notes.now c.args.placed.now 
 pub turn_to-requires-clause-most : goal.turn_to-requires-clause-most
 turn_to-requires-clause-most c = left_most c.args.notes.now c.args.placed.now c.loop-number.number-index c.loop-number.group.number _ c.loop-number-test.true c.loop-number.invariant.left
 
-pub turn_to-requires-clause-order : goal.turn_to-requires-clause-order
-turn_to-requires-clause-order c = part_order c.args.notes.now c.loop-number.group.number c.loop-number.number-index c.args.placed.now c.loop-number.group.solids.items c.requires.order c.loop-number.invariant.painted.solids_are
+pub turn_to-requires-clause-solids : goal.turn_to-requires-clause-solids
+turn_to-requires-clause-solids c = record {
+  near = c.loop-number.invariant.near;
+  order = part_order c.args.notes.now c.loop-number.group.number c.loop-number.number-index c.args.placed.now c.loop-number.group.solids.items c.requires.order c.loop-number.invariant.painted.solids_are;
+}
 
-pub turn_to-requires-2-clause-order : goal.turn_to-requires-2-clause-order
-turn_to-requires-2-clause-order c = part_order c.args.notes.now c.loop-number.group.number c.loop-number.number-index c.args.placed.now c.loop-number.group.solids.items c.requires.order c.loop-number.invariant.painted.solids_are
+pub turn_to-requires-2-clause-solids : goal.turn_to-requires-2-clause-solids
+turn_to-requires-2-clause-solids c = record {
+  near = c.loop-number.invariant.near;
+  order = part_order c.args.notes.now c.loop-number.group.number c.loop-number.number-index c.args.placed.now c.loop-number.group.solids.items c.requires.order c.loop-number.invariant.painted.solids_are;
+}
 
 pub loop-number-preserved : goal.loop-number-preserved
 loop-number-preserved c =

@@ -19,11 +19,11 @@ props-requires-in-Closes c =
     let t = c.args.canvas.now.tree.now in
     let tree = c.count-count.ensures.tree in
     let at = c.args.s.now.at.event in
-    let within : at ≤ length t.events = (let w = c.requires.within in omega arith) in
+    let within : at ≤ length t.events = (let w = c.requires.stands.event in omega arith) in
     around_there t tree at c.in-Closes.number within (closes_innermost t tree at c.in-Closes.number c.in-Closes.ensures)
 
 pub push_edge-requires-in-Closes-clause-good : goal.push_edge-requires-in-Closes-clause-good
 push_edge-requires-in-Closes-clause-good c = box_good c.args.canvas.now.tree.now c.count-count.ensures.tree c.in-Closes.number _ c.props-in-Closes.ensures
 
 pub push_line-requires-clause-between : goal.push_line-requires-clause-between
-push_line-requires-clause-between c = c.requires.line c.in-Leaf.number c.leaf.result.now c.in-Leaf.ensures c.leaf.ensures
+push_line-requires-clause-between c = c.requires.stands.line c.in-Leaf.number c.leaf.result.now c.in-Leaf.ensures c.leaf.ensures

@@ -1,8 +1,5 @@
 use Rattle.paint.proofs.OrderLemmas.{order_stands}
 use Rattle.paint.proofs.solids.push_solids.Goals as goal
 
-pub push_next-requires-clause-within : goal.push_next-requires-clause-within
-push_next-requires-clause-within c = (order_stands c.args.canvas.now.tree.now 0 c.args.solids.now c.requires.order c.loop-s.s-index _ c.loop-s-test.true).event
-
-pub push_next-requires-clause-line : goal.push_next-requires-clause-line
-push_next-requires-clause-line c = (order_stands c.args.canvas.now.tree.now 0 c.args.solids.now c.requires.order c.loop-s.s-index _ c.loop-s-test.true).line
+pub push_next-requires-clause-stands : goal.push_next-requires-clause-stands
+push_next-requires-clause-stands c = order_stands c.args.canvas.now.tree.now 0 c.args.solids.now c.requires.order c.loop-s.s-index _ c.loop-s-test.true
