@@ -1,6 +1,6 @@
 -- Pages that settled are pages of their flow, within the bounds of what is painted.
 use Rattle.std.proofs.Common.{◌-◌, ℕ, ℤ, List, [], ◌∷◌, get_or, sym, subst}
-use Rattle.std.proofs.lemmas.List.Elements.{All-cons, All-nil, All-weaker}
+use Rattle.std.proofs.lemmas.List.Elements.{All-cons, All-nil}
 use Rattle.std.specs.List.{All}
 use Rattle.columns.specs.Steps.{column_below}
 use Rattle.bk_num.specs.declared.ids.NameId.{NameId}
@@ -10,13 +10,11 @@ use Rattle.boxes.specs.declared.flow.Flow.{Flow}
 use Rattle.boxes.specs.declared.frames.PageKind.{PageKind}
 use Rattle.boxes.specs.declared.frames.PageKind.TheVariants as kind
 use Rattle.boxes.specs.declared.page.Page.{Page}
-use Rattle.boxes.specs.declared.page.Placed.{Placed}
 use Rattle.boxes.specs.declared.table.PageRow.{PageRow}
 use Rattle.columns.specs.Columns.{AreColumns, column_frames}
 use Rattle.columns.proofs.NearLemmas.{near_frame}
 use Rattle.gen_text.specs.declared.table.Entry.{Entry}
 use Rattle.metrics.specs.Face.{FontFace}
-use Rattle.note_list.specs.Places as note
 use Rattle.page_list.specs.Pages.{AreNear, HaveNearTops, IsEnded, IsStep, State, name_at, start_of}
 use Rattle.page_list.specs.Pages.IsStep.{blank, flows, noted}
 use Rattle.page_seq.specs.Frames.{frame_of as page_frame_of}
@@ -24,7 +22,7 @@ use Rattle.page_seq.specs.GoodFrames.{good_frame}
 use Rattle.note_list.specs.Conditions.{CanBePaged}
 use Rattle.page_list.proofs.NoteRunLemmas.{paged_notes}
 use Rattle.page_list.proofs.PartLemmas.{paged_parts}
-use Rattle.paint.specs.Bounds.{IsBoundedPage, IsNearSolid}
+use Rattle.paint.specs.Bounds.{IsBoundedPage}
 use Rattle.paint.specs.Order.{IsPageOf}
 use Rattle.passes.specs.Passes.{End, EndsIn, IsLast, settled, unsettled, long, many, settles, differs, too_long, too_many}
 use Rattle.passes.specs.Work.{Work}
@@ -50,17 +48,14 @@ module _ (faces : List FontFace) (flow : Flow) (frames : PageFrames) (good : Has
   frames_on s (p ∷ pages) r = All-cons (λ (p : Page). IsGoodFrame p.frame) p pages (step_good s p r.0 r.1) (frames_on r.0 pages r.2)
 
 -- ---- the pages
-near_as : (s : Placed) → note.IsNear s → IsNearSolid s
-near_as s near = record { top = near.top; height = near.height; some = near.some }
-
 pages_bounded : (pages : List Page) → All (λ (p : Page). IsGoodFrame p.frame) pages → HaveNearTops pages → All IsBoundedPage pages
 pages_bounded pages frames tops = λ k d low.
     let page : Page = get_or pages k d in
     let near : AreNear page.solids page.notes = tops k d low in
     record {
       frame = frames k d low;
-      solids = All-weaker note.IsNear IsNearSolid near_as page.solids near.0;
-      notes = All-weaker (λ (n : ℕ × Placed). note.IsNear n.1) (λ (n : ℕ × Placed). IsNearSolid n.1) (λ n is. near_as n.1 is) page.notes near.1;
+      solids = near.0;
+      notes = near.1;
     }
 
 abbrev PagesEnd : Work → End → Type 0

@@ -14,31 +14,31 @@ use Rattle.cursor.specs.Remainder.{SolidView, IsSmallSolid}
 use Rattle.cuts.specs.declared.row.SolidRow.{SolidRow}
 use Rattle.cuts.specs.Rows.{rows_bottom, rows_extent, row_gap, row_height}
 use Rattle.cuts.proofs.AppendLemmas.{extent-append}
-use Rattle.note_list.specs.Places.{IsNear}
 use Rattle.page_list.specs.Cuts.{first_gap, placed_below, placed_from, row_of, rows_of}
 use Rattle.page_list.proofs.InsideLemmas.{Are, shift, one_more, top_is}
+use Rattle.notes.specs.Near.{IsNearSolid}
 use Rattle.fragment.specs.Solids.{foot_from}
 
 -- ---- the tops
 -- the bottom of the first k solids of a page is within 2^33 units for each of them, and 2^41 for what stands again above
 -- the first
-near_below : (k : ℕ) (bottom : ℤ) (solids : List SolidView) → k + length solids ≤ 2 ^ 26 → neg_ℤ (pos (2 ^ 33 * k + 2 ^ 41)) ≤ℤ bottom → bottom ≤ℤ pos (2 ^ 33 * k + 2 ^ 41) → All IsSmallSolid solids → All IsNear (placed_below bottom solids)
-near_below k bottom [] few low high small = All-nil IsNear
+near_below : (k : ℕ) (bottom : ℤ) (solids : List SolidView) → k + length solids ≤ 2 ^ 26 → neg_ℤ (pos (2 ^ 33 * k + 2 ^ 41)) ≤ℤ bottom → bottom ≤ℤ pos (2 ^ 33 * k + 2 ^ 41) → All IsSmallSolid solids → All IsNearSolid (placed_below bottom solids)
+near_below k bottom [] few low high small = All-nil IsNearSolid
 near_below k bottom (s ∷ solids) few low high small =
     let head : IsSmallSolid s = small 0 s (omega arith) in
     let gap = head.whole in
     let height = head.height in
     let some = head.some in
-    All-cons IsNear _ _ (record { top = omega (arith, ints); height = height; some = some })
+    All-cons IsNearSolid _ _ (record { top = omega (arith, ints); height = height; some = some })
     (near_below (suc k) ((bottom +ℤ s.seam.whole_gap) +ℤ s.height) solids (omega arith) (omega (arith, ints)) (omega (arith, ints)) (λ i d less. small (suc i) d (omega arith)))
 
-near_from : (first : ℤ) (solids : List SolidView) → length solids ≤ 2 ^ 26 → IsWithin (2 ^ 41) first → All IsSmallSolid solids → All IsNear (placed_from first solids)
-near_from first [] few gap small = All-nil IsNear
+near_from : (first : ℤ) (solids : List SolidView) → length solids ≤ 2 ^ 26 → IsWithin (2 ^ 41) first → All IsSmallSolid solids → All IsNearSolid (placed_from first solids)
+near_from first [] few gap small = All-nil IsNearSolid
 near_from first (s ∷ solids) few gap small =
     let head : IsSmallSolid s = small 0 s (omega arith) in
     let height = head.height in
     let some = head.some in
-    All-cons IsNear _ _ (record { top = omega (arith, ints); height = height; some = some })
+    All-cons IsNearSolid _ _ (record { top = omega (arith, ints); height = height; some = some })
     (near_below 1 (first +ℤ s.height) solids (omega arith) (omega (arith, ints)) (omega (arith, ints)) (λ i d less. small (suc i) d (omega arith)))
 
 first_near : (kept : Bool) (solids : List SolidView) → All IsSmallSolid solids → IsWithin (2 ^ 41) (first_gap kept solids)
@@ -46,7 +46,7 @@ first_near kept [] small = omega (arith, ints)
 first_near true (s ∷ solids) small = let f = small 0 s (omega arith) in let head = f.head in let gap = f.kept in omega (arith, ints)
 first_near false (s ∷ solids) small = let f = small 0 s (omega arith) in let head = f.head in omega (arith, ints)
 
-pub near_first : (kept : Bool) (solids : List Solid) → length solids ≤ 2 ^ 26 → All (λ s. IsSmallSolid (solid_view s)) solids → All IsNear (placed_from (first_gap kept (map solid_view solids)) (map solid_view solids))
+pub near_first : (kept : Bool) (solids : List Solid) → length solids ≤ 2 ^ 26 → All (λ s. IsSmallSolid (solid_view s)) solids → All IsNearSolid (placed_from (first_gap kept (map solid_view solids)) (map solid_view solids))
 near_first kept solids few small =
     let views : All IsSmallSolid (map solid_view solids) = All-map IsSmallSolid solid_view solids small in
     near_from (first_gap kept (map solid_view solids)) (map solid_view solids) (rw length-map few) (first_near kept (map solid_view solids) views) views

@@ -12,7 +12,8 @@ ghost use Rattle.cuts.specs.Cuts.{NoteLists, IsPageCut};
 ghost use Rattle.cuts.specs.Prefixes.{AreJoined};
 ghost use Rattle.note_list.specs.Calls.{called_before};
 ghost use Rattle.note_list.specs.Conditions.{AreCarried, IsAtSolid};
-ghost use Rattle.note_list.specs.Places.{IsFront, IsNear};
+ghost use Rattle.note_list.specs.Places.{IsFront};
+ghost use Rattle.notes.specs.Near.{IsNearSolid};
 ghost use Rattle.fragment.specs.Conditions.{ArePageSolids, CanCut};
 ghost use Rattle.fragment.specs.CutsAt.{CutsAt};
 ghost use Rattle.fragment.specs.Solids.{foot_from};
@@ -78,7 +79,7 @@ fn place_first(
     ensures solids { IfOk result (λ p.
         p.items.items ≡ placed_from (first_gap kept (map solid_view solids.now))
         (take count (map solid_view solids.now))) }
-    ensures near { IfOk result (λ p. All IsNear p.items.items) }
+    ensures near { IfOk result (λ p. All IsNearSolid p.items.items) }
     ensures foot { IfOk result (λ p. p.foot ≡ foot_from (pos 0) p.items.items) }
     ensures low { IfOk result (λ p. pos 0 ≤ℤ p.foot) }
     ensures high { IfOk result (λ p. p.foot ≤ℤ pos (2 ^ 61)) }

@@ -20,11 +20,12 @@ use Rattle.cursor.proofs.RemLemmas.{holds_next, solid_within}
 use Rattle.cursor.proofs.PartLemmas.{solid_itself}
 use Rattle.seams.specs.Runs.{solid_after}
 use Rattle.seams.proofs.RunLemmas.{after_solid}
+use Rattle.notes.specs.Near.{IsNearSolid}
 use Rattle.note_list.specs.Calls.{start_place}
 use Rattle.note_list.specs.Conditions.{NotesAscend, IsAtSolid, IsHeld}
 use Rattle.note_list.specs.Left.{left_after_last, left_at, left_from, left_in, left_of_last, left_part, next_of, whole_notes}
 use Rattle.note_list.specs.Lists.{AreNoted, NotePart, called_parts, carried_parts, left_of, noted, placed_notes, note_rows}
-use Rattle.note_list.specs.Places.{IsNear, IsPlacing, least_of}
+use Rattle.note_list.specs.Places.{IsPlacing, least_of}
 use Rattle.note_list.specs.Reads.{IsReadFor, IsReady}
 use Rattle.note_list.specs.declared.carried.Carried.{Carried}
 use Rattle.note_list.specs.declared.list.NoteList.{NoteList}
@@ -265,14 +266,14 @@ small_at (x ∷ xs) zero d low all = all 0 x.row (omega arith)
 small_at (x ∷ xs) (suc k) d low all = small_at xs k d (omega arith) (λ i e l. all (suc i) e (omega arith))
 
 -- the tops of what is placed are near
-pub near_notes : (k : ℕ) (bottom : ℤ) (list : List NotedSolid) → k + length list ≤ 2 ^ 26 → neg_ℤ (pos (2 ^ 33 * k)) ≤ℤ bottom → bottom ≤ℤ pos (2 ^ 33 * k + 512) → All IsSmallNote (note_rows list) → All (λ n. IsNear n.1) (placed_notes bottom list)
-near_notes k bottom [] few low high small = All-nil (λ (n : ℕ × Placed). IsNear n.1)
+pub near_notes : (k : ℕ) (bottom : ℤ) (list : List NotedSolid) → k + length list ≤ 2 ^ 26 → neg_ℤ (pos (2 ^ 33 * k)) ≤ℤ bottom → bottom ≤ℤ pos (2 ^ 33 * k + 512) → All IsSmallNote (note_rows list) → All (λ n. IsNearSolid n.1) (placed_notes bottom list)
+near_notes k bottom [] few low high small = All-nil (λ (n : ℕ × Placed). IsNearSolid n.1)
 near_notes k bottom (s ∷ list) few low high small =
     let own : IsSmallNote s.row = small 0 s.row (omega arith) in
     let gap = own.gap in
     let height = own.height in
     let some = own.some in
-    All-cons (λ (n : ℕ × Placed). IsNear n.1) _ _ (record { top = omega (arith, ints); height = omega (arith, ints); some = omega (arith, ints) })
+    All-cons (λ (n : ℕ × Placed). IsNearSolid n.1) _ _ (record { top = omega (arith, ints); height = omega (arith, ints); some = omega (arith, ints) })
     (near_notes (suc k) ((bottom +ℤ s.row.gap) +ℤ s.row.height) list (omega arith) (omega (arith, ints)) (omega (arith, ints)) (λ i d less. small (suc i) d (omega arith)))
 
 -- ---- a page's list

@@ -2,9 +2,7 @@
 use Rattle.std.specs.Prelude.{◌≡◌, ℕ, ℤ, pos, ◌^◌, ◌==◌, ◌<◌, ◌≤◌, ◌≤ℤ◌, List, ◌++◌, length, nat_lt, take, drop, if◌then◌else◌}
 use Rattle.std.specs.List.{All}
 use Rattle.bk_num.specs.Limits.{most_entries, separator}
-use Rattle.bk_num.specs.Numbers.{IsWithin}
 use Rattle.boxes.specs.declared.flow.Flow.{Flow}
-use Rattle.boxes.specs.declared.page.Placed.{Placed}
 use Rattle.notes.specs.Notes.{IsPlaced, must_of}
 use Rattle.note_list.specs.Conditions.{IsAtSolid, IsHeld, NotesAscend}
 use Rattle.note_list.specs.Lists.{left_of, placed_notes, note_rows}
@@ -52,9 +50,3 @@ pub record CanPlace (flow : Flow) (parts : List Carried) (from : ℕ) (l : NoteL
   pub low : pos 0 ≤ℤ r.height
   pub high : r.height ≤ℤ pos (2 ^ 40)
   pub room : r.room ≤ℤ r.height
-
--- a solid's top is within 2^60 units, and its height from 0 to 2^32
-pub record IsNear (s : Placed) : Type 0 where
-  pub top : IsWithin (2 ^ 60) s.top
-  pub height : IsWithin (2 ^ 32) s.height
-  pub some : pos 0 ≤ℤ s.height

@@ -5,9 +5,10 @@ ghost use Rattle.std.specs.Prelude.{◌≤ℤ◌, ◌++◌, All, length, max, mi
 ghost use Rattle.bk_num.specs.Limits.{most_entries, separator};
 ghost use Rattle.cuts.specs.Areas.{cut_number};
 ghost use Rattle.metrics.specs.Face.{FontFace};
+ghost use Rattle.notes.specs.Near.{IsNearSolid};
 ghost use Rattle.note_list.specs.Conditions.{IsAtSolid, IsHeld, NotesAscend};
 ghost use Rattle.note_list.specs.Lists.{AreNoted, called_parts, carried_parts, placed_notes, note_rows};
-ghost use Rattle.note_list.specs.Places.{CanPlace, IsFront, IsNear, IsPlacing, least_of};
+ghost use Rattle.note_list.specs.Places.{CanPlace, IsFront, IsPlacing, least_of};
 ghost use Rattle.note_list.specs.Reads.{IsReadFor};
 ghost use Rattle.note_list.specs.declared.solid.NotedSolid.{NotedSolid};
 ghost use Rattle.notes.specs.Notes.{IsCarryCount, IsPlaced, IsSmallNote, area_of, must_of};
@@ -164,7 +165,7 @@ impl NoteList {
         ensures order { IfOk result (λ p. NotesAscend p.left) }
         ensures below { IfOk result (λ p. All (λ c. c.note < max from room.now.to) p.left) }
         ensures stands { IfOk result (λ p. All (IsAtSolid flow.now.notes) p.left) }
-        ensures near { IfOk result (λ p. All (λ n. IsNear n.1) p.notes) }
+        ensures near { IfOk result (λ p. All (λ n. IsNearSolid n.1) p.notes) }
     {
         let solids = self.solids.as_slice();
         let (read, _) = solids.split_at(count_below(solids, room.to));

@@ -17,7 +17,7 @@ use Rattle.seams.specs.Seams.{seam_of}
 use Rattle.note_list.specs.Calls.{start_place}
 use Rattle.note_list.specs.declared.carried.Carried.{Carried}
 use Rattle.note_list.specs.Conditions.{CanBePaged}
-use Rattle.note_list.specs.Places.{IsNear}
+use Rattle.notes.specs.Near.{IsNearSolid}
 use Rattle.page_list.specs.Cuts.{IsFlowCut, IsNotesCut}
 use Rattle.page_list.specs.declared.cut.Cut.{Cut}
 
@@ -192,7 +192,7 @@ LeavesNothing = (faces : List FontFace) (flow : Flow) (frames : PageFrames) (pag
 
 -- the tops and heights of what a page places keep these bounds
 abbrev pub AreNear : List Placed → List (ℕ × Placed) → Type 0
-AreNear solids notes = All IsNear solids × All (λ n. IsNear n.1) notes
+AreNear solids notes = All IsNearSolid solids × All (λ n. IsNearSolid n.1) notes
 
 -- and so of each page of a list
 abbrev pub HaveNearTops : List Page → Type 0

@@ -11,7 +11,8 @@ use Rattle.bk_num.specs.Numbers.{IsWithin}
 use Rattle.boxes.specs.declared.page.Placed.{Placed}
 use Rattle.notes.specs.Notes.{HaveBottoms, placed_bottom, placed_height}
 use Rattle.notes.specs.Stacked.{greatest_of}
-use Rattle.paint.specs.Bounds.{IsNearBottom, IsNearExtent, IsNearFoot, IsNearReach, IsNearSolid}
+use Rattle.notes.specs.Near.{IsNearSolid}
+use Rattle.paint.specs.Bounds.{IsNearBottom, IsNearExtent, IsNearFoot, IsNearReach}
 use Rattle.paint.specs.Clones.{lowest}
 use Rattle.paint.specs.Fragments.{extent_of, here, join, reach_by}
 use Rattle.paint.specs.declared.extent.VerticalExtent.{VerticalExtent}

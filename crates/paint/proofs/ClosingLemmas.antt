@@ -13,7 +13,8 @@ use Rattle.boxes.specs.declared.span.Content.{Content}
 use Rattle.boxes.proofs.ListLemmas.{get-set}
 use Rattle.boxes.proofs.SpanLemmas.{most_open_at}
 use Rattle.boxes.proofs.TreeFacts.{box_there, opens_once}
-use Rattle.paint.specs.Bounds.{IsNearBottom, IsNearExtent, IsNearFoot, IsNearPart, IsNearReach, IsNearSolid}
+use Rattle.notes.specs.Near.{IsNearSolid}
+use Rattle.paint.specs.Bounds.{IsNearBottom, IsNearExtent, IsNearFoot, IsNearPart, IsNearReach}
 use Rattle.paint.specs.Clones.{bottom_with, foot_edge, last_solid, lower_again, lower_along, parted_behind, with_lower}
 use Rattle.paint.specs.Fragments.{reach_of, stands_in}
 use Rattle.paint.specs.Opens.{content_along}

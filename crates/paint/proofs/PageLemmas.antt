@@ -17,6 +17,7 @@ use Rattle.boxes.specs.Clones as clones
 use Rattle.boxes.proofs.ListLemmas.{slice_get_at}
 use Rattle.boxes.proofs.SpanLemmas.{most_open_at}
 use Rattle.boxes.proofs.TreeFacts.{box_there, closes_innermost, opens_once}
+use Rattle.notes.specs.Near.{IsNearSolid}
 use Rattle.paint.specs.declared.extent.VerticalExtent.{VerticalExtent}
 use Rattle.paint.specs.declared.item.SolidOrigin.{SolidOrigin}
 use Rattle.boxes.specs.declared.span.Content.{Content}
@@ -24,7 +25,7 @@ use Rattle.paint.specs.declared.parts.Fragment.{Fragment}
 use Rattle.paint.specs.declared.parts.Reached.{Reached}
 use Rattle.seams.specs.Runs.{events_in, is_solid_at, run_end, run_start, solid_before, is_closing}
 use Rattle.seams.specs.Runs as runs
-use Rattle.paint.specs.Bounds.{IsNearExtent, IsNearPart, IsNearSolid}
+use Rattle.paint.specs.Bounds.{IsNearExtent, IsNearPart}
 use Rattle.paint.specs.Clones.{first_solid, foot_edge, head_edge, parted_before, run_before, upper_again, with_lower, with_upper}
 use Rattle.paint.specs.Fragments.{boxes_at, boxes_with, closes_box, extent_of, here, is_lower, is_upper, join, opens_box, reach_by, reach_of, stands_in}
 use Rattle.paint.specs.Items.{for_some}

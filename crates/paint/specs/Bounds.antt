@@ -6,18 +6,12 @@ use Rattle.bk_num.specs.Numbers.{IsWithin}
 use Rattle.boxes.specs.Clones.{IsRoom}
 use Rattle.boxes.specs.Frames.{IsGoodFrame}
 use Rattle.boxes.specs.declared.page.Page.{Page}
-use Rattle.boxes.specs.declared.page.Placed.{Placed}
+use Rattle.notes.specs.Near.{IsNearSolid}
 use Rattle.paint.specs.Opens.{IsNear, IsWide}
 use Rattle.paint.specs.declared.extent.VerticalExtent.{VerticalExtent}
 use Rattle.paint.specs.declared.item.Area.{Area}
 use Rattle.paint.specs.declared.item.SolidOrigin.{SolidOrigin}
 use Rattle.paint.specs.declared.parts.Fragment.{Fragment}
-
--- a solid's top is within 2^60 units, and its height from 0 to 2^32
-pub record IsNearSolid (s : Placed) : Type 0 where
-  pub top : IsWithin (2 ^ 60) s.top
-  pub height : IsWithin (2 ^ 32) s.height
-  pub some : pos 0 ≤ℤ s.height
 
 -- solids stand in a frame from 0 to 2^30 units wide, from a left within 2^40 and from a top within 2^61
 pub record IsGoodOrigin (o : SolidOrigin) : Type 0 where

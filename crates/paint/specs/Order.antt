@@ -9,7 +9,8 @@ use Rattle.boxes.specs.declared.page.Page.{Page}
 use Rattle.boxes.specs.declared.page.Placed.{Placed}
 use Rattle.boxes.specs.declared.place.Event.TheVariants.{Leaf}
 use Rattle.line_fill.specs.LineEnd.{IsLineBetween}
-use Rattle.paint.specs.Bounds.{IsBoundedPage, IsNearSolid}
+use Rattle.notes.specs.Near.{IsNearSolid}
+use Rattle.paint.specs.Bounds.{IsBoundedPage}
 use Rattle.paint.specs.Items.{line_of}
 
 -- a solid that stands at a leaf of a tree is a line of it between two places

@@ -2,7 +2,8 @@
 
 ghost use Rattle.std.specs.Prelude.{MatchBool, All};
 ghost use Rattle.boxes.specs.Frames.{IsGoodFrame};
-ghost use Rattle.paint.specs.Bounds.{IsBoundedPage, IsNearSolid};
+ghost use Rattle.notes.specs.Near.{IsNearSolid};
+ghost use Rattle.paint.specs.Bounds.{IsBoundedPage};
 
 use boxes::frames::Frame;
 use boxes::page::{Page, Placed, PlacedNote};

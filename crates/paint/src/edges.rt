@@ -2,7 +2,8 @@
 
 ghost use Rattle.std.specs.Prelude.{◌∷◌, [], OnOk};
 ghost use Rattle.boxes.specs.Contents.{IsGoodBox};
-ghost use Rattle.paint.specs.Bounds.{IsGoodOrigin, IsNearSolid};
+ghost use Rattle.notes.specs.Near.{IsNearSolid};
+ghost use Rattle.paint.specs.Bounds.{IsGoodOrigin};
 ghost use Rattle.paint.specs.Items.{box_edge};
 ghost use Rattle.paint.specs.Opens as spec;
 ghost use Rattle.paint.specs.Views.{Adds, HaveItemFaces};

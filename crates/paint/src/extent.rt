@@ -1,7 +1,7 @@
 //! How far solids reach down a page.
 
 ghost use Rattle.std.specs.Prelude.{◌≡◌};
-ghost use Rattle.paint.specs.Bounds.{IsNearSolid};
+ghost use Rattle.notes.specs.Near.{IsNearSolid};
 ghost use Rattle.paint.specs.Fragments.{extent_of, join};
 
 use boxes::page::Placed;

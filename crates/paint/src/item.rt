@@ -2,8 +2,9 @@
 
 ghost use Rattle.std.specs.Prelude.{◌≡◌, ◌^◌};
 ghost use Rattle.bk_num.specs.Numbers.{IsWithin};
+ghost use Rattle.notes.specs.Near.{IsNearSolid};
 ghost use Rattle.paint.specs.Areas.{area_of, style_of};
-ghost use Rattle.paint.specs.Bounds.{IsGoodOrigin, IsNearSolid};
+ghost use Rattle.paint.specs.Bounds.{IsGoodOrigin};
 
 use bk_num::ids::FaceId;
 use bk_num::px::Px;

@@ -3,7 +3,8 @@
 ghost use Rattle.std.specs.Prelude.{All, OnOk};
 ghost use Rattle.std.specs.Option.{ForSome};
 ghost use Rattle.std.specs.List.{flat_map};
-ghost use Rattle.paint.specs.Bounds.{IsGoodOrigin, IsNearSolid};
+ghost use Rattle.notes.specs.Near.{IsNearSolid};
+ghost use Rattle.paint.specs.Bounds.{IsGoodOrigin};
 ghost use Rattle.paint.specs.Conditions.{CanBePainted, CanPaintAt};
 ghost use Rattle.paint.specs.Items.{solid_items};
 ghost use Rattle.paint.specs.Opens.{AreOpen};

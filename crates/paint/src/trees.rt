@@ -1,7 +1,8 @@
 //! Items of a tree on a page.
 
 ghost use Rattle.std.specs.Prelude.{All, OnOk};
-ghost use Rattle.paint.specs.Bounds.{IsGoodOrigin, IsNearSolid};
+ghost use Rattle.notes.specs.Near.{IsNearSolid};
+ghost use Rattle.paint.specs.Bounds.{IsGoodOrigin};
 ghost use Rattle.paint.specs.Conditions.{CanBePainted};
 ghost use Rattle.paint.specs.Order.{AreInOrder};
 ghost use Rattle.paint.specs.Pages.{tree_items};

@@ -4,8 +4,8 @@ use Rattle.std.proofs.lemmas.List.Elements.{All-take}
 use Rattle.cursor.specs.declared.solid.Solid.{Solid}
 use Rattle.cursor.specs.Fields.{solid_view}
 use Rattle.cursor.specs.Remainder.{SolidView, IsSmallSolid}
-use Rattle.note_list.specs.Places.{IsNear}
 use Rattle.page_list.specs.Cuts.{first_gap, placed_from}
+use Rattle.notes.specs.Near.{IsNearSolid}
 use Rattle.fragment.proofs.SolidLemmas.{if_ok}
 use Rattle.fragment.proofs.FootLemmas.{first_taken, near_first}
 use Rattle.fragment.proofs.cut_solids.place_first.Goals as goal
@@ -26,4 +26,4 @@ pub returns-clause-near : goal.returns-clause-near
 returns-clause-near c =
     let few = c.requires.few in
     let size = length-take c.args.count c.args.solids.now in
-    if_ok _ _ c.place_all.result (λ p e. subst (All IsNear) (sym e) (near_first c.args.kept (take c.args.count c.args.solids.now) (omega arith) (All-take (λ s. IsSmallSolid (solid_view s)) c.args.count c.args.solids.now c.requires.small))) c.place_all.ensures.items
+    if_ok _ _ c.place_all.result (λ p e. subst (All IsNearSolid) (sym e) (near_first c.args.kept (take c.args.count c.args.solids.now) (omega arith) (All-take (λ s. IsSmallSolid (solid_view s)) c.args.count c.args.solids.now c.requires.small))) c.place_all.ensures.items

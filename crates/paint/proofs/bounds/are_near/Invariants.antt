@@ -1,6 +1,6 @@
 use Rattle.std.proofs.Common.{take}
 use Rattle.std.specs.List.{All}
-use Rattle.paint.specs.Bounds.{IsNearSolid}
+use Rattle.notes.specs.Near.{IsNearSolid}
 use Rattle.paint.proofs.bounds.are_near.Given as goal
 
 abbrev pub invariant-loop-s : goal.invariant-loop-s

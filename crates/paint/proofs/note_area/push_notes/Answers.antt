@@ -2,7 +2,7 @@ use Rattle.std.proofs.Common.{List, sym, subst}
 use Rattle.std.proofs.lemmas.List.Elements.{All-nil, All-push}
 use Rattle.std.specs.List.{All}
 use Rattle.boxes.specs.declared.page.Placed.{Placed}
-use Rattle.paint.specs.Bounds.{IsNearSolid}
+use Rattle.notes.specs.Near.{IsNearSolid}
 use Rattle.paint.specs.Views.{items_in}
 use Rattle.paint.proofs.NoteLemmas.{painted_none, painted_step}
 use Rattle.paint.proofs.OrderLemmas.{left_first, left_later, left_most, left_next, part_order}

@@ -1,6 +1,6 @@
 use Rattle.std.proofs.Common.{take}
 use Rattle.std.specs.List.{All}
-use Rattle.paint.specs.Bounds.{IsNearSolid}
+use Rattle.notes.specs.Near.{IsNearSolid}
 use Rattle.paint.specs.Groups.{IsPainted}
 use Rattle.paint.specs.Views.{HasItemFace, items_in}
 use Rattle.paint.proofs.OrderLemmas.{AreLeft}

@@ -4,9 +4,10 @@ use Rattle.std.proofs.lemmas.List.Elements.{All-take}
 use Rattle.bk_num.specs.Limits.{separator}
 use Rattle.notes.specs.Notes.{IsPlaced, IsSmallNote, must_of}
 use Rattle.cuts.specs.Areas.{cut_number}
+use Rattle.notes.specs.Near.{IsNearSolid}
 use Rattle.note_list.specs.Left.{left_after_last}
 use Rattle.note_list.specs.Lists.{placed_notes, note_rows}
-use Rattle.note_list.specs.Places.{IsNear, least_of}
+use Rattle.note_list.specs.Places.{least_of}
 use Rattle.note_list.specs.declared.solid.NotedSolid.{NotedSolid}
 use Rattle.note_list.proofs.BodyLemmas.{EndsIn}
 use Rattle.note_list.proofs.KeptLemmas.{front_of}
@@ -131,4 +132,4 @@ returns-clause-near c =
     let within = c.in_ok-number.ensures.within in
     let small = subst (λ (xs : List NotedSolid). All IsSmallNote (note_rows xs)) (sym placed_is) (small_taken (take read solids) c.in_ok-number.number (small_taken solids read c.requires.ready.small)) in
     let size : length c.split_at-2.result.0.now ≤ length solids = subst (λ (xs : List NotedSolid). length xs ≤ length solids) (sym placed_is) (taken_low solids read c.in_ok-number.number) in
-    subst (All (λ n. IsNear n.1)) (sym c.in_ok-place_all.ensures) (near_notes 0 separator c.split_at-2.result.0.now (omega arith) (omega (arith, ints)) (omega (arith, ints)) small)
+    subst (All (λ n. IsNearSolid n.1)) (sym c.in_ok-place_all.ensures) (near_notes 0 separator c.split_at-2.result.0.now (omega arith) (omega (arith, ints)) (omega (arith, ints)) small)
