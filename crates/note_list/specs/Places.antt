@@ -3,6 +3,7 @@ use Rattle.std.specs.Prelude.{◌≡◌, ℕ, ℤ, pos, ◌^◌, ◌==◌, ◌<�
 use Rattle.std.specs.List.{All}
 use Rattle.bk_num.specs.Limits.{most_entries, separator}
 use Rattle.boxes.specs.declared.flow.Flow.{Flow}
+use Rattle.boxes.specs.declared.page.Placed.{Placed}
 use Rattle.notes.specs.Notes.{IsPlaced, must_of}
 use Rattle.note_list.specs.Conditions.{IsAtSolid, IsHeld, NotesAscend}
 use Rattle.note_list.specs.Lists.{left_of, placed_notes, note_rows}
