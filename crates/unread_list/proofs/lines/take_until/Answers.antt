@@ -9,4 +9,4 @@ returns-clause-passes c =
     let rest = c.take_until.new.tokens.rest.now in
     let line = c.args.lines.now.line in
     passes_text text rest line (line + c.feeds.result) c.in_ok-end.ensures.passed c.in_ok-end.ensures.takes
-    (ap (λ n. line + n) (c.feeds.ensures.value ∙ ap (λ bs. feeds (take (length bs - length rest) bs)) c.as_bytes-text.ensures))
+    (ap (λ n. line + n) (c.feeds.ensures.value ∙ ap (λ bs. feeds (take (length bs - length rest) bs)) c.as_bytes-text.ensures.value))
