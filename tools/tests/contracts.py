@@ -70,6 +70,20 @@ def blocks(text):
     return found
 
 
+def remarks(path):
+    """The definitions of a file of specs, each with the comment above it."""
+    file, said = f"{path.parts[-3]}.specs.{path.stem}", []
+    for line in path.read_text(encoding="utf-8").splitlines():
+        remark = re.match(r"--+(.*)", line)
+        if remark:
+            said.append(remark[1].strip())
+            continue
+        head = HEAD.match(line)
+        if said and head and not re.match(r"(?:unfoldable )?(?:pub )?use\b", line):
+            yield (file, head[1]), " ".join(said)
+        said = []
+
+
 @functools.cache
 def definitions():
     """Each definition with the definitions that it is made of."""

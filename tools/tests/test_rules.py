@@ -4,9 +4,10 @@ to a definition of its row."""
 import re
 import unittest
 
-from contracts import CRATES, called, clauses, closure, definitions
+from contracts import CRATES, called, clauses, closure, definitions, remarks
 
 PAGE = CRATES.parent / "docs/ARCHITECTURE.md"
+STANDARD = re.compile(r"CSS 2\.1|CSS Text|\bcss-[a-z]|Selectors 3|UAX|\(Unicode|HTML, \d|DOM, \d")
 PLACE = re.compile(r"((?:`[^`]+`(?:, )?)+) in `([^`]+)`")
 
 
@@ -103,6 +104,14 @@ class Rules(unittest.TestCase):
             for one in defined(cell):
                 with self.subTest(rule, definition=one[1]):
                     self.assertTrue(leads({one}, named, set()))
+
+    def test_rules_of_standards_have_rows(self):
+        listed = {one for _, cell, _ in rows() for one in defined(cell)}
+        for path in sorted(CRATES.glob("*/specs/*.antt")):
+            for one, said in remarks(path):
+                if one in definitions() and STANDARD.search(said):
+                    with self.subTest(one):
+                        self.assertIn(one, listed)
 
     def test_functions_are_called_outside_of_rows(self):
         known = offered()
