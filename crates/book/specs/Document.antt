@@ -1,7 +1,6 @@
 -- What the texts of the files are read as, or the refusal that they give.
-use Rattle.std.specs.Prelude.{ℕ, ◌≤◌, List, Option, None, Some, length, nat_lt, if◌then◌else◌, Result, Ok, Err}
+use Rattle.std.specs.Prelude.{ℕ, ◌≤◌, List, Option, None, Some, length, if◌then◌else◌, Result, Ok, Err}
 use Rattle.std.specs.List.{list_any}
-use Rattle.bk_num.specs.Limits.{most_sheets}
 use Rattle.boxes.specs.Frames.{IsPerPage}
 use Rattle.metrics.specs.Face.{FontFace}
 use Rattle.metrics.specs.Text.{faces_of}
@@ -14,7 +13,7 @@ use Rattle.hyphen.specs.Pattern.{Pattern, value_at}
 use Rattle.hyphen.specs.Text.{patterns_of}
 use Rattle.sheets.specs.Sheets.{author_texts, element_sheets}
 use Rattle.sheets.specs.Readings.{SheetOf}
-use Rattle.sheets.specs.Sources.{has_many_rules}
+use Rattle.sheets.specs.Sources.{are_many, has_many_rules}
 use Rattle.soft_hyphens.specs.Words.{Points, points_with}
 use Rattle.words.specs.Asked.{FormatWords}
 use Rattle.words.specs.Grammar.{widest_gap}
@@ -79,7 +78,7 @@ nodes_expected (Err dom_err.NoMemory) = refused out.NoMemory
 
 -- there are at most 16 sheets, and none has more than 20,000 rules
 abbrev pub sheets_expected : (List ℕ → SheetOf) → List (List ℕ) → Expect (Unit {0})
-sheets_expected reading texts = if nat_lt most_sheets (length texts) then refused (out.Limit limit.Sheets) else
+sheets_expected reading texts = if are_many (length texts) then refused (out.Limit limit.Sheets) else
     if list_any (has_many_rules reading) texts then refused (out.Limit limit.Rules) else given tt
 
 -- the document of the texts, or the first refusal; `reading` gives what each text is read as, as a sheet

@@ -1,9 +1,10 @@
 -- The markers of list items (CSS 2.1, 12.5).
-use Rattle.std.specs.Prelude.{ℕ, ℤ, List, [], ◌∷◌, ◌++◌, Option, None, Some, codes, length}
+use Rattle.std.specs.Prelude.{ℕ, ℤ, List, [], ◌∷◌, ◌++◌, Option, None, Some, length}
 use Rattle.bk_num.specs.declared.values.NumStyle.{NumStyle}
 use Rattle.bk_num.specs.declared.values.NumStyle.TheVariants as numeral
 use Rattle.bk_num.specs.declared.values.Pseudo.{Pseudo}
 use Rattle.bk_num.specs.declared.values.Pseudo.TheVariants as pseudo
+use Rattle.counters.specs.Markers.{list_item}
 use Rattle.counters.specs.Numerals.{bullet_of}
 use Rattle.gen_text.specs.Parts.{innermost_text}
 use Rattle.boxes.specs.declared.leaf.Lead.{Lead}
@@ -12,7 +13,7 @@ use Rattle.box_gen.specs.TextStyles.{span_by}
 
 -- the values of `list-item` at an element, by the values of counters at places
 abbrev pub list_values : (ℕ → Pseudo → List ℕ → List ℤ) → ℕ → List ℤ
-list_values values n = values n pseudo.Element (codes "list-item")
+list_values values n = values n pseudo.Element list_item
 
 -- a marker has this text
 abbrev pub some_text : List ℕ → Option (List ℕ)

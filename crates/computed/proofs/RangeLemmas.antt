@@ -17,7 +17,8 @@ use Rattle.style.specs.Initial.{medium_width}
 use Rattle.style.specs.Longs.{side_long}
 use Rattle.style.specs.Ranges.{HasMargins, IsHeight, IsInRange}
 use Rattle.style.specs.Sides.{border_widths, paddings}
-use Rattle.style.specs.Styles.{initial_style, zero_len}
+use Rattle.style.specs.Initial.{zero_len}
+use Rattle.style.specs.Styles.{initial_style}
 use Rattle.style.specs.declared.style.Style.{Style}
 use Rattle.style.specs.declared.values.LineHeight.{LineHeight}
 use Rattle.style.specs.declared.values.BorderStyle.{BorderStyle}

@@ -1,9 +1,8 @@
 -- Lengths of an element's properties in its context.
 use Rattle.std.specs.Prelude.{ℤ, pos}
 use Rattle.bk_num.specs.declared.length.Len.{Len}
-use Rattle.bk_num.specs.declared.length.Len.TheVariants as len
 use Rattle.bk_num.specs.declared.sides.BoxSide.TheVariants as side
-use Rattle.style.specs.Styles.{zero_len}
+use Rattle.style.specs.Initial.{initial_indent, initial_margin, initial_padding, initial_width}
 use Rattle.style.specs.declared.long.Given.{Given}
 use Rattle.style.specs.declared.values.Measure.{Measure}
 use Rattle.computed_values.specs.Values.{given_by, held, held_len, len_of, units_of, without_auto}
@@ -26,12 +25,12 @@ length_for use_of.Padding c m = held_len (without_auto (length_in c m))
 length_for use_of.Width c m = held_len (length_in c m)
 length_for use_of.Indent c m = without_auto (length_in c m)
 
--- the initial one: a width is `auto`
+-- the initial length of a property
 abbrev pub initial_length : LengthUse → Len
-initial_length (use_of.Margin s) = zero_len
-initial_length use_of.Padding = zero_len
-initial_length use_of.Width = len.Auto
-initial_length use_of.Indent = zero_len
+initial_length (use_of.Margin s) = initial_margin
+initial_length use_of.Padding = initial_padding
+initial_length use_of.Width = initial_width
+initial_length use_of.Indent = initial_indent
 
 -- the length that a declaration gives its property
 abbrev pub chosen_length : LengthUse → ElementContext → Given Measure → Len → Len

@@ -21,7 +21,7 @@ use Rattle.style.specs.declared.values.GivenHeight.{GivenHeight}
 use Rattle.style.specs.declared.values.GivenHeight.TheVariants as given_height
 use Rattle.style.specs.declared.long.Given.{Given}
 use Rattle.style.specs.declared.long.Given.TheVariants as given
-use Rattle.style.specs.Styles.{zero_len}
+use Rattle.style.specs.Initial.{zero_len}
 
 -- what a declaration gives, where a declared value is computed so
 abbrev pub given_by : {A B : Type 0} → (A → B) → Given A → B → B → B

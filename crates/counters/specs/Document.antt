@@ -17,7 +17,7 @@ use Rattle.counters.specs.declared.scopes.Act.{Act}
 use Rattle.counters.specs.declared.scopes.Act.TheVariants as act
 use Rattle.counters.specs.declared.scopes.CounterEvent.{CounterEvent}
 use Rattle.counters.specs.Scopes.{AreNested, values_by}
-use Rattle.counters.specs.Markers.{has_marker}
+use Rattle.counters.specs.Markers.{has_marker, list_item}
 use Rattle.counters.specs.Numerals.{is_numeral}
 
 -- ---- what a place does: names of counters with resets and increments
@@ -58,15 +58,19 @@ uses_in_some (Some content) = uses_in content
 -- an element whose marker is a number uses `list-item`
 abbrev pub marker_use : Bool → Style → List (List ℕ × Act)
 marker_use root s =
-    if has_marker root s && is_numeral s.list_style_type then use_of (codes "list-item") else []
+    if has_marker root s && is_numeral s.list_style_type then use_of list_item else []
+
+-- the counter of notes (css-gcpm-3, 2)
+abbrev pub footnote : List ℕ
+footnote = codes "footnote"
 
 -- the root begins the notes' counter, and each note counts itself
 abbrev pub note_start : Bool → List (List ℕ × Act)
-note_start root = if root then (codes "footnote", act.Reset (pos 0)) ∷ [] else []
+note_start root = if root then (footnote, act.Reset (pos 0)) ∷ [] else []
 
 -- a note element counts as one
 abbrev pub note_count : Bool → List (List ℕ × Act)
-note_count note = if note then (codes "footnote", act.Add (pos 1)) ∷ [] else []
+note_count note = if note then (footnote, act.Add (pos 1)) ∷ [] else []
 
 -- an element: resets, increments, the note's own, and uses by its named strings and its marker
 abbrev pub by_element : Bool → Bool → Style → List (List ℕ × Act)

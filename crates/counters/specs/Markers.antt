@@ -1,8 +1,12 @@
 -- Which elements have a marker (CSS 2.1, 12.5).
-use Rattle.std.specs.Prelude.{Bool, true, false, not, ◌&&◌}
+use Rattle.std.specs.Prelude.{ℕ, List, Bool, true, false, not, ◌&&◌, codes}
 use Rattle.style.specs.declared.style.Style.{Style}
 use Rattle.style.specs.declared.values.Display.{Display}
 use Rattle.style.specs.declared.values.Display.TheVariants as display
+
+-- the counter of list items (CSS 2.1, 12.5)
+abbrev pub list_item : List ℕ
+list_item = codes "list-item"
 
 -- a list item
 abbrev pub is_list_item : Display → Bool

@@ -58,10 +58,14 @@ at_prelude ts = front_from stop.InnerAtRule [] ts
 unfoldable pub at_end : List Item → List Item
 at_end ts = after_from stop.InnerAtRule [] ts
 
--- An At token with the name of a margin box, no prelude, and a block (css-page-3, 5)
+-- whether an At, its prelude and the mark that ends it are those of a margin box: its name, no prelude, and a block
+-- (css-page-3, 5)
+abbrev pub margin_box_by : Item → List Item → ℕ → Bool
+margin_box_by t front end = is_margin_name (value_slice t.kind t.slice) && list_all is_gap front && end == 123
+
+-- whether an At token begins a margin box, by what follows it
 unfoldable pub is_margin_box : Item → List Item → Bool
-is_margin_box t ts =
-    is_margin_name (value_slice t.kind t.slice) && list_all is_gap (at_prelude ts) && first_mark (at_end ts) == 123
+is_margin_box t ts = margin_box_by t (at_prelude ts) (first_mark (at_end ts))
 
 -- the margin box of an at keyword, with the declarations of the block that follows
 abbrev pub box_of : Item → List Item → BoxOf

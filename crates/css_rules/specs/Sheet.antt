@@ -65,12 +65,16 @@ at_front inside ts = front_from (at_stop inside) [] ts
 unfoldable pub at_after : Bool → List Item → List Item
 at_after inside ts = after_from (at_stop inside) [] ts
 
+-- whether an at keyword begins an `@media` rule, which none does inside another one
+abbrev pub is_media_rule : Bool → Item → Bool
+is_media_rule inside t = not inside && is_at_word t (codes "media")
+
 -- what an at-rule gives: an `@media` with a read list the rules of its block, an `@page` with a block a page rule, all
 -- others nothing
 abbrev pub kind_of_at : Bool → Item → List Item → ℕ → AtKind
 kind_of_at inside t front m =
     if m == 123 then (if is_at_word t (codes "page") then at.Page else
-    (if not inside && is_at_word t (codes "media") && is_media_list front then at.Media else at.Other)) else at.Other
+    (if is_media_rule inside t && is_media_list front then at.Media else at.Other)) else at.Other
 
 -- what the at rule of this keyword is
 unfoldable pub at_kind : Bool → Item → List Item → AtKind

@@ -7,6 +7,7 @@ ghost use Rattle.css_tok.specs.Marks.{first_mark, rest_of, is_gap_kind};
 ghost use Rattle.css_rules.specs.Decls.{decl_in};
 ghost use Rattle.css_rules.specs.Decls as spec_decls;
 ghost use Rattle.css_rules.specs.Pages as spec;
+ghost use Rattle.css_rules.specs.Views.{items_in};
 
 use crate::decls::{DeclSlice, decl_of, read_block};
 use crate::margin_boxes::margin_box_number;
@@ -83,6 +84,14 @@ pub fn are_gaps(tokens: &[CssToken<'_>]) -> bool
     tokens.iter().all(|token| token.is_gap())
 }
 
+/// Whether an at-rule in a page rule is a margin box, by its At, its prelude and what ends that (css-page-3, 5).
+#[tactic(auto, using(crate::proofs::PartLemmas::gaps_are))]
+pub fn is_margin_box(token: &CssToken<'_>, prelude: &[CssToken<'_>], end: u8) -> bool
+    ensures { result ≡ spec.margin_box_by (item_in token.now) (items_in prelude.now) end }
+{
+    is_margin_name(token.value_slice()) && are_gaps(prelude) && end == b'{'
+}
+
 /// Reads an at-rule in the block, whose At was taken: a margin box with its block, or nothing.
 fn read_page_at<'a>(
     alloc: Global,
@@ -102,13 +111,12 @@ fn read_page_at<'a>(
             more: end.mark != b'}',
         });
     }
-    let bare = are_gaps(found);
+    let is_box = is_margin_box(token, found, end.mark);
     let decls = read_block(alloc, tokens, Stop::BlockPiece)?;
-    let name = token.value_slice();
     Ok(PagePart {
         decl: None,
-        margin: if bare && is_margin_name(name) {
-            Some((name, decls))
+        margin: if is_box {
+            Some((token.value_slice(), decls))
         } else {
             None
         },

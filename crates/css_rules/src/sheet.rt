@@ -92,6 +92,13 @@ fn is_at_word(token: &CssToken<'_>, word: &str) -> bool
     is_word(token.value_slice(), word)
 }
 
+/// Whether an at keyword begins an `@media` rule, which none does inside another one.
+pub fn is_media_rule(inside: bool, token: &CssToken<'_>) -> bool
+    ensures { result ≡ spec.is_media_rule inside (item_in token.now) }
+{
+    !inside && is_at_word(token, "media")
+}
+
 /// What an at-rule gives, by its At, its prelude and what ends that.
 pub fn at_kind(inside: bool, token: &CssToken<'_>, prelude: &[CssToken<'_>], end: u8) -> AtKind
     ensures { result ≡ spec.kind_of_at inside (item_in token.now) (items_in prelude.now) end }
@@ -100,7 +107,7 @@ pub fn at_kind(inside: bool, token: &CssToken<'_>, prelude: &[CssToken<'_>], end
         AtKind::Other
     } else if is_at_word(token, "page") {
         AtKind::Page
-    } else if !inside && is_at_word(token, "media") && is_media_list(prelude) {
+    } else if is_media_rule(inside, token) && is_media_list(prelude) {
         AtKind::Media
     } else {
         AtKind::Other

@@ -1,12 +1,12 @@
 -- A line that is the next solid of a walk, however it was found.
-use Rattle.std.proofs.Common.{◌≡◌, ℕ, ◌+◌, ◌<◌, ◌≤◌, ◌^◌, ℤ, pos, ◌≤ℤ◌, List, cond, eqb, Some, length, slice_get, refl, sym, ap, ◌∙◌, subst, arith}
+use Rattle.std.proofs.Common.{◌≡◌, ℕ, ◌<◌, ◌≤◌, ◌^◌, ℤ, pos, ◌≤ℤ◌, List, cond, eqb, Some, length, slice_get, refl, sym, ap, ◌∙◌, subst, arith}
 use Rattle.std.specs.Str.{IsCharBoundary, IsUtf8}
 use Rattle.std.proofs.lemmas.Int.{ints}
 use Rattle.bk_num.specs.Numbers.{IsWithin}
 use Rattle.metrics.specs.Face.{FontFace}
 use Rattle.boxes.specs.Clones.{IsRoom}
 use Rattle.boxes.specs.Lines.{LineView}
-use Rattle.boxes.specs.Tree.{Tree, IsTree, Holds, open_before}
+use Rattle.boxes.specs.Tree.{Tree, Holds, open_before}
 use Rattle.boxes.specs.declared.leaf.Leaf.{Leaf as LeafData}
 use Rattle.boxes.specs.declared.place.Event.TheVariants.{Leaf}
 use Rattle.boxes.specs.declared.place.Position.{Position}

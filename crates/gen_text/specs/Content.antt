@@ -26,16 +26,29 @@ abbrev pub place_of : List Node → List NodeStyles → ℕ → Pseudo → (ℕ 
 place_of nodes styles node pseudo values table =
     record { nodes = nodes; styles = styles; node = node; pseudo = pseudo; values = values; table = table }
 
--- a text with what a part prints at its end. The parts of margin boxes alone print nothing in the flow
+-- what a part prints. The parts of margin boxes alone print nothing in the flow
+abbrev pub printed_by : Place → Part → List ℕ
+printed_by p (part.Text text) = text
+printed_by p (part.Attr name) = attribute_text (attribute_at p.nodes p.node name)
+printed_by p (part.Counter name style) = innermost_text style (p.values p.node p.pseudo name)
+printed_by p (part.Counters name between style) = joined_text between style (p.values p.node p.pseudo name)
+printed_by p (part.Target link name style) =
+    reference_text p.values p.table name style (target_of p.nodes p.styles p.node link)
+printed_by p part.Own = own_text p.nodes p.styles p.node
+printed_by p (part.Running name keyword) = []
+printed_by p (part.Page style) = []
+printed_by p (part.Pages style) = []
+
+-- a text with what a part prints at its end
 abbrev pub PrintsPart : Place → Part → List ℕ → List ℕ → Type 0
-PrintsPart p (part.Text text) old new = new ≡ old ++ text
-PrintsPart p (part.Attr name) old new = new ≡ old ++ attribute_text (attribute_at p.nodes p.node name)
-PrintsPart p (part.Counter name style) old new = new ≡ old ++ innermost_text style (p.values p.node p.pseudo name)
+PrintsPart p (part.Text text) old new = new ≡ old ++ printed_by p (part.Text text)
+PrintsPart p (part.Attr name) old new = new ≡ old ++ printed_by p (part.Attr name)
+PrintsPart p (part.Counter name style) old new = new ≡ old ++ printed_by p (part.Counter name style)
 PrintsPart p (part.Counters name between style) old new = new ≡
-    old ++ joined_text between style (p.values p.node p.pseudo name)
+    old ++ printed_by p (part.Counters name between style)
 PrintsPart p (part.Target link name style) old new =
     PrintsReference p.nodes p.styles p.values p.table p.node link name style old new
-PrintsPart p part.Own old new = new ≡ old ++ own_text p.nodes p.styles p.node
+PrintsPart p part.Own old new = new ≡ old ++ printed_by p part.Own
 PrintsPart p (part.Running name keyword) old new = new ≡ old
 PrintsPart p (part.Page style) old new = new ≡ old
 PrintsPart p (part.Pages style) old new = new ≡ old
@@ -50,19 +63,6 @@ abbrev pub IsTextOf : Place → List Part → List ℕ → Type 0
 IsTextOf p content text = PrintsParts p content [] text
 
 -- ---- the same as a function
-
--- what a part prints. The parts of margin boxes alone print nothing in the flow
-abbrev pub printed_by : Place → Part → List ℕ
-printed_by p (part.Text text) = text
-printed_by p (part.Attr name) = attribute_text (attribute_at p.nodes p.node name)
-printed_by p (part.Counter name style) = innermost_text style (p.values p.node p.pseudo name)
-printed_by p (part.Counters name between style) = joined_text between style (p.values p.node p.pseudo name)
-printed_by p (part.Target link name style) =
-    reference_text p.values p.table name style (target_of p.nodes p.styles p.node link)
-printed_by p part.Own = own_text p.nodes p.styles p.node
-printed_by p (part.Running name keyword) = []
-printed_by p (part.Page style) = []
-printed_by p (part.Pages style) = []
 
 -- the text of a list of content: what its parts print, joined
 abbrev pub text_of : Place → List Part → List ℕ

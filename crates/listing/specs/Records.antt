@@ -11,13 +11,17 @@ use Rattle.boxes.specs.declared.frames.PageKind.{PageKind}
 use Rattle.boxes.specs.declared.frames.PageKind.TheVariants as kind
 use Rattle.bk_io.specs.Escapes.{hex_pair, is_control, shown_byte}
 
+-- whether a byte of a string has a `\` before it: `"` and `\`
+abbrev pub is_quoted : ℕ → Bool
+is_quoted b = b == 34 || b == 92
+
 -- a byte of a string: `"` and `\` have a `\` before them, controls are shown, and others stand as they are
 unfoldable pub escape : ℕ → List ℕ
-escape b = if b == 34 || b == 92 then 92 ∷ b ∷ [] else shown_byte b
+escape b = if is_quoted b then 92 ∷ b ∷ [] else shown_byte b
 
 -- whether a byte of a string stands as it is
 unfoldable pub stands : ℕ → Bool
-stands b = not (b == 34 || b == 92 || is_control b)
+stands b = not (is_quoted b || is_control b)
 
 -- a string in its quotes
 unfoldable pub quoted : List ℕ → List ℕ

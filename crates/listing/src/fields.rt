@@ -5,7 +5,7 @@ ghost use Rattle.std.specs.List.{flat_map, list_all};
 ghost use Rattle.bk_io.specs.Sink.{HasCause};
 ghost use Rattle.bk_io.specs.Buffers.{Gives};
 ghost use Rattle.listing.specs.Fields.{field_bytes, record_bytes};
-ghost use Rattle.listing.specs.Records.{color_field, escape, face_field, field, stands, string_field, style_name, word};
+ghost use Rattle.listing.specs.Records.{color_field, escape, face_field, field, is_quoted, stands, string_field, style_name, word};
 
 use bk_io::buffer::Buffer;
 use bk_io::escape::{hex_digit, is_control, shown_byte};
@@ -31,12 +31,19 @@ pub(crate) enum Field<'a> {
     Face(FaceLabel<'a>),
 }
 
+/// Whether a byte of a string has a `\` before it.
+fn is_quoted(b: u8) -> bool
+    ensures { result ≡ is_quoted b }
+{
+    b == b'"' || b == b'\\'
+}
+
 /// Whether a byte of a string stands as it is.
 #[tactic(auto, unfolding(crate::specs::Records::stands))]
 fn stands(b: u8) -> bool
     ensures { result ≡ stands b }
 {
-    !(b == b'"' || b == b'\\' || is_control(b))
+    !(is_quoted(b) || is_control(b))
 }
 
 /// Adds a byte of a string.
@@ -45,7 +52,7 @@ fn add_escaped<S: Sink>(buffer: &mut Buffer, sink: &mut S, b: u8) -> Result<(), 
     ensures bytes { Gives (S.taken sink.old) buffer.old (S.taken sink.new) buffer.new (escape b) result }
     ensures cause { HasCause (S.faults sink.old) (S.faults sink.new) result }
 {
-    if b == b'"' || b == b'\\' {
+    if is_quoted(b) {
         return buffer.add(sink, &[b'\\', b]);
     }
     buffer.add(sink, shown_byte(b).as_slice())

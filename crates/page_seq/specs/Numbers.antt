@@ -23,11 +23,15 @@ value_on t pages resets k = last_value (filter (λ r. page_of t pages r.at == k)
 abbrev pub values_of : Tree → List Page → List Reset → List (Option ℤ)
 values_of t pages resets = map (value_on t pages resets) (range_with_len 0 (length pages))
 
--- numbers after one before them: the value of a page's last reset, and without one the next number
+-- the number of a page after that of the page before it: the value of its last reset, and without one the next number
+abbrev pub number_after : ℤ → Option ℤ → ℤ
+number_after before value = unwrap_or value (before +ℤ pos 1)
+
+-- the numbers of pages, one after the other
 abbrev pub numbers_after : ℤ → List (Option ℤ) → List ℤ
 numbers_after before [] = []
 numbers_after before (value ∷ values) =
-    unwrap_or value (before +ℤ pos 1) ∷ numbers_after (unwrap_or value (before +ℤ pos 1)) values
+    number_after before value ∷ numbers_after (number_after before value) values
 
 -- the numbers of the pages of a list, in order; the first page is numbered 1 where nothing resets it
 abbrev pub numbers_of : Tree → List Page → List Reset → List ℤ

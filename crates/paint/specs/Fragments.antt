@@ -3,6 +3,7 @@
 use Rattle.std.specs.Prelude.{ℕ, ◌+ℤ◌, List, [], ◌∷◌, Option, None, Some, Bool, false, ◌==◌, slice_get, if◌then◌else◌}
 use Rattle.std.specs.Int.{int_max, int_min}
 use Rattle.std.specs.List.{list_any}
+use Rattle.boxes.specs.Clones.{closes_box as closes}
 use Rattle.boxes.specs.Tree.{Tree, open_before}
 use Rattle.boxes.specs.declared.page.Placed.{Placed}
 use Rattle.boxes.specs.declared.place.Event.{Event}
@@ -34,9 +35,7 @@ opens_box b (Some (Leaf l)) = false
 -- whether an event closes a box
 abbrev pub closes_box : ℕ → Option Event → Bool
 closes_box b None = false
-closes_box b (Some (Opens c)) = false
-closes_box b (Some (Closes c)) = c == b
-closes_box b (Some (Leaf l)) = false
+closes_box b (Some e) = closes b e
 
 -- whether a solid is the upper edge of a box
 abbrev pub is_upper : List Event → ℕ → Placed → Bool

@@ -58,6 +58,10 @@ pub record ArePageRules (sources : List Source) (rules : List PageRule) : Type 0
   pub each : AllZip (λ s l. ArePageRulesOf s.text l) sources lists
   pub is : rules ≡ flat_map (λ l. l) lists
 
+-- whether there are more sheets than a run may have: 16
+abbrev pub are_many : ℕ → Bool
+are_many count = nat_lt most_sheets count
+
 -- whether a text, read so, has more rules than a sheet may have
 abbrev pub has_many_rules : (List ℕ → SheetOf) → List ℕ → Bool
 has_many_rules reading text = has_many (reading text)
@@ -85,8 +89,8 @@ AreFew reading texts (Err err.NoMemory) = Unit {0}
 -- more than 16 sheets; else a sheet with more than 20,000 rules; else neither
 abbrev pub AreRead : (List ℕ → SheetOf) → List (List ℕ) → Result Sheets SheetsErr → Type 0
 AreRead reading texts (Ok s) =
-    (nat_lt most_sheets (length texts) ≡ false) × (list_any (has_many_rules reading) texts ≡ false)
-AreRead reading texts (Err err.Sheets) = nat_lt most_sheets (length texts) ≡ true
+    (are_many (length texts) ≡ false) × (list_any (has_many_rules reading) texts ≡ false)
+AreRead reading texts (Err err.Sheets) = are_many (length texts) ≡ true
 AreRead reading texts (Err err.Rules) =
-    (nat_lt most_sheets (length texts) ≡ false) × (list_any (has_many_rules reading) texts ≡ true)
+    (are_many (length texts) ≡ false) × (list_any (has_many_rules reading) texts ≡ true)
 AreRead reading texts (Err err.NoMemory) = Unit {0}

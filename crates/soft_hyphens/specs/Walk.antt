@@ -6,7 +6,7 @@ use Rattle.std.specs.Str.{chars, IsCharBoundary}
 use Rattle.bk_num.specs.Chars.{soft_hyphen}
 use Rattle.hyphen.specs.Points.{offset_of}
 use Rattle.soft_hyphens.specs.Pass.{offsets_before}
-use Rattle.soft_hyphens.specs.Words.{Points, are_auto, codes_of, is_of_word, is_put, is_soft, letters_between}
+use Rattle.soft_hyphens.specs.Words.{Points, are_auto, codes_of, is_of_word, is_put, is_soft, letters_between, most_letters}
 use Rattle.soft_hyphens.specs.declared.letter.Letter.{Letter}
 use Rattle.soft_hyphens.specs.declared.walk.Walk.{Walk}
 
@@ -16,7 +16,7 @@ word_text text w = slice_range text w.from w.at
 
 -- whether that word counts if it ends here, and a soft hyphen stands after it or not
 abbrev pub counts_by : Walk → Bool → Bool
-counts_by w soft = nat_le (w.place - w.first) 64 && w.auto && not w.after_soft && not soft
+counts_by w soft = nat_le (w.place - w.first) most_letters && w.auto && not w.after_soft && not soft
 
 -- it past a character of a word
 abbrev pub after_letter : Walk → Letter → Walk

@@ -34,6 +34,10 @@ least_before = 2
 abbrev pub least_after : ℕ
 least_after = 3
 
+-- how many characters a word has at least that has a point: as many as stand before one and after it
+abbrev pub least_letters : ℕ
+least_letters = 5
+
 -- the points of patterns, with so many characters before and after
 abbrev pub points_with : (List ℕ → ℕ → ℕ) → Points
 points_with value word place =

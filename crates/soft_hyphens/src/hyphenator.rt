@@ -4,6 +4,7 @@ ghost use Rattle.std.specs.Prelude.{◌≡◌, ◌≤◌, ◌&&◌, nat_le, leng
 ghost use Rattle.bk_num.specs.Limits.{most_text_bytes};
 ghost use Rattle.hyphen.specs.Meaning.{value_in};
 ghost use Rattle.soft_hyphens.specs.Known.{HavePoints, points_of, word_points};
+ghost use Rattle.soft_hyphens.specs.Words.{least_letters};
 
 use crate::word::is_of_word;
 use bk_num::name::NoMem;
@@ -60,7 +61,7 @@ fn asked(alloc: Global, patterns: &Patterns, word: &str) -> Result<Vec<u32>, NoM
 
 /// Whether a word has so many bytes that it is worth to be kept.
 fn is_kept(word: &str) -> bool
-    ensures { result ≡ (nat_le 5 (length word.now) && nat_le (length word.now) 256) }
+    ensures { result ≡ (nat_le least_letters (length word.now) && nat_le (length word.now) 256) }
 {
     LEAST_LETTERS <= word.len() && word.len() <= MOST_BYTES
 }

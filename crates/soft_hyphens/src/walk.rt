@@ -11,7 +11,7 @@ ghost use Rattle.inline_text.specs.Joined.{ends_from, joined};
 ghost use Rattle.soft_hyphens.specs.Known.{word_points};
 ghost use Rattle.soft_hyphens.specs.Pass.{letters_with, offsets_before, offsets_in};
 ghost use Rattle.soft_hyphens.specs.Walk.{IsIn, IsOver, after_letter, after_other, counts_by};
-ghost use Rattle.soft_hyphens.specs.Words.{codes_of, is_of_word, is_put, is_soft, letters_in, points_with};
+ghost use Rattle.soft_hyphens.specs.Words.{codes_of, is_of_word, is_put, is_soft, least_letters, letters_in, points_with};
 ghost use Rattle.soft_hyphens.specs.declared.letter.Letter.{Letter};
 
 use crate::hyphenator::{Hyphenator, LEAST_LETTERS};
@@ -100,7 +100,7 @@ fn counts(walk: Walk, before_soft: bool) -> bool
 /// Whether the word that a walk is in may have a point if it ends here: it counts, and isn't too short.
 fn may_have_points(walk: Walk, before_soft: bool) -> bool
     requires { walk.first ≤ walk.place }
-    ensures { result ≡ (nat_le 5 (walk.place - walk.first) && counts_by walk before_soft) }
+    ensures { result ≡ (nat_le least_letters (walk.place - walk.first) && counts_by walk before_soft) }
 {
     LEAST_LETTERS <= word_len(walk) && counts(walk, before_soft)
 }

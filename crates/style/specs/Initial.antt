@@ -2,9 +2,31 @@
 use Rattle.std.specs.Prelude.{ℕ, ℤ, pos}
 use Rattle.bk_num.specs.Colors.{black}
 use Rattle.bk_num.specs.Numbers.{Number}
+use Rattle.bk_num.specs.declared.length.Len.{Len}
+use Rattle.bk_num.specs.declared.length.Len.TheVariants as len
 use Rattle.bk_num.specs.declared.values.Color.{Color}
 use Rattle.style.specs.declared.values.BorderStyle.{BorderStyle}
 use Rattle.style.specs.declared.values.BorderStyle.TheVariants as border
+
+-- no length
+abbrev pub zero_len : Len
+zero_len = len.Px (pos 0)
+
+-- the initial margins (CSS 2.1, 8.3)
+abbrev pub initial_margin : Len
+initial_margin = zero_len
+
+-- the initial paddings (CSS 2.1, 8.4)
+abbrev pub initial_padding : Len
+initial_padding = zero_len
+
+-- the initial width: `auto` (CSS 2.1, 10.2)
+abbrev pub initial_width : Len
+initial_width = len.Auto
+
+-- the initial indent of a first line (CSS 2.1, 16.1)
+abbrev pub initial_indent : Len
+initial_indent = zero_len
 
 -- the initial style of a border: `none` (CSS 2.1, 8.5.3)
 abbrev pub initial_border : BorderStyle

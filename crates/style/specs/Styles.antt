@@ -1,9 +1,7 @@
 -- The initial style, and that of a child without declarations.
 use Rattle.std.specs.Prelude.{ℕ, pos, None, List, [], ◌∷◌, false, codes, if◌then◌else◌}
 use Rattle.bk_num.specs.Limits.{root_size}
-use Rattle.bk_num.specs.declared.length.Len.{Len}
 use Rattle.bk_num.specs.declared.sides.BoxSide.TheVariants as side
-use Rattle.bk_num.specs.declared.length.Len.TheVariants as len
 use Rattle.bk_num.specs.declared.values.Color.{Color}
 use Rattle.bk_num.specs.declared.values.Align.TheVariants as align
 use Rattle.bk_num.specs.declared.values.BreakAt.TheVariants as break
@@ -14,26 +12,22 @@ use Rattle.style.specs.declared.values.LineHeight.TheVariants as height
 use Rattle.style.specs.declared.longhand.Longhand.{Longhand}
 use Rattle.style.specs.declared.longhand.Longhand.TheVariants as longhand
 use Rattle.style.specs.declared.style.Style.{Style}
-use Rattle.style.specs.Initial.{initial_border, initial_color, initial_lines, normal_height, normal_weight}
+use Rattle.style.specs.Initial.{initial_border, initial_color, initial_indent, initial_lines, initial_margin, initial_padding, initial_width, normal_height, normal_weight}
 use Rattle.style.specs.Longhands.{is_inherited}
-
--- no length
-abbrev pub zero_len : Len
-zero_len = len.Px (pos 0)
 
 -- the initial values (CSS 2.1, appendix F) beside these families and this color, which a border's color is
 abbrev pub initial_with : List (List ℕ) → Color → Style
 initial_with families color = record {
   display = display.Inline;
   float = false;
-  margin_top = zero_len;
-  margin_right = zero_len;
-  margin_bottom = zero_len;
-  margin_left = zero_len;
-  padding_top = zero_len;
-  padding_right = zero_len;
-  padding_bottom = zero_len;
-  padding_left = zero_len;
+  margin_top = initial_margin;
+  margin_right = initial_margin;
+  margin_bottom = initial_margin;
+  margin_left = initial_margin;
+  padding_top = initial_padding;
+  padding_right = initial_padding;
+  padding_bottom = initial_padding;
+  padding_left = initial_padding;
   border_top_width = pos 0;
   border_right_width = pos 0;
   border_bottom_width = pos 0;
@@ -46,7 +40,7 @@ initial_with families color = record {
   border_right_color = color;
   border_bottom_color = color;
   border_left_color = color;
-  width = len.Auto;
+  width = initial_width;
   color = color;
   background_color = None;
   font_family = families;
@@ -55,7 +49,7 @@ initial_with families color = record {
   font_weight = normal_weight;
   line_height = height.Number normal_height;
   text_align = align.Left;
-  text_indent = zero_len;
+  text_indent = initial_indent;
   white_space = space.Normal;
   overflow_wrap = false;
   list_style_type = numeral.Disc;

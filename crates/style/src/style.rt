@@ -2,7 +2,8 @@
 
 ghost use Rattle.std.specs.Prelude.{◌≡◌, pos, IfOk};
 ghost use Rattle.style.specs.Sides as sides;
-ghost use Rattle.style.specs.Styles.{child_style, initial_style, initial_with, zero_len};
+ghost use Rattle.style.specs.Initial.{zero_len};
+ghost use Rattle.style.specs.Styles.{child_style, initial_style, initial_with};
 
 use crate::content::Content;
 use crate::initial::{

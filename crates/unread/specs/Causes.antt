@@ -1,11 +1,10 @@
 -- Why a run writes no report.
-use Rattle.std.specs.Prelude.{◌≡◌, ℕ, ◌+◌, List, length, nat_lt, if◌then◌else◌, string_bytes, Option, Some, None, Result, Ok, Err, ◌⊎◌}
+use Rattle.std.specs.Prelude.{◌≡◌, ℕ, ◌+◌, List, length, if◌then◌else◌, string_bytes, Option, Some, None, Result, Ok, Err, ◌⊎◌}
 use Rattle.bk_io.specs.Causes.{Rose}
 use Rattle.bk_io.specs.Shelf.{Told}
 use Rattle.bk_io.specs.Texts.{unmarked}
 use Rattle.bk_io.specs.declared.read_text.TextErr.{TextErr}
 use Rattle.bk_io.specs.declared.read_text.TextErr.TheVariants as text
-use Rattle.bk_num.specs.Limits.{most_sheets}
 use Rattle.dom.specs.Nodes.{Node}
 use Rattle.dom.specs.declared.dom.DomErr.{DomErr}
 use Rattle.dom.specs.declared.dom.DomErr.TheVariants as dom_err
@@ -18,6 +17,7 @@ use Rattle.named_files.specs.declared.fault.FileFault.{FileFault}
 use Rattle.named_files.specs.declared.file.FileOf.{FileOf}
 use Rattle.named_files.specs.declared.read.FileTexts.{FileTexts}
 use Rattle.sheets.specs.Sheets.{element_sheets}
+use Rattle.sheets.specs.Sources.{are_many}
 use Rattle.words.specs.Asked.{Asked, FormatWords, format, sample, refused}
 use Rattle.words.specs.declared.fault.WordsErr.{WordsErr}
 use Rattle.words.specs.declared.fault.WordsErr.TheVariants as words
@@ -57,7 +57,7 @@ tree_due (Err dom_err.NoMemory) = None
 
 -- that of so many files and the `style` elements of a document, which are more sheets than may be
 abbrev pub sheets_due : ℕ → List Node → Option Outcome
-sheets_due files nodes = if nat_lt most_sheets (files + length (element_sheets nodes)) then Some out.Limit else None
+sheets_due files nodes = if are_many (files + length (element_sheets nodes)) then Some out.Limit else None
 
 -- that of an HTML text and of so many files
 abbrev pub html_due : Result (List Node) DomErr → ℕ → Option Outcome

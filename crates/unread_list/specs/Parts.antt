@@ -1,13 +1,13 @@
 -- The parts of a sheet that have a reading or none, in the order of its text (CSS 2.1, 4.1 and 4.2; css-page-3, 4 and
 -- 5).
-use Rattle.std.specs.Prelude.{ℕ, zero, suc, ◌+◌, ◌-◌, Bool, true, false, not, ◌&&◌, if◌then◌else◌, ◌==◌, List, [], ◌∷◌, ◌++◌, drop, length, codes, Option, Some, None, option_to_list}
+use Rattle.std.specs.Prelude.{ℕ, zero, suc, ◌+◌, ◌-◌, Bool, true, false, not, ◌&&◌, if◌then◌else◌, ◌==◌, List, [], ◌∷◌, ◌++◌, drop, length, Option, Some, None, option_to_list}
 use Rattle.std.specs.List.{list_all}
 use Rattle.css_tok.specs.Tokens.{Item, tokens_of}
 use Rattle.css_tok.specs.Marks.{is_gap, first_mark, rest_of}
 use Rattle.css_rules.specs.Decls.{Decl, decl_of, gaps_len}
 use Rattle.css_rules.specs.Pages.{page_lead, piece_at, piece_end, is_margin_box, at_prelude, at_end}
 use Rattle.css_rules.specs.Parts.{Piece, joined}
-use Rattle.css_rules.specs.Sheet.{lead_of, at_kind, at_front, at_after, is_at_word, prelude_at, prelude_end}
+use Rattle.css_rules.specs.Sheet.{lead_of, at_kind, at_front, at_after, is_media_rule, prelude_at, prelude_end}
 use Rattle.css_rules.specs.declared.pages.Lead.{Lead}
 use Rattle.css_rules.specs.declared.pages.Lead.TheVariants as lead
 use Rattle.css_rules.specs.declared.sheet.AtKind.{AtKind}
@@ -121,7 +121,7 @@ page_step inside line (t ∷ ts) = page_by (page_lead t) inside line t ts
 -- an at-rule that gives nothing: an `@media` rule with a block, outside such rules, has no read list
 abbrev pub at_part : Bool → Item → ℕ → List ℕ → PartOf
 at_part inside t mark text =
-    if mark == 123 && (not inside && is_at_word t (codes "media")) then Media text else AtRule text
+    if mark == 123 && is_media_rule inside t then Media text else AtRule text
 
 -- what stands behind a prelude that ends with such a mark, where its block is of this kind
 abbrev pub prelude_mode : Mode → ℕ → Mode

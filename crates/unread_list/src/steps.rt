@@ -1,16 +1,12 @@
 //! Steps along a sheet: each passes a token, or a part that stands there.
 
-ghost use Rattle.std.specs.Prelude.{◌≡◌, ◌∷◌, ◌++◌, ◌<◌, ◌≤◌, ◌&&◌, ◌==◌, codes, length, option_map, IfOk};
-ghost use Rattle.std.specs.List.{list_all};
+ghost use Rattle.std.specs.Prelude.{◌≡◌, ◌∷◌, ◌++◌, ◌<◌, ◌≤◌, length, option_map, IfOk};
 ghost use Rattle.css_tok.specs.Tokens.{item_in};
-ghost use Rattle.css_tok.specs.Marks.{is_gap};
 ghost use Rattle.css_rules.specs.Views.{items_in};
 ghost use Rattle.css_rules.specs.Brackets.{is_closed};
 ghost use Rattle.css_rules.specs.Decls.{Covers, decl_of};
 ghost use Rattle.css_rules.specs.Parts.{joined};
-ghost use Rattle.css_rules.specs.Pages.{is_margin_name};
-ghost use Rattle.css_rules.specs.Sheet.{is_at_word, at_kind as spec_at_kind};
-ghost use Rattle.css_tok.specs.Value.{value_slice};
+ghost use Rattle.css_rules.specs.Sheet.{at_kind as spec_at_kind};
 ghost use Rattle.unread_list.specs.Lines.{Passes, left_in};
 ghost use Rattle.unread_list.specs.Steps.{BeginsWith, IsStep, part_in, placed_in};
 ghost use Rattle.unread_list.specs.Parts as spec;
@@ -20,11 +16,10 @@ use crate::part::{Mode, Owner, Part, Placed, State, Step};
 use crate::reader::Lines;
 use bk_num::name::NoMem;
 use css_rules::decls::{decl_of, gaps_len, skip, split};
-use css_rules::pages::{Lead, are_gaps, is_margin_name, page_lead};
+use css_rules::pages::{Lead, are_gaps, is_margin_box, page_lead};
 use css_rules::parts::Stop;
-use css_rules::sheet::{AtKind, at_kind, at_stop, lead, prelude_stop};
+use css_rules::sheet::{AtKind, at_kind, at_stop, is_media_rule, lead, prelude_stop};
 use css_tok::tokens::CssToken;
-use css_tok::words::is_word;
 use std::alloc::Global;
 
 /// Whose declarations stand in a block; None where the block gives nothing.
@@ -211,15 +206,6 @@ fn at_texts<'a>(
     (at_text(start.tokens.rest, token.slice, prelude), prelude)
 }
 
-/// Whether an at-rule in a page rule is a margin box, by its At, its prelude and what ends that.
-#[tactic(auto, using(css_rules::proofs::PartLemmas::gaps_are))]
-fn is_margin_box(token: &CssToken<'_>, prelude: &[CssToken<'_>], end: u8) -> bool
-    ensures { result ≡ (is_margin_name (value_slice token.now.kind token.now.slice.now)
-        && (list_all is_gap (items_in prelude.now) && end == 123)) }
-{
-    is_margin_name(token.value_slice()) && are_gaps(prelude) && end == b'{'
-}
-
 /// Passes an at-rule of a page rule, whose At was taken, up to the end of its prelude.
 fn pass_page_at<'a>(
     alloc: Global,
@@ -253,18 +239,11 @@ fn pass_page_at<'a>(
 fn at_part<'a>(inside: bool, token: &CssToken<'a>, end: u8, text: &'a str) -> Part<'a>
     ensures { part_in result ≡ spec.at_part inside (item_in token.now) end text.entry.now }
 {
-    if end == b'{' && !inside && is_media(token) {
+    if end == b'{' && is_media_rule(inside, token) {
         Part::Media(text)
     } else {
         Part::AtRule(text)
     }
-}
-
-#[tactic(auto, unfolding(css_rules::specs::Sheet::is_at_word))]
-fn is_media(token: &CssToken<'_>) -> bool
-    ensures { result ≡ is_at_word (item_in token.now) (codes "media") }
-{
-    is_word(token.value_slice(), "media")
 }
 
 /// Passes an at-rule, whose At was taken, up to the end of its prelude.
