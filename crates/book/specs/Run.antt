@@ -66,11 +66,14 @@ texts_named names told = text_of file.Metrics (told names.metrics) >>= λ metric
 abbrev pub document_named : (List ℕ → SheetOf) → FormatWords → (List ℕ → Told) → Expect Document
 document_named reading names told = texts_named names told >>= document_of reading
 
--- the texts of a sample book of so many chapters, which is to settle in 8 passes at most, in one column, and of which
--- the counts are told
+-- in how many passes at most a sample book is to settle
+abbrev pub sample_passes : ℕ
+sample_passes = 8
+
+-- the texts of a sample book of so many chapters, in one column, and of which the counts are told
 abbrev pub sample_texts : ℕ → BookTexts
 sample_texts count = record {
-  passes = 8;
+  passes = sample_passes;
   grid = record { columns = 1; gap = 0 };
   output = output.Counts count;
   metrics = metrics_text;
