@@ -24,6 +24,7 @@ use std::alloc::Global;
 use std::io::{Error, ErrorKind};
 
 /// What a question is about.
+#[derive(Clone, Copy)]
 enum Topic {
     NoteArea,
     LinesCut,
@@ -39,22 +40,35 @@ enum Topic {
     Unknown,
 }
 
+/// The calls of each topic.
+const TOPICS: [(Topic, &[&str]); 11] = [
+    (Topic::NoteArea, &["area", "carry", "must", "placed"]),
+    (Topic::LinesCut, &["cut", "read"]),
+    (
+        Topic::TreePages,
+        &["tops", "pages", "solids", "walks", "cut_at"],
+    ),
+    (Topic::PagePlaces, &["frame", "side", "place", "numbers"]),
+    (Topic::SideBySide, &["column", "met", "fold"]),
+    (Topic::References, &["shown", "changed", "difference"]),
+    (Topic::RunningStrings, &["strings", "string_on", "assigned"]),
+    (
+        Topic::PageRules,
+        &["tops_of", "page_box", "box_text", "box_font", "box_place"],
+    ),
+    (Topic::MarginTexts, &["margins"]),
+    (Topic::Painted, &["paint"]),
+    (Topic::Records, &["listing", "long_listing"]),
+];
+
 /// What a call is about.
 fn topic_of(call: &str) -> Topic {
-    match call {
-        "area" | "carry" | "must" | "placed" => Topic::NoteArea,
-        "cut" | "read" => Topic::LinesCut,
-        "tops" | "pages" | "solids" | "walks" | "cut_at" => Topic::TreePages,
-        "frame" | "side" | "place" | "numbers" => Topic::PagePlaces,
-        "column" | "met" | "fold" => Topic::SideBySide,
-        "shown" | "changed" | "difference" => Topic::References,
-        "strings" | "string_on" | "assigned" => Topic::RunningStrings,
-        "tops_of" | "page_box" | "box_text" | "box_font" | "box_place" => Topic::PageRules,
-        "margins" => Topic::MarginTexts,
-        "paint" => Topic::Painted,
-        "listing" | "long_listing" => Topic::Records,
-        _ => Topic::Unknown,
+    for (topic, calls) in &TOPICS {
+        if calls.contains(&call) {
+            return *topic;
+        }
     }
+    Topic::Unknown
 }
 
 /// The answer to the parts of a question, `?` where it has no known form.

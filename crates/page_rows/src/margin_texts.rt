@@ -62,34 +62,23 @@ fn list(alloc: Global) -> Result<PageList, NoMem>
 }
 
 /// What the margin boxes of a book are printed with, but for their styles and strings.
-#[derive(Drop)]
-struct Book {
-    faces: Faces,
-    flow: Flow,
-    list: PageList,
+#[derive(Clone, Copy)]
+struct Book<'a> {
+    faces: &'a Faces,
+    flow: &'a Flow,
+    list: &'a PageList,
 }
 
-fn book_of(alloc: Global) -> Result<Book, NoMem>
-    ensures strings { IfOk result (λ book. NeverFall (map (λ a. a.at) book.flow.strings)) }
-    ensures pages { IfOk result (λ book. length book.list.pages ≡ 3) }
-{
-    Ok(Book {
-        faces: faces_of(alloc, METRICS)?,
-        flow: flow(alloc)?,
-        list: list(alloc)?,
-    })
-}
-
-fn margins_of<'a>(book: &'a Book, strings: &'a Strings, styles: &'a PageStyles<'a>) -> Margins<'a>
-    requires strings { AreStrings book.now.flow.main book.now.list.pages book.now.flow.strings strings.now }
-    requires pages { length book.now.list.pages ≡ 3 }
+fn margins_of<'a>(book: Book<'a>, strings: &'a Strings, styles: &'a PageStyles<'a>) -> Margins<'a>
+    requires strings { AreStrings book.flow.now.main book.list.now.pages book.flow.now.strings strings.now }
+    requires pages { length book.list.now.pages ≡ 3 }
     ensures can { CanShowMargins result }
     ensures pages { length result.list.now.pages ≡ 3 }
 {
     Margins {
-        faces: &book.faces,
-        flow: &book.flow,
-        list: &book.list,
+        faces: book.faces,
+        flow: book.flow,
+        list: book.list,
         numbers: &[4, 9, 10],
         strings,
         styles,
@@ -129,25 +118,72 @@ fn printed_on(alloc: Global, margins: &Margins<'_>, page: usize) -> Result<Strin
 /// What the margin boxes of a page of a book print in these styles.
 fn printed_of(
     alloc: Global,
-    book: &Book,
+    book: Book<'_>,
     styles: &PageStyles<'_>,
     page: usize,
 ) -> Result<String, NoMem>
-    requires strings { NeverFall (map (λ a. a.at) book.now.flow.strings) }
-    requires pages { length book.now.list.pages ≡ 3 }
+    requires strings { NeverFall (map (λ a. a.at) book.flow.now.strings) }
+    requires pages { length book.list.now.pages ≡ 3 }
     requires page { page < 3 }
 {
-    let strings = Strings::new(alloc, &book.flow, &book.list)?;
+    let strings = Strings::new(alloc, book.flow, book.list)?;
     let margins = margins_of(book, &strings, styles);
     printed_on(alloc, &margins, page)
 }
 
-/// What the margin boxes of a page of the book print in these styles.
-fn printed_in(alloc: Global, styles: &PageStyles<'_>, page: usize) -> Result<String, NoMem>
+/// The same of the list of pages that the book has.
+fn printed_with(
+    alloc: Global,
+    faces: &Faces,
+    flow: &Flow,
+    styles: &PageStyles<'_>,
+    page: usize,
+) -> Result<String, NoMem>
+    requires strings { NeverFall (map (λ a. a.at) flow.now.strings) }
     requires page { page < 3 }
 {
-    let book = book_of(alloc)?;
-    printed_of(alloc, &book, styles, page)
+    let list = list(alloc)?;
+    let book = Book {
+        faces,
+        flow,
+        list: &list,
+    };
+    printed_of(alloc, book, styles, page)
+}
+
+/// The same of its flow.
+fn printed_among(
+    alloc: Global,
+    faces: &Faces,
+    styles: &PageStyles<'_>,
+    page: usize,
+) -> Result<String, NoMem>
+    requires { page < 3 }
+{
+    let flow = flow(alloc)?;
+    printed_with(alloc, faces, &flow, styles, page)
+}
+
+/// What the margin boxes of a page of the book print in these styles.
+fn printed_in(alloc: Global, styles: &PageStyles<'_>, page: usize) -> Result<String, NoMem>
+    requires { page < 3 }
+{
+    let faces = faces_of(alloc, METRICS)?;
+    printed_among(alloc, &faces, styles, page)
+}
+
+/// What the margin boxes of a page of the book print by these rules, where pages have these names.
+fn printed_for(
+    alloc: Global,
+    rules: &[PageRule],
+    names: &Names,
+    page: usize,
+) -> Result<String, NoMem>
+    requires { page < 3 }
+{
+    let serif = Families::serif(alloc)?;
+    let styles = resolve(alloc, rules, names, &serif)?;
+    printed_in(alloc, &styles, page)
 }
 
 /// What the margin boxes of a page of the book print by these rules.
@@ -155,9 +191,7 @@ fn printed_by(alloc: Global, rules: &[PageRule], page: usize) -> Result<String, 
     requires { page < 3 }
 {
     let names = Names::new(alloc);
-    let serif = Families::serif(alloc)?;
-    let styles = resolve(alloc, rules, &names, &serif)?;
-    printed_in(alloc, &styles, page)
+    printed_for(alloc, rules, &names, page)
 }
 
 /// What the margin boxes of a page of the book print by a sheet.

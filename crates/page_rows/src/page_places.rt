@@ -144,6 +144,29 @@ fn numbered(
     numbers(alloc, &flow, list)
 }
 
+/// The same of a tree in short.
+fn numbered_in(
+    alloc: Global,
+    tree: &str,
+    list: &PageList,
+    value: &str,
+    at: &str,
+) -> Result<Vec<i64>, NoMem> {
+    let tree = tree_in_short(alloc, tree)?;
+    numbered(alloc, tree, list, units(value), position(at))
+}
+
+fn numbers_on(
+    alloc: Global,
+    tree: &str,
+    pages: &str,
+    value: &str,
+    at: &str,
+) -> Result<Vec<i64>, NoMem> {
+    let list = pages_of(alloc, pages)?;
+    numbered_in(alloc, tree, &list, value, at)
+}
+
 fn numbers_of(
     alloc: Global,
     tree: &str,
@@ -151,9 +174,7 @@ fn numbers_of(
     value: &str,
     at: &str,
 ) -> Result<String, NoMem> {
-    let list = pages_of(alloc, pages)?;
-    let tree = tree_in_short(alloc, tree)?;
-    let numbers = numbered(alloc, tree, &list, units(value), position(at))?;
+    let numbers = numbers_on(alloc, tree, pages, value, at)?;
     Ok(format!(in alloc; "{:?}", numbers.as_slice())?)
 }
 

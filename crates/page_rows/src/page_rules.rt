@@ -148,12 +148,22 @@ fn in_styles(alloc: Global, styles: &PageStyles<'_>, parts: &[&str]) -> Result<S
     }
 }
 
+/// What is asked of pages of these names by these rules.
+fn by_names(
+    alloc: Global,
+    rules: &[PageRule],
+    names: &Names,
+    parts: &[&str],
+) -> Result<String, NoMem> {
+    let serif = Families::serif(alloc)?;
+    let styles = resolve(alloc, rules, names, &serif)?;
+    in_styles(alloc, &styles, parts)
+}
+
 /// What is asked of pages by these rules.
 fn by_rules(alloc: Global, rules: &[PageRule], parts: &[&str]) -> Result<String, NoMem> {
     let names = names(alloc)?;
-    let serif = Families::serif(alloc)?;
-    let styles = resolve(alloc, rules, &names, &serif)?;
-    in_styles(alloc, &styles, parts)
+    by_names(alloc, rules, &names, parts)
 }
 
 /// The answer to a question about a sheet.

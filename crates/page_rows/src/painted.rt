@@ -404,11 +404,22 @@ fn shown(alloc: Global, flow: &Flow, faces: &Faces, page: &Page) -> Result<Strin
     Ok(out)
 }
 
-/// The items of a page of such a flow.
-fn painted(alloc: Global, asked: Asked<'_>, page: &Page) -> Result<String, NoMem> {
+/// The items of a page of such a flow, in these faces.
+fn shown_in(alloc: Global, faces: &Faces, asked: Asked<'_>, page: &Page) -> Result<String, NoMem>
+    requires { 0 < length faces.now }
+{
+    let flow = flow_of(alloc, faces, asked)?;
+    shown(alloc, &flow, faces, page)
+}
+
+fn items_of(alloc: Global, asked: Asked<'_>, page: &Page) -> Result<String, NoMem> {
     let faces = faces_of(alloc, METRICS)?;
-    let flow = flow_of(alloc, &faces, asked)?;
-    let items = shown(alloc, &flow, &faces, page)?;
+    shown_in(alloc, &faces, asked, page)
+}
+
+/// The items of a page of such a flow, or `nothing`.
+fn painted(alloc: Global, asked: Asked<'_>, page: &Page) -> Result<String, NoMem> {
+    let items = items_of(alloc, asked, page)?;
     let items = if items.is_empty() {
         "nothing"
     } else {

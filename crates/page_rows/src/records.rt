@@ -133,11 +133,8 @@ fn letters_in(bytes: &[u8]) -> u32 {
     count
 }
 
-/// The same where the text in the margin box has so many letters `x`: how many of them are written in all, and the last
-/// bytes.
-fn long_listing(alloc: Global, room: &str, letters: &str) -> Result<String, NoMem> {
-    let text = "x".repeat(alloc, room_of(letters))?;
-    let written = write_to_memory(alloc, room_of(room), text.as_str())?;
+/// Whether a listing is written whole, how many bytes are, how many letters `x` among them, and the last bytes.
+fn in_short(alloc: Global, written: &Written) -> Result<String, NoMem> {
     let bytes = written.sink.bytes();
     let count = letters_in(bytes);
     let from = bytes.len().saturating_sub(8);
@@ -148,6 +145,13 @@ fn long_listing(alloc: Global, room: &str, letters: &str) -> Result<String, NoMe
         whole_word(written.whole),
         bytes.len()
     )?)
+}
+
+/// The same where the text in the margin box has so many letters `x`.
+fn long_listing(alloc: Global, room: &str, letters: &str) -> Result<String, NoMem> {
+    let text = "x".repeat(alloc, room_of(letters))?;
+    let written = write_to_memory(alloc, room_of(room), text.as_str())?;
+    in_short(alloc, &written)
 }
 
 /// The answer to a question about a listing.

@@ -35,26 +35,21 @@ fn columns_of(alloc: Global, per: &str, gap: &str) -> Result<Columns, NoMem> {
 
 /// The left, the width and the height of a frame by its index, its name and its kind. The height tells its page.
 fn column(
-    columns: &Columns,
     alloc: Global,
-    index: u32,
-    name: NameId,
-    kind: PageKind,
-) -> Result<String, NoMem>
-    requires low { 1 ≤ index }
-    requires high { index ≤ 1000 }
-{
-    let frame = columns.frame(index, name, kind);
+    columns: &Columns,
+    index: &str,
+    name: &str,
+    kind: &str,
+) -> Result<String, NoMem> {
+    let frame = columns.frame(index_of(index), NameId(count(name)), kind_of(kind));
     let (left, width, height) = (frame.left, frame.width, frame.height);
     Ok(format!(in alloc; "{left} {width} {height}")?)
 }
 
 /// How many frames are left empty before the frame of an index where a column, a page, a left one or a right one is
 /// asked for, and how many stand on a page.
-fn met(columns: &Columns, alloc: Global, index: u32) -> Result<String, NoMem>
-    requires low { 1 ≤ index }
-    requires high { index ≤ 1000 }
-{
+fn met(alloc: Global, columns: &Columns, index: &str) -> Result<String, NoMem> {
+    let index = index_of(index);
     let column = columns.empty_before(index, Demand::Column);
     let page = columns.empty_before(index, Demand::Page);
     let left = columns.empty_before(index, Demand::Left);
@@ -112,21 +107,28 @@ fn folded(alloc: Global, per: &str, frames: &str) -> Result<String, NoMem> {
     Ok(answer)
 }
 
-/// The answer to a question about columns or folded lists.
-pub(crate) fn answer(alloc: Global, parts: &[&str]) -> Result<String, NoMem> {
+/// The answer to a question about columns.
+fn of_columns(alloc: Global, columns: &Columns, parts: &[&str]) -> Result<String, NoMem> {
     match parts {
-        ["column", per, gap, index, name, kind] => {
-            let columns = columns_of(alloc, per, gap)?;
-            column(
-                &columns,
-                alloc,
-                index_of(index),
-                NameId(count(name)),
-                kind_of(kind),
-            )
-        }
-        ["met", per, index] => met(&columns_of(alloc, per, "16")?, alloc, index_of(index)),
-        ["fold", per, frames] => folded(alloc, per, frames),
+        ["column", _, _, index, name, kind] => column(alloc, columns, index, name, kind),
+        ["met", _, index] => met(alloc, columns, index),
         _ => unknown(alloc),
     }
+}
+
+/// The columns of a question: so many, with a gap between them.
+fn asked_columns(alloc: Global, parts: &[&str]) -> Result<Columns, NoMem> {
+    match parts {
+        ["column", per, gap, ..] => columns_of(alloc, per, gap),
+        _ => columns_of(alloc, parts.get(1).unwrap_or(&""), "16"),
+    }
+}
+
+/// The answer to a question about columns or folded lists.
+pub(crate) fn answer(alloc: Global, parts: &[&str]) -> Result<String, NoMem> {
+    if let ["fold", per, frames] = parts {
+        return folded(alloc, per, frames);
+    }
+    let columns = asked_columns(alloc, parts)?;
+    of_columns(alloc, &columns, parts)
 }
