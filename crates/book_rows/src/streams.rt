@@ -201,24 +201,52 @@ fn fetched(
     Ok(answers)
 }
 
-/// A real file with a text, which is read whole and from some places on, and then once more when it isn't there.
-fn real(rt: &HostRuntime, text: &str, places: &[&str]) -> Result<String, NoMem> {
+/// Writes a text to a real file, and tells whether it was written.
+fn write_text(rt: &HostRuntime, name: &str, text: &str) -> Result<bool, NoMem> {
+    let bytes = text_of(rt.alloc(), text)?;
+    Ok(fs::write(rt, name, bytes.as_str()).is_ok())
+}
+
+/// What a read of a real file gives.
+fn read_real(rt: &HostRuntime, name: &str) -> Result<String, NoMem> {
     let alloc = rt.alloc();
-    let name = format!(in alloc; "/tmp/book_rows-{}", process::id(rt.process()))?;
-    let bytes = text_of(alloc, text)?;
-    let written = fs::write(rt, name.as_str(), bytes.as_str());
-    let mut answers = fetched(alloc, &mut DirShelf::new(alloc, rt), name.as_str(), places)?;
-    if written.is_ok() && fs::remove_file(rt, name.as_str()).is_ok() {
-        let again = read_all(alloc, &mut DirShelf::new(alloc, rt), name.as_str(), 70000);
-        answers.push_str(", then ")?;
-        answers.push_str(shown_read(alloc, again)?.as_str())?;
+    let read = read_all(alloc, &mut DirShelf::new(alloc, rt), name, 70000);
+    shown_read(alloc, read)
+}
+
+/// What a real file has from some places on.
+fn fetch_real(rt: &HostRuntime, name: &str, places: &[&str]) -> Result<String, NoMem> {
+    let alloc = rt.alloc();
+    fetched(alloc, &mut DirShelf::new(alloc, rt), name, places)
+}
+
+/// What a real file gives when it was removed, if it can be.
+fn push_removed(answers: &mut String, rt: &HostRuntime, name: &str) -> Result<(), NoMem> {
+    if fs::remove_file(rt, name).is_err() {
+        return Ok(());
+    }
+    answers.push_str(", then ")?;
+    Ok(answers.push_str(read_real(rt, name)?.as_str())?)
+}
+
+/// A real file with a text, which is read whole and from some places on, and then once more when it isn't there.
+fn real_at(rt: &HostRuntime, name: &str, text: &str, places: &[&str]) -> Result<String, NoMem> {
+    let written = write_text(rt, name, text)?;
+    let mut answers = fetch_real(rt, name, places)?;
+    if written {
+        push_removed(&mut answers, rt, name)?;
     }
     Ok(answers)
 }
 
-/// The answer to a question, `?` where it has no such form.
-fn answer(rt: &HostRuntime, parts: &[&str]) -> Result<String, NoMem> {
-    let alloc = rt.alloc();
+/// The same, in a place of its own.
+fn real(rt: &HostRuntime, text: &str, places: &[&str]) -> Result<String, NoMem> {
+    let name = format!(in rt.alloc(); "/tmp/book_rows-{}", process::id(rt.process()))?;
+    real_at(rt, name.as_str(), text, places)
+}
+
+/// The answer to a question about files and streams in memory, `?` where it has no such form.
+fn of_memory(alloc: Global, parts: &[&str]) -> Result<String, NoMem> {
     match parts {
         ["read", name, limit, failing, files @ ..] => {
             read(alloc, name, count(limit), failing, files)
@@ -227,6 +255,13 @@ fn answer(rt: &HostRuntime, parts: &[&str]) -> Result<String, NoMem> {
         ["put in steps", step, failing, pieces @ ..] => {
             put_in_steps(alloc, count(step), failing, pieces)
         }
+        _ => Ok(String::from_str(alloc, "?")?),
+    }
+}
+
+/// The answer to a question.
+fn answer(rt: &HostRuntime, parts: &[&str]) -> Result<String, NoMem> {
+    match parts {
         ["stream", pieces @ ..] => stream(rt, pieces),
         ["full stream", pieces @ ..] => full(rt, pieces),
         ["interrupted stream", times, pieces @ ..] => {
@@ -236,7 +271,7 @@ fn answer(rt: &HostRuntime, parts: &[&str]) -> Result<String, NoMem> {
             put_passing(rt, ErrorKind::WouldBlock, count(times), pieces)
         }
         ["real file", text, places @ ..] => real(rt, text, places),
-        _ => Ok(String::from_str(alloc, "?")?),
+        _ => of_memory(rt.alloc(), parts),
     }
 }
 
