@@ -2,40 +2,51 @@
 """Tries the wrong bodies of crates that the gate leaves out, as these crates take long to prove: the prover has to
 refuse each.
 
-wrong_bodies.py NAME..     those of crates/NAME/wrong-bodies, in a copy of what is committed"""
+wrong_bodies.py NAME..     those of crates/NAME/wrong-bodies, over what checks of these crates kept; while it runs they
+                           stand in crates/NAME/must-fail"""
 import os
 import shutil
 import subprocess
 import sys
-import tempfile
 
 TOP = os.path.dirname(os.path.dirname(os.path.abspath(__file__)))
 
 
-def folder_of(top, name):
-    """The folder of a crate's wrong bodies."""
-    return os.path.join(top, "crates", name, "wrong-bodies")
+def folder_of(name, kind):
+    """A folder of edits of a crate."""
+    return os.path.join(TOP, "crates", name, kind)
 
 
-def add_edits(top, name):
-    """Puts the wrong bodies of a crate among its edits."""
-    to = os.path.join(top, "crates", name, "must-fail")
+def add_edits(name):
+    """Puts the wrong bodies of a crate among its edits, and gives where they stand now."""
+    to = folder_of(name, "must-fail")
     os.makedirs(to, exist_ok=True)
-    for edit in os.listdir(folder_of(top, name)):
-        shutil.copy(os.path.join(folder_of(top, name), edit), to)
+    return [shutil.copy(edit.path, to) for edit in os.scandir(folder_of(name, "wrong-bodies"))]
+
+
+def take_away(added, names):
+    """Takes them away, and what folders are empty then."""
+    for edit in added:
+        os.remove(edit)
+    for name in names:
+        folder = folder_of(name, "must-fail")
+        if os.path.isdir(folder) and not os.listdir(folder):
+            os.rmdir(folder)
 
 
 def tried(names):
     """Tries those of some crates, and gives the status of the try."""
-    with tempfile.TemporaryDirectory() as room:
-        subprocess.run(["git", "clone", "-q", TOP, room], check=True)
+    added = []
+    try:
         for name in names:
-            add_edits(room, name)
-        return subprocess.run(["rt", "must-fail", *names], cwd=room).returncode
+            added += add_edits(name)
+        return subprocess.run(["rt", "must-fail", *names], cwd=TOP).returncode
+    finally:
+        take_away(added, names)
 
 
 def main(names):
-    unknown = [name for name in names if not os.path.isdir(folder_of(TOP, name))]
+    unknown = [name for name in names if not os.path.isdir(folder_of(name, "wrong-bodies"))]
     if unknown or not names:
         print(f"no wrong bodies: {' '.join(unknown)}" if unknown else __doc__, file=sys.stderr)
         return 2
